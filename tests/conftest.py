@@ -1,5 +1,4 @@
-"""What pytest needs for these tests: `pytest tests/python -k show` runs those with this word in their names, `-n 4` four at once, and
-`-m without_program` those that need no debvote.
+"""What pytest needs for these tests; `-m without_program` runs those that need no debvote.
 
 With -n all tests of a class run in one process, since a class makes its election once. At the end is a line for each reason for which
 tests were skipped, and above pytest's own last line 'N passed, M failed', as the other programs of the tests print it.

@@ -1,7 +1,4 @@
-"""A page in chromium that a test uses as a reader does: real keys, real touches, a window of a given size.
-
-It speaks chromium's own protocol through a pipe, and needs only Python.
-"""
+"""A page in chromium that a test uses as a reader does, by real keys in a window of a given size, through chromium's own protocol on a pipe."""
 
 import base64
 import itertools
@@ -61,7 +58,7 @@ BROKEN_WORDS = r"""((nodes) => nodes.flatMap((node) => {
 class Window:
     """A window with one page. It is closed with `with`."""
 
-    def __init__(self, width: int, height: int, is_dark: bool = False) -> None:
+    def __init__(self, width: int, height: int) -> None:
         self.numbers = itertools.count(1)
         self.faults: list[str] = []
         self.room = tempfile.mkdtemp(prefix="debvote-browser-")
@@ -78,7 +75,7 @@ class Window:
         self.session = self.tell("Target.attachToTarget", targetId=page["targetId"], flatten=True)["sessionId"]
         self.tell("Log.enable")
         self.tell("Runtime.enable")
-        self.show(is_dark=is_dark)
+        self.show()
         self.resize(width, height)
 
     def __enter__(self) -> "Window":
@@ -143,7 +140,6 @@ class Window:
             raise AssertionError(f"it does not become true: {script}")
 
     def press(self, key: str, shift: bool = False) -> None:
-        """Presses a key and lets it go."""
         code, text = KEYS[key]
         name = f"Digit{key}" if key.isdigit() else {" ": "Space"}.get(key, key)
         known = {"key": key, "code": name, "windowsVirtualKeyCode": code, "modifiers": 8 if shift else 0}
@@ -152,11 +148,6 @@ class Window:
 
     def type(self, text: str) -> None:
         self.tell("Input.insertText", text=text)
-
-    def type_keys(self, keys: str) -> None:
-        """Presses these keys, one after the other: a drop-down list takes keys, not text."""
-        for key in keys:
-            self.press(key)
 
     def broken_words(self, nodes: str) -> list[str]:
         """The words within nodes, which a script returns, that are on two lines."""

@@ -47,12 +47,9 @@ class Row:
 
     def names(self) -> tuple[str, str]:
         """The names of the poll and of the ballots."""
-        if self.ballots is None:
-            return self.called or POLL, BALLOTS
-        return POLL, self.called or BALLOTS
+        return (self.called or POLL, BALLOTS) if self.ballots is None else (POLL, self.called or BALLOTS)
 
     def words(self) -> list[str]:
-        """The arguments of the command line."""
         if self.args is not None:
             return self.args
         poll, ballots = self.names()
@@ -67,16 +64,13 @@ class Row:
         return poll
 
     def files(self) -> dict[str, bytes]:
-        """The files that the program reads, by their names."""
         head = "" if self.about is None else f"# {self.about}\n"
-        poll, ballots = self.names()
-        swapped = self.swapped_poll()
+        (poll, ballots), swapped = self.names(), self.swapped_poll()
         texts = {poll: swapped and head + swapped, ballots: self.ballots, SHEET: self.sheet}
         return {name: text.encode() for name, text in texts.items() if text is not None}
 
 
 def read_table(file: pathlib.Path) -> dict[str, Row]:
-    """The cases of a table, by their names."""
     table = tomllib.loads(file.read_bytes().decode())
     given = {"command": table.pop("command"), "about": None, "poll": table.pop("poll", None), "ballots": None}
     return {name: Row(**given | row) for name, row in table.items()}
@@ -92,14 +86,12 @@ def written(text: str) -> str:
 
 
 def written_in_one_line(text: str) -> str:
-    """The text as a TOML string without a line feed."""
     if "'" not in text and '"' in text and text.isprintable():
         return f"'{text}'"
     return '"' + "".join(map(spelled, text)).replace("\n", "\\n") + '"'
 
 
 def spelled(sign: str) -> str:
-    """A character as it is written in a quoted TOML string."""
     known = {"\\": "\\\\", '"': '\\"', "\r": "\\r", "\t": "\\t", "\n": "\n"}
     if sign in known:
         return known[sign]

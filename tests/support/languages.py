@@ -8,6 +8,7 @@ import pathlib
 import re
 import sys
 import unittest
+import unittest.mock
 from collections.abc import Iterator
 
 from debvote_tools.text.language import catalog_of, language_of
@@ -60,13 +61,9 @@ def marked_german() -> Iterator[None]:
         raise unittest.SkipTest("the language with marked words is in forks of the test alone")
     head = (sentences.LOCALE / "de.po").read_text(encoding="utf-8").split("\n\n")[0]
     catalog = catalog_of("\n".join([f"{head}\n", *[sentences.as_po(texts, tuple(map(marked, texts))) for texts in sentences.in_code()]]).encode())
-    german = vars(language_of("de").catalog)
-    before = dict(german)
-    german.update(vars(catalog))
-    forget_german()
-    yield
-    german.clear()
-    german.update(before)
+    with unittest.mock.patch.dict(vars(language_of("de").catalog), vars(catalog)):
+        forget_german()
+        yield
     forget_german()
 
 
@@ -100,7 +97,7 @@ class LanguageTest(elections.ElectionTest):
         self.program("debvote-election", "new", "--language", language, folder)
         place = self.scratch / folder
         (place / "poll.toml").write_text(poll if codes is None else f"secret = true\n{poll}")
-        (place / "members.csv").write_text("".join(["who,mail,name\n", *[f"Person {name[1:]},{name}@example.org,{name}\n" for name in ELECTORS]]))
+        (place / "members.csv").write_text("who,mail,name\n" + "".join(f"Person {name[1:]},{name}@example.org,{name}\n" for name in ELECTORS))
         self.election(folder, "roll")
         if codes is not None:
             self.election(folder, "codes", *codes)
@@ -140,12 +137,9 @@ class LanguageTest(elections.ElectionTest):
 
     def letters(self, place: pathlib.Path) -> list[pathlib.Path]:
         """Files with the letters of electors, which have arrived now."""
-        files = []
+        files = {self.scratch / f"{name}.eml": name for name in LETTERS}
         [mark] = set(re.findall(r"\[[0-9a-f]{16}\]", (place / "call" / "call.txt").read_text()))
-        for name, text in LETTERS.items():
-            files.append(self.scratch / f"{name}.eml")
-            files[-1].write_text(
-                f"From: {name}@example.org\nTo: {TO}\nSubject: {mark}\nMessage-ID: <{name}@x>\n"
-                f"Received: from a by b; {email.utils.formatdate()}\nDate: {email.utils.formatdate()}\n\n{text}\n"
-            )
-        return files
+        for file, name in files.items():
+            head = f"From: {name}@example.org\nTo: {TO}\nSubject: {mark}\nMessage-ID: <{name}@x>\n"
+            file.write_text(f"{head}Received: from a by b; {email.utils.formatdate()}\nDate: {email.utils.formatdate()}\n\n{LETTERS[name]}\n")
+        return list(files)

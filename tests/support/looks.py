@@ -69,7 +69,6 @@ class LooksTest(publishing.PublishTest):
 
     @classmethod
     def note(cls, *fact):
-        """Keeps a fact for the test of all facts."""
         cls.facts.append(fact)
 
     def looks(self):
@@ -92,6 +91,7 @@ class LooksTest(publishing.PublishTest):
         self.expect("widths", [(look["folder"], look["width"]) for look in self.looks() if look["wide"] != look["width"]], [])
         pairs = {(look["is_dark"], *look["own"]) for look in self.looks()}
         self.expect("colours of the pages", (len(pairs), len({pair[1:] for pair in pairs})), (2, 2))
+
 
 def contrast(one, other):
     """The contrast of two colours as rgb(1,2,3), from 1 to 21; 4.5 is what a text needs."""

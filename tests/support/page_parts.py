@@ -65,7 +65,6 @@ def demand_equal(what, found, wanted):
 
 
 def escaped(text):
-    """A text as it stands in a page."""
     return html.escape(text).replace("&quot;", "&#34;").replace("&#x27;", "&#39;")
 
 
@@ -96,8 +95,6 @@ class Node:
 
 
 class Builder(html.parser.HTMLParser):
-    """Builds the tree of a page."""
-
     def __init__(self):
         super().__init__()
         self.root = Node("page", [])
@@ -109,9 +106,6 @@ class Builder(html.parser.HTMLParser):
         self.open[-1].inner.append(node)
         if tag not in EMPTY_TAGS:
             self.open.append(node)
-
-    def handle_startendtag(self, tag, attributes):
-        self.open[-1].inner.append(Node(tag, attributes))
 
     def handle_endtag(self, tag):
         if tag not in EMPTY_TAGS:
@@ -172,7 +166,6 @@ class Parts:
         self.met = collections.Counter()
 
     def name(self, option):
-        """An option as the page calls it."""
         return f"Option {option}: {self.names.get(option, self.count.poll.names[option])}"
 
     def entries(self, heading, kind="ul"):
@@ -180,11 +173,8 @@ class Parts:
 
     def check(self):
         """Meets all parts with the count. Raises Wrong, or returns the kinds of sentences that the page has."""
-        for check in (
-            self.headings, self.facts, self.deciding, self.lines, self.rule, self.bars, self.options, self.table, self.defeats, self.rounds,
-            self.ballots, self.who_voted,
-        ):  # fmt: skip
-            check()
+        for part in "headings facts deciding lines rule bars options table defeats rounds ballots who_voted".split():
+            getattr(self, part)()
         return self.met
 
     def say(self, kind, pair=None, **places):
@@ -210,43 +200,38 @@ class Parts:
         found = [entry.text() for entry in tree_of(self.page).one("ul", "facts").all("li")]
         reached = any(count.votes[option, poll.default] >= least_of(count) for option in poll.ratios)
         quorum = [f"quorum {least_of(count)} {'reached' if reached else 'not reached'}"] if poll.quorum else []
-        refused = len(count.lines) - count.valid
-        lines = f"{refused} {'line' if refused == 1 else 'lines'} of {len(count.lines)} refused"
-        demand_equal("the facts", found, [f"{count.voters} of {len(poll.roll)} voted", *quorum, lines])
+        lines = f"{counted(len(count.lines) - count.valid, 'line')} of {len(count.lines)} refused"
+        demand_equal("the facts", found, [f"{len(count.last)} of {len(poll.roll)} voted", *quorum, lines])
 
     def lines(self):
-        """How many lines there are, and where voters and valid lines differ."""
         count, poll, valid = self.count, self.count.poll, self.count.valid
-        are = "line is" if len(count.lines) == 1 else "lines are"
-        wanted = f"{len(count.lines)} {are} in the ballot file: {valid} valid, {len(count.lines) - valid} refused."
-        if valid != count.voters:
-            of = "1 voter has" if count.voters == 1 else f"{count.voters} voters have"
-            wanted += f" {of} {valid} valid lines: electors who voted again account for the difference, "
-            wanted += "and the last valid line of each counts."
+        are = "is" if len(count.lines) == 1 else "are"
+        wanted = f"{counted(len(count.lines), 'line')} {are} in the ballot file: {valid} valid, {len(count.lines) - valid} refused."
+        if valid != len(count.last):
+            of = f"{counted(len(count.last), 'voter')} {'has' if len(count.last) == 1 else 'have'}"
+            wanted += f" {of} {valid} valid lines: electors who voted again account for the difference, and the last valid line of each counts."
         if poll.last_envelope is not None:
             wanted += f" The last envelope is {poll.last_envelope}: a line with a greater number is late, and is refused."
         demand_equal("the lines", " ".join(next(self.sections["Refused-lines"].all("p")).text().split()), wanted)
 
     def rule(self):
-        """The wording of majorities, and the quorum, below the options."""
         poll, said = self.count.poll, self.sections["Options"].text()
         at_least = "At least the ratio times as many electors must prefer it as prefer the default option, and in any case more."
         more_than = "More than the ratio times as many electors must prefer it as prefer the default option."
         debian = "(more than the ratio, where the Constitution of Debian has at least the ratio)"
         wanted = (False, True, True) if poll.is_more_than else (True, False, False)
         demand_equal("the wording of majorities", (at_least in said, more_than in said, debian in said), wanted)
-        least = least_of(self.count)
-        of = f"The quorum is {least} vote{'' if least == 1 else 's'}: at least {poll.quorum}Q, where Q is half of the square root"
+        of = f"The quorum is {counted(least_of(self.count), 'vote')}: at least {poll.quorum}Q, where Q is half of the square root"
         demand_equal("the quorum", (of in said, "No quorum is asked for." in said), (poll.quorum > 0, poll.quorum == 0))
 
     def bars(self):
         """The winner first, then as the rounds leave the options; of each the name, the chip, the numbers, the bar and the mark."""
         count, poll = self.count, self.count.poll
         default, least = poll.default, least_of(count)
-        whole, hint = max(count.voters, least, 1), next(self.sections["Why"].all("p", "hint")).text()
+        whole, hint = max(len(count.last), least, 1), next(self.sections["Why"].all("p", "hint")).text()
         name = self.name(default)
         said = (f"For: how many prefer the option to {name}. Against: how many prefer {name} to it." in hint, f"stands for {whole}." in hint)
-        demand_equal("the hint of the bars", said, (True, whole != count.voters))
+        demand_equal("the hint of the bars", said, (True, whole != len(count.last)))
         last = {o: max((n for n, (kept, _) in enumerate(count.rounds, 1) if o in kept), default=0) for o in poll.options}
         order = sorted(poll.options, key=lambda o: (o != count.winner, o in count.dropped, -last[o], o))
         lists = [list(found.all("li")) for found in self.sections["Why"].all("ol", "options")]
@@ -298,7 +283,6 @@ class Parts:
             yield self.say("lost by the casting vote", winner=self.name(count.winner))
 
     def against(self, option, other):
-        """Two options that are left."""
         is_removed = any({(option, other), (other, option)} & gone for _, gone in self.count.rounds)
         return self.say("left with a removed defeat" if is_removed else "left in a tie", (option, other))
 
@@ -331,7 +315,6 @@ class Parts:
         demand_equal("what decides it", text, wanted)
 
     def deciding_alone(self, winner):
-        """What is said of an option that is left alone."""
         count, default = self.count, self.count.poll.default
         if winner == default:
             demand_equal("all others were dropped", set(count.dropped), set(count.poll.options) - {default})
@@ -347,7 +330,7 @@ class Parts:
         rows = [f"{self.name(b)} by {count.votes[winner, b]} to {count.votes[b, winner]}" for _, b in pairs]
         narrowest = f"{len(rows)} options, most narrowly {rows[0]}" if len(rows) > 2 else in_words(rows)
         if removed:
-            places = {"number": len(removed), "last": self.defeat(*removed[-1]), "beaten": narrowest}
+            places = {"number": len(removed), "last": self.defeat(removed[-1]), "beaten": narrowest}
             return self.say("circles" if removed[1:] else "a circle", **places)
         if len(rows) < len(others):
             chains = reference.transitive_defeats([o for o in count.poll.options if o not in count.dropped], count.defeats)
@@ -355,7 +338,8 @@ class Parts:
             return self.say("beats by chains", beaten=narrowest)
         return self.say({1: "beats one", 2: "beats each of two"}.get(len(others), "beats each of many"), beaten=narrowest, narrowest=rows[0])
 
-    def defeat(self, a, b):
+    def defeat(self, pair):
+        a, b = pair
         return f"{self.name(a)} over {self.name(b)} by {self.count.votes[a, b]} to {self.count.votes[b, a]}"
 
     def options(self):
@@ -383,25 +367,21 @@ class Parts:
             demand_equal(f"row {a}", cells, [("-", None) if a == b else (str(count.votes[a, b]), beats[b]) for b in poll.options])
 
     def defeats(self):
-        demand_equal("Defeats", self.entries("Defeats"), [self.defeat(*pair) for pair in sorted(self.count.defeats)])
+        demand_equal("Defeats", self.entries("Defeats"), list(map(self.defeat, sorted(self.count.defeats))))
 
     def rounds(self):
         wanted = []
         for kept, removed in self.count.rounds:
-            pairs = in_words([self.defeat(*pair) for pair in sorted(removed)])
-            then = f"Removed: {pairs}." if removed else "No defeat is within it, and the count ends."
+            then = f"Removed: {in_words(list(map(self.defeat, sorted(removed))))}." if removed else "No defeat is within it, and the count ends."
             wanted.append(f"The set is {in_words(list(map(self.name, kept)))}. {then}")
         demand_equal("Rounds", self.entries("Defeats", "ol"), wanted)
 
     def ballots(self):
-        """Each ballot with its place, its ranks and its words."""
         count = self.count
         found, wanted = [(entry.attributes["id"], entry.text()) for entry in self.sections["Ballots"].all("li")], []
-        for voter, name in enumerate(count.poll.roll):
-            if voter in count.last:
-                ranks = count.last[voter]
-                spelled = ",".join("-" if rank is None else str(rank) for rank in ranks)
-                wanted.append((name, f"{name} {spelled}: {self.ballot_words(ranks)}"))
+        for voter, ranks in sorted(count.last.items()):
+            name, spelled = count.poll.roll[voter], ",".join("-" if rank is None else str(rank) for rank in ranks)
+            wanted.append((name, f"{name} {spelled}: {self.ballot_words(ranks)}"))
         demand_equal("Ballots", found, wanted)
 
     def ballot_words(self, ranks):
@@ -422,7 +402,7 @@ class Parts:
         demand_equal("who voted, heads", heads, [f"Voted ({len(voted)})", f"No ballot that counts ({len(absent)})"])
         lists = [[(entry.text(), entry.attributes.get("id")) for entry in names.all("li")] for names in section.all("ul", "roll")]
         demand_equal("who voted", lists, [names for names in ([(name, None) for name in voted], [(name, name) for name in absent]) if names])
-        number = f"{len(voted)} {'elector' if len(voted) == 1 else 'electors'} of {len(count.poll.roll)} {'has' if len(voted) == 1 else 'have'}"
+        number = f"{counted(len(voted), 'elector')} of {len(count.poll.roll)} {'has' if len(voted) == 1 else 'have'}"
         said = f"{number} a ballot that counts, which is {share(len(voted), len(count.poll.roll))}."
         demand_equal("who voted, number", next(section.all("p")).text(), said)
 
@@ -439,23 +419,24 @@ def bar_of(svg):
 def majority_of(count, option):
     """The least number that is a majority, tried one by one."""
     poll, under = count.poll, count.votes[count.poll.default, option]
-    for number in range(200_000):
-        if number > under and (number > poll.ratios[option] * under or (not poll.is_more_than and number == poll.ratios[option] * under)):
-            return number
+    least = poll.ratios[option] * under + poll.is_more_than
+    return next(number for number in range(200_000) if number > under and number >= least)
 
 
 def needed_by(count, option):
     """What an option needs: of what it was dropped for, or of quorum and majority."""
-    dropped = count.dropped.get(option)
-    if dropped is not None:
-        return least_of(count) if dropped == "quorum" else majority_of(count, option)
-    return max(least_of(count), majority_of(count, option))
+    needs = {"quorum": [least_of(count)], "majority": [majority_of(count, option)]}
+    return max(needs.get(count.dropped.get(option), sum(needs.values(), [])))
 
 
 def least_of(count):
     """The least number of votes that meets the quorum."""
     square = count.poll.quorum**2 * len(count.poll.roll)
     return next(number for number in range(20_000) if (2 * number) ** 2 >= square)
+
+
+def counted(number, thing):
+    return f"{number} {thing}{'' if number == 1 else 's'}"
 
 
 def in_words(texts):

@@ -47,11 +47,8 @@ class Count:
 
 
 class Part:
-    """A running part; its output and its seconds go to files of its own.
-
-    Python waits for its child, so until then no other process gets the same process id. A shell that asks for a status by id,
-    long after the child has ended, may get the status of another process.
-    """
+    """A running part; its output and its seconds go to files of its own. Python waits for it: a shell that asks for the status of an id,
+    long after that process has ended, may get the status of another one."""
 
     def __init__(self, words: list[str], room: pathlib.Path, cwd: pathlib.Path = ROOT, counted: re.Pattern[str] = COUNT, **how: object) -> None:
         self.name = " ".join([*words, *(["in", cwd.name] if cwd.parent.name == "crates" else [])])
@@ -63,7 +60,6 @@ class Part:
             self.process = subprocess.Popen([ROOT / "tests" / "times", self.seconds, *words], cwd=cwd, **output)
 
     def text(self) -> str:
-        """Its output."""
         return self.told.read_text(encoding="utf-8", errors="replace")
 
     def count(self) -> Count:

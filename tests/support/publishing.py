@@ -14,8 +14,7 @@ CASES = ROOT / "tests" / "cases"
 EXAMPLES = ROOT / "examples"
 PATH = os.pathsep.join([str(PROGRAM.parent), os.environ["PATH"]])
 
-# the greatest size of the page of the largest election, in bytes; 1.3 million of them are its poll and its ballots, which it
-# carries so that they can be counted again
+# the greatest size of the page of the largest election, in bytes
 LARGEST_PAGE = 7_000_000
 
 # a poll with three options and four electors, and three ballots for it
@@ -28,12 +27,10 @@ roll = ["ada", "ben", "cleo", "dan"]
 """
 PLAIN_BALLOTS = "ada 1,2,3\nben 2,1,3\ncleo 1,2,3\n"
 
-# the two files of an election, in its folder
 FILES = ["--poll", "poll.toml", "--ballots", "ballots"]
 
 
 def run(words, path=PATH, **how):
-    """The output of a run, and its status."""
     given = {"capture_output": True, "text": True, "timeout": SECONDS, "env": {**os.environ, "PATH": path}}
     ended = forks.run(list(map(str, words)), **given, **how)
     return ended.stdout, ended.stderr, ended.returncode
@@ -52,14 +49,10 @@ def publish_files(poll, ballots, folder, *more, **how):
 
 def room_with(folder, example):
     """A folder with the two files of an example."""
-    folder.mkdir(parents=True)
-    for name in ("poll.toml", "ballots"):
-        (folder / name).write_bytes((EXAMPLES / example / name).read_bytes())
-    return folder
+    return plain_room(folder, *((EXAMPLES / example / name).read_text() for name in ("poll.toml", "ballots")))
 
 
 def plain_room(folder, poll=PLAIN_POLL, ballots=PLAIN_BALLOTS):
-    """A folder with these two files."""
     folder.mkdir(parents=True)
     (folder / "poll.toml").write_bytes(poll.encode())
     (folder / "ballots").write_bytes(ballots.encode())

@@ -1,13 +1,11 @@
 """Compares what debvote-publish makes with tests/reference.py on random polls: the data, the parts of the page, the refused lines.
 
-`result.json` and `votes.csv` are made a second time from the count of the reference, and each part of the page is compared with it
-(page_parts.py). The refused lines have to be those of `tests/reference_checks.py`. In each fifth folder `recount.py` must print the sheet.
-
 DEBVOTE_PUBLISHED_POLLS is the number of random polls to publish, by default 200.
 """
 
 import collections
 import concurrent.futures
+import contextlib
 import csv
 import dataclasses
 import io
@@ -15,17 +13,15 @@ import json
 import os
 import pathlib
 import re
-import subprocess
 import sys
 import tempfile
 import tomllib
 
 from tests import reference, reference_checks
-from tests.support import forks, page_parts as pages, publishing
+from tests.support import page_parts as pages, publishing
 from tests.support.page_parts import Wrong, demand
 from tests.support.polls import random_polls
-
-PROGRAM, PUBLISH, SECONDS = publishing.PROGRAM, publishing.PUBLISH, publishing.SECONDS
+from tests.support.publishing import PROGRAM
 
 # how many random polls without a fault are published; from ENOUGH on all kinds of sentences have to occur
 POLLS, ENOUGH = int(os.environ.get("DEBVOTE_PUBLISHED_POLLS", "200")), 200
@@ -38,18 +34,12 @@ class Count:
     poll: reference.Poll
     lines: list
     replies: list
-    # the ranks of the last valid ballot of each voter, by number
-    last: dict
+    last: dict  # the ranks of the last valid ballot of each voter, by number
     votes: dict
     dropped: dict
     defeats: set
     rounds: list
-    # the option that the casting vote is for
-    casting: int | None
-
-    @property
-    def voters(self):
-        return len(self.last)
+    casting: int | None  # the option that the casting vote is for
 
     @property
     def valid(self):
@@ -88,7 +78,7 @@ def document_of(count, version, names):
         "format": "debvote result 1", "program": version, "title": poll.title, "label": names.get(0, poll.title), "electors": len(poll.roll),
         "quorum": {"multiple": poll.quorum, "votes": pages.least_of(count)}, "wording": "more_than" if poll.is_more_than else "at_least",
         "lines": len(count.lines), "last_envelope": poll.last_envelope, "valid": count.valid, "refused": len(count.lines) - count.valid,
-        "voters": count.voters,
+        "voters": len(count.last),
         "options": [
             {
                 "number": o, "name": name, "label": names.get(o, name), "is_default": o == poll.default, "ratio": poll.ratios.get(o),
@@ -131,7 +121,6 @@ def try_refused(page, count):
 
 
 def line_shown(line):
-    """A line as the page shows it."""
     text = line.decode("utf-8", "backslashreplace")
     seen = "".join(sign if sign.isprintable() else f"\\u{ord(sign):04X}" for sign in text[:100])
     return seen + (f" (the first 100 of {len(text)} characters)" if len(text) > 100 else "") if line else "(an empty line)"
@@ -177,42 +166,37 @@ def try_folder(room, seed, election, count, casting):
     folders = [room / "one", *([room / "two"] if seed % 10 == 0 else [])]
     for folder in folders:
         # no Graphviz: pictures are tested elsewhere
-        how = {"cwd": room, "env": {**os.environ, "PATH": str(PROGRAM.parent)}, "capture_output": True, "timeout": SECONDS}
-        ended = forks.run([sys.executable, PUBLISH, *words, folder.name], **how)
+        _, faults, status = publishing.publish(room, *words, folder.name, path=str(PROGRAM.parent))
         if casting is not None and count.casting not in count.final:
-            demand((ended.returncode, folder.exists()) == (8, False), f"status {ended.returncode} in place of 8: {ended.stderr}")
+            demand((status, folder.exists()) == (8, False), f"status {status} in place of 8: {faults}")
             left = " and ".join(f"{option} {count.poll.names[option]}" for option in count.final)
-            demand(f"which is not left; left {'are' if count.final[1:] else 'is'} {left};" in ended.stderr.decode(), ended.stderr)
+            demand(f"which is not left; left {'are' if count.final[1:] else 'is'} {left};" in faults, faults)
             return collections.Counter()
-        if b"write the poll as TOML 1.0" in ended.stderr:
-            demand((ended.returncode, is_toml_1_0(room / "poll.toml")) == (3, False), "a poll that is TOML 1.0 was refused")
+        if "write the poll as TOML 1.0" in faults:
+            demand((status, is_toml_1_0(room / "poll.toml")) == (3, False), "a poll that is TOML 1.0 was refused")
             return None
         wanted = 1 if count.winner is None else 0
-        demand(ended.returncode == wanted, f"status {ended.returncode} in place of {wanted}: {ended.stderr}")
+        demand(status == wanted, f"status {status} in place of {wanted}: {faults}")
     contents = [{file.name: file.read_bytes() for file in folder.iterdir()} for folder in folders]
     demand(all(content == contents[0] for content in contents), "two runs make the same bytes")
     sheet, _ = reference.count(election.poll, election.ballots, casting)
     demand(contents[0]["sheet.txt"] == sheet.encode(), "sheet.txt")
     if seed % 5 == 0:
-        more = [] if casting is None else [f"--casting={casting}"]
-        words = [sys.executable, "recount.py", "count", "--poll", "poll.toml", "--ballots", "ballots.txt", *more]
-        again = subprocess.run(words, cwd=room / "one", capture_output=True, text=True, timeout=SECONDS)
-        demand((again.stdout, again.stderr) == (sheet, ""), "recount.py")
+        words = [sys.executable, "recount.py", "count", "--poll", "poll.toml", "--ballots", "ballots.txt", *words[4:]]
+        demand(publishing.run(words, cwd=room / "one")[:2] == (sheet, ""), "recount.py")
     return try_made(room / "one", count, names)
 
 
 def is_toml_1_0(file):
-    try:
-        tomllib.loads(file.read_bytes().decode("utf-8-sig"))
-    except ValueError:
-        return False
-    return True
+    with contextlib.suppress(ValueError):
+        return tomllib.loads(file.read_bytes().decode("utf-8-sig")) is not None
+    return False
 
 
 def try_made(folder, count, names):
     """Compares data, names, refused lines and sentences of a folder. Returns the kinds of sentences found."""
     data, table, page = ((folder / name).read_text() for name in ("result.json", "votes.csv", "index.html"))
-    document = document_of(count, subprocess.run([PROGRAM, "--version"], capture_output=True, text=True).stdout.strip(), names)
+    document = document_of(count, publishing.run([PROGRAM, "--version"])[0].strip(), names)
     demand(json.loads(data) == document, f"result.json: {data} in place of {document}")
     demand(list(json.loads(data)) == list(document), "the order of its keys")
     demand(list(csv.reader(io.StringIO(table))) == list(table_of(count)), f"votes.csv: {table}")
@@ -231,11 +215,10 @@ def try_published(expect, name, folder, casting):
     names = dict(enumerate([poll.get("shown_title", poll["title"]), *poll.get("shown_options", count.poll.names.values())]))
     names = {number: text for number, text in names.items() if text != {0: poll["title"], **count.poll.names}[number]}
     try:
-        kinds, wrong = try_made(folder, count, names), None
-    except Wrong as found:
-        kinds, wrong = collections.Counter(), str(found)
-    expect(f"{name}: data, sentences and refused lines", wrong, None)
-    return kinds
+        return try_made(folder, count, names)
+    except Wrong as wrong:
+        expect(f"{name}: data, sentences and refused lines", str(wrong), None)
+        return collections.Counter()
 
 
 def try_random_polls(expect, met):

@@ -53,7 +53,6 @@ def in_code() -> dict[tuple[str, ...], str]:
 
 
 def texts_of(call: ast.Call) -> list[tuple[str, ...]]:
-    """The sentences in a call."""
     name = call.func.attr if isinstance(call.func, ast.Attribute) else call.func.id if isinstance(call.func, ast.Name) else ""
     if name in WITH_TWO:
         one, many = (literals(word) for word in call.args[:2])
@@ -89,12 +88,10 @@ def entries_in(text: str) -> list[Entry]:
 
 
 def places_in(text: str) -> set[str]:
-    """The places of a sentence, by name."""
     return set(re.findall(r"\{(\w+)\}", text))
 
 
 def as_po(texts: tuple[str, ...], forms: tuple[str, ...]) -> str:
-    """An entry as a `.po` file has it."""
     keywords = ["msgid"] if len(texts) == 1 else ["msgid", "msgid_plural"]
     names = ["msgstr"] if len(texts) == 1 else [f"msgstr[{number}]" for number in range(len(forms))]
     return "".join(f"{keyword} {quoted(text)}\n" for keyword, text in zip([*keywords, *names], [*texts, *forms], strict=True))

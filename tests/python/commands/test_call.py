@@ -1,6 +1,7 @@
 """`call` and `codes`: what is sealed, what electors are told, and how a call is extended, added to and taken back."""
 
 import email
+import hashlib
 import json
 import os
 import re
@@ -32,37 +33,33 @@ class CallTest(elections.ElectionTest):
 class Open(CallTest):
     def test_folder_and_seal(self) -> None:
         ended = self.done("call", *UNTIL, "--to", "vote@club.example", "--at", "https://club.example/vote/")
-        self.assertEqual(sorted(file.name for file in (self.folder / "call").iterdir()), ["SHA256SUMS", "call.txt", "index.html", "poll.toml"])
+        modes = {file.name: file.stat().st_mode & 0o777 for file in (self.folder / "call").iterdir()}
+        self.assertEqual(modes, dict.fromkeys(["SHA256SUMS", "call.txt", "index.html", "poll.toml"], 0o644))
         poll = read_plain(self.read("call/poll.toml"))
         self.assertEqual((poll.deadline, poll.address, list(poll.roll)), ("2026-12-04T18:00:00+01:00", "vote@club.example", elections.NAMES))
-        answered = subprocess.run(["sha256sum", "poll.toml"], cwd=self.folder / "call", capture_output=True, text=True).stdout
         for text in (ended.output, self.texts()):
-            self.assertIn(answered.split()[0], text)
-            self.assertIn(f"[{poll.mark}]", text)
-        self.assertIn(FIRST, self.texts())
+            for part in (hashlib.sha256(self.read("call/poll.toml")).hexdigest(), f"[{poll.mark}]", FIRST):
+                self.assertIn(part, text)
         subprocess.run(["sha256sum", "--quiet", "-c", "SHA256SUMS"], cwd=self.folder / "call", check=True)
-        self.assertEqual({file.stat().st_mode & 0o777 for file in (self.folder / "call").iterdir()}, {0o644})
         # made again it is the same, and no act
-        before, log = self.contents(), self.done("log").output
+        before, log = {file: file.read_bytes() for file in (self.folder / "call").iterdir()}, self.done("log").output
         self.write("poll.toml", "title = 5\n")
         self.write("members.csv", "nothing\n")
-        for file in (self.folder / "call").iterdir():
+        for file in before:
             file.unlink()
         self.write("call/poll.toml", "another")
         self.done("call")
-        self.assertEqual(*({name: data for name, data in files.items() if name.startswith("call/")} for files in (self.contents(), before)))
+        self.assertEqual({file: file.read_bytes() for file in (self.folder / "call").iterdir()}, before)
         self.assertEqual(self.done("log").output, log)
 
     def test_real_names_are_told_only_with_names(self) -> None:
-        people = {name: f"Person{number} of {name.title()}" for number, name in enumerate(elections.NAMES)}
-        self.write("members.csv", "name,who,mail\n" + "".join(f"{name},{who},{name}@club.example\n" for name, who in people.items()))
+        people = [f"Person of {name.title()}" for name in elections.NAMES]
+        self.write("members.csv", "name,who,mail\n" + "".join(f"{name},{who},\n" for name, who in zip(elections.NAMES, people)))
         self.done("roll")
-        self.done("call", *UNTIL)
-        told = b"".join(file.read_bytes() for file in (self.folder / "call").iterdir()).decode()
-        self.assertEqual([who for who in people.values() if who in told], [])
-        self.done("call", "--take-back")
-        self.done("call", *UNTIL, "--names")
-        self.assertEqual([who for who in people.values() if who in self.read("call/index.html").decode()], list(people.values()))
+        for words, shown in (((), []), (("--names",), people)):
+            self.done("call", *UNTIL, *words)
+            self.assertEqual([who for who in people if who in self.texts() + self.read("call/poll.toml").decode()], shown)
+            self.done("call", "--take-back")
 
     def test_the_list_has_to_be_the_one_that_was_read(self) -> None:
         rows = elections.members_of(elections.NAMES)
@@ -84,13 +81,6 @@ class Open(CallTest):
         parts = ["is past", "--to: it must be one mail address", "--at: it must be", "since roll read it", "letter.txt:1: ", "quorum: "]
         self.assertEqual([part in line for part, line in zip(parts, ended.faults.splitlines(), strict=True)], [True] * 6, ended.faults)
         self.assertFalse((self.folder / "call").exists())
-
-    def test_an_end_that_the_call_did_not_say(self) -> None:
-        self.done("call", "--to", "vote@club.example")
-        self.done("call", *UNTIL)
-        text = " ".join(self.read("letters/extension.txt").decode().split())
-        self.assertIn("You can now vote until the time below.", text)
-        self.assertIn(f"Vote until: {FIRST} The call did not", text)
 
 
 class Again(CallTest):
@@ -116,11 +106,9 @@ class Again(CallTest):
         self.done("call")
 
     def test_what_is_added_and_what_not(self) -> None:
-        self.done("call", "--at", "https://club.example/vote/")
-        self.assertIn("https://club.example/vote/", self.texts())
-        self.done("call", "--at", "https://club.example/moved/")
-        self.assertIn("https://club.example/moved/", self.texts())
-        self.assertNotIn("https://club.example/vote/", self.texts())
+        for page, other in (("https://club.example/vote/", "moved/"), ("https://club.example/moved/", "vote/")):
+            self.done("call", "--at", page)
+            self.assertEqual((page in self.texts(), other in self.texts()), (True, False))
         for words in (("--to", "other@club.example"), ("--names",), ("--form",), ("--keyring", "poll.toml")):
             with self.subTest(words):
                 self.assert_fault(self.election("call", *words), 9, words[0], "--take-back")
@@ -139,26 +127,21 @@ class Again(CallTest):
         self.assert_fault(self.election("call", *UNTIL[:1], "2026-11-01 10:00"), 2, "is past")
 
     def test_not_taken_back_once_something_came(self) -> None:
-        self.write("lines", "ada 1,2,3,4\n")
-        self.done("add", "--yes", "lines")
+        self.done("desk", given="ada 1,2,3,4\n")
         self.done("undo", "--yes")
         self.assert_fault(self.election("call", "--take-back"), 9, "have come")
 
     def test_not_taken_back_once_a_letter_waits(self) -> None:
-        """Also if it was set aside since."""
-        self.write("letter.eml", "From: stranger@example.org\nDate: Fri, 27 Nov 2026 09:30:00 +0000\n\nada 1,2,3,4\n")
-        self.set_clock("2026-11-27T10:00:00+00:00")
-        self.done("add", "--yes", "letter.eml")
-        self.assert_fault(self.election("call", "--take-back"), 9, "have come")
-        self.done("held", "1", "--set-aside")
-        self.assert_fault(self.election("call", "--take-back"), 9, "have come")
+        self.write("letter.eml", "From: stranger@example.org\nDate: Fri, 27 Nov 2026 08:30:00 +0000\n\nada 1,2,3,4\n")
+        for words in (("add", "--yes", "letter.eml"), ("held", "1", "--set-aside")):
+            self.done(*words)
+            self.assert_fault(self.election("call", "--take-back"), 9, "have come")
 
 
 class Letters(CallTest):
     """What letters to electors are told by the call: a name to come from, own marks, and a text of the secretary."""
 
     def marks(self) -> dict[str, str]:
-        """The own mark of each elector."""
         return dict(self.rows("SELECT name, mark FROM elector_state JOIN elector USING (elector) ORDER BY elector_state.rowid"))
 
     def announced(self, key: str) -> object:
@@ -170,16 +153,12 @@ class Letters(CallTest):
         return [data for data, in self.rows("SELECT data FROM sealed WHERE name = ? ORDER BY act", LETTER_TEXT)]
 
     def test_a_name_of_the_address_is_kept_and_not_sealed(self) -> None:
-        self.done("call", *UNTIL, "--to", "Wahlleitung TSV <vote@club.example>")
-        self.assertEqual((self.announced("to"), self.announced("to_name")), ("vote@club.example", "Wahlleitung TSV"))
-        self.assertEqual(read_plain(self.read("call/poll.toml")).address, "vote@club.example")
-        self.assertNotIn("Wahlleitung", self.texts())
-        self.assertIn("mailto:vote@club.example", self.read("call/index.html").decode())
         # the name alone may change, and may be taken away
-        self.done("call", "--to", '"Vereinsb\u00fcro, TSV" <vote@club.example>')
-        self.assertEqual(self.announced("to_name"), "Vereinsb\u00fcro, TSV")
-        self.done("call", "--to", "vote@club.example")
-        self.assertEqual(self.announced("to_name"), "")
+        for to, name in {"Wahlleitung TSV <{}>": "Wahlleitung TSV", '"Vereinsb\u00fcro, TSV" <{}>': "Vereinsb\u00fcro, TSV", "{}": ""}.items():
+            self.done("call", "--to", to.format("vote@club.example"))
+            self.assertEqual((self.announced("to"), self.announced("to_name")), ("vote@club.example", name))
+            self.assertEqual(read_plain(self.read("call/poll.toml")).address, "vote@club.example")
+            self.assertEqual(("mailto:vote@club.example" in self.texts(), bool(name) and name in self.texts()), (True, False))
         self.assert_fault(self.election("call", "--to", "TSV <other@club.example>"), 9, "--to: the call has sealed the address")
 
     def test_a_name_in_a_wrong_form(self) -> None:
@@ -192,8 +171,7 @@ class Letters(CallTest):
     def test_own_marks_stay_until_the_call_is_taken_back(self) -> None:
         self.done("call", *UNTIL)
         first = self.marks()
-        self.assertTrue(all(re.fullmatch("[2-9a-hj-km-np-z]{10}", mark) for mark in first.values()), first)
-        self.assertEqual(len(set(first.values())), 9)
+        self.assertEqual(len({mark for mark in first.values() if re.fullmatch("[2-9a-hj-km-np-z]{10}", mark)}), 9, first)
         self.done("call", "--until", "2026-12-05 18:00", "--zone", "Europe/Berlin")
         self.assertEqual(self.marks(), first)
         self.done("call", "--take-back")
@@ -210,11 +188,10 @@ class Letters(CallTest):
         self.assertRegex(after["ada"], "^[2-9a-z]{10}$")
 
     def test_with_marks_alone(self) -> None:
-        ended = self.done("call", *UNTIL, "--to", "vote@club.example", "--at", "https://club.example/vote/", "--marked")
-        self.assertIn("A letter goes in by itself only with the own mark of its elector.\n", ended.output)
-        self.assertIs(self.announced("marked"), True)
+        told = self.done("call", *UNTIL, "--to", "vote@club.example", "--at", "https://club.example/vote/", "--marked").output
+        self.assertIn("A letter goes in by itself only with the own mark of its elector.\n", told)
         said = "Open the link in your letter, or answer that letter: then the subject has your own mark"
-        self.assertIn(said, " ".join(self.read("call/index.html").decode().split()))
+        self.assertIn(said, " ".join(self.texts().split()))
         self.done("call", "--marked", "--until", "2026-12-05 18:00")
         self.assertIs(self.announced("marked"), True)
         self.done("call", "--take-back")
@@ -263,11 +240,6 @@ class Letters(CallTest):
         self.done("call", *UNTIL)
         self.write("letter.txt", b"\xff")
         self.assert_fault(self.election("call", "--until", "2026-12-05 18:00"), 2, "letter.txt:1: it is not in UTF-8")
-        self.write("poll.toml", "title = 5\n")
-        self.done("call", "--take-back")
-        ended = self.election("check")
-        self.assertIn("letter.txt:1: it is not in UTF-8", ended.faults)
-        self.assertIn("poll.toml: ", ended.faults)
 
 
 class Secret(CallTest):
@@ -289,20 +261,15 @@ class Secret(CallTest):
         self.assertEqual([(row[0], row[2]) for row in table], [(name, f"{name}@club.example") for name in elections.NAMES])
         self.assertEqual((len({row[3] for row in table}), [row[4] for row in table]), (9, [alias_of(row[3], row[0]) for row in table]))
         self.assertEqual(list(read_plain(self.read("call/poll.toml")).roll), sorted(row[4] for row in table))
-        slips = re.split('class="slip', self.read("private/slips.html").decode())[1:]
-        slips = [re.sub(r"<[^>]*>|\s", "", slip) for slip in slips]
-        for row in table:
-            [having] = [slip for slip in slips if row[3] in slip]
-            self.assertIn(row[0], having)
+        slips = [re.sub(r"<[^>]*>|\s", "", slip) for slip in self.read("private/slips.html").decode().split('class="slip')[1:]]
         public = b"".join(file.read_bytes() for file in (self.folder / "call").iterdir()).decode()
-        for row in table:
-            self.assertNotIn(row[3], public)
-            self.assertNotRegex(public, rf"\b{row[0]}\b")
+        for name, _, _, code, _ in table:
+            self.assertEqual([name in slip for slip in slips if code in slip], [True])
+            self.assertNotRegex(public, rf"{code}|\b{name}\b")
         # slips tell the end as it is, and the page
-        self.done("call", "--until", "2026-12-06 18:00", "--zone", "Europe/Berlin")
-        self.assertIn(SECOND, self.read("private/slips.html").decode())
-        self.done("call", "--at", "https://club.example/vote/")
-        self.assertIn("https://club.example/vote/", self.read("private/slips.html").decode())
+        for words, said in ((("--until", "2026-12-06 18:00"), SECOND), (("--at", "https://club.example/vote/"), "https://club.example/vote/")):
+            self.done("call", *words)
+            self.assertIn(said, self.read("private/slips.html").decode())
 
     def test_codes_stay_and_new_electors_get_theirs(self) -> None:
         """Only the secretary may read them, whatever modes the files have got."""
@@ -379,9 +346,8 @@ class Secret(CallTest):
         slip, aliases = self.read("private/slips.html").decode(), self.published_codes()
         self.assertIn(f"<b>[{read_plain(self.read('call/poll.toml')).mark}]</b>", slip)
         self.assertNotIn(" is void", slip + self.texts())
-        said = self.done("call", "--take-back").output
-        self.assertIn("All 9 codes are void", said)
-        self.assertIn("Next: put right what was wrong, then run debvote-election codes\n", said)
+        said = r"All 9 codes are void(?s:.*)\nNext: put right what was wrong, then run debvote-election codes\n"
+        self.assertRegex(self.done("call", "--take-back").output, said)
         self.assertEqual([*(self.folder / "private").iterdir()], [])
         self.write("members.csv", elections.members_of([*elections.NAMES, "jan"]))
         self.done("roll")

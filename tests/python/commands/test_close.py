@@ -2,32 +2,24 @@
 
 import contextlib
 import hashlib
-import io
 import os
+import unittest
 from collections.abc import Iterator
 from unittest import mock
 
-from debvote_tools.cli import command_line
 from debvote_tools.commands import close
 from debvote_tools.result import folder as result_folder
 
-from tests.support import elections
 from tests.support.called import LettersTest
 from tests.support.terminal import Terminal
 
-UNTIL = ("--until", "2026-12-04 18:00", "--zone", "Europe/Berlin")
+MEANWHILE = "another command changed the election meanwhile; nothing was changed"
 
 
-class CloseTest(LettersTest):
-    def add(self, *lines: str) -> elections.Ended:
-        self.write("lines", "".join(f"{line}\n" for line in lines))
-        return self.done("add", "--yes", "lines")
-
-
-class Close(CloseTest):
+class Close(LettersTest):
     def test_lines_after_it_are_late(self) -> None:
         """Its letter names the checksums of the poll and of the ballots, and the digest; it is that of the close however often it is made."""
-        self.add("ada 1,2,3,4", "ben 2,1,3,4", "zoe 1")
+        self.add_lines("ada 1,2,3,4", "ben 2,1,3,4", "zoe 1")
         before, ended = self.exported()[0], self.done("close")
         letter = self.read("letters/closed.txt").decode()
         sums = [hashlib.sha256(data).hexdigest() for data in (self.read("call/poll.toml"), before.encode())]
@@ -38,7 +30,7 @@ class Close(CloseTest):
         self.assertIn("3 lines came in time", letter)
         self.write("letters/closed.txt", "another")
         log = self.done("log").output
-        self.assertIn("late", self.add("ada 4,3,2,1").output)
+        self.assertIn("late", self.add_lines("ada 4,3,2,1"))
         self.assertIn("Nothing was changed", self.done("close").output)
         self.assertEqual((self.read("letters/closed.txt").decode(), self.done("log").output.splitlines()[:-2]), (letter, log.splitlines()))
         self.assertEqual(self.exported(), (before, "ada 4,3,2,1\n"))
@@ -49,7 +41,7 @@ class Close(CloseTest):
     def test_the_end(self) -> None:
         """A later call announced it, in another zone than that in which the book keeps times. A line that comes after it still counts."""
         self.set_clock("2026-11-27T09:00:00+00:00")
-        self.done("call", *UNTIL)
+        self.done("call", "--until", "2026-12-04 18:00", "--zone", "Europe/Berlin")
         before, end = self.contents(), "Friday, 4 December 2026, 18:00 (UTC+01:00)"
         # what lets a close pass over letters says nothing of the end
         for words in ((), ("--force", "--because", "all have voted")):
@@ -58,25 +50,18 @@ class Close(CloseTest):
         for time, name, said in (("16:30", "ada", ""), ("17:30", "ben", "; that time has passed")):
             self.set_clock(f"2026-12-04T{time}:00+00:00")
             self.assertIn(f"\nEnd of the vote: {end}{said}\n", self.done("status").output)
-            self.assertIn("1 counted", self.add(f"{name} 1,2,3,4").output)
+            self.assertIn("1 counted", self.add_lines(f"{name} 1,2,3,4"))
         self.assertIn("2 lines came in time", self.done("close").output)
         self.assertIn("18:30 (UTC+01:00)", " ".join(self.read("letters/closed.txt").decode().split()))
         self.done("publish")
         self.assertIn("1 line came after the end, and is in time, since the vote was not closed yet.", self.read("result/index.html").decode())
 
 
-class Meanwhile(CloseTest):
-    """What others do while a vote is closed or published."""
-
-    def in_this_process(self, *words: str) -> tuple[int, str, str]:
-        """Runs a command here, where a test can put something between two of its steps."""
-        env = elections.environment() | {"XDG_STATE_HOME": str(self.state)}
-        output, faults = io.TextIOWrapper(io.BytesIO()), io.TextIOWrapper(io.BytesIO())
-        with mock.patch.dict(os.environ, env), contextlib.chdir(self.folder):
-            with contextlib.redirect_stdout(output), contextlib.redirect_stderr(faults):
-                status = command_line.main(elections.ELECTION.parent, words)
-        said = [stream.buffer.getvalue().decode() for stream in (output, faults)]
-        return status, said[0], said[1]
+@unittest.skipIf(os.environ.get("DEBVOTE_FORKS") == "0", "what a test has patched is in its forks alone")
+class Meanwhile(LettersTest):
+    def entered(self, line: str) -> None:
+        """A desk enters a line. It is a new process: a fork of a fork shares its input."""
+        self.desk().communicate(f"{line}\n")
 
     def closing_after(self, lines: Iterator[str]) -> mock._patch:
         """Before each close that is decided, a desk enters the next of these lines."""
@@ -85,39 +70,35 @@ class Meanwhile(CloseTest):
         def after_a_desk(*found: object) -> object:
             detail = fixed(*found)
             if (line := next(lines, None)) is not None:
-                self.done("desk", given=f"{line}\n")
+                self.entered(line)
             return detail
 
         return mock.patch.object(close, "fixed", after_a_desk)
 
     def test_a_line_between_checksum_and_close(self) -> None:
-        """The close is decided anew, with the line."""
-        self.add("ada 1,2,3,4")
+        self.add_lines("ada 1,2,3,4")
         with self.closing_after(iter(["ben 1,2,3,4", "cleo 2,1,3,4"])):
-            status, said, faults = self.in_this_process("close")
-        self.assertEqual((status, faults), (0, ""), said)
+            said = self.told("close")
         ballots = "ada 1,2,3,4\nben 1,2,3,4\ncleo 2,1,3,4\n"
-        self.assertEqual(self.exported(), (ballots, ""))
+        self.assertEqual((self.exported(), "Closed: 3 lines came in time" in said), ((ballots, ""), True))
         self.assertIn(hashlib.sha256(ballots.encode()).hexdigest(), self.read("letters/closed.txt").decode())
-        self.assertIn("Closed: 3 lines came in time", said)
         self.done("publish")
 
     def test_a_desk_that_never_stops(self) -> None:
         with mock.patch.object(close, "TRIES", 2), self.closing_after(iter(["ada 1,2,3,4"] * 9)):
-            status, _, faults = self.in_this_process("close")
-        self.assertEqual((status, self.numbers()["stage"]), (9, "called"))
-        self.assertIn("another command changed the election meanwhile; nothing was changed", faults)
+            self.assert_fault(self.election("close"), 9, MEANWHILE)
+        self.assertEqual(self.numbers()["stage"], "called")
 
     def test_a_line_while_it_is_published(self) -> None:
         """What is late by then is in no folder that does not say so; without new words the folder is that of the book, too."""
-        self.add("ada 1,2,3,4", "ben 1,2,3,4")
+        self.add_lines("ada 1,2,3,4", "ben 1,2,3,4")
         self.done("close")
         made = result_folder.made
 
         @contextlib.contextmanager
         def before_a_line(*found: object) -> Iterator[object]:
             with made(*found) as folder:
-                self.done("desk", given="dan 1,2,3,4\n")
+                self.entered("dan 1,2,3,4")
                 yield folder
 
         for is_made_again in (False, True):
@@ -125,14 +106,12 @@ class Meanwhile(CloseTest):
                 self.done("publish")
             files = {name: data for name, data in self.contents().items() if name.startswith("result/")}
             with mock.patch.object(result_folder, "made", before_a_line):
-                status, _, faults = self.in_this_process("publish")
-            self.assertEqual(status, 9, faults)
-            self.assertIn("another command changed the election meanwhile; nothing was changed", faults)
+                self.assert_fault(self.election("publish"), 9, MEANWHILE)
             self.assertEqual({name: data for name, data in self.contents().items() if name.startswith("result/")}, files)
 
     def test_a_fault_after_the_act(self) -> None:
         """It says which act was done, and not that nothing was changed."""
-        self.add("ada 1,2,3,4")
+        self.add_lines("ada 1,2,3,4")
         self.write("letters", "somebody's file")
         self.assert_fault(self.election("close"), 7, "letters: File exists; it was not changed; act 5 (close) was done")
         self.assertEqual(self.numbers()["stage"], "closed")
@@ -142,19 +121,17 @@ class Meanwhile(CloseTest):
         self.assert_fault(moved, 2, "; act 6 (moved) was done; nothing was published: ")
 
 
-class Asked(CloseTest):
+class Asked(LettersTest):
     def test_whether_that_is_all(self) -> None:
         self.set_clock("2026-12-01T17:00:00+00:00")
-        self.add("ada 1,2,3,4")
+        self.add_lines("ada 1,2,3,4")
         self.set_clock("2026-12-02T18:30:00+00:00")
         self.done("desk", given="ben 1,2,3,4\n")
         last = "Added last: 2026-12-01 17:00:00 UTC. Entered last at a desk: 2026-12-02 18:30:00 UTC."
+        asked = "Is that all? It is if the mailbox was added just now, all paper is entered, and no desk is open."
         for answer in ("n\n", "\x04"):
             terminal = Terminal(self, "close")
-            shown = terminal.until("[y/n] ")
-            self.assertIn(f"Until now 2 lines came in time. {last}", shown)
-            self.assertIn("mailbox", shown)
-            self.assertIn("desk is open", shown)
+            self.assertEqual(terminal.until("[y/n] "), f"Until now 2 lines came in time. {last}\n{asked} [y/n] ")
             terminal.type(answer)
             self.assertIn("you did not say that this is all; nothing was changed", terminal.end()[0])
         self.assertEqual(self.numbers()["stage"], "called")
@@ -164,50 +141,44 @@ class Asked(CloseTest):
         terminal.type("y\n")
         output, status = terminal.end()
         # it is asked once, and the ballot that came meanwhile is closed, too
-        self.assertNotIn("[y/n]", output)
+        self.assertRegex(output, r"^[^[]*Closed: 3 lines came in time[^[]*$")
         self.assertEqual((status, self.numbers()["lines"], self.numbers()["stage"]), (0, 3, "closed"))
-        self.assertIn("Closed: 3 lines came in time", output)
 
     def test_yes(self) -> None:
         output, status = Terminal(self, "close", "--yes").end()
-        self.assertEqual((status, "[y/n]" in output), (0, False))
-        self.assertIn("Until now 0 lines came in time. Added last: never. Entered last at a desk: never.", output)
+        said = "Until now 0 lines came in time. Added last: never. Entered last at a desk: never."
+        self.assertEqual((status, said in output, "[y/n]" in output), (0, True, False))
 
 
-class Reopen(CloseTest):
+class Reopen(LettersTest):
     def setUp(self) -> None:
         super().setUp()
-        self.add("ada 1,2,3,4")
+        self.add_lines("ada 1,2,3,4")
         self.done("close")
-        self.add("ben 1,2,3,4", "cleo 2,1,3,4")
+        self.add_lines("ben 1,2,3,4", "cleo 2,1,3,4")
 
     def test_what_had_come_in_time(self) -> None:
         ended = self.done("reopen", "--because", "a letter was forgotten", "--in-time", "3")
         self.assertIn("Envelope 4, entered anew from late envelope 3: cleo 2,1,3,4", ended.output)
         self.assertEqual(self.exported(), ("ada 1,2,3,4\ncleo 2,1,3,4\n", "ben 1,2,3,4\ncleo 2,1,3,4\n"))
-        self.write("more", "dan 1,2,3,4\n")
-        self.assertEqual(self.election("add", "--yes", "more").status, 9)
-        self.done("add", "--yes", "--came-before-close", "yes", "more")
-        self.write("more", "eve 1,2,3,4\n")
-        self.done("add", "--yes", "--came-before-close", "no", "more")
-        self.assertEqual(self.exported()[0], "ada 1,2,3,4\ncleo 2,1,3,4\ndan 1,2,3,4\n")
-        self.assertIn("eve", self.exported()[1])
+        self.assertEqual(self.election("add", given="dan 1,2,3,4\n").status, 9)
+        for line, answer in (("dan 1,2,3,4", "yes"), ("eve 1,2,3,4", "no")):
+            self.add_lines(line, words=("--came-before-close", answer))
+        ballots = "ada 1,2,3,4\ncleo 2,1,3,4\ndan 1,2,3,4\n"
+        self.assertEqual(self.exported(), (ballots, "ben 1,2,3,4\ncleo 2,1,3,4\neve 1,2,3,4\n"))
         self.assertEqual(self.numbers()["stage"], "called")
-        checksum = hashlib.sha256(self.exported()[0].encode()).hexdigest()
+        checksum = hashlib.sha256(ballots.encode()).hexdigest()
         for said in ("Closed: 3 lines came in time", "with 3 lines in time. Nothing was changed"):
-            output = self.done("close").output
-            self.assertIn(said, output)
-            self.assertIn(f"Checksum of the ballots: {checksum}\n", output)
+            self.assertRegex(self.done("close").output, rf"{said}(?s:.*)\nChecksum of the ballots: {checksum}\n")
         self.assertIn("3 lines came in time", self.read("letters/closed.txt").decode())
 
     def test_a_result_before_the_last_close_is_not_the_result(self) -> None:
-        """`status` says whether the vote is open, and whether it is published."""
         self.assertRegex(self.done("status").output, r"\nClosed: at [^\n]* UTC\nQuorum")
         self.done("publish")
         self.assertEqual(self.numbers()["stage"], "published")
         self.assertTrue(self.done("status").output.endswith(", then debvote-election letters result\n"))
-        self.assert_fault(self.election("reopen"), 2, "reason")
-        self.assert_fault(self.election("reopen", "--because", "x", "--in-time", "1"), 2, "envelope 1 is not one of the late lines")
+        for words, said in (((), "reason"), (("--because", "x", "--in-time", "1"), "envelope 1 is not one of the late lines")):
+            self.assert_fault(self.election("reopen", *words), 2, said)
         self.done("reopen", "--because", "x")
         self.assert_fault(self.election("reopen", "--because", "x"), 9, "not closed")
         self.assertEqual(self.numbers()["stage"], "called")
@@ -216,10 +187,11 @@ class Reopen(CloseTest):
         self.assertEqual(self.numbers()["stage"], "closed")
 
 
-class Told(CloseTest):
+class Told(LettersTest):
     def test_status(self) -> None:
         """A refused line is told as long as its elector has no ballot; each keeps its number."""
-        self.add("ada 1,2,3,4", "ben 1,2", "zoe 1,2,3,4", "ada 2,1,3,4", "fay 1,2", "fay 1,2,3,4")
+        lines = ["ada 1,2,3,4", "ben 1,2", "zoe 1,2,3,4", "ada 2,1,3,4", "fay 1,2", "fay 1,2,3,4"]
+        self.add_lines(*lines)
         output = self.done("status").output
         for part in (
             "Title: Where we meet in spring\n",
@@ -237,7 +209,7 @@ class Told(CloseTest):
         # what came is exported as it came, for the secretary alone
         out = self.scratch / "out"
         self.done("export", out)
-        self.assertEqual({file.name: file.read_bytes() for file in (out / "came").iterdir()}, {"00001-lines": self.read("lines")})
+        self.assertEqual({file.name: file.read_text() for file in (out / "came").iterdir()}, {"00001-standard-input": "\n".join(lines) + "\n"})
         self.assertEqual(((out / "poll.toml").read_bytes(), out.stat().st_mode & 0o777), (self.read("call/poll.toml"), 0o700))
         self.assertEqual({file.stat().st_mode & 0o777 for file in out.rglob("*") if file.is_file()}, {0o600})
         self.assert_fault(self.election("export", out), 2, "already")
@@ -246,9 +218,9 @@ class Told(CloseTest):
         """By a minute at most it is only set right."""
         for hour, back in (("18:00:00", True), ("18:58:59", True), ("18:59:00", False)):
             self.set_clock("2026-12-04T19:00:00+01:00")
-            self.add(f"ada {hour[3:5]},2,3,4")
+            self.add_lines(f"ada {hour[3:5]},2,3,4")
             self.set_clock(f"2026-12-04T{hour}+01:00")
-            self.add(f"ben {hour[3:5]},2,3,4")
+            self.add_lines(f"ben {hour[3:5]},2,3,4")
             self.assertEqual(self.done("log").output.endswith("  the clock went back: the previous act has a later time\n"), back, hour)
         self.set_clock("2026-12-04T19:00:00+01:00")
         self.done("close")

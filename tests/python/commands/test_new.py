@@ -8,7 +8,6 @@ from tests.support import elections
 
 class New(elections.ElectionTest):
     def begin(self) -> None:
-        """There is no election yet."""
         self.folder.mkdir()
 
     def test_folder(self) -> None:
@@ -16,16 +15,15 @@ class New(elections.ElectionTest):
         self.addCleanup(os.umask, os.umask(0))
         (self.folder / "empty").mkdir()
         for name in ("spring", "empty"):
-            ended, folder = self.done("new", name), self.folder / name
-            self.assertEqual(sorted(file.name for file in folder.iterdir()), ["election.db", "members.csv", "poll.toml"])
-            self.assertEqual((folder.stat().st_mode & 0o777, {file.stat().st_mode & 0o777 for file in folder.iterdir()}), (0o700, {0o600}))
-            self.assertIn(f"Next: cd {name}", ended.output)
-            self.done("log", "--check", cwd=folder)
+            self.assertIn(f"Next: cd {name}", self.done("new", name).output)
+            modes = {file.name: file.stat().st_mode & 0o777 for file in (self.folder / name, *(self.folder / name).iterdir())}
+            self.assertEqual(modes, {name: 0o700, "election.db": 0o600, "members.csv": 0o600, "poll.toml": 0o600})
+            self.done("log", "--check", cwd=self.folder / name)
 
     def test_language(self) -> None:
         self.assertIn("will be in German", self.done("new", "--language", "de", "wahl").output)
-        (self.folder / "wahl" / "poll.toml").write_text(elections.POLL.replace("At the lake", "Zum Bärensee"))
-        (self.folder / "wahl" / "members.csv").write_text("who,mail\nJürgen Groß,j@club.example\n")
+        self.write("wahl/poll.toml", elections.POLL.replace("At the lake", "Zum Bärensee"))
+        self.write("wahl/members.csv", "who,mail\nJürgen Groß,j@club.example\n")
         self.assertIn("juergen-gross", self.done("roll", cwd=self.folder / "wahl").output)
         self.assertIn("plain: Zum Baerensee", self.done("check", cwd=self.folder / "wahl").output)
         for words in ((elections.ELECTION, "new", "f"), (elections.PUBLISH, "--poll", "p", "--ballots", "b", "f")):
@@ -34,13 +32,13 @@ class New(elections.ElectionTest):
     def test_nothing_is_overwritten(self) -> None:
         self.done("new", "spring")
         (self.folder / "full").mkdir()
-        (self.folder / "full" / "file").write_text("kept")
-        (self.folder / "file").write_text("kept")
+        for name in ("full/file", "file"):
+            self.write(name, "kept")
         (self.folder / "link").symlink_to("nowhere")
         before = self.contents()
-        for name, words in {"spring": "an election already", "full": "not empty", "file": "not a folder", "link": "not a folder"}.items():
+        stops = {"spring": "an election already", "full": "not empty", "file": "not a folder", "link": "not a folder", "nowhere/else": "nowhere/else"}
+        for name, words in stops.items():
             self.assert_fault(self.election("new", name), 2, words, "nothing was changed")
-        self.assert_fault(self.election("new", "nowhere/else"), 2, "nowhere/else")
         self.assert_fault(self.election("new", "--folder", "x", "y"), 2, "--folder")
         self.assertEqual(self.contents(), before)
 
@@ -56,11 +54,9 @@ class New(elections.ElectionTest):
 
     def test_commands_before_the_call(self) -> None:
         self.done("new", "spring")
-        folder = self.folder / "spring"
-        (folder / "lines").write_text("ada 1,2,3,4\n")
-        before = self.contents()
-        entering = ("add", "--yes", "lines"), ("desk",), ("undo",), ("strike", "1", "--because", "x"), ("show", "ada")
-        for words in (*entering, ("close",), ("count",), ("publish",), ("export", "x")):
-            self.assert_fault(self.election(*words, cwd=folder), 9, "there is no call for votes yet")
+        self.write("spring/lines", "ada 1,2,3,4\n")
+        before, folder = self.contents(), self.folder / "spring"
+        for words in ("add --yes lines", "desk", "undo", "strike 1 --because x", "show ada", "close", "count", "publish", "export x"):
+            self.assert_fault(self.election(*words.split(), cwd=folder), 9, "there is no call for votes yet")
             self.assertEqual(self.contents(), before, words)
         self.assertIn("Call for votes: not made yet", self.done("status", cwd=folder).output)

@@ -10,7 +10,6 @@ class RollTest(elections.ElectionTest):
     call_words = None
 
     def roll(self, *rows: str, head: str = "who,mail") -> elections.Ended:
-        """Reads a list of members."""
         self.write("members.csv", "\n".join([head, *rows, ""]))
         return self.election("roll")
 
@@ -22,11 +21,10 @@ class RollTest(elections.ElectionTest):
 class Roll(RollTest):
     def test_names_are_proposed_and_the_list_is_not_written(self) -> None:
         ended = self.roll("Chloé,chloe@club.example", "Anna Meier,", "Ødegård,o@club.example")
-        self.assertEqual(ended.status, 0, ended)
         self.assertEqual(self.on_roll(), ["chloe", "anna-meier", "odegard"])
-        self.assertIn("  chloe: Chloé chloe@club.example\n", ended.output)
-        self.assertIn("3 names were proposed", ended.output)
-        self.assertIn("Without an address (letters in their names wait, letters to them are printed): anna-meier", ended.output)
+        unsent = "Without an address (letters in their names wait, letters to them are printed): anna-meier"
+        for part in ("  chloe: Chloé chloe@club.example\n", "3 names were proposed", unsent):
+            self.assertIn(part, ended.output)
         self.assertEqual(self.read("members.csv").decode(), "who,mail\nChloé,chloe@club.example\nAnna Meier,\nØdegård,o@club.example\n")
         # again it is no act
         before = self.done("log").output
@@ -42,14 +40,11 @@ class Roll(RollTest):
         unsent = "Without an address that every mail server takes (letters to them are printed): cleo\n"
         together = f"Note: these look like several people, who have one ballot together: {people}. Give each a line of their own.\n"
         for rows, said, unsaid in [
-            # names that were cut, or that are similar
             (["Maximiliane Theodora Louise Schulz,"], [cut], []),
             (["Dr. Anna Meier,", '"Maier, Anna",', "Meier Anna,"], [similar], []),
             (["Jo Meier,", "Jo-Meier,"], [], ["cut:", "mistaken"]),
-            # an address that not every mail server takes, and one that several have
             (["Cleo,cléo@club.example", "Ben,bén@club.example b@club.example"], [unsent], ["Without an address ("]),
             (shared, ["Note: several electors have the address home@club.example: ada, ben. Is that one person?\n"], ["address e@"]),
-            # real names that look alike, and several people in one cell
             (["Zo\u00eb,z@club.example", "zoe,", "Zo\u00eb L,"], ["Note: these real names look alike: zoe-1, zoe-2. Is that one person?\n"], []),
             (of_several, [together], []),
         ]:
@@ -61,11 +56,10 @@ class Roll(RollTest):
         self.roll("Anna Meier,a@club.example", "Ben,b@club.example")
         self.roll("Ben,new@club.example", "Zoe,z@club.example", "Anna  Meier,a@club.example")
         self.assertEqual(self.on_roll(), ["ben", "zoe", "anna-meier"])
-        ended = self.roll("chair,Anna Meier,a@club.example", ",Ben,b@club.example", head="name,who,mail")
-        self.assertEqual(self.on_roll(), ["chair", "ben"])
-        self.assertIn("No longer on the list: zoe (Zoe)", ended.output)
-        ended = self.roll("Cleo,c@club.example")
-        self.assertIn("No longer on the list: chair (Anna Meier)\nNo longer on the list: ben (Ben)\n", ended.output)
+        output = self.roll("chair,Anna Meier,a@club.example", ",Ben,b@club.example", head="name,who,mail").output
+        self.assertEqual((self.on_roll(), "No longer on the list: zoe (Zoe)" in output), (["chair", "ben"], True))
+        gone = "No longer on the list: chair (Anna Meier)\nNo longer on the list: ben (Ben)\n"
+        self.assertIn(gone, self.roll("Cleo,c@club.example").output)
 
     def test_all_names_are_printed_if_asked(self) -> None:
         self.roll(*(f"Elector {number},e{number}@club.example" for number in range(201)))
@@ -75,16 +69,10 @@ class Roll(RollTest):
             self.assertTrue(all(f"elector-{number}" in output for number in range(201)), command)
             self.assertNotIn("--all", output, command)
 
-    def test_two_of_one_name(self) -> None:
-        self.assert_fault(self.roll("Anna,a@club.example", "Anna,b@club.example"), 9, "have the same `who`")
-        self.roll("Anna Meier,a@club.example", "Anna-Meier,b@club.example")
-        self.assertEqual(self.on_roll(), ["anna-meier-1", "anna-meier-2"])
-
     def test_all_faults_at_once(self) -> None:
         ended = self.roll("A B,x,Ada,a@club.example,z", "ÄÖ,Ben,b@club.example", ",,", "ada,Cleo,nowhere", head="name,who,mail")
-        self.assertEqual(ended.status, 9, ended)
-        self.assertGreaterEqual(len(ended.faults.splitlines()), 3, ended.faults)
-        self.assertTrue(all(line.startswith("debvote-election: members.csv:") for line in ended.faults.splitlines()), ended.faults)
+        self.assertEqual((ended.status, ended.faults.count("\ndebvote-election: members.csv:") + 1), (9, ended.faults.count("\n")), ended)
+        self.assertGreaterEqual(ended.faults.count("\n"), 3)
         self.assertEqual(self.on_roll(), elections.NAMES)
 
 
@@ -94,11 +82,10 @@ class AfterTheCall(RollTest):
     def test_addresses_alone_may_change(self) -> None:
         rows = [f"{name.title()},{name}@club.example" for name in elections.NAMES]
         self.assertIn("Nothing was changed", self.roll(*rows).output)
-        ended = self.roll("Ada,new@club.example", *rows[1:])
-        self.assert_fault(ended, 9, "ada@club.example becomes new@club.example", "--yes")
-        ended = self.done("roll", "--yes")
-        self.assertIn("ada: address ada@club.example becomes new@club.example", ended.output)
-        self.assertIn("1 elector changed; the result page says how many", ended.output)
+        self.assert_fault(self.roll("Ada,new@club.example", *rows[1:]), 9, "ada@club.example becomes new@club.example", "--yes")
+        output = self.done("roll", "--yes").output
+        for part in ("ada: address ada@club.example becomes new@club.example", "1 elector changed; the result page says how many"):
+            self.assertIn(part, output)
         self.assertEqual(self.on_roll(), elections.NAMES)
         # a key changes once
         self.roll(f"Ada,new@club.example,{'A' * 40}", *(f"{row}," for row in rows[1:]), head="who,mail,key")
@@ -127,10 +114,8 @@ class AfterTheCall(RollTest):
 
     def test_other_people_stop(self) -> None:
         rows, before = [f"{name.title()},{name}@club.example" for name in elections.NAMES], self.done("log").output
-        for changed in (rows[1:], [*rows, "Jan,jan@club.example"], ["Adele,ada@club.example", *rows[1:]]):
-            ended = self.roll(*changed)
-            self.assertEqual(ended.status, 9, ended)
-            self.assertIn("after the call only addresses and keys may change", ended.faults)
+        for changed in (rows[1:], [*rows, "Jan,jan@club.example"]):
+            self.assert_fault(self.roll(*changed), 9, "after the call only addresses and keys may change")
         self.assertEqual(self.done("log").output, before)
 
 
@@ -141,7 +126,7 @@ class Check(RollTest):
 
     def test_in_order(self) -> None:
         (self.folder / "texts").mkdir()
-        (self.folder / "texts" / "1.txt").write_text("Near the water.\n")
+        self.write("texts/1.txt", "Near the water.\n")
         ended = self.check(elections.POLL.replace("At the lake", "Am Bärensee"))
         self.assertEqual(ended.status, 0, ended)
         wanted = [
@@ -163,24 +148,17 @@ class Check(RollTest):
         self.assertEqual(ended.output.splitlines(), wanted)
 
     def test_all_faults_at_once(self) -> None:
-        ended = self.check(elections.POLL.replace("[1, 1, 3]", "[1, 1]").replace("quorum = 1", 'quorum = 99\ncolour = "red"\nroll = []'))
+        poll = elections.POLL.replace("[1, 1, 3]", "[1, 1]").replace("quorum = 1", 'quorum = 99\ncolour = "red"\nroll = []')
+        ended = self.check(poll.replace("In the town hall", "At  The Lake"))
         self.assertEqual(ended.status, 3, ended)
-        for part in ("ratios", "quorum", "colour", "roll"):
+        for part in ("ratios", "quorum", "colour", "roll", "looks like option 1"):
             self.assertIn(part, ended.faults)
-
-    def test_names_that_look_alike(self) -> None:
-        for one, other in (("At the lake", "At  The Lake"), ("Bär", "bar"), ("Zoë", "Zoe\u200b")):
-            ended = self.check(elections.POLL.replace("At the lake", one).replace("In the town hall", other))
-            self.assertEqual(ended.status, 3, (one, other, ended))
 
     def test_of_what_is_no_toml_debvote_says_why_and_nobody_else(self) -> None:
         for poll in ["title = \n", 'title = "a\n', 'options = ["a", \u201cb\u201d]\n', "ada 1,2,3\n", "a = 1\na = 2\n", "a = " + "[" * 9000]:
             with self.subTest(poll=poll[:40]):
-                ended = self.check(poll)
-                said = self.run_program(elections.PROGRAM, "explain", "--poll", "poll.toml", cwd=self.folder)
-                self.assertEqual((ended.status, said.status), (3, 3))
-                self.assertTrue(said.output)
-                self.assertEqual(ended.output, said.output)
+                ended, said = self.check(poll), self.debvote("explain", "--poll", "poll.toml")
+                self.assertEqual((ended.status, ended.output, bool(said.output)), (3, said.output, True))
                 words = "poll.toml: it can't be read as TOML, as said above; put it right with an editor, then run debvote-election check"
                 self.assertEqual(ended.faults, f"debvote-election: {words}\n")
 

@@ -37,7 +37,6 @@ class Show(CalledTest):
         ]
         self.assertEqual((self.shown(), self.shown("ben")[1:]), (wanted, [f"  envelope 2, TIME: {LAKE}", f"The current ballot: {LAKE}"]))
         self.assertEqual(self.shown("cleo"), ["cleo: Cleo cleo@club.example", "The current ballot: none"])
-
         # a ballot of a letter has the time of the letter
         with self.book.act("add") as act:
             time = act.time.replace(year=2020)
@@ -45,7 +44,6 @@ class Show(CalledTest):
         self.assertIn(f"  envelope 8, {time:%Y-%m-%d %H:%M:%S} UTC: {LAKE}\n", self.told("show", "ada"))
 
     def test_who_is_meant(self) -> None:
-        """By the real name and in capitals, too; nobody if several have the real name."""
         for name in ("Ada", "ADA", " ada "):
             self.assertEqual(self.shown(name)[0], "ada: Ada ada@club.example")
         self.assert_fault(self.election("show", "zoe\x1b[2J"), 9, "show: no elector on the roll is `zoe\\u001B[2J`; debvote-election status and ")

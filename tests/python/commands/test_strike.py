@@ -21,7 +21,6 @@ class Strike(CalledTest):
         self.assertIn("The current ballot of ada: none\n", self.told("strike", 1, *WHY))
         self.assertIn("Struck envelope 4: `x`, because: it was pencil\nA strike cannot be undone", self.told("strike", 4, *WHY))
         self.assertEqual(self.lines(), [f"ben {RANKS}"])
-        # the envelopes are still there, and keep their numbers
         self.assertEqual([envelope.struck is None for envelope in self.envelopes()], [False, True, False, False])
         self.assertIn("5 counted  cleo: ", self.told("desk", given=f"cleo {RANKS}\n"))
         # a letter is set aside
@@ -70,22 +69,24 @@ class AtATerminal(CalledTest):
         terminal.until(f"Strike envelope 1: `ada {RANKS}`? This cannot be undone. [y/n] ")
         return terminal
 
+    def end(self, terminal: Terminal, keys: str, status: int) -> str:
+        """Types these keys; it ends with this status. Returns what it shows."""
+        terminal.type(keys)
+        output, found = terminal.end()
+        self.assertEqual(found, status, output)
+        return output
+
     def test_it_asks(self) -> None:
         """No answer, at the end of the input, is a no; another act changes nothing of it."""
         self.told("add", given=f"ada {RANKS}\nben {RANKS}\n")
         before = self.last_act()
         for keys in ("n\n", "\x04"):
-            terminal = self.asked()
-            terminal.type(keys)
-            output, status = terminal.end()
-            self.assertIn("strike: you did not say yes; nothing was changed: ", output)
-            self.assertEqual((status, self.last_act()), (9, before))
+            self.assertIn("strike: you did not say yes; nothing was changed: ", self.end(self.asked(), keys, 9))
+            self.assertEqual(self.last_act(), before)
         terminal = self.asked()
         self.told("desk", given=f"cleo {RANKS}\n")
-        terminal.type("y\n")
-        output, status = terminal.end()
-        self.assertNotIn("[y/n]", output)
-        self.assertEqual((status, self.lines()), (0, [f"ben {RANKS}", f"cleo {RANKS}"]))
+        self.assertNotIn("[y/n]", self.end(terminal, "y\n", 0))
+        self.assertEqual(self.lines(), [f"ben {RANKS}", f"cleo {RANKS}"])
 
     def test_another_one_strikes_it_meanwhile(self) -> None:
         self.assertNotIn("[y/n]", Terminal(self, "strike", "9", "--yes", *WHY).end()[0])
@@ -93,7 +94,4 @@ class AtATerminal(CalledTest):
         self.told("add", given=f"ada {RANKS}\n")
         terminal = self.asked()
         self.told("strike", "1", *WHY)
-        terminal.type("y\n")
-        output, status = terminal.end()
-        self.assertIn("envelope 1 is struck already", output)
-        self.assertEqual(status, 9)
+        self.assertIn("envelope 1 is struck already", self.end(terminal, "y\n", 9))

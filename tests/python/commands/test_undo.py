@@ -8,7 +8,6 @@ from tests.support.terminal import Terminal
 
 class Undo(CalledTest):
     def test_one_after_the_other(self) -> None:
-        """What was taken back did not come, and gets new numbers."""
         self.told("add", given=f"ada {RANKS}\nben {RANKS}\n")
         self.write("monday", f"ada {OTHER_RANKS}\ncleo {RANKS}\nx\n")
         first = self.first_act
@@ -26,16 +25,14 @@ class Undo(CalledTest):
         self.assertEqual(self.lines(), [])
         self.assert_stops(self.election("undo"), self.last_act(), 9, "undo: there is nothing to take back; nothing was changed: ")
         self.assertEqual([detail for name, detail in self.acts() if name == "undo"], [{"act": first + number} for number in (1, 3, 5, 0)])
-        # nothing is gone
         self.assertEqual([envelope.struck for envelope in self.envelopes()], [first + 7] * 2 + [first + 2] * 3 + [first + 4] * 3 + [first + 6])
         self.book.demand_whole()
 
     def test_an_envelope_that_was_struck_already(self) -> None:
         self.told("add", given=f"ada {RANKS}\nben {RANKS}\ncleo {RANKS}\n")
         self.told("strike", 2, "--because", "a test")
-        self.assertIn("Took back 2 lines (act ", output := self.told("undo"))
-        self.assertIn("envelopes 1, 3).\n", output)
-        self.assertNotIn("ben", output)
+        left = "  ada: no ballot is left\n  cleo: no ballot is left\n"
+        self.assertRegex(self.told("undo"), rf"^Took back 2 lines \(act .*, envelopes 1, 3\)\.\n{left}Next: ")
         self.assertEqual([envelope.struck for envelope in self.envelopes()], [self.first_act + 2, self.first_act + 1, self.first_act + 2])
 
     def test_after_the_close_and_after_reopen(self) -> None:
@@ -57,9 +54,8 @@ class Undo(CalledTest):
                 letter = act.insert("letter", source=source, identity=name, known="{}")
                 act.insert("letter_state", letter=letter, state="entered")
                 queries.add_envelopes(act, [queries.NewEnvelope(f"{name} {RANKS}".encode(), "", source, letter)], [self.elector(name)], is_late=False)
-        output = self.told("undo")
-        self.assertIn(f"Took back 2 lines (act {self.first_act}: offer, ", output)
-        self.assertIn("2 letters then wait again, as taken back: 1, 2\n", output)
+        said = rf"Took back 2 lines \(act {self.first_act}: offer, (?s:.*)2 letters then wait again, as taken back: 1, 2\n"
+        self.assertRegex(self.told("undo"), said)
         self.assertEqual(self.lines(), [])
         states = "SELECT letter, state FROM letter_state WHERE act = ? ORDER BY letter"
         self.assertEqual(self.book.rows(states, self.last_act()), [(1, "taken back"), (2, "taken back")])
@@ -97,9 +93,7 @@ class AtATerminal(CalledTest):
         self.assertIn(f"  ada: {HALL}, as before\n", terminal.until("? [y/n] "))
         self.end(terminal, "y\n", 0, *lines)
         self.assertRegex(self.end(self.asked(), "y\n", 0, f"ada {RANKS}"), r"Took back 3 lines \(.*\)\.\nNext: ")
-        output = self.end(Terminal(self, "undo", "--yes"), "", 0)
-        self.assertNotIn("[y/n]", output)
-        self.assertIn("  ada: no ballot is left\n", output)
+        self.assertRegex(self.end(Terminal(self, "undo", "--yes"), "", 0), r"^[^[]*  ada: no ballot is left\n[^[]*$")
 
     def test_what_was_shown_is_what_is_taken_back(self) -> None:
         """Another act while it asks: it shows what would be taken back now, and asks anew."""

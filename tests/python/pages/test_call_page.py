@@ -17,6 +17,8 @@ from debvote_tools.text.language import ENGLISH, LANGUAGES, language_of
 
 from tests.support.at_browser import NEEDS_BROWSER, Window
 from tests.support.calls import CALL, KINDS, POLL, SECRET, WITH_CODES
+from tests.support.looks import contrast
+from tests.support.page_parts import in_words
 from tests.support.program import PROGRAM
 
 # how many ballots of how many options
@@ -40,17 +42,12 @@ COPY = """(() => { window.clip = null;
   document.getElementById("Copied").replaceChildren(); document.getElementById("Copy").click(); })()"""
 REFUSES, TAKES = "throw 1", "window.clip = text"
 
-# the lowest contrast of a text that is seen with what lies behind it
-CONTRAST = """(() => {
-  const light = (colour) => colour.match(/[\\d.]+/g).slice(0, 3).map((part) => part / 255)
-    .map((part) => part <= 0.04045 ? part / 12.92 : ((part + 0.055) / 1.055) ** 2.4)
-    .reduce((sum, part, place) => sum + part * [0.2126, 0.7152, 0.0722][place], 0);
+# the colours of each text that is seen, and of what lies behind it
+COLOURS = """(() => {
   const behind = (node) => { const colour = getComputedStyle(node).backgroundColor;
     return colour === "rgba(0, 0, 0, 0)" && node.parentElement ? behind(node.parentElement) : colour; };
-  const texts = [...document.querySelectorAll("main *")].filter((node) => node.checkVisibility() &&
-    [...node.childNodes].some((part) => part.nodeType === 3 && part.data.trim()));
-  return Math.min(...texts.map((node) => { const both = [light(getComputedStyle(node).color), light(behind(node))];
-    return (Math.max(...both) + 0.05) / (Math.min(...both) + 0.05); }));
+  return [...document.querySelectorAll("main *")].filter((node) => node.checkVisibility() &&
+    [...node.childNodes].some((part) => part.nodeType === 3 && part.data.trim())).map((node) => [getComputedStyle(node).color, behind(node)]);
 })()"""
 
 # what has the focus: its kind and its name, whether it lies in the window, and how the focus is shown
@@ -69,9 +66,7 @@ def text_of(place: str) -> str:
 
 
 def names_of(size: int) -> list[str]:
-    """Names of options, hostile ones first, all of forty characters where they are filled up."""
-    own = [f"{number} option with a long name, and so on.......".ljust(40, ".")[:40] for number in range(1, size + 1)]
-    return [*HOSTILE, *own[len(HOSTILE) :]][: size - 1] + ["None of the above"]
+    return [*HOSTILE, *(f"{number} option with a long name, and so on".ljust(40, ".") for number in range(6, 32))][: size - 1] + ["None of the above"]
 
 
 def poll_of(names: list[str], electors: int, *more: str) -> SealedPoll:
@@ -90,26 +85,14 @@ def choices_of(size: int, many: int, chance: random.Random) -> list[tuple[str, l
     return chosen
 
 
-def order_of(ranks: list[str]) -> tuple[list[list[int]], list[int]]:
-    """The options that some ranks order, from the first preference on, equal ones together; and those that have no rank."""
-    by_rank: dict[str, list[int]] = {}
+def words_of(ranks: list[str]) -> str:
+    """The order of some ranks in words, in which each option has its number."""
+    by_rank: dict[str, list[str]] = {}
     for number, rank in enumerate(ranks, start=1):
-        by_rank.setdefault(rank, []).append(number)
+        by_rank.setdefault(rank, []).append(f"{{{number}}}")
     unranked = by_rank.pop("-", [])
-    return [by_rank[rank] for rank in sorted(by_rank, key=int)], unranked
-
-
-def order_in(words: str) -> tuple[list[list[int]], list[int]]:
-    """What the words say: the options from the first preference on, equal ones together, and those without a rank."""
-
-    def numbers(text: str) -> list[int]:
-        return [int(number) for number in re.findall(r"\{(\d+)\}", text)]
-
-    ranked, _, unranked = words.partition("; not ranked: ")
-    steps = ranked.split("; then ")
-    if any(step.startswith("equally ") != (len(numbers(step)) > 1) for step in steps):
-        raise AssertionError(f"equal options are not told as that: {words}")
-    return [numbers(step) for step in steps], numbers(unranked)
+    steps = [("equally " if by_rank[rank][1:] else "") + in_words(by_rank[rank]) for rank in sorted(by_rank, key=int)]
+    return "; then ".join(steps) + (f"; not ranked: {in_words(unranked)}" if unranked else "")
 
 
 @NEEDS_BROWSER
@@ -145,8 +128,6 @@ class PageTest(unittest.TestCase):
 
 
 class Lines(PageTest):
-    """The line of a ballot, and the letter with it."""
-
     def test_each_line_is_read_as_what_was_chosen(self) -> None:
         chance = random.Random(2026)
         for size, many in SIZES.items():
@@ -172,8 +153,7 @@ class Lines(PageTest):
             self.assertEqual((selected, said.startswith("The line is selected"), self.window.faults), (line, True, []))
 
     def check_result(self, names: list[str], mark: str, ranks: list[str], result: dict) -> None:
-        """The words say the order that the ranks have, and the letter has the line."""
-        self.assertEqual(order_in(result["words"]), order_of(ranks))
+        self.assertEqual(result["words"], words_of(ranks))
         self.assertEqual(result["names"], {str(number): f"Option {number}: {name}" for number, name in enumerate(names, start=1)})
         found = result["missing"], result["said"], result["ready"], result["invalid"], result["long"]
         self.assertEqual(found, ("", "", True, "false", len(result["line"]) > 72))
@@ -185,13 +165,11 @@ class Lines(PageTest):
         self.open(CALL)
         for name, part in {**odd, "": "", "   ": ""}.items():
             # each after a good line, so that nothing of it stays
-            good = self.window.ballot("ada", "1234")
-            self.assertEqual((good["line"], good["ready"], good["body"]), ("ada 1,2,3,4", True, "ada 1,2,3,4\r\n"))
+            self.assertEqual(self.window.ballot("ada", "1234")["body"], "ada 1,2,3,4\r\n")
             result = self.window.ballot(name, "213-")
-            self.assertEqual((result["line"], result["ready"], bool(result["letter"])), ("", False, False), name)
+            found = result["line"], result["ready"], bool(result["letter"]), result["missing"], result["invalid"]
+            self.assertEqual(found, ("", False, False, "Type your name.", "true" if name.strip() else "false"), name)
             self.assertIn(part, result["said"])
-            self.assertTrue(result["missing"])
-            self.assertEqual(result["invalid"], "true" if name.strip() else "false")
         result = self.window.ballot("ada", "----")
         self.assertEqual((result["line"], result["missing"], result["words"]), ("", "Give at least one option a rank.", ""))
 
@@ -201,15 +179,7 @@ class Lines(PageTest):
           document.querySelectorAll(".rank").forEach((rank, place) => { rank.querySelectorAll("input")[place].checked = true; });
           dispatchEvent(new Event("pageshow"));""")
         self.assertEqual(self.window.ask(text_of("Line")), "ada 1,2,3,4")
-        for ranks, words in {
-            "21-3": "{2}; then {1}; then {4}; not ranked: {3}",
-            "1111": "equally {1}, {2}, {3} and {4}",
-            "1---": "{1}; not ranked: {2}, {3} and {4}",
-            "1-1-": "equally {1} and {3}; not ranked: {2} and {4}",
-            "441-": "{3}; then equally {1} and {2}; not ranked: {4}",
-            "2112": "equally {2} and {3}; then equally {1} and {4}",
-        }.items():
-            self.assertEqual(self.window.ballot("ada", ranks)["words"], words)
+        self.assertEqual(self.window.ballot("ada", "441-")["words"], "{3}; then equally {1} and {2}; not ranked: {4}")
         # a letter that is to be signed has the mark below the ballot
         self.open(KINDS["signed"])
         self.assertEqual(self.window.ballot("ada", "1234")["body"], f"ada 1,2,3,4\r\n[{POLL.mark}]\r\n")
@@ -225,16 +195,14 @@ class Lines(PageTest):
         for gap, data in {"NAME": SECRET, "CODE": WITH_CODES}.items():
             page = (self.open(data) / "index.html").read_text()
             found = [self.window.ballot(None, ranks) for ranks in ("1234", "----", "213-")]
-            self.assertEqual([result["line"] for result in found], [f"{gap} 1,2,3,4", "", f"{gap} 2,1,3,-"])
-            self.assertEqual([result["missing"] for result in found], ["", "Give at least one option a rank.", ""])
+            wanted = [(f"{gap} 1,2,3,4", ""), ("", "Give at least one option a rank."), (f"{gap} 2,1,3,-", "")]
+            self.assertEqual([(result["line"], result["missing"]) for result in found], wanted)
             self.assertEqual((found[2]["body"], found[2]["wide"], self.window.faults), (f"{gap} 2,1,3,-\r\n", 360, []))
             self.assertNotRegex(page, '<textarea|<datalist|<input (?!type="radio")')
             self.assertRegex(page, rf"In the letter, and not on this page, write your \w+ in the place of <code>{gap}</code>")
 
 
 class Names(PageTest):
-    """What is typed as a name, and what the address of the page fills in."""
-
     def test_names_on_the_roll_are_offered_and_what_is_typed_is_folded(self) -> None:
         code = "0123456789abcdef" * 2
         roll = ["zoe", "ada-angstrom", "ada.lovelace", "strasse", "oedipus", "-", "anna-1", "anna-2", "anna-3", "eve-arnold", "ben-lee", "ben-lee-2", code]
@@ -261,10 +229,9 @@ class Names(PageTest):
         for name, (found, suggested) in wanted.items():
             result = self.window.ballot(name, "1234")
             self.assertEqual((result["line"], result["suggested"]), (f"{found} 1,2,3,4" if found else "", suggested), name)
-            self.assertEqual(result["invalid"], "false" if found else "true", name)
-            self.assertEqual("is not on the roll of this poll" in result["said"], not found and not suggested, name)
-            self.assertEqual(result["said"].startswith("On the roll: "), bool(suggested), name)
-            self.assertEqual(result["missing"], "" if found else "Type your name.", name)
+            self.assertEqual((result["invalid"], result["missing"]), ("false", "") if found else ("true", "Type your name."), name)
+            starts = result["said"].startswith("On the roll: "), "is not on the roll of this poll" in result["said"]
+            self.assertEqual(starts, (bool(suggested), not found and not suggested), name)
         # without the roll each name that one may have gets its line, and none is told
         self.open(dataclasses.replace(CALL, poll=with_roll(POLL, [f"x{number}" for number in range(2_001)])))
         self.assertEqual(self.window.ask(offered), [])
@@ -284,21 +251,20 @@ class Names(PageTest):
         }.items():  # fmt: skip
             found = self.window.ballot(typed, "1234")
             self.assertEqual((found["suggested"], found["line"]), (suggested, ""), typed)
-        # those that look like one another
         names = {"ben": "Zo\u00eb \u00c5ngstr\u00f6m", "cleo": "Zoe Angstr\u00f6mer"}
         self.open(dataclasses.replace(CALL, real_names=names))
 
-        def line_and_said(typed: str | None) -> tuple[str, str]:
+        def assert_answer(typed: str | None, *answer: str) -> None:
             found = self.window.ballot(typed, "1234")
-            return found["line"], found["said"]
+            self.assertEqual((found["line"], found["said"]), answer)
 
-        self.assertEqual(line_and_said("Zoe Angstrom"), ("ben 1,2,3,4", "On the roll: ben"))
-        self.assertEqual(line_and_said("Zoe"), ("", "On the roll: bencleo"))
+        assert_answer("Zoe Angstrom", "ben 1,2,3,4", "On the roll: ben")
+        assert_answer("Zoe", "", "On the roll: bencleo")
         offered = self.window.ask("[...document.getElementById('Name').list.options].map((option) => [option.value, option.label])")
         self.assertEqual(offered[1:3], [["ben", names["ben"]], ["cleo", names["cleo"]]])
         self.window.ask("document.querySelectorAll('#Name-said button')[1].click()")
-        self.assertEqual(line_and_said(None), ("cleo 1,2,3,4", ""))
-        self.assertEqual(line_and_said("eve"), ("", "eve is not on the roll of this poll; the names on the roll are below."))
+        assert_answer(None, "cleo 1,2,3,4", "")
+        assert_answer("eve", "", "eve is not on the roll of this poll; the names on the roll are below.")
 
     def test_the_personal_link(self) -> None:
         # by the place: the name that is filled in, and the own mark in the subject
@@ -342,8 +308,7 @@ class Names(PageTest):
         self.assertEqual(line_letter_and_hint(None), ("ada 2,1,-,3", True, False))
         below = "[...document.querySelectorAll('.unmarked')].filter((node) => node.checkVisibility()).length"
         self.assertEqual(self.window.ask(below), 0)
-        self.assertEqual(line_letter_and_hint("ben"), ("ben 2,1,-,3", False, True))
-        self.assertEqual(self.window.ask(below), 2)
+        self.assertEqual((line_letter_and_hint("ben"), self.window.ask(below)), (("ben 2,1,-,3", False, True), 2))
         of_secret = (self.open(secret) / "index.html").read_text()
         self.assertEqual(line_letter_and_hint(None), ("NAME 2,1,-,3", False, True))
         self.assertNotIn('href="mailto:', page + of_secret)
@@ -353,8 +318,6 @@ class Names(PageTest):
 
 
 class Looks(PageTest):
-    """What is seen on screens of several sizes, in the dark, on paper and without a script."""
-
     def test_widths_and_contrast(self) -> None:
         long_names = dataclasses.replace(POLL, shown_options=("\u05d0\u05d1 " * 60, "Donaudampfschifffahrt" * 9, "72 \u20ac", "{name} $& $1"))
         polls = [(poll_of(names_of(size), 9, "x" * 32), "x" * 32) for size in (4, 32)] + [(long_names, "ada")]
@@ -371,7 +334,7 @@ class Looks(PageTest):
                 found = self.window.ballot(name, ranks)
                 self.assertEqual((found["line"], found["wide"]), (f"{name} {','.join(ranks)}", width))
             self.window.ask("document.querySelectorAll('details').forEach((node) => { node.open = true; })")
-            self.assertGreaterEqual(self.window.ask(CONTRAST), 4.5, is_dark)
+            self.assertGreaterEqual(min(contrast(*colours) for colours in self.window.ask(COLOURS)), 4.5, is_dark)
             colours.add((is_dark, self.window.ask("(({ color, backgroundColor }) => color + backgroundColor)(getComputedStyle(document.body))")))
         self.assertEqual((len(colours), len({colour for _, colour in colours})), (2, 2))
 
@@ -386,7 +349,6 @@ class Looks(PageTest):
         self.assertEqual((self.window.ask(shown), self.window.ask(f"{buttons}.length")), ([True, True], 0))
 
     def test_texts_leave_room_for_the_ranks_on_a_telephone(self) -> None:
-        """With texts, too, the ranks of four options lie above the line that is always seen."""
         free = """document.getElementById("Bottom").getBoundingClientRect().top
           - [...document.querySelectorAll("div.rank")].at(-1).getBoundingClientRect().bottom"""
         poll = dataclasses.replace(POLL, explanations=("A long text. " * 40,) * 3)
@@ -420,8 +382,6 @@ class Looks(PageTest):
 
 
 class ByKeys(PageTest):
-    """By the keyboard alone an elector types the name, chooses the ranks, and takes the line."""
-
     def tab_to(self, name: str, shift: bool = False) -> list[dict]:
         """Presses Tab until this has the focus; says what had it on the way."""
         way: list[dict] = []
@@ -440,7 +400,7 @@ class ByKeys(PageTest):
         self.assertEqual(self.window.ask("document.getElementById('Name').value"), "ada")
         for option, rank in enumerate("21-3", start=1):
             self.tab_to(f"Rank-{option}")
-            self.window.type_keys(rank.strip("-"))
+            self.window.press(rank)
         self.assertEqual(self.window.ask(f"[{text_of('Line')}, {text_of('Missing')}]"), ["ada 2,1,-,3", ""])
         self.assertTrue(self.window.ask(text_of("Words")).startswith("Option 2: 72 Euro; then Option 1: At the lake; then "))
         self.tab_to("Letter")
@@ -473,7 +433,7 @@ class ByKeys(PageTest):
             self.window.type("ada")
             for number in range(1, 5):
                 way += self.tab_to(f"Rank-{number}")
-                self.window.type_keys("1")
+                self.window.press("1")
             way += self.tab_to("Copy")
             self.assertEqual([place["name"] for place in way], ["Name", "Rank-1", "Rank-2", "Rank-3", "Rank-4", "Read on", "Letter", "Copy"])
             for place in way:

@@ -36,10 +36,7 @@ def rules_of(style):
 
 
 def colours():
-    """The colours of the names: in light, in dark and of slips on paper; and the styles without what gives a colour a name.
-
-    Other pages on paper have those of light, since dark ones are for screens alone.
-    """
+    """The colours of the names: in light, as on paper, in dark and of slips on paper; and the styles without what gives a colour a name."""
     light, dark, paper, others = {}, {}, {}, ""
     for file in STYLES:
         for medium, rule in rules_of(file.read_text()):

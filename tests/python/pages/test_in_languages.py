@@ -23,8 +23,6 @@ LONGEST_CHIPS = """((byDefault) => {
 
 @at_browser.NEEDS_BROWSER
 class InBrowser(languages.LanguageTest):
-    """The pages of a language, of an open and of a secret vote."""
-
     def check_language(self, code: str) -> None:
         self.language = language_of(code)
         places = {name: self.held(name, code, is_secret=name == "secret", has_letters=False) for name in ("open", "secret")}
@@ -44,7 +42,6 @@ class InBrowser(languages.LanguageTest):
             self.check_telephone(place)
 
     def said(self, sentences: dict[str, str], key: str, /, **places: object) -> str:
-        """A sentence of a script in the language, with what stands at its places."""
         return self.language.say(sentences[key], **places)
 
     def check_widths(self, file: pathlib.Path) -> None:
@@ -124,7 +121,6 @@ class InBrowser(languages.LanguageTest):
         self.assertEqual(rows[1:3], [said("last", line=sheet[-1]), said("page_same", ballots=len(standing))])
         self.assertEqual(self.window.ask("document.querySelector('#Again-answer p code').textContent"), sheet[-1])
         self.assertEqual(rows[-1], said("second"))
-        # a page that shows another winner says so
         self.window.ask("document.querySelector('#Result b').textContent = 'Nobody'")
         self.assertIn(said("page_differs", where=said("the_result")), " ".join(self.window.count_again()))
 

@@ -21,8 +21,6 @@ LETTER_OTHER = "None of these is the checksum that you typed."
 
 @at_browser.NEEDS_BROWSER
 class ScriptsTest(publishing.PublishTest):
-    """A vote that is not secret, and one that is, each on its page."""
-
     code = "0123456789abcdef" * 2
 
     @classmethod
@@ -67,13 +65,15 @@ class ScriptsTest(publishing.PublishTest):
         equal = ['equally Option 2: <i>B</i> & "C" and Option 3: N', "Not ranked: Option 1: 72 Euro", "The line: ben -,1,1"]
         self.expect("equal ranks", window.find("ben")[1:], equal)
         self.expect("hyphens alone", window.find("cleo")[1:], ["nothing is preferred", "The line: cleo -,-,-"])
-        self.expect("without its hyphens", window.find("a-d-a"), ["Do you mean ada?"])
-        window.ask("document.querySelector('#Answer button').click()")
-        window.until("document.getElementById('Answer').textContent.startsWith('This ballot counts for ada:')")
-        self.expect("no ballot", window.find("dan"), ["dan is on the roll, and no ballot counts for this name."])
-        self.expect("nobody", window.find("Zoë"), ["No elector has the name zoë. Type it as it is on the roll."])
-        self.expect("a place of the page", window.find("Votes"), ["No elector has the name votes. Type it as it is on the roll."])
-        self.expect("nothing typed", window.find(" "), ["Type your name."])
+        for typed, said in {
+            "a-d-a": "Do you mean ada?",
+            "dan": "dan is on the roll, and no ballot counts for this name.",
+            "Zoë": "No elector has the name zoë. Type it as it is on the roll.",
+            # a place of the page
+            "Votes": "No elector has the name votes. Type it as it is on the roll.",
+            " ": "Type your name.",
+        }.items():
+            self.expect(f"typed {typed}", window.find(typed), [said])
         # a browser that opens the page at a name shows the ballot, too, and not its place in the list
         window.tell("Page.navigate", url="about:blank")
         window.until("location.href === 'about:blank'")
@@ -98,25 +98,21 @@ class ScriptsTest(publishing.PublishTest):
         poll = re.sub("roll = .*", 'roll = ["anna-meier", "ben-lee", "eve-lee", "dan"]', publishing.PLAIN_POLL)
         room = plain_room(self.scratch / "family", poll, "anna-meier 1,2,3\ndan 1,2\ndan-x 1,2,3\nEVE-LEE 1;2\n")
         window = self.page_of(self.published(room, "family-names", real_names={"anna-meier": "Anna Meier", "dan": "Dan"}))
-        self.expect("one", window.find("Meier"), ["Do you mean anna-meier (Anna Meier)?"])
-        self.expect("several", window.find("lee"), ["Do you mean ben-leeeve-lee?"])
-        self.expect("none", window.find("Meyer"), ["No elector has the name meyer. Type it as it is on the roll."])
-        window.find("Meier")
+        none = "No elector has the name meyer. Type it as it is on the roll."
+        for typed, said in {"Meyer": none, "lee": "Do you mean ben-leeeve-lee?", "Meier": "Do you mean anna-meier (Anna Meier)?"}.items():
+            self.expect(typed, window.find(typed), [said])
         window.ask("document.querySelector('#Answer button').click()")
         window.until("document.getElementById('Answer').textContent.startsWith('This ballot counts for anna-meier:')")
         # of whoever has a line that does not count the page says where it is
-        for name, more in {"dan": True, "ben-lee": False, "eve-lee": True}.items():
-            no = [f"{name} is on the roll, and no ballot counts for this name."]
-            no += ["A line with this name came, and does not count: Refused and late lines"] * more
-            self.expect(f"no ballot of {name}", window.find(name), no)
+        came = "A line with this name came, and does not count: Refused and late lines"
+        for name, more in {"dan": [came], "ben-lee": [], "eve-lee": [came]}.items():
+            self.expect(f"no ballot of {name}", window.find(name), [f"{name} is on the roll, and no ballot counts for this name.", *more])
         window.ask("document.querySelector('#Answer a').click()")
         window.until("document.getElementById('Refused-lines').closest('details').open")
 
     def test_the_table_of_votes_breaks_no_word(self):
-        """With eight options, on a telephone; the numbers go on beside the names."""
-        names = ["Schwarzwald", "Bodensee", "Nordseebad", "Alpenvorland", "Spreewald", "Rheintal", "Sauerland"]
-        poll = re.sub("options = .*", f"options = {json.dumps([f'Ausflug {name}' for name in names])}", publishing.PLAIN_POLL)
-        poll = poll.replace("ratios = [1, 1]", "ratios = [1, 1, 1, 1, 1, 1, 1]")
+        names = [f"Ausflug {name}" for name in "Schwarzwald Bodensee Nordseebad Alpenvorland Spreewald Rheintal Sauerland".split()]
+        poll = re.sub("options = .*", f"options = {json.dumps(names)}", publishing.PLAIN_POLL).replace("[1, 1]", f"{[1] * 7}")
         room = plain_room(self.scratch / "eight", poll, "ada 1,2,3,4,5,6,7,8\n")
         self.expect("it is published", publish(room, *FILES, "result")[2], 0)
         self.addCleanup(self.window.resize, 800, 900)
@@ -127,7 +123,7 @@ class ScriptsTest(publishing.PublishTest):
         self.expect("the page is as wide as the window", window.ask("document.documentElement.scrollWidth"), 360)
 
     def test_electors_with_names_of_things_of_the_page(self):
-        roll = ["find", "code", "show", "answer", "votes", "name", "result", "again", "poll-file", "ballots", "graph0"]
+        roll = ["find", "code", "show", "answer", "votes", "name", "result", "again", "poll-file", "ballots", "anna-meier", "graph0"]
         poll = re.sub("roll = .*", f"roll = {json.dumps(roll)}", publishing.PLAIN_POLL)
         room = plain_room(self.scratch / "names", poll, "".join(f"{name} 1,2,3\n" for name in roll[:-1]))
         self.expect("it is published", publish(room, *FILES, "result"), ("Winner: 1 A\nverified\n", "", 0))
@@ -136,6 +132,12 @@ class ScriptsTest(publishing.PublishTest):
             self.expect(name, window.find(name), [f"This ballot counts for {name}:", "Option 1: A", "Option 2: B", "Option 3: N", f"The line: {name} 1,2,3"])
         self.expect("no ballot", window.find(roll[-1]), [f"{roll[-1]} is on the roll, and no ballot counts for this name."])
         self.expect("counted again", window.count_again()[0].startswith("The same, line for line"), True)
+        # a name in capitals in the address is the one in small letters, unless it is that of a part of the page
+        window.ask("location.hash = '#Anna-Meier/23456789AB'")
+        window.until("document.getElementById('Answer').textContent.startsWith('This ballot counts for anna-meier:')")
+        window.ask("location.hash = '#Ballots'")
+        window.until("document.getElementById('Ballots').closest('details').open")
+        self.expect("what is shown at a part of the page", window.ask("document.getElementById('Name').value"), "anna-meier")
 
     def test_finding_a_ballot_of_a_secret_vote(self):
         self.expect("secret", self.told_in_secret[1:], ("", 1))
@@ -161,9 +163,8 @@ class ScriptsTest(publishing.PublishTest):
 
     def test_finding_a_ballot_by_its_code(self):
         """Where codes are on the roll, half a code is not called the code of nobody."""
-        by_code, code = self.published(self.secret, "codes", has_codes=True), alias_of(self.code, "zoe-muller")
-        window = self.page_of(by_code)
-        self.expect("in groups", window.find(f"{code[:16].upper()} {code[16:]}")[1:], ["Option 2: B", "Option 1: A", "Not ranked: Option 3: N", f"The line: {code} 2,1,-"])
+        window, code = self.page_of(self.published(self.secret, "codes", has_codes=True)), alias_of(self.code, "zoe-muller")
+        self.expect("in groups", window.find(f"{code[:16].upper()} {code[16:]}")[-1], f"The line: {code} 2,1,-")
         self.expect("half of it", window.find(code[:16]), ["A code has 32 digits, 0 to 9 and a to f. Type yours as it was given to you."])
         self.expect("no ballot", window.find(alias_of(self.code, "cleo")), ["The code is on the roll, and no ballot counts under it."])
         self.expect("nobody's", window.find("f" * 32), ["No elector has this code. Type it as it is on your slip."])
@@ -174,9 +175,8 @@ class ScriptsTest(publishing.PublishTest):
         secret = SecretVote(codes=frozenset(), seal=seal, sheet_text=(folder / "sheet.txt").read_text(), late=0)
         window = self.page_of(self.published(self.secret, "sealed", secret=secret))
         sealed = hashlib.sha256(f"{seal}\n".encode() + (folder / "ballots.txt").read_bytes()).hexdigest()
-        rows = [row for row in window.count_again(sealed) if "as the letter of the close has to have it" in row]
         said = f"The checksum of seal.txt and the ballots, as the letter of the close has to have it, is {sealed}."
-        self.expect("sealed", rows, [f"{said} This page names it too. Yours is the same."])
+        self.expect("sealed", f"{said} This page names it too. Yours is the same." in window.count_again(sealed), True)
 
     def test_what_is_typed(self):
         """Enter shows the ballot, and an answer goes when another name is typed; of two with one real name both are shown."""
@@ -200,9 +200,9 @@ class ScriptsTest(publishing.PublishTest):
         window.ask("document.querySelector('.folded[open]').open = false")
         window.ask("""document.querySelector('a[href="#Who-voted"]').click()""")
         self.expect("by the same link again", window.ask(unfolded), ["Who-voted"])
-        for address, part in (("Votes", "Votes"), ("How-to-verify", "How-to-verify"), ("%", None)):
-            window.ask(f"location.hash = '#{address}'")
-            window.until(f"{json.dumps(part)} === null || {unfolded}.includes({json.dumps(part)})")
+        for part in ("Votes", "How-to-verify"):
+            window.ask(f"location.hash = '#%'; location.hash = '#{part}'")
+            window.until(f"{unfolded}.includes('{part}')")
         self.addCleanup(window.show)
         window.show(on_paper=True)
         self.page_of()
@@ -225,10 +225,10 @@ class ScriptsTest(publishing.PublishTest):
         self.expect("that of another file", LETTER_OTHER in window.count_again(sums["index.html"])[3], True)
         for name in ("index.html", "SHA256SUMS"):
             data = (folder / name).read_bytes()
-            said = f"The checksum of {name} is {hashlib.sha256(data).hexdigest()}."
-            self.expect(f"{name} alone", window.count_again(files={name: data}), [said])
-            self.expect(f"{name}, typed", window.count_again(hashlib.sha256(data).hexdigest(), {name: data}), [f"{said} Yours is the same."])
-            self.expect(f"{name}, changed", LETTER_OTHER in window.count_again(hashlib.sha256(data).hexdigest(), {name: data + b"x"})[0], True)
+            digest = hashlib.sha256(data).hexdigest()
+            found = [window.count_again(typed, {name: data}) for typed in ("", digest)]
+            self.expect(name, found, [[f"The checksum of {name} is {digest}.{same}"] for same in ("", " Yours is the same.")])
+            self.expect(f"{name}, changed", LETTER_OTHER in window.count_again(digest, {name: data + b"x"})[0], True)
         sum_of_poll = sums["poll.toml"]
         for typed, number in ((sum_of_poll[:63], 63), (f"{sum_of_poll[:16]} {sum_of_poll[16:20]}", 20), (f"{sum_of_poll}0", 65), ("?", 0)):
             self.expect(f"typed {typed}", window.count_again(typed)[3], f"A checksum has 64 digits, 0 to 9 and a to f, and you have typed {number}.")
@@ -254,9 +254,13 @@ class ScriptsTest(publishing.PublishTest):
         files = {name: (folder / name).read_bytes() for name in ("poll.toml", "ballots.txt", "sheet.txt")}
         window = self.page_of()
         self.expect("the same", window.count_again(files=files)[0].startswith("The same, line for line"), True)
-        cut = window.count_again(files=files | {"sheet.txt": files["sheet.txt"].removesuffix(b"\n")})[0]
-        feeds = "There it is: Winner: 2 B (without a line feed at its end). By this count it is: Winner: 2 B (with a line feed at its end)."
-        self.expect(f"no line feed at the end: {cut}", feeds in cut, True)
+        for name, data, said in [
+            ("sheet.txt", files["sheet.txt"].removesuffix(b"\n"), "(without a line feed at its end). By this count it is: Winner: 2 B (with a line feed at its"),
+            ("poll.toml", b"# a comment\n" + files["poll.toml"], "not in plain form, as the poll.toml of a result is"),
+            ("poll.toml", files["poll.toml"].replace(b'"Plain"', b'"Pl\xffin"'), "poll refused: not in UTF-8"),
+        ]:
+            row = window.count_again(files=files | {name: data})[0]
+            self.expect(f"{name} is another: {row}", said in row, True)
         others = window.count_again(files=files | {"ballots.txt": files["ballots.txt"] + b"dan 1,2,3\n"})
         told = "If the files are as they were published, tell the other electors."
         shown = [(row.endswith(told), row.startswith("This page")) for row in others if row.startswith(("Not the same", "This page"))]
@@ -265,22 +269,3 @@ class ScriptsTest(publishing.PublishTest):
         self.expect("what the page names", named, {"poll,": True, "ballots,": False})
         two = window.count_again(files=files | {"poll-2.toml": files["poll.toml"]})
         self.expect("two polls", two, ["Choose poll.toml and ballots.txt, one file of each and under these names; you may add sheet.txt."])
-        toml = window.count_again(files=files | {"poll.toml": b"# a comment\n" + files["poll.toml"]})[0]
-        odd = window.count_again(files=files | {"poll.toml": files["poll.toml"].replace(b'"Plain"', b'"Pl\xffin"')})[0]
-        self.expect(f"no UTF-8: {odd}", "poll refused: not in UTF-8" in odd, True)
-        self.expect(f"another form of TOML: {toml}", "not in plain form, as the poll.toml of a result is" in toml, True)
-
-    @at_browser.NEEDS_BROWSER
-    def test_a_name_in_capitals_in_the_address(self):
-        """It is the name in small letters, unless it is that of a part of the page."""
-        poll = re.sub("roll = .*", 'roll = ["anna-meier", "ballots"]', publishing.PLAIN_POLL)
-        room = plain_room(self.scratch / "capitals", poll, "anna-meier 1,2,3\nballots 1,2,3\n")
-        self.expect("it is published", publish(room, *FILES, "result"), ("Winner: 1 A\nverified\n", "", 0))
-        window = self.window
-        self.page_of(window, room=room)
-        window.ask("location.hash = '#Anna-Meier/23456789AB'")
-        window.until("document.getElementById('Answer').textContent.startsWith('This ballot counts for anna-meier:')")
-        self.expect("the name", window.ask("document.getElementById('Name').value"), "anna-meier")
-        window.ask("location.hash = '#Ballots'")
-        window.until("document.getElementById('Ballots').closest('details').open")
-        self.expect("a part of the page", window.ask("document.getElementById('Name').value"), "anna-meier")

@@ -31,22 +31,17 @@ class Translations(languages.LanguageTest):
     def test_no_sentence_lacks_a_translation_and_none_is_left_over(self) -> None:
         for code, entries in self.entries.items():
             with self.subTest(language=code):
-                found = [entry.texts for entry in entries[1:]]
-                self.assertEqual(len(found), len(set(found)), "twice")
-                self.assertEqual(sorted(self.said.keys() - set(found)), [], "not translated")
-                self.assertEqual(sorted(set(found) - self.said.keys()), [], "not in the code")
+                self.assertEqual(sorted(entry.texts for entry in entries[1:]), sorted(self.said), "twice, not translated, or not in the code")
                 for entry in entries[1:]:
-                    self.assertTrue(all(entry.forms), entry.texts)
-                    self.assertFalse(entry.is_fuzzy or entry.is_obsolete, entry.texts)
+                    self.assertEqual((all(entry.forms), entry.is_fuzzy, entry.is_obsolete), (True, False, False), entry.texts)
 
     def test_each_translation_has_the_places_the_tags_and_the_end_of_its_sentence(self) -> None:
         ends = re.compile(r"([.:?])(?:</\w+>)?$")
         for code, entries in self.entries.items():
             for entry in entries[1:]:
                 with self.subTest(language=code, text=entry.texts[0]):
-                    wanted, found = ends.search(entry.texts[0]), ends.search(entry.forms[0])
-                    if wanted and wanted[1] in ":?":
-                        self.assertEqual(found and found[1], wanted[1])
+                    wanted, found = (ends.findall(text) for text in (entry.texts[0], entry.forms[0]))
+                    self.assertTrue(found == wanted or wanted in ([], ["."]), found)
                     self.assertEqual(len(entry.forms), len(entry.texts))
                     for form in entry.forms:
                         self.assertEqual(sentences.places_in(form), sentences.places_in(entry.texts[-1]))
@@ -56,14 +51,11 @@ class Translations(languages.LanguageTest):
                         self.assertNotIn('"', TAG.sub("", form))
 
     def test_what_puts_parts_behind_each_other_has_its_places_at_its_ends(self) -> None:
-        both = {("{entries} and {last}",), ("{before}: {after}",), ("{before}; {after}",)}
-        both |= {("{before}, then {step}",), ("{before}; then {step}",)}
         for code, entries in self.entries.items():
-            found = {entry.texts: entry.forms[0] for entry in entries if entry.texts in both}
-            self.assertEqual(found.keys(), both)
-            for (text,), form in found.items():
+            forms = {entry.texts[0]: entry.forms[0] for entry in entries}
+            for text in ("{entries} and {last}", "{before}: {after}", "{before}; {after}", "{before}, then {step}", "{before}; then {step}"):
                 first, second = re.findall(r"\{\w+\}", text)
-                self.assertTrue(form.startswith(first) and form.endswith(second), f"{code}: {form}")
+                self.assertRegex(forms[text], f"^{re.escape(first)}.*{re.escape(second)}$", code)
 
     def test_french_signs_stand_behind_a_space_that_does_not_break(self) -> None:
         for entry in self.entries["fr"][1:]:
@@ -84,8 +76,8 @@ class Translations(languages.LanguageTest):
                 self.assertEqual([by_msgfmt.plural(n) for n in range(200)], [here.plural(n) for n in range(200)])
 
     def test_numbers_and_places(self) -> None:
-        for code, wanted in (("en", ("1 file", "3 files")), ("de", ("1 Datei", "3 Dateien"))):
-            self.assertEqual(tuple([language_of(code).say_number("{number} file", "{number} files", number) for number in (1, 3)]), wanted)
+        for code, wanted in (("en", ["1 file", "3 files"]), ("de", ["1 Datei", "3 Dateien"])):
+            self.assertEqual([language_of(code).say_number("{number} file", "{number} files", number) for number in (1, 3)], wanted)
         self.assertEqual(language_of("de").say("The line: {line}", line="{x}"), "Die Zeile: {x}")
         self.assertEqual(language_of("fr").between("{before}; {after}"), "\u00a0; ")
         for code, wanted in {"en": "33.3 %", "de": "33,3 %", "fr": "33,3 %", "es": "33,3 %"}.items():

@@ -4,6 +4,7 @@ but what is no word of ours, as the names of options and electors, the commands,
 import email
 import email.policy
 import html
+import json
 import pathlib
 import re
 
@@ -47,14 +48,10 @@ def unsaid(page: str) -> list[str]:
 
 def words_of(said: str) -> str:
     """The sentences of a script, or an attribute as it is."""
-    if not said.startswith("{"):
-        return said
-    return "\n".join(re.sub(r"\{\w+\}", " ", found) for found in re.findall(r'": "((?:[^"\\]|\\.)*)"', said)).replace("\\n", " ")
+    return re.sub(r"\{\w+\}", " ", "\n".join(json.loads(said).values())) if said.startswith("{") else said
 
 
 class Marked(languages.LanguageTest):
-    """Elections in a language whose words are all marked."""
-
     @classmethod
     def setUpClass(cls) -> None:
         super().setUpClass()
@@ -67,14 +64,12 @@ class Marked(languages.LanguageTest):
         return said
 
     def check(self, text: str, name: str) -> None:
-        """A page or a letter."""
         with self.subTest(name):
             self.assertIn(BEGIN, text)
             self.assertEqual(unsaid(text) if name.endswith(".html") else unmarked(text), [])
             self.assertEqual('<html lang="de">' in text, name.endswith(".html"))
 
     def check_files(self, place: pathlib.Path, *files: str) -> None:
-        """These pages and letters of an election."""
         for name in files:
             self.check((place / name).read_text(encoding="utf-8"), f"{place.name}/{name}")
 
@@ -95,10 +90,10 @@ class Marked(languages.LanguageTest):
         self.assertEqual(unsaid(f"<title>{BEGIN}x{END_MARK}</title><p>has <b>1</b></p>"), ["has"])
 
     def test_from_the_beginning_to_the_end(self) -> None:
+        files = ["call/index.html", "call/call.txt", *(f"letters/{name}.txt" for name in ("extension", "closed", "result"))]
         for name, more in (("open", ()), ("secret", ("private/slips.html",))):
             place = self.held(name, "de", is_secret=name == "secret")
-            self.check_files(place, "call/index.html", "call/call.txt", *more, "letters/extension.txt", "letters/closed.txt")
-            self.check_files(place, "result/index.html", "letters/result.txt", "result/closed.txt")
+            self.check_files(place, *files, "result/index.html", "result/closed.txt", *more)
             self.check_messages(place, "call", "receipts", "reminders", "closed", "result")
 
     def test_other_calls(self) -> None:

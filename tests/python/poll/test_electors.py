@@ -25,7 +25,6 @@ def new_of(roll: Roll) -> list[Member]:
 
 
 def changes_of(roll: Roll) -> list[tuple[str, list[str]]]:
-    """What changed of whom."""
     return [(elector.name, list(elector.changes)) for elector in roll.electors if elector.changes]
 
 

@@ -32,11 +32,9 @@ class MembersTest(unittest.TestCase):
             faults = self.read(content).faults
         except Fault as fault:
             faults = (fault, *fault.others)
-        self.assertEqual(len(faults), len(wanted), [fault.words for fault in faults])
+        self.assertEqual([fault.status for fault in faults], [Status.DOUBT] * len(wanted), [fault.words for fault in faults])
         for fault, parts in zip(faults, wanted):
-            self.assertEqual(fault.status, Status.DOUBT)
-            self.assertIn("then run debvote-election roll again", str(fault.words))
-            for part in parts:
+            for part in (*parts, "then run debvote-election roll again"):
                 self.assertIn(part, str(fault.words))
 
 
@@ -103,11 +101,9 @@ class Unread(MembersTest):
         for content, *wanted in [
             (b"", ("members.csv: it is empty",)),
             (b"\xef\xbb\xbf\r\n ,,\r\n", ("it is empty",)),
-            # what is no CSV
             (b"PK\x03\x04\x14\0", ("a ZIP", "not CSV", "save it again as CSV in UTF-8")),
             (b"\xd0\xcf\x11\xe0\xa1\xb1", ("spreadsheet, not CSV",)),
             (b"%PDF-1.7", ("a PDF",)),
-            # another encoding
             ("who,mail\nZoë,z@x\n".encode("latin-1"), ("members.csv:2: ", "Latin-1", "Zoë,z@x", "UTF-8")),
             ("who,mail\nZoë,z@x\n".encode("utf-16-le"), ("nor in UTF-16 with a byte-order mark",)),
             (codecs.BOM_UTF16_LE + "who,mail\n".encode("utf-16-le") + b"x", ("UTF-16",)),

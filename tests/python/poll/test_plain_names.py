@@ -3,8 +3,8 @@
 import re
 import unittest
 
-from debvote_tools.poll import plain_names
-from debvote_tools.poll.plain_names import alike, bad_options, bad_title, elector_name, made_different, plain_options, plain_title, similar_names
+from debvote_tools.poll.plain_names import alike, bad_options, bad_title, elector_name, is_elector_name, made_different, plain_options
+from debvote_tools.poll.plain_names import plain_title, similar_names
 
 OPTION = re.compile(r"[!-~]([ -~]{0,38}[!-~])?")
 
@@ -44,8 +44,6 @@ class Options(unittest.TestCase):
         found = plain_options([*odd, *odd], "de")
         self.assertEqual(([name for name in found if not OPTION.fullmatch(name)], len({alike(name) for name in found})), ([], len(found)))
 
-
-class Titles(unittest.TestCase):
     def test_titles(self) -> None:
         titles = {"Where we meet": "Where we meet", "Wahl des Präsidiums": "Wahl des Praesidiums", "投票": "Vote", "": ""}
         titles |= {"y" * 81: "y" * 80, "é" * 80: "e" * 80, "2027年": "2027", "a  b": "a  b", "?": "?"}
@@ -61,8 +59,7 @@ class Electors(unittest.TestCase):
             "İpek Işık": "ipek-isik", "Þór Æsir": "thor-aesir", "ﬁnn Ａｄａ": "finn-ada", "-x_y-": "x-y", "Zoe\u0308": "zoe",
             "3rd": "3rd", "李 Li": "li", "李": "", "...": "", ",": "",
         }.items():  # fmt: skip
-            self.assertEqual(elector_name(who, "en"), name, who)
-            self.assertEqual(plain_names.is_elector_name(name), bool(name))
+            self.assertEqual((elector_name(who, "en"), is_elector_name(name)), (name, bool(name)), who)
         self.assertEqual(elector_name("ZOË Müller-Groß", "de"), "zoe-mueller-gross")
 
     def test_the_family_name_comes_last(self) -> None:
@@ -96,10 +93,8 @@ class Electors(unittest.TestCase):
         self.assertEqual(list(similar_names(f"elector-{number}" for number in range(10_000))), [])
 
     def test_what_a_roll_allows(self) -> None:
-        for name in ("a", "0.-", "a" * 32):
-            self.assertTrue(plain_names.is_elector_name(name))
-        for name in ("", "A", "a b", "ä", "a_b", "a" * 33, "a\n"):
-            self.assertFalse(plain_names.is_elector_name(name))
+        names = ("a", "0.-", "a" * 32, "", "A", "a b", "ä", "a_b", "a" * 33, "a\n")
+        self.assertEqual(tuple(filter(is_elector_name, names)), names[:3])
 
     def test_numbers(self) -> None:
         self.assertEqual(made_different(["a", "a", "b"], ["a-1"], 32, "-"), ["a-2", "a-3", "b"])
@@ -111,10 +106,9 @@ class Refused(unittest.TestCase):
     def assert_bad(self, names: list[str], *wanted: tuple[int, str]) -> None:
         """Which options are refused, each with a part of the reason."""
         found = bad_options(names, plain_options(names, "de"))
-        self.assertEqual([number for number, _, _ in found], [number for number, _ in wanted], found)
-        for (_, name, why), (number, reason) in zip(found, wanted):
+        self.assertEqual([(number, name) for number, name, _ in found], [(number, names[number - 1]) for number, _ in wanted])
+        for (_, _, why), (_, reason) in zip(found, wanted):
             self.assertIn(reason, why)
-            self.assertEqual(name, names[number - 1])
 
     def test_names_that_look_alike(self) -> None:
         pairs = [("Am See", "am  SEE"), ("Café", "Cafe"), ("Straße", "STRASSE"), ("Am See", "Am\u00a0See\u200b")]

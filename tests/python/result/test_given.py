@@ -25,11 +25,17 @@ REFUSED_TEXTS = [
 
 
 class GivenTest(publishing.PublishTest):
+    def page_of(self, room, *words):
+        """The page of a result that is published with these words."""
+        self.expect("the status", publish(room, *FILES, *words)[2], 0)
+        return (room / words[-1] / "index.html").read_text()
+
+    def refused_lines(self, page):
+        return [entry.text() for entry in pages.sections_of(page)["Refused-lines"].all("li")]
+
     def test_honest_words(self):
-        """The page says what it knows, what it does not, and what is enough for an elector."""
         room = room_with(self.scratch / "honest", "supermajority_and_recasts")
-        self.expect("honest words: the status", publish(room, *FILES, "result")[2], 0)
-        page = (room / "result" / "index.html").read_text()
+        page = self.page_of(room, "result")
         sections = pages.sections_of(page)
         counted = "This is the count of the files in this folder. No count shows whether they are what the electors sent; see "
         for part, texts in {
@@ -50,56 +56,43 @@ class GivenTest(publishing.PublishTest):
         ]:
             self.expect(f"nobody can see: {start}", [check in row for row in rows if row.startswith(start)], [True])
         self.expect("nobody can see: how many", len(rows), 6)
-        seen = ["Result", "Why", "Find-your-ballot", "Check-it"]
-        folded = ["Options", "Votes", "Defeats", "Ballots", "Who-voted", "Refused-lines"]
-        folded += ["What-was-done", "What-nobody-can-see-from-here", "How-to-verify"]
-        self.expect("the order of the parts", list(sections), [*seen, *folded])
+        folded = "Options Votes Defeats Ballots Who-voted Refused-lines What-was-done What-nobody-can-see-from-here How-to-verify".split()
+        self.expect("the order of the parts", list(sections), ["Result", "Why", "Find-your-ballot", "Check-it", *folded])
         heads = {name: [head.one("h3").attributes["id"] for head in part.all("summary") if list(head.all("h3"))] for name, part in sections.items()}
         self.expect("what is folded, under its heading", {name: head for name, head in heads.items() if head}, {name: [name] for name in folded})
         heads = [head.text() for head in sections["How-to-verify"].all("h4")]
         program = subprocess.run([PROGRAM, "--version"], capture_output=True, text=True).stdout.strip()
         self.expect("how to verify: its parts", heads, ["To count again", f"With the program {program}", "Without debvote"])
-        own, winner, sums, letter, again = [" ".join(entry.text().split()) for entry in sections["Check-it"].one("ol").all("li")]
+        rows = [" ".join(entry.text().split()) for entry in sections["Check-it"].one("ol").all("li")]
+        starts = ["Is your ballot as you sent it? Find your ballot shows it. If you did not vote"]
+        starts += ["Does your letter of the result name the same winner? ", "Does it have the checksums of SHA256SUMS and index.html, this page, "]
         poll_sum = hashlib.sha256((room / "result" / "poll.toml").read_bytes()).hexdigest()
-        self.expect("check it: one's own ballot", own.startswith("Is your ballot as you sent it? Find your ballot shows it. If you did not vote"), True)
-        self.expect("check it: the winner", winner.startswith("Does your letter of the result name the same winner? "), True)
-        self.expect("check it: both checksums", sums.startswith("Does it have the checksums of SHA256SUMS and index.html, this page, "), True)
-        self.expect("check it: one's own letter", letter, f"Does your letter of the call have this checksum, the poll's? {poll_sum}")
-        links = {link.attributes["href"]: "download" in link.attributes for link in sections["Check-it"].all("a")}
-        self.expect("check it: what is downloaded", [name for name, is_loaded in links.items() if is_loaded], ["SHA256SUMS", "index.html"])
-        whole = pages.tree_of(page).text()
-        self.expect("ballots in the order of what?", ("in the order in which they were entered" in whole, "they came" in whole), (True, False))
-        self.expect("nothing is said to be announced", "announced" in whole, False)
+        starts += [f"Does your letter of the call have this checksum, the poll's? {poll_sum}"]
+        self.expect("check it: its rows", ([row[: len(start)] for row, start in zip(rows, starts)], len(rows)), (starts, 5))
+        loaded = [link.attributes["href"] for link in sections["Check-it"].all("a") if "download" in link.attributes]
+        self.expect("check it: what is downloaded", loaded, ["SHA256SUMS", "index.html"])
+        found = [said in pages.tree_of(page).text() for said in ("in the order in which they were entered", "they came", "announced")]
+        self.expect("ballots in the order of what, and nothing is said to be announced", found, [True, False, False])
 
     def test_refused_texts(self):
-        """Each refused line stands there with its text, escaped and cut, and with the words that belong to it."""
-        room = self.scratch / "refused-texts"
-        plain_room(room)
+        room = plain_room(self.scratch / "refused-texts")
         long = "x" * 180 + ">" + "y" * 200
         lines = ["ada;1,2,3", "<b>ada</b> 1,2,3", "", "ben 1.,2,3", "zoe 1,2,3", "zoe 1,2,3", long, "ada 1,2", "caf\u00e9\u202e 1,2,3", "cleo 1,\t2,3"]
         # a ballot between two lines that are alike
         lines += ["cleo 1,2,3", "cleo 1,\t2,3"]
         (room / "ballots").write_text((room / "ballots").read_text() + "".join(f"{line}\n" for line in lines))
-        self.expect("refused texts: the status", publish(room, *FILES, "result")[2], 0)
-        page = (room / "result" / "index.html").read_text()
-        self.expect("refused texts", [entry.text() for entry in pages.sections_of(page)["Refused-lines"].all("li")], REFUSED_TEXTS)
+        self.expect("refused texts", self.refused_lines(self.page_of(room, "result")), REFUSED_TEXTS)
         (room / "ballots").write_text((room / "ballots").read_text() + "".join(f"y{place}{'z' * 150}\n" for place in range(8_000)))
-        self.expect("many refused texts: the status", publish(room, *FILES, "many")[2], 0)
-        page = (room / "many" / "index.html").read_text()
-        part = pages.sections_of(page)["Refused-lines"]
-        (told,) = re.findall(r"The texts from line (\d+) on are too many for this page: see ballots.txt.", part.text())
-        last = [entry.text() for entry in part.all("li")][-1]
+        page = self.page_of(room, "many")
+        told = re.search(r"The texts from line (\d+) on are too many for this page: see ballots.txt.", page)[1]
         cause = 'bad shape: column 33: "z"; a ballot has a space there: a name has at most 32 bytes'
-        self.expect("many refused texts: the last ones", last, f"lines {told} to 8015: {cause}")
+        self.expect("many refused texts: the last ones", self.refused_lines(page)[-1], f"lines {told} to 8015: {cause}")
         self.expect("many refused texts: so many are shown", (int(told) > 5_000, len(page) < publishing.LARGEST_PAGE), (True, True))
 
     def test_why_a_line_is_refused_in_another_language(self):
         """The page says it as a receipt does, and in brackets as debvote does. That a line is late is said above them all."""
         room = plain_room(self.scratch / "refused-in-german", publishing.PLAIN_POLL + "last_envelope = 4\n")
         (room / "ballots").write_text("ada 1,2\nzoe 1,2,3\nada;1\nada 1,2,3\nada 3,2,1\n")
-        self.expect("refused in German: the status", publish(room, *FILES, "--language", "de", "result")[2], 0)
-        page = (room / "result" / "index.html").read_text()
-        found = [entry.text() for entry in pages.sections_of(page)["Refused-lines"].all("li")]
         wanted = [
             "Zeile 1: ada 1,2: Sie hat 2 Ränge, und die Abstimmung hat 3 Optionen. (bad rank count: 2 ranks, the poll has 3 options)",
             "Zeile 2: zoe 1,2,3: Der Name darin steht nicht im Wählerverzeichnis. (bad not on roll: zoe is not on the roll)",
@@ -107,7 +100,7 @@ class GivenTest(publishing.PublishTest):
             "a ballot has a space there, or more of the name: a to z, 0 to 9, . or -)",
             "Zeile 5: ada 3,2,1: (late: the last envelope is 4)",
         ]
-        self.expect("refused in German", found, wanted)
+        self.expect("refused in German", self.refused_lines(self.page_of(room, "--language", "de", "result")), wanted)
 
     def test_commands(self):
         """Each command of the page is typed in the folder; what it answers is what the page says."""
@@ -141,9 +134,8 @@ class GivenTest(publishing.PublishTest):
                 self.expect("commands: other files are named", sorted(ended.stdout.splitlines()), sorted(named))
             elif wanted:
                 self.expect(f"commands: {command}: what it answers", ended.stdout, html.unescape(wanted) + "\n")
-        sheet = (folder / "sheet.txt").read_text()
-        recount = "python3 -I recount.py count --poll poll.toml --ballots ballots.txt --casting Bottle"
-        self.expect("commands: the second count prints the sheet", answers[recount], sheet)
-        self.expect("commands: and so does debvote", answers["debvote count --poll poll.toml --ballots ballots.txt --casting Bottle"], sheet)
+        for program in ("python3 -I recount.py", "debvote"):
+            found = answers[f"{program} count --poll poll.toml --ballots ballots.txt --casting Bottle"]
+            self.expect(f"commands: {program} prints the sheet", found, (folder / "sheet.txt").read_text())
         after = {file.name: file.read_bytes() for file in folder.iterdir() if file.name not in others}
         self.expect("commands: the folder is as it was, its picture too", after, before)

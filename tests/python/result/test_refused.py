@@ -22,29 +22,11 @@ def stand_in(folder, text):
     return str(folder)
 
 
-def try_stand_ins(expect, poll, ballots, room, scratch):
-    """Other programs in place of debvote, no Graphviz, and a run that is asked to end."""
-    words = [sys.executable, publishing.PUBLISH, "--poll", poll, "--ballots", ballots]
-    as_it_is = f'*) exec {publishing.PROGRAM} "$@" ;; esac'
-    for name, text, status in [
-        ("a sheet that is not verified", 'verify) echo "differs at line 1"; exit 9 ;;', 9),
-        ("a count that is killed", 'count) echo "Poll: half"; kill -KILL $$ ;;', 128 + signal.SIGKILL),
-        ("a sheet of another format", 'count) echo "Result: 1" ;; verify) echo verified ;;', 10),
-    ]:
-        found = publishing.run([*words, room / "result"], path=stand_in(scratch / name, f"case $1 in {text} {as_it_is}"))
-        expect(name, (found[2], os.listdir(room)), (status, ["full"]))
-    found = publishing.run([*words, room / "result"], path=stand_in(scratch / "plain", f'exec {publishing.PROGRAM} "$@"'))
-    is_told = "Graphviz" in found[1] and "There is no picture" in (room / "result" / "index.html").read_text()
-    expect("no Graphviz", (found[2], is_told, (room / "result" / "picture.svg").exists()), (0, True, False))
-    slow = stand_in(scratch / "slow", f'case "$*" in *ballots.txt*) exec /bin/sleep 60 ;; {as_it_is}')
-    started = subprocess.Popen(list(map(str, [*words, room / "late"])), env={"PATH": slow}, start_new_session=True)
-    while len(os.listdir(room)) < 3 and started.poll() is None:
-        time.sleep(0.05)
-    started.terminate()
-    expect("a run that is asked to end", (started.wait(publishing.SECONDS), sorted(os.listdir(room))), (128 + signal.SIGTERM, ["full", "result"]))
-
-
 class RefusedTest(publishing.PublishTest):
+    def assert_refused(self, found, status, said):
+        """A run ended with this status, and its fault begins with these words."""
+        self.expect(f"{found[1]}", (found[0], found[1].startswith(f"debvote-publish: {said}"), found[2]), ("", True, status))
+
     def test_what_is_refused(self):
         """What is refused leaves no folder, and nothing beside it."""
         example = publishing.EXAMPLES / "plain_win"
@@ -71,21 +53,37 @@ class RefusedTest(publishing.PublishTest):
             output, faults, status = publishing.publish_files(*words)
             self.expect(f"{name}: its status", (output, status, bool(faults)), ("", wanted, True))
             self.expect(f"{name}: what is left", sorted(os.listdir(room)), ["full"])
+        words = [sys.executable, publishing.PUBLISH, "--poll", poll, "--ballots", ballots]
         with open("/dev/full", "w") as full:
-            words = [sys.executable, publishing.PUBLISH, "--poll", poll, "--ballots", ballots, room / "result"]
             where = {**os.environ, "PATH": publishing.PATH}
-            ended = subprocess.run(words, stdout=full, stderr=subprocess.PIPE, text=True, timeout=publishing.SECONDS, env=where)
-        said = ended.stderr.splitlines()[-1:]
-        words = f"debvote-publish: the output failed; the folder {room / 'result'} was made nevertheless: look at its page index.html"
-        self.expect("a full disk for what is said", (ended.returncode, said), (7, [words]))
-        before = {file.name: file.read_bytes() for file in (room / "result").iterdir()}
-        _, faults, status = publishing.publish_files(poll, ballots, room / "result" / "x")
-        words = f"debvote-publish: {room}/result/x: it would be in {room}/result, whose files are published as they are; nothing was published: "
-        self.expect("a folder in a published one", (faults, status), (f"{words}name a folder outside of it\n", 2))
-        self.expect("the published one", {file.name: file.read_bytes() for file in (room / "result").iterdir()} == before, True)
+            ended = subprocess.run([*words, room / "result"], stdout=full, stderr=subprocess.PIPE, text=True, timeout=publishing.SECONDS, env=where)
+        said = f"debvote-publish: the output failed; the folder {room / 'result'} was made nevertheless: look at its page index.html"
+        self.expect("a full disk for what is said", (ended.returncode, ended.stderr.splitlines()[-1:]), (7, [said]))
+        before = {file: file.read_bytes() for file in (room / "result").iterdir()}
+        said = f"{room}/result/x: it would be in {room}/result, whose files are published as they are; nothing was published: name a folder outside"
+        self.assert_refused(publishing.publish_files(poll, ballots, room / "result" / "x"), 2, said)
+        self.expect("the published one", {file: file.read_bytes() for file in (room / "result").iterdir()} == before, True)
         shutil.rmtree(room / "result")
         self.expect("no program", (publishing.publish_files(poll, ballots, room / "result", path="/nowhere")[2], os.listdir(room)), (127, ["full"]))
-        try_stand_ins(self.expect, poll, ballots, room, self.scratch)
+        # other programs in place of debvote, no Graphviz, and a run that is asked to end
+        as_it_is = f'*) exec {publishing.PROGRAM} "$@" ;; esac'
+        for name, text, status in [
+            ("a sheet that is not verified", 'verify) echo "differs at line 1"; exit 9 ;;', 9),
+            ("a count that is killed", 'count) echo "Poll: half"; kill -KILL $$ ;;', 128 + signal.SIGKILL),
+            ("a sheet of another format", 'count) echo "Result: 1" ;; verify) echo verified ;;', 10),
+        ]:
+            found = publishing.run([*words, room / "result"], path=stand_in(self.scratch / name, f"case $1 in {text} {as_it_is}"))
+            self.expect(name, (found[2], os.listdir(room)), (status, ["full"]))
+        found = publishing.run([*words, room / "result"], path=stand_in(self.scratch / "plain", f'exec {publishing.PROGRAM} "$@"'))
+        is_told = "Graphviz" in found[1] and "There is no picture" in (room / "result" / "index.html").read_text()
+        self.expect("no Graphviz", (found[2], is_told, (room / "result" / "picture.svg").exists()), (0, True, False))
+        slow = stand_in(self.scratch / "slow", f'case "$*" in *ballots.txt*) exec /bin/sleep 60 ;; {as_it_is}')
+        started = subprocess.Popen(list(map(str, [*words, room / "late"])), env={"PATH": slow}, start_new_session=True)
+        while len(os.listdir(room)) < 3 and started.poll() is None:
+            time.sleep(0.05)
+        started.terminate()
+        found = started.wait(publishing.SECONDS), sorted(os.listdir(room))
+        self.expect("a run that is asked to end", found, (128 + signal.SIGTERM, ["full", "result"]))
 
     def test_an_empty_folder(self):
         """A folder that is there and empty is taken, by any name; and an input may come from /dev/stdin."""
@@ -97,13 +95,12 @@ class RefusedTest(publishing.PublishTest):
         self.expect("an empty folder by a link", (found[2], (self.scratch / "empty" / "index.html").exists()), (0, True))
 
     def test_numbers_that_no_float_holds(self):
-        """The second count takes and refuses the same ones as debvote."""
         (self.scratch / "none").touch()
+        poll, second = self.scratch / "numbers.toml", [sys.executable, "-I", publishing.ROOT / "tests" / "reference.py"]
         for number, is_taken in {"1e309": False, "-0.1e999": False, "[{a = 1_0e400}]": False, "1e308": True, "1e-400": True, "-inf": True}.items():
-            poll = self.scratch / "numbers.toml"
             poll.write_text(f"{publishing.PLAIN_POLL}note = {number}\n")
             words = ["count", "--poll", poll, "--ballots", self.scratch / "none"]
-            found = [publishing.run([*program, *words])[1:] for program in ([publishing.PROGRAM], [sys.executable, "-I", publishing.ROOT / "tests" / "reference.py"])]
+            found = [publishing.run([*program, *words])[1:] for program in ([publishing.PROGRAM], second)]
             self.expect(number, found, [("", 0) if is_taken else ("debvote: poll refused: syntax\n", 3)] * 2)
 
     def test_refused_polls(self):
@@ -116,21 +113,18 @@ class RefusedTest(publishing.PublishTest):
             ("bad.toml", "ballots", "bad.toml: poll refused: key title; nothing was published: debvote explain --poll bad.toml says what"),
             ("new.toml", "ballots", "new.toml: it can't be read (Unescaped '\\' in a string"),
         ]:
-            output, faults, status = publishing.run([sys.executable, publishing.PUBLISH, "--poll", poll, "--ballots", ballots, "result"], cwd=room)
-            self.expect(f"{poll} and {ballots}: {faults}", (output, faults.startswith(f"debvote-publish: {wanted}"), status), ("", True, 3))
+            self.assert_refused(publishing.publish(room, "--poll", poll, "--ballots", ballots, "result"), 3, wanted)
         self.expect("what is left", sorted(os.listdir(room)), ["bad.toml", "ballots", "new.toml", "poll.toml"])
 
     def test_secret_votes(self):
-        """A poll that says that its vote is secret is published with aliases alone."""
         # one name is enough
         room = publishing.plain_room(self.scratch / "secret", poll=publishing.PLAIN_POLL.replace('"ada"', f'"{"0" * 32}"') + "secret = true\n")
-        output, faults, status = publishing.publish(room, *publishing.FILES, "result")
         wanted = "poll.toml: the vote is secret, and this would publish each name with its vote; publish it from its election, "
-        self.expect(f"a secret vote with names: {faults}", (output, faults.startswith(f"debvote-publish: {wanted}"), status), ("", True, 9))
+        self.assert_refused(publishing.publish(room, *publishing.FILES, "result"), 9, wanted)
         roll = ["0" * 31 + digit for digit in "0123"]
         poll = publishing.PLAIN_POLL.replace('["ada", "ben", "cleo", "dan"]', str(roll).replace("'", '"')) + "secret = true\n"
         twice = publishing.plain_room(self.scratch / "twice", poll=poll, ballots=f"{roll[0]} 1,2,3\n{roll[1]} 2,1,3\n{roll[0]} 2,1,3\n")
-        output, faults, status = publishing.publish(twice, *publishing.FILES, "result")
+        _, faults, status = publishing.publish(twice, *publishing.FILES, "result")
         self.expect(f"an alias twice: {faults}", ("a line of this secret vote does not count, or counts more than once" in faults, status), (True, 9))
         room = publishing.plain_room(self.scratch / "aliases", poll=poll, ballots=f"{roll[0]} 1,2,3\n{roll[1]} 2,1,3\n{roll[2]} 1,2,3\n")
         self.expect("a secret vote with aliases", publishing.publish(room, *publishing.FILES, "result")[1:], ("", 0))

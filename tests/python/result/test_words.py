@@ -5,23 +5,30 @@ import datetime
 from debvote_tools.result.facts import Act
 from debvote_tools.result.page import share
 from debvote_tools.text.ballots import ranks_in_words
-from debvote_tools.text.language import language_of
+from debvote_tools.text.language import ENGLISH, language_of
+from debvote_tools.text.rendering import templates_of
 
 from tests.support import expecting
 
 
 class WordsTest(expecting.Expecting):
-    def test_plain_closes(self):
-        """The letters of the result tell each close of which more is to be told than its time."""
-        time = datetime.datetime.now(datetime.UTC)
-        plain = {"lines": 1, "checksum": "", "early": False, "waiting": 0, "after_end": 0, "came": None, "struck": None}
-        self.expect("a plain close", Act(time, "closed", plain).is_quiet, True)
-        self.expect("a close with a reason", Act(time, "closed", plain, "a reason").is_quiet, False)
+    def test_what_letters_tell_of_what_was_done(self):
+        """All but what is plain: also that the clock went back, and each close of which more is to be told than its time."""
+        time, plain = datetime.datetime(2026, 12, 4, tzinfo=datetime.UTC), {"called", "called until", "taken back", "keyring"}
+        places = {"until": time, "before": time, "number": 1, "envelope": 1, "noted": 1, "there": 1}
+        told = templates_of("debvote_tools.result", ENGLISH, is_page=False).get_template("told.jinja").module
+        kinds = {*told.DONE, "roll changed"}
+        self.expect("how many kinds", (len(kinds), plain <= kinds), (13, True))
+        for done in kinds:
+            act = Act(time, done, places)
+            self.expect(done, (act.is_quiet, told.dated(act)[:38]), (done in plain, "Friday, 4 December 2026, 00:00 (UTC): "))
+        places = {"lines": 1, "checksum": "", "early": False, "waiting": 0, "after_end": 0, "came": None, "struck": None}
+        self.expect("a plain close", Act(time, "closed", places).is_quiet, True)
+        self.expect("a close with a reason", Act(time, "closed", places, "a reason").is_quiet, False)
         for more in ({"early": True}, {"waiting": 1}, {"after_end": 1}, {"came": 0, "struck": 0}):
-            self.expect(f"a close with {more}", Act(time, "closed", plain | more).is_quiet, False)
+            self.expect(f"a close with {more}", Act(time, "closed", places | more).is_quiet, False)
 
     def test_ballots_in_words(self):
-        """What other commands say of a ballot: equal options and unranked ones are told from the others."""
         names = ["At the lake", "In the town hall", "Sell the house", "Further discussion"]
         for ranks, wanted in [
             ("1,2,3,4", "At the lake, then In the town hall, then Sell the house, then Further discussion"),
@@ -34,7 +41,6 @@ class WordsTest(expecting.Expecting):
             self.expect(f"{ranks} in words", ranks_in_words(ranks, names), wanted)
 
     def test_who_is_for_an_option(self):
-        """The legend of the bars: those are for an option who put it before the default option, and not the reverse."""
         said = "For: how many prefer the option to {option}. Against: how many prefer {option} to it. The mark: how many it needs."
         for code, before in {"de": "vor", "fr": "avant", "es": "delante de"}.items():
             self.expect(f"in {code}", f" {before} Option 4: None. " in language_of(code).say(said, option="Option 4: None"), True)
