@@ -12,6 +12,7 @@ import tempfile
 import unittest
 from collections.abc import Sequence
 from dataclasses import dataclass
+from unittest import mock
 
 from debvote_tools.book.book import open_book
 from debvote_tools.book.machine_note import Note
@@ -61,31 +62,11 @@ def environment() -> dict[str, str]:
     return {**os.environ, "PATH": os.pathsep.join([str(PROGRAM.parent), os.environ["PATH"]]), "PYTHONDONTWRITEBYTECODE": "1"}
 
 
-def clock_of(file: pathlib.Path) -> dict[str, str]:
-    """The environment in which programs find the time of a file."""
-    return {"PYTHONPATH": str(ROOT / "tests" / "clock"), "DEBVOTE_CLOCK": str(file)}
-
-
 # new elections, by what they begin with: each is made once in a process
 TEMPLATES: dict[object, pathlib.Path] = {}
 
 # whether it was tried that nobody may run the programs
 TRIED: set[bool] = set()
-
-
-def note_book(folder: pathlib.Path, state: pathlib.Path) -> None:
-    """Makes this machine know the book of a copied election."""
-    book = open_book(folder / "election.db")
-    last = book.last_act()
-    before = os.environ.get("XDG_STATE_HOME")
-    os.environ["XDG_STATE_HOME"] = str(state)
-    try:
-        book.note().put(Note(last.number, last.digest))
-    finally:
-        os.environ.pop("XDG_STATE_HOME")
-        if before is not None:
-            os.environ["XDG_STATE_HOME"] = before
-    book.connection.close()
 
 
 class ElectionTest(unittest.TestCase):
@@ -115,7 +96,10 @@ class ElectionTest(unittest.TestCase):
             type(self).addClassCleanup(shutil.rmtree, TEMPLATES[key].parent, ignore_errors=True)
             type(self).addClassCleanup(TEMPLATES.pop, key)
         shutil.copytree(TEMPLATES[key], self.folder)
-        note_book(self.folder, self.state)
+        # this machine knows the book of the copy
+        book = open_book(self.folder / "election.db")
+        with contextlib.closing(book.connection), mock.patch.dict(os.environ, {"XDG_STATE_HOME": str(self.state)}):
+            book.note().put(Note(book.last_act().number, book.last_act().digest))
 
     def made(self) -> pathlib.Path:
         """A new election, which the tests of this process copy."""
@@ -153,9 +137,8 @@ class ElectionTest(unittest.TestCase):
 
     def set_clock(self, time: str) -> None:
         """From now on the programs find this time, which has its offset."""
-        file = self.scratch / "clock"
-        file.write_text(time)
-        self.clock = clock_of(file)
+        (self.scratch / "clock").write_text(time)
+        self.clock = {"PYTHONPATH": str(ROOT / "tests" / "clock"), "DEBVOTE_CLOCK": str(self.scratch / "clock")}
 
     def election(self, *words: object, **how: object) -> Ended:
         return self.run_program(sys.executable, ELECTION, *words, **how)
@@ -195,11 +178,6 @@ class ElectionTest(unittest.TestCase):
             self.assertEqual(tried.status, 0, f"{said}; {tried.faults}")
         TRIED.add(True)
         return self.run_program(*nobody, sys.executable, ELECTION, *words, **how)
-
-    def close_folder(self) -> None:
-        """From now on nobody may write into the folder of the election, as long as the test runs."""
-        self.addCleanup(self.folder.chmod, 0o755)
-        self.folder.chmod(0o555)
 
     def debvote(self, *words: object, **how: object) -> Ended:
         return self.run_program(PROGRAM, *words, **how)

@@ -639,7 +639,8 @@ class Places(BookTest):
         self.add("ada 1,2,3,4")
         for file in (*self.folder.rglob("*"), self.state, *self.state.rglob("*")):
             file.chmod(0o755 if file.is_dir() else 0o444)
-        self.close_folder()
+        self.addCleanup(self.folder.chmod, 0o755)
+        self.folder.chmod(0o555)
         ended = self.without_rights("status")
         self.assertEqual(ended.status, 0, ended)
         self.assertIn("Lines: 1", ended.output)

@@ -127,35 +127,25 @@ class Adding(LettersTest):
         self.told("held", 5, "--enter", 1, "--force")
         self.assertEqual((self.stands("eve"), self.late_lines()), (RANKS, [f"eve {OTHER}"]))
 
-    def add_after_the_close(self) -> None:
-        """A letter that had arrived in time; then the vote is opened again."""
+    def test_letters_in_time_that_were_added_after_the_close(self) -> None:
+        """One whose ballot is entered at a desk, too, and one that is entered again as in time: neither is a doubt of the result."""
         self.told("desk", given=f"cleo {RANKS}\n")
         self.told("close")
-        self.assertRegex(self.add(letter("ada", f"ada {RANKS}")), r"\nNext: debvote-election status\n$")
-        self.assertEqual(self.exported(), (f"cleo {RANKS}\n", f"ada {RANKS}\n"))
+        self.assertRegex(self.add(letter("ada", f"ada {RANKS}"), letter("ben", f"ben {RANKS}")), r"\nNext: debvote-election status\n$")
+        late = f"ada {RANKS}\nben {RANKS}\n"
+        self.assertEqual(self.exported(), (f"cleo {RANKS}\n", late))
         how = "run debvote-election reopen --in-time 2 --because TEXT"
         self.assert_fault(self.election("publish"), 9, "the ballot of letter 1 is late", f"to count it {how}")
         self.assert_fault(self.election("held", 1, "--enter", 1), 9, "it was entered, and is late", f"if it came in time, {how}")
         said = self.told("reopen", "--because", "a letter was forgotten")
-        self.assertIn("Note: still late: 2; if one of them came before the first close, close again and run", said)
+        self.assertIn("Note: still late: 2, 3; if one of them came before the first close, close again and run", said)
         self.assert_fault(self.election("held", 1, "--enter", 1), 9, f"if it came in time, close again and {how}")
-
-    def assert_published(self) -> None:
-        """The letter that was entered again as in time is no doubt of the result."""
-        self.assertEqual(self.exported(), (f"cleo {RANKS}\nada {RANKS}\n", f"ada {RANKS}\n"))
+        self.told("desk", "--came-before-close", "yes", given=f"ada {RANKS}\n")
+        self.told("close")
+        self.assertIn("Envelope 5, entered anew from late envelope 3", self.told("reopen", "--in-time", "3", "--because", "it came in time"))
+        self.assertEqual(self.exported(), (f"cleo {RANKS}\n{late}", late))
         self.told("close")
         self.told("publish")
-
-    def test_a_letter_in_time_that_was_added_after_the_close(self) -> None:
-        self.add_after_the_close()
-        self.told("close")
-        self.assertIn("Envelope 3, entered anew from late envelope 2", self.told("reopen", "--in-time", "2", "--because", "it came in time"))
-        self.assert_published()
-
-    def test_a_letter_in_time_whose_ballot_is_entered_at_a_desk(self) -> None:
-        self.add_after_the_close()
-        self.told("desk", "--came-before-close", "yes", given=f"ada {RANKS}\n")
-        self.assert_published()
 
     def test_nothing_of_files_with_a_fault_is_entered_or_kept(self) -> None:
         self.write("lines", f"ben {RANKS}\n")
@@ -185,15 +175,6 @@ class Adding(LettersTest):
                     self.assert_fault(self.election("add", *words, more, "inbox.mbox"), 2, f"{words[0]}: {said}")
                     self.assertEqual(self.contents(), before)
 
-    def test_an_extension_judges_anew(self) -> None:
-        self.set_clock("2026-11-20T10:00:00+00:00")
-        self.told("call", "--until", "2026-11-23 09:00", "--zone", "UTC")
-        self.set_clock("2026-11-23T11:00:00+00:00")
-        self.assertIn("after the end of the vote", self.add(letter("ada", f"ada {RANKS}")))
-        self.told("call", "--until", "2026-11-24 09:00", "--zone", "UTC")
-        self.add(letter("ben", f"ben {RANKS}"))
-        self.assertEqual(self.exported()[0], f"ada {RANKS}\nben {RANKS}\n")
-
     def test_letters_of_after_the_first_close(self) -> None:
         self.set_clock("2026-11-24T09:00:00+00:00")
         self.told("desk", given=f"ada {RANKS}\n")
@@ -210,23 +191,13 @@ class Adding(LettersTest):
             self.assertNotIn("arrived in time", self.told("close"))
             self.assertIn("'waiting': 0, 'after_end': ", str(self.acts()[-1][1]))
             self.told("reopen", "--because", "another bag")
-        for number, name in ((1, "ben"), (2, "cleo")):
-            self.told("held", number, "--enter", 1)
-            self.assertEqual(self.exported()[0], f"ada {RANKS}\n")
-            self.assertIn(f"{name} {RANKS}\n", self.exported()[1])
-
-    def test_letters_of_before_and_after_the_first_close_at_once(self) -> None:
-        self.set_clock("2026-11-24T09:00:00+00:00")
-        self.told("close")
-        self.told("reopen", "--because", "a bag was forgotten")
-        self.set_clock("2026-11-25T09:00:00+00:00")
-        for name, day in (("ben", 23), ("cleo", 25)):
-            self.add(letter(name, f"My ballot: 1\n{name} {RANKS}", f"Mon, {day} Nov 2026 08:00:00 +0000"))
+        # one that arrived before the first close
+        self.add(letter("dan", f"My ballot: 1\ndan {RANKS}"))
         said = "--enter: some of these letters arrived before the first close, and some after it"
-        self.assert_fault(self.election("held", 1, 2, "--enter"), 9, said)
-        for number in (1, 2):
+        self.assert_fault(self.election("held", 1, 3, "--enter"), 9, said)
+        for number in (1, 2, 3):
             self.told("held", number, "--enter")
-        self.assertEqual(self.exported(), (f"ben {RANKS}\n", f"cleo {RANKS}\n"))
+        self.assertEqual(self.exported(), (f"ada {RANKS}\ndan {RANKS}\n", f"ben {RANKS}\ncleo {RANKS}\n"))
 
     def test_a_letter_that_another_desk_enters_is_not_set_aside(self) -> None:
         self.add(letter("ada", f"I thought about it for 3 days:\n\nada {RANKS}"))
@@ -522,18 +493,6 @@ class InTime(LettersTest):
         self.assertEqual((self.numbers()["waiting"], self.numbers()["stopping"]), (2, []))
         self.assert_counted()
 
-    def test_what_is_a_ballot_needs_reopen(self) -> None:
-        self.told("close")
-        self.add(self.wordy)
-        self.told("reopen", "--because", "a letter was forgotten")
-        self.assertIn("These arrived in time, and close stops while they wait: 1\n", self.told("status"))
-        self.assert_fault(self.election("close"), 9, "these letters arrived in time, and wait: 1;")
-        self.told("held", 1, "--enter", 3)
-        self.told("close")
-        self.assertEqual(self.exported(), (f"cleo {RANKS}\nben {OTHER}\nada {OTHER}\n", ""))
-        self.assertIn("Winner: 2 In the town hall", self.election("count").output)
-        self.told("publish")
-
     def test_forced(self) -> None:
         """The page says how many, and the same letters stop nothing again; another one does."""
         self.told("close")
@@ -598,6 +557,7 @@ class AtTheEnd(LettersTest):
     def test_a_letter_in_time_needs_a_reason(self) -> None:
         self.add(letter("ada", "hello"), letter("ben", f"ben {RANKS}", **self.late))
         self.assertEqual(self.numbers()["waiting"], 2)
+        self.assertIn("These arrived in time, and close stops while they wait: 1\n", self.told("status"))
         for words in ((), ("--force",), ("--force", "--because", " "), ("--because", "hello is no ballot")):
             said = "these letters arrived in time, and wait: 1; nothing was changed: "
             self.assert_refused(("close", *words), 9, said, "--force --because TEXT")
@@ -714,37 +674,29 @@ class Secret(OwnMarks):
 class Family(LettersTest):
     """Ballots of two electors in one letter."""
 
-    letter = letter("ada", f"ada {RANKS}\nben {OTHER}\nben says no to the lake")
+    def assert_left(self, waiting: int, *lines: str) -> None:
+        self.assertEqual((self.numbers()["waiting"], self.lines()), (waiting, list(lines)))
 
-    def waiting(self) -> int:
-        return int(self.numbers()["waiting"])
-
-    def assert_each_is_entered(self, *words: object, line: str) -> None:
-        """Ada's ballot by its line, and that of Ben, who has the same address, in this way. Until then the letter waits."""
+    def test_each_is_entered_taken_back_or_struck(self) -> None:
+        """Until each has had a ballot the letter waits, and stops the close; then nothing waits, whatever is struck."""
         self.change_roll("ben@", "ada@")
-        self.add(self.letter)
+        self.add(letter("ada", f"ada {RANKS}\nben {OTHER}\nben says no to the lake"))
         self.assertIn("ballots of several electors: ada, ben", self.told("held"))
         self.told("held", 1, "--enter", 1)
-        self.assertEqual(self.waiting(), 1)
-        self.told("held", 1, *words)
-        self.assertEqual((self.waiting(), self.exported()[0]), (0, f"ada {RANKS}\n{line}\n"))
-
-    def test_each_is_entered_by_its_line(self) -> None:
-        self.assert_each_is_entered("--enter", 2, "--force", line=f"ben {OTHER}")
-
-    def test_one_is_typed(self) -> None:
-        self.assert_each_is_entered("--as", "ben 2,-,1,-", line="ben 2,-,1,-")
-
-    def test_one_is_taken_back_or_struck(self) -> None:
-        """Then the letter waits, and stops the close. Once each has had one, nothing waits, whatever is struck."""
-        self.add(self.letter)
-        self.told("held", 1, "--enter", 1)
+        self.assert_left(1, f"ada {RANKS}")
+        self.told("held", 1, "--as", "ben 2,-,1,-")
+        self.assert_left(0, f"ada {RANKS}", "ben 2,-,1,-")
         self.told("undo", "--yes")
-        self.assertEqual(self.waiting(), 1)
+        self.told("held", 1, "--enter", 2, "--force")
+        self.assert_left(0, f"ada {RANKS}", f"ben {OTHER}")
+        self.told("undo", "--yes")
+        self.told("undo", "--yes")
+        self.assert_left(1)
         self.told("held", 1, "--enter", 2)
-        self.told("strike", 2, "--because", "ben asked for it")
-        self.assertEqual((self.waiting(), self.election("close").status), (1, 9))
+        self.told("strike", 4, "--because", "ben asked for it")
+        self.assert_left(1)
+        self.assertEqual(self.election("close").status, 9)
         self.told("held", 1, "--enter", 1)
-        self.assertEqual((self.lines(), self.waiting()), ([f"ada {RANKS}"], 0))
-        self.told("strike", 3, "--because", "ada asked for it")
-        self.assertEqual((self.lines(), self.waiting()), ([], 0))
+        self.assert_left(0, f"ada {RANKS}")
+        self.told("strike", 5, "--because", "ada asked for it")
+        self.assert_left(0)
