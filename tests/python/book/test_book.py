@@ -200,32 +200,25 @@ class Copies(BookTest):
         self.write("members.csv", elections.members_of(elections.NAMES))
         self.assertEqual(self.done("roll").faults, "")
 
-    def note_file(self) -> pathlib.Path:
-        """What this computer noted of the election."""
-        place = str(self.book.resolve())
-        files = (file for file in (self.state / "debvote").iterdir() if file.suffix == "" and file.name != "lock")
-        [note] = (file for file in files if json.loads(file.read_text())["path"] == place)
-        return note
-
-    def injected(self, inject: str, *words: str) -> elections.Ended:
-        """Runs a command whose calls that write the next note fail."""
-        return self.traced("-P", self.note_file().with_suffix(".next"), "-e", f"inject={inject}", words=words)
-
     def test_no_room_for_the_note(self) -> None:
         """Room is made before the act. What fails after the commit leaves the note at an earlier act of the book."""
         self.add("ada 1,2,3,4")
         self.write("more", "hal 1,2,3,4\n")
-        before, noted = self.contents(), self.note_file().read_bytes()
+        files = (file for file in (self.state / "debvote").iterdir() if not file.suffix and file.name != "lock")
+        [note] = (file for file in files if json.loads(file.read_text())["path"] == str(self.book.resolve()))
+        following, before, noted = note.with_suffix(".next"), self.contents(), note.read_bytes()
+
+        def injected(call: str) -> elections.Ended:
+            """Adds lines, while a call that writes the next note fails."""
+            return self.traced("-P", following, "-e", f"inject={call}", words=("add", "--yes", "more"))
+
         for call in ("write:error=ENOSPC", "fsync:error=EIO"):
-            ended = self.injected(call, "add", "--yes", "more")
-            self.assert_fault(ended, 7, "this computer must note there", "nothing was changed")
-            self.assertEqual((self.contents(), self.note_file().read_bytes()), (before, noted))
-        ended = self.injected("rename:error=ENOSPC", "add", "--yes", "more")
-        self.assertEqual((ended.status, ended.faults), (0, ""), ended)
-        self.assertEqual(self.note_file().read_bytes(), noted)
+            self.assert_fault(injected(call), 7, "this computer must note there", "nothing was changed")
+            self.assertEqual((self.contents(), note.read_bytes()), (before, noted))
+        ended = injected("rename:error=ENOSPC")
+        self.assertEqual((ended.status, ended.faults, note.read_bytes()), (0, "", noted), ended)
         self.add("ben 1,2,3,4")
-        self.assertEqual(json.loads(self.note_file().read_bytes())["act"], 6)
-        self.assertFalse(self.note_file().with_suffix(".next").exists())
+        self.assertEqual((json.loads(note.read_bytes())["act"], following.exists()), (6, False))
         # where it can't be written
         self.write("more", "ida 1,2,3,4\n")
         before = self.contents()
@@ -338,21 +331,6 @@ class Rewritten(BookTest):
         self.assertIn("The chain is whole: 9 acts", self.done("log", "--check").output)
         self.assertEqual(len(self.formats()), 1)
 
-    def test_an_act_with_its_digest_made_anew(self) -> None:
-        """Whoever changes an act can compute its digest, but then the next act does not match."""
-        self.add("cleo 1,2,3,4")
-        columns = "envelope, elector, line, source, letter, place, time, late"
-        [(before,)] = self.rows("SELECT digest FROM act WHERE act = 3")
-        [[*act, _]] = self.rows("SELECT * FROM act WHERE act = 4")
-        sources = self.rows("SELECT source, name, data FROM source WHERE act = 4")
-        first, *others = self.rows(f"SELECT {columns} FROM envelope WHERE act = 4")
-        changed = (*first[:2], b"ada 4,3,2,1", *first[3:])
-        envelopes = [as_json(*row, line=2) for row in (changed, *others)]
-        rows = ["source", *(as_json(*row) for row in sources), "envelope", *envelopes]
-        digest = hashlib.sha256("\n".join([before, as_json(*act), *rows]).encode()).hexdigest()
-        self.sql(CHANGED, f"UPDATE act SET digest = '{digest}' WHERE act = 4")
-        self.assert_broken(5)
-
     def fill_each_table(self) -> None:
         self.write("mail", "From: Ada <ada@club.example>\nMessage-ID: <1@x>\nSubject: x\n\nHello\n")
         self.done("add", "--yes", "mail")
@@ -442,10 +420,7 @@ class Rewritten(BookTest):
             "view x": ["CREATE VIEW x AS SELECT * FROM act"],
             "table x": ["CREATE TABLE x (y)"],
             "table sqlite_stat1": ["ANALYZE"],
-            "table struck": [
-                writable,
-                "UPDATE sqlite_schema SET sql = replace(sql, 'act INTEGER', 'act  INTEGER') WHERE name = 'struck'",
-            ],
+            "table struck": [writable, "UPDATE sqlite_schema SET sql = replace(sql, 'act INTEGER', 'act  INTEGER') WHERE name = 'struck'"],
         }.items():
             with contextlib.closing(sqlite3.connect(self.book, isolation_level=None)) as connection:
                 for statement in statements:
@@ -459,21 +434,14 @@ class Rewritten(BookTest):
 
     def test_nothing_is_built_on_a_broken_book(self) -> None:
         """Each act computes the digest of the one before it anew."""
-        whole = self.read("election.db")
         self.sql(CHANGED)
         self.write("more", "hal 1,2,3,4\n")
         strike, call = ("strike", "1", "--because", "x"), ("call", "--at", "https://club.example/")
         for words in (("add", "--yes", "more"), strike, ("undo", "--yes"), call):
             self.assert_fault(self.election(*words), 9, "act 4 does not match its digest", "nothing was changed")
-        # an act that is cut off
-        self.book.write_bytes(whole)
-        for table in ("envelope", "source", "act"):
-            self.sql(f"DELETE FROM {table} WHERE act = 4")
-        self.assert_stops("older copy")
 
     def test_what_no_command_can_read(self) -> None:
         """It is told as what it is, by whatever command meets it."""
-        whole = self.read("election.db")
         whole = self.read("election.db")
         for act, statement in {
             1: "UPDATE act SET detail = '{' WHERE act = 1",

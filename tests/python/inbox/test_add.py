@@ -259,10 +259,6 @@ class NoBallots(CalledTest):
         self.told("add", "--force", "good", "wrong", "letter")
         self.assertEqual(len(self.lines()), 5)
 
-    def test_force_where_nothing_stops_is_no_fault_and_is_not_told(self) -> None:
-        self.assertEqual(self.told("add", "--force", given="ada 1,2,4,3\n"), f"1 counted  ada: {LAKE}\nAdded 1 line (1 counted).\n{NEXT}\n")
-        self.assertEqual(self.acts(), [("add", {"files": ["standard input"], "lines": 1, "passed_over": 0})])
-
     def test_fewer_than_half_of_a_file_or_of_all(self) -> None:
         said = "monday: debvote takes only 1 of the 3 lines as ballots; nothing was added: look at the file (its first line is `Dear "
         files = {"good": "ada 1,2,4,3\nben 1,2,4,3\ncleo 1,2,4,3\n", "one": "one\n", "two": "two\n", "monday": "Dear all,\nada 1,2,4,3\nGreetings\n"}
@@ -276,9 +272,11 @@ class NoBallots(CalledTest):
         self.assertNotIn("monday:2: ", ended.output)
         self.told("add", "--force", "monday")
         self.assertEqual(self.lines(), ["Dear all,", "ada 1,2,4,3", "Greetings"])
-        # half of them stop nothing, and one line alone does not
+        # half of them stop nothing, and one line alone does not; that --force was needless is not told
         self.assertIn("Added 2 lines (1 replaced, 1 bad shape).\n", self.told("add", given="ada 2,1,4,3\nx\n"))
         self.assertIn("6 bad shape  y: ", self.told("add", given="y\n\n"))
+        self.assertTrue(self.told("add", "--force", given="ben 1,2,4,3\n").endswith(f"{LAKE}\nAdded 1 line (1 counted).\n{NEXT}\n"))
+        self.assertEqual(self.acts()[-1][1], {"files": ["standard input"], "lines": 1, "passed_over": 0})
 
 
 class OtherOrder(CalledTest):
@@ -377,33 +375,6 @@ class Signed(CalledTest):
         self.assertEqual(ended.status, 9)
 
 
-class CodesOnRoll(CalledTest):
-    """No code is told that was not typed."""
-
-    names = ["0a" * 16, "0b" * 16, "0c" * 16]
-
-    def setUp(self) -> None:
-        super().setUp()
-        self.act("extend", {"codes_on_roll": True})
-
-    def test_of_an_undo_and_a_strike_numbers_alone(self) -> None:
-        first, second, third = self.names
-        self.told("add", given=f"{first} {RANKS}\n{second} {RANKS}\n")
-        self.told("add", given=f"{first} {OTHER_RANKS}\n{third} {RANKS}\n")
-        output = self.told("undo")
-        self.assertIn("\n  1 elector: no ballot is left; 1 elector: an earlier ballot\n", output)
-        output += self.told("strike", 2, "--because", "a test")
-        self.assertIn(f"Struck envelope 2: `CODE {RANKS}`, because: a test\nThe current ballot of that code: none\n", output)
-        for code in self.names:
-            self.assertNotIn(code, output)
-        shown = self.told("show", first)
-        self.assertTrue(shown.startswith(f"{first}\n  envelope 1, "), shown)
-        self.assertNotIn("@", shown)
-        ended = self.election("show", first[:-1])
-        self.assert_fault(ended, 9, "show: no code on the roll is ", "type the code as it was handed out")
-        self.assertNotIn(first, ended.faults)
-
-
 class Tables(CalledTest):
     WORDS = ("--csv", "--name=n", "--ranks=a,b,c,d")
 
@@ -423,18 +394,6 @@ class Tables(CalledTest):
         # equal rows and refused ones have no order
         self.write("form", "n,a,b,c,d\ncleo,1,2,4,3\ncleo,1,2,4,3\ncleo,1,2,x,3\n")
         self.assertIn("Added 3 lines (1 counted, 1 replaced, 1 bad shape).\n", self.told("add", *self.WORDS, "form"))
-
-    def test_a_form_that_is_exported_again_newest_first(self) -> None:
-        self.write("form", "n,a,b,c,d\nben,1,2,4,3\nada,1,2,4,3\n")
-        self.told("add", *self.WORDS, "--newest-first", "form")
-        self.write("form", "n,a,b,c,d\nada,2,1,4,3\nben,1,2,4,3\nada,1,2,4,3\n")
-        # the row that is new may be the older one
-        said = "form: it has two different ballots of ada (row 2 and row 4), and the one that is entered last counts; nothing was added: "
-        self.assert_refused(("add", *self.WORDS, "form"), 9, said, "--oldest-first or --newest-first")
-        output = self.told("add", *self.WORDS, "--newest-first", "form")
-        self.assertIn("form: 2 lines are ignored, since they came before; 1 is new\n3 replaced  ada: ", output)
-        self.assertNotIn("--again", output)
-        self.assertEqual(self.lines()[-1], "ada 2,1,4,3")
 
     def test_an_empty_cell_is_a_hyphen_if_the_call_says_so_and_heads(self) -> None:
         self.write("form", "n,a,b,c,d\nada,1,,,2\nben,1,2,3,4\n")

@@ -105,6 +105,9 @@ class Before(CalledTest):
         self.write("below", "n,a,b,c,d\ncleo,2,1,4,3\ncleo,1,2,4,3\n")
         older = "below: the ballot of cleo in row 2 is older than that in row 3, which came before"
         self.assert_refused(("add", *TABLE, "--oldest-first", "below"), 9, older, "nothing was added: take the older ballot out, or ")
+        self.assertNotIn("--again", self.assert_ignored(1, 1, *TABLE, "--newest-first", name="below"))
+        self.assertEqual(self.lines()[3:], [f"cleo {OTHER_RANKS}"])
+        self.told("undo")
         self.assert_ignored(1, 2, *TABLE, "--oldest-first")
         self.assertEqual(self.lines()[3:], [f"cleo {OTHER_RANKS}", f"dan {RANKS}"])
         # by now both came before, in whatever order

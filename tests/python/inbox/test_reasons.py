@@ -48,6 +48,6 @@ class Sentences(unittest.TestCase):
         test_signatures.Table.setUpClass()
         signed = [becomes for _, becomes, _ in test_signatures.Table().rows()]
         found = {one.partition(": ")[2] for one in (*(row.becomes for row in test_table_of_letters.TABLE), *signed)}
-        # these two are of letters beside others, and of a gpgv that hangs
-        found |= {"came before", "slow signature", "parted off"}
+        # these are of letters beside others, of what an act decided, and of a gpgv that hangs
+        found |= {"came before", "parted off", "taken back", "put back", "set aside", "struck", "slow signature"}
         self.assertEqual({label(reason()) for reason in Reason} - found, set())

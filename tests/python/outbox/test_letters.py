@@ -1,8 +1,6 @@
 """`letters`: what goes to the electors as files, to whom, and that nothing of it reads as a ballot."""
 
 import contextlib
-import email
-import email.header
 import hashlib
 import pathlib
 import re
@@ -14,7 +12,7 @@ from debvote_tools.outbox.letter_folder import in_place
 
 from tests.support import elections
 from tests.support.letters import letter
-from tests.support.outgoing import AT, OTHER_RANKS, RANKS, TITLE, OutTest, one_line, parsed
+from tests.support.outgoing import AT, END, OTHER_RANKS, RANKS, TITLE, OutTest, one_line, parsed
 
 LAKE = "At the lake, then In the town hall, then Further discussion, then Sell the house and meet there"
 FORM = f"The page of the vote, which writes the line of your ballot for you, and on which the result will be: {AT}"
@@ -33,7 +31,6 @@ ELSEWHERE = "A letter in your name came from another address, and waits until th
 class Call(OutTest):
     def test_it_has_title_end_form_the_own_line_and_the_mark(self) -> None:
         self.assertIn("Wrote 9 letters: letters/call/", self.done("letters", "call").output)
-        found = self.written("call")
         found = self.written("call")
         self.assertEqual(sorted(found), elections.NAMES)
         for name, message in found.items():
@@ -143,21 +140,6 @@ class Refused(OutTest):
         self.assertEqual(found["ada"]["From"], "vote@other.example")
         self.assertIn(f"{LINE}ada _,_,_,_", self.texts("reminders", "--from", "v@x.example")["ada"])
 
-    def test_a_long_name_of_the_sender(self) -> None:
-        """No encoded word is longer than 75 characters, and no line with one longer than 76."""
-        for name in map(str.strip, ("ä" * 100, "ä b " * 25, "日" * 100, "Bü" * 14)):
-            with self.subTest(name=name):
-                self.done("call", "--to", f"{name} <vote@club.example>")
-                self.done("letters", "call")
-                [file] = [one for one in self.files("call") if one.stem == "ada"]
-                head = file.read_bytes().partition(b"\n\n")[0]
-                sender = email.header.decode_header(email.message_from_bytes(head)["From"])
-                self.assertEqual(str(email.header.make_header(sender)), f"{name} <vote@club.example>")
-                for line in (line for line in head.split(b"\n") if b"=?" in line):
-                    self.assertLessEqual(len(line), 76)
-                    self.assertLessEqual(max(map(len, line.split())), 75)
-                self.done("call", "--take-back")
-
     def test_addresses_of_before_the_call(self) -> None:
         # of several addresses the first that each server takes
         self.change_roll("ada@club", "ädä@club.example home@ada")
@@ -200,19 +182,6 @@ class OwnWords(OutTest):
             head = f"In-Reply-To: {message['Message-ID']}\nSubject: Re: {message['Subject']}\n"
             self.add(letter(name, f"{name} {RANKS}\n\nOn Monday the secretary wrote:\n{message.get_content()}", head=head, time=EARLIER))
         self.assertEqual(self.numbers()["voters"], 9)
-
-
-class CodesOnRoll(OutTest):
-    poll = elections.POLL + "secret = true\n"
-    call_words = None
-
-    def test_nobody_knows_whose_a_code_is(self) -> None:
-        self.done("codes", "--on-roll")
-        self.done("call", "--to", "vote@club.example")
-        for kind in ("call", "receipts", "reminders"):
-            self.assert_fault(self.election("letters", kind), 9, "codes are on the roll", "call/call.txt")
-        # so the close goes on to no letters
-        self.assertTrue(self.told("close").endswith(" before you count anything.\nNext: debvote-election count\n"))
 
 
 class Paper(OutTest):
@@ -271,9 +240,10 @@ class Paper(OutTest):
 
 class Names(OutTest):
     names = ["ada-2", "ada"]
+    call_words = ("--to", "vote@club.example", "--at", AT, "--until", END, "--zone", "Europe/Berlin")
 
     def test_no_letter_takes_the_place_of_another(self) -> None:
-        """Two letters to ada, at her old address and her new one, beside one to ada-2."""
+        """Two letters to ada, at her old address and her new one, beside one to ada-2. Their times are in the zone of the end."""
         self.change_roll(",ada@club", ",ada@new")
         self.add_lines("ada 1", f"ada-2 {RANKS}")
         wanted = ["ada-2@club.example", "ada@club.example", "ada@new.example"]
@@ -282,7 +252,15 @@ class Names(OutTest):
         # the old address does not learn the own mark, neither in the subject nor in the text, which has the right line
         said = {message["To"]: (bool(re.search(MARKS, message["Subject"])), f"{AT}#ada/" in one_line(message)) for message in found}
         self.assertEqual(said, {"ada-2@club.example": (True, False), "ada@club.example": (False, False), "ada@new.example": (True, True)})
-        self.assertTrue(all("ada _,_,_,_" in one_line(message) for message in found if "ada@" in message["To"]))
+        for message in found:
+            self.assertEqual("ada _,_,_,_" in one_line(message), message["To"].startswith("ada@"))
+            # on a busy machine some seconds later
+            self.assertRegex(one_line(message), r"\bMonday, 23 November 2026, 11:00(:\d\d)? \(UTC\+01:00\)")
+        shown = self.told("show", "ada")
+        for address in wanted[1:]:
+            self.assertIn(f"  receipt, 2026-11-23 10:00:00 UTC, to {address}: written\n", shown)
+        self.add_lines(f"ada {OTHER_RANKS}")
+        self.assertEqual([message["To"] for message in self.written("receipts").values()], ["ada@new.example"])
 
 
 class ReceiptsAndReminders(OutTest):
@@ -473,17 +451,6 @@ class ReceiptsAndReminders(OutTest):
         self.assertIn("No ballot from it was entered. The reason: the secretary has looked at it, and set it aside.", texts["dan"])
         self.assertIn("A letter in your name came from another address. The secretary has set it aside.", texts["eve"])
 
-    def test_the_next_one_goes_to_the_old_address_too(self) -> None:
-        self.change_roll("ada@club", "ada@new")
-        self.add_lines(f"ada {RANKS}", f"ben {RANKS}")
-        found = sorted(message["To"] for message in self.written("receipts").values())
-        self.assertEqual(found, ["ada@club.example", "ada@new.example", "ben@club.example"])
-        shown = self.told("show", "ada")
-        for address in ("ada@club.example", "ada@new.example"):
-            self.assertIn(f"  receipt, 2026-11-23 10:00:00 UTC, to {address}: written\n", shown)
-        self.add_lines(f"ada {OTHER_RANKS}")
-        self.assertEqual([message["To"] for message in self.written("receipts").values()], ["ada@new.example"])
-
     def test_heads_that_came_add_no_line(self) -> None:
         coded = "=?utf-8?q?=3Ca=40b=3E=0D=0ABcc=3A_all=40x.example?="
         senders = ("ada@club.example", '"=?utf-8?q?Ada=0ABcc:_x=40y.example?=" <ada@club.example>')
@@ -563,15 +530,6 @@ class ReceiptsAndReminders(OutTest):
         self.assertTrue(texts["dan"].startswith(f"Dear Dan, No ballot of yours that counts has come yet. {WHEN}"), texts["dan"])
 
 
-class ReceiptsElsewhere(OutTest):
-    call_words = ("--to", "vote@club.example", "--until", "2026-12-04 18:00", "--zone", "Europe/Berlin")
-
-    def test_times_are_in_the_zone_of_the_end(self) -> None:
-        self.add_lines(f"ada {RANKS}")
-        # on a busy machine some seconds later
-        self.assertRegex(self.texts("receipts")["ada"], r"Your ballot of Monday, 23 November 2026, 11:00(:\d\d)? \(UTC\+01:00\) has arrived\.")
-
-
 class FullDisk(OutTest):
     """A disk that is full at any write: receipts are noted if their files are there, and the next run writes the others."""
 
@@ -620,11 +578,21 @@ class FullDisk(OutTest):
 class NoBallots(OutTest):
     """No line of what goes out reads as a ballot, however it is wrapped."""
 
-    # names and texts that try to
-    poll = elections.POLL.replace("At the lake", "ada 1").replace("Where we meet in spring", "ben 1 2 3 4")
+    # names and texts that try to, and names of the list of members
+    ballot = f"ada {RANKS}"
+    long = f"Where we meet in the spring of the year that comes after this one, or {ballot}"
+    poll = elections.POLL.replace("At the lake", "ada 1").replace("In the town hall", long).replace("Further discussion", ballot)
+    poll = poll.replace("Where we meet in spring", f"ben 1 2 3 4 {long}")
+    members = f'name,who,mail\nada,"{ballot}",ada@club.example\nben,"{"y" * 70} {ballot} {"x" * 80}",ben@club.example\n'
+    members += "".join(f"{name},{name.title()},{name}@club.example\n" for name in elections.NAMES[2:])
 
     def test_no_line_is_a_ballot(self) -> None:
+        self.write("letter.txt", f"Write as ada does: {self.ballot}\n{self.ballot}\n")
+        self.done("call")
         found = self.written("call")
+        for text in (found["ben"].get_content(), self.read("call/call.txt").decode()):
+            lines = [line.strip() for line in text.splitlines()]
+            self.assertEqual((f"|{self.ballot}" in lines, self.ballot in lines), (True, False), text)
         self.add_lines(f"ada {RANKS}", "ben 1,2", f"cleo {RANKS}", f"cleo {OTHER_RANKS}")
         self.add(letter("dan", f"I vote dan {RANKS} today\n"), letter("eve", f"fay {RANKS}\ngus {RANKS}\n"))
         kinds = {"call": found, "receipts": self.written("receipts"), "reminders": self.written("reminders")}

@@ -2,6 +2,8 @@
 
 import dataclasses
 import datetime
+import email
+import email.header
 import itertools
 import pathlib
 import re
@@ -352,6 +354,13 @@ class Bytes(unittest.TestCase):
             [address] = found["From"].addresses
             self.assertEqual((address.display_name, address.addr_spec), (on_one_line(name), "vote@club.example"))
             self.assertEqual((found["To"], found["Bcc"]), ("ada@club.example", None))
+        # no encoded word is longer than 75 characters, and no line with one longer than 76
+        for name in ("\u00e4" * 100, "\u00e4 b " * 24 + "c", "\u65e5" * 100, "B\u00fc" * 14):
+            data = self.message("text\n", sender_name=name)
+            sender = email.header.decode_header(email.message_from_bytes(data)["From"])
+            self.assertEqual(str(email.header.make_header(sender)), f"{name} <vote@club.example>")
+            for line in (line for line in data.split(b"\n") if b"=?" in line):
+                self.assertLessEqual((len(line) > 76, max(map(len, line.split())) > 75), (False, False), line)
         elector = ADA._replace(who="Ada\r\nBcc: x@y.example\n\nada 1,2,3\u2028" + "x" * 500)
         text = vote().text("closed_to_elector.txt", elector, letter="CLOSED\n")
         self.assertEqual(len(text.split("\n\n")), 2)
