@@ -76,8 +76,9 @@ class ElectionTest(unittest.TestCase):
     names = NAMES
     # the list of members; if there is none, it is made of the names
     members = ""
-    # the arguments of `new` and of the call; without the latter the election is not called
+    # the arguments of `new`, of `codes`, and of the call; without the latter the election is not called
     new_words: Sequence[str] = ()
+    codes_words: Sequence[str] = ()
     call_words: Sequence[str] | None = ("--to", "vote@club.example")
     maxDiff = None
 
@@ -90,7 +91,7 @@ class ElectionTest(unittest.TestCase):
         self.begin()
 
     def begin(self) -> None:
-        key = (self.poll, tuple(self.names), self.members, tuple(self.new_words), self.call_words)
+        key = (self.poll, tuple(self.names), self.members, tuple(self.new_words), tuple(self.codes_words), self.call_words)
         if key not in TEMPLATES:
             TEMPLATES[key] = self.made()
             type(self).addClassCleanup(shutil.rmtree, TEMPLATES[key].parent, ignore_errors=True)
@@ -110,7 +111,7 @@ class ElectionTest(unittest.TestCase):
         self.done("roll", cwd=place / "election")
         if self.call_words is not None:
             if "secret = true" in self.poll:
-                self.done("codes", cwd=place / "election")
+                self.done("codes", *self.codes_words, cwd=place / "election")
             self.done("call", *self.call_words, cwd=place / "election")
         return place / "election"
 
