@@ -209,36 +209,17 @@ class Adding(LettersTest):
         self.overtaken(letter_folder, "letter_files", ("undo", "--yes"), ("letters", "receipts"))
         self.assertNotIn("receipt", self.told("show", "ada"))
 
-    def test_a_copy_of_one_that_was_entered_by_hand_and_taken_back(self) -> None:
-        """The secretary has decided of it, and it waits until it is entered anew, also if nothing is wrong with its copy."""
-        good = letter("ada", f"ada {RANKS}")
-        self.add(good.split(b"\n", 1)[1])
-        self.assertIn("no Received line", self.told("held"))
-        self.told("held", 1, "--enter", 1)
-        self.told("undo", "--yes")
-        self.assertIn("1 copy passed over", self.add(good))
-        self.assertEqual(self.exported()[0], "")
-
     def test_undo_and_strike_of_ballots_of_letters(self) -> None:
-        box = (letter("ada", f"ada {RANKS}"), letter("ben", f"ben {RANKS}"))
-        self.add(*box)
-        self.told("undo", "--yes")
-        self.assertEqual(self.exported()[0], "")
-        self.assertIn("its ballot was taken back", self.told("held"))
-        # a copy with another head is the same letter
-        self.assertIn("2 letters wait", self.add(*(b"X-Status: R\n" + one for one in box)))
-        self.assert_fault(self.election("close"), 9, "these letters arrived in time, and wait: 1, 2")
-        self.assertIn("0 ballots of letters went in; 2 letters wait", self.add(*box))
-        self.told("held", "1", "--enter", "1")
-        self.told("strike", "3", "--because", "she asked for it")
-        self.assertIn("1 letter waits", self.told("held"))
-        self.assertIn("Set aside: 1", self.told("held"))
-        self.assertIn("its ballot was struck", self.told("held", "1"))
-
-    def test_all_come_back_by_one_command(self) -> None:
         box = (letter("ada", f"ada {RANKS}"), letter("ben", f"ben {RANKS}"), letter("cleo", f"cleo {RANKS}"), letter("dan", "hello"))
         self.add(*box)
         self.assertIn("debvote-election held --enter enters these letters again\n", self.told("undo", "--yes"))
+        self.assertEqual(self.exported()[0], "")
+        self.assertIn("its ballot was taken back", self.told("held"))
+        # a copy with another head is the same letter
+        self.assertIn("4 letters wait", self.add(*(b"X-Status: R\n" + one for one in box)))
+        self.assert_fault(self.election("close"), 9, "these letters arrived in time, and wait: 1, 2, 3, 4")
+        self.assertIn("0 ballots of letters went in; 4 letters wait", self.add(*box))
+        # all come back by one command
         self.told("desk", given=f"ben {OTHER}\n")
         said = self.told("held", "--enter")
         self.assertIn("Waits on: letter 2: its elector has voted since\n", said)
@@ -246,6 +227,11 @@ class Adding(LettersTest):
         self.assertIn("\n2 letters wait.\n", said)
         self.assertEqual(self.exported()[0], f"ben {OTHER}\nada {RANKS}\ncleo {RANKS}\n")
         self.assert_fault(self.election("held", "--enter"), 9, "--enter: no letter was taken back that has one ballot")
+        self.told("strike", "5", "--because", "she asked for it")
+        listed = self.told("held")
+        self.assertIn("2 letters wait", listed)
+        self.assertIn("Set aside: 1", listed)
+        self.assertIn("its ballot was struck", self.told("held", "1"))
 
 
 class ReadOnce(LettersTest):
@@ -590,25 +576,21 @@ class Signed(LettersTest):
         return letter(name, self.keys.inline(name, f"{name} {RANKS}\n[{self.mark}]\n", "20261123T095000"), number=number)
 
     def test_one_that_waited_for_a_key(self) -> None:
+        """One that was set aside stays so; also its copies: with another head, and one that anybody sends with another Message-ID."""
+        self.add(self.signed("fay"))
+        self.told("held", 1, "--set-aside")
         self.assertIn("signed with a key that is not in the keyring", self.add(self.signed("ben"), self.signed("ada")))
         # a copy with another head is the same letter once more, before the key comes and after it
         self.add(b"X-Status: R\n" + self.signed("ben"), self.signed("ben").replace(b"Subject: my", b"Subject: My"))
-        self.call_with("ada", "ben", "cleo")
+        self.call_with("ada", "ben", "cleo", "fay")
         shown = self.told("held")
         self.assertEqual((shown.count("it goes in with the next add of letters"), shown.count("1 letter waits.")), (1, 1), shown)
-        self.assert_fault(self.election("close"), 9, "these letters arrived in time, and wait: 1;")
+        self.assert_fault(self.election("close"), 9, "these letters arrived in time, and wait: 2;")
         self.assertIn("2 counted  ben: ", self.add(self.signed("ben")))
+        said = self.add(b"X-Status: R\n" + self.signed("fay"), self.signed("fay", number=2))
+        self.assertIn("0 ballots of letters went in; 0 letters wait; ", said)
         self.assertEqual(self.exported()[0], f"ada {RANKS}\nben {RANKS}\n")
         self.told("close")
-
-    def test_one_that_was_set_aside_stays_so(self) -> None:
-        """Also its copies, which come when the key has come: with another head, and one that anybody sends with another Message-ID."""
-        self.add(self.signed("ben"))
-        self.told("held", 1, "--set-aside")
-        self.call_with("ada", "ben", "cleo")
-        for number, copy in enumerate((b"X-Status: R\n" + self.signed("ben"), self.signed("ben", number=2)), start=1):
-            self.assertIn(f"{number} cop{'y' if number == 1 else 'ies'} passed over", self.add(copy))
-        self.assertEqual((self.exported()[0], self.numbers()["waiting"]), ("", 0))
 
     def test_one_about_which_gpgv_was_slow(self) -> None:
         place = self.scratch / "slow"

@@ -128,6 +128,9 @@ class Several(unittest.TestCase):
             "the mark of another vote": first().replace(b"To: ", b"Subject: [0123456789abcdef]\nTo: "),
             "another HTML": alternatives("ada", f"{BALLOT}\n", f"<p>{OTHER}</p>"),
         }
+        hidden = parsed(first(), is_parted_off=True)
+        for letters in ((hidden, first()), (first(), hidden)):
+            self.assertEqual(lines_in(*letters), [BALLOT])
         for what, copy in forged.items():
             for copy_hour in (9, 10, 11):
                 with self.subTest(what=what, hour=copy_hour):
@@ -161,6 +164,9 @@ class Several(unittest.TestCase):
         kept: ParsedLetter = parsed(first())
         for decision, becomes in wanted.items():
             self.assertEqual(outcomes(kept, b"X-Status: R\n" + first(), decisions={kept.digest: decision}), [becomes, "copy"])
+        # also if the kept one could not go in by itself, and nothing is wrong with its copy
+        kept = parsed(first(time=None))
+        self.assertEqual(outcomes(kept, first(), decisions={kept.digest: queries.TAKEN_BACK}), ["copy", "waits: taken back"])
         # a ballot that goes in counts for those after it
         found = judged(first(), letter("ada", "hello", number=2, time=hour(9)))
         told = [(outcome(one), one.has_voted_since) for one in found]

@@ -245,14 +245,11 @@ class CallLetter(unittest.TestCase):
 
 @unittest.skipUnless(BROWSER, "chromium is not installed")
 class Printed(unittest.TestCase):
-    def setUp(self) -> None:
-        self.printed: list[tuple[Composer, str]] = []
-
-    def assert_sides(self) -> None:
-        """Each letter that was printed has at most two sides, and a place for the rank of each option. All are printed at once."""
+    def assert_sides(self, printed: list[tuple[Composer, str]]) -> None:
+        """Each letter has at most two sides, and a place for the rank of each option. All are printed at once."""
         folder = pathlib.Path(self.enterContext(tempfile.TemporaryDirectory()))
         pages = []
-        for number, (now, text) in enumerate(self.printed):
+        for number, (now, text) in enumerate(printed):
             how = {"style": resources(PACKAGE, "letter.css"), "title": "Spring", "letters": [("Ada", rows_to_print(text))]}
             page = render_page(PACKAGE, "print.html", now.call_data.language, **how).decode()
             self.assertEqual(page.count('<p class="option"><span class="rank"></span>  Op'), len(now.call_data.poll.names))
@@ -267,23 +264,19 @@ class Printed(unittest.TestCase):
         data = (folder / "page.pdf").read_bytes()
         sides = sorted(map(int, re.findall(rb"(\d+) 0 obj\s*<</Type\s*/Page\b", data)))
         begins = [sides.index(int(re.search(rb"/at%d \[(\d+) 0 R" % number, data)[1])) for number in range(len(pages) + 1)]
-        for (_, text), first, following in zip(self.printed, begins, begins[1:], strict=False):
+        for (_, text), first, following in zip(printed, begins, begins[1:], strict=False):
             self.assertIn(following - first, (1, 2), text)
 
-    def test_a_letter_has_at_most_two_sides(self) -> None:
-        """With twelve options, no page, a secret code, and 600 characters of the secretary's own."""
+    def test_a_letter_has_at_most_two_sides_and_the_texts_or_where_they_are(self) -> None:
+        """With twelve options, no page, a secret code, and 600 characters of the secretary's own; or with texts, if they have room."""
+        printed = []
         names = tuple(f"A rather long name of an option, as societies have them, number {number}" for number in range(1, 12))
         poll = dataclasses.replace(POLL, options=names, ratios=(1,) * 11)
         for code in LANGUAGES:
             now = vote(code, poll=poll, at=None, has_aliases=True, letter_text="Paper ballots go into the box in the hall of our house.\n" * 11)
             text = now.call_letter(GUS._replace(code="c0de" * 8), is_extension=False)
             self.assertGreater(len(text.splitlines()), 70)
-            self.printed.append((now, text))
-        self.assert_sides()
-
-    def test_who_has_no_address_gets_the_texts_on_paper_or_reads_where_they_are(self) -> None:
-        """As many as two sides have; and all else that others read on the page."""
-        for code in LANGUAGES:
+            printed.append((now, text))
             for number, at in ((1, vote().call_data.at), (8, None), (9, vote().call_data.at), (70, vote().call_data.at), (70, None)):
                 poll = dataclasses.replace(POLL, explanations=("A lake, and a meadow with room for forty tents.\n\n" * number, "", ""))
                 now = vote(code, poll=poll, at=at, letter_text="Dear friends,\n\npaper goes into the box in the hall.\n")
@@ -295,8 +288,8 @@ class Printed(unittest.TestCase):
                 for head in ("What decides", "What will be public"):
                     self.assertIn(now.call_data.language.say(head).upper(), text)
                 self.assertEqual(f"{at}#{GUS.name}/{GUS.mark}" in text, at is not None)
-                self.printed.append((now, text))
-        self.assert_sides()
+                printed.append((now, text))
+        self.assert_sides(printed)
 
     def test_on_paper_the_ballot_is_cut_off_and_has_no_code(self) -> None:
         """It has all that is given back, and nothing else asks for ranks, or for an e-mail."""
