@@ -65,9 +65,6 @@ def environment() -> dict[str, str]:
 # new elections, by what they begin with: each is made once in a process
 TEMPLATES: dict[object, pathlib.Path] = {}
 
-# whether it was tried that nobody may run the programs
-TRIED: set[bool] = set()
-
 
 class ElectionTest(unittest.TestCase):
     """A test with its own folder, in which an election is called, with the poll above and no ballots."""
@@ -172,12 +169,10 @@ class ElectionTest(unittest.TestCase):
         if nobody and shutil.which("setpriv") is None:
             self.skipTest("setpriv is not installed, and root may read and write everywhere")
         self.scratch.chmod(0o755)
-        # once in a process it is tried whether nobody may run the programs
-        for command in ([PROGRAM, "--version"], [sys.executable, ELECTION, "--help"]) if not TRIED else []:
+        for command in ([PROGRAM, "--version"], [sys.executable, ELECTION, "--help"]):
             tried = self.run_program(*nobody, *command)
             said = f"{command[0]} can't be run by everybody, and this test runs it as nobody: chmod o+rX what leads there"
             self.assertEqual(tried.status, 0, f"{said}; {tried.faults}")
-        TRIED.add(True)
         return self.run_program(*nobody, sys.executable, ELECTION, *words, **how)
 
     def debvote(self, *words: object, **how: object) -> Ended:

@@ -66,8 +66,11 @@ def run(words: Sequence[object], tracer: Sequence[object] = (), **how: object) -
             status = awaited(child, how.get("timeout"), words)
         os.close(begin)
         os.close(go)
-        texts = [read(file, is_text=bool(how.get("text"))) for file in (output, faults)]
-    return subprocess.CompletedProcess(words, status, *texts)
+        # what the run wrote, from the beginning
+        output.seek(0)
+        faults.seek(0)
+        texts = [output.read(), faults.read()]
+    return subprocess.CompletedProcess(words, status, *([data.decode() for data in texts] if how.get("text") else texts))
 
 
 @contextlib.contextmanager
@@ -101,13 +104,6 @@ def is_plain(words: Sequence[object], how: Mapping[str, object]) -> bool:
     is_known = len(words) > 1 and words[0] == sys.executable and str(words[1]) in LAUNCHERS
     is_captured = how.get("capture_output") is True and how.get("stdin") in (None, subprocess.DEVNULL) and how.keys() <= SETTINGS
     return is_known and is_captured and os.environ.get("DEBVOTE_FORKS") != "0"
-
-
-def read(file: object, *, is_text: bool) -> bytes | str:
-    """The output of a run, from the file that it went to."""
-    file.seek(0)
-    data = file.read()
-    return data.decode() if is_text else data
 
 
 def in_child(main: Callable, words: Sequence[object], how: Mapping[str, object], streams: Sequence[int]) -> None:

@@ -23,6 +23,9 @@ SAMPLES = ROOT / "tests" / "letters"
 NAMES = tuple(elections.NAMES)
 POLL = f"{elections.POLL}roll = {json.dumps(NAMES)}\n"
 RANKS, OTHER_RANKS = "1,2,4,3", "2,1,4,3"
+BALLOT, OTHER = f"ada {RANKS}", f"ada {OTHER_RANKS}"
+IN = f"in: {BALLOT}"
+FLOWED, HTML = "text/plain; charset=utf-8; format=flowed", "text/html; charset=utf-8"
 MARK = elections.ANY_MARK
 # the own mark of each elector, and the subjects of a letter of ours and of the page of the call
 OWN = {name: re.sub("[ilo]", "x", f"{name}23456789")[:10] for name in NAMES}

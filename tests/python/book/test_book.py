@@ -525,8 +525,9 @@ class OnTheDisk(BookTest):
             self.assertEqual(len(places), renames, calls)
             for at, path in places:
                 self.assertEqual(calls[at - 1 : at + 2], [("fsync", path), ("rename", path), ("fsync", str(pathlib.Path(path).parent))])
-
-    def test_what_can_not_take_its_place_is_gone(self) -> None:
+        # what can't take its place is gone
+        self.done("reopen", "--because", "x")
+        (self.folder / "letters" / "closed.txt").unlink()
         self.calls("close", inject="rename:error=EIO:when=2")
         self.assertEqual([file.name for file in self.folder.rglob("*") if file.name.startswith(".debvote-")], [])
         self.assertFalse((self.folder / "letters" / "closed.txt").exists())

@@ -112,14 +112,7 @@ class Damaged(elections.ElectionTest):
                 self.assertRegex(line, r"\A(debvote-election|debvote|Note|Next|\s)", (seed, words))
 
 
-def of_some(first: int):
-    def test(self: Damaged) -> None:
-        self.seeds(first)
-
-    return test
-
-
 # a class for each part, so that they run side by side
 for first in range(4):
-    globals()[f"Damaged{first}"] = type(f"Damaged{first}", (Damaged,), {"test_damage": of_some(first)})
+    globals()[f"Damaged{first}"] = type(f"Damaged{first}", (Damaged,), {"test_damage": functools.partialmethod(Damaged.seeds, first)})
 del first

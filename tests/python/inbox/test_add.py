@@ -8,7 +8,7 @@ import subprocess
 import sys
 
 from tests.support import elections
-from tests.support.called import HALL, LAKE, OTHER_RANKS, RANKS, CalledTest
+from tests.support.called import HALL, LAKE, RANKS, CalledTest
 
 RIGHT = (
     "A valid line in this poll: ada 1,2,3,4 (an elector of the roll, a space, and 4 ranks with commas between, "
@@ -397,10 +397,7 @@ class Tables(CalledTest):
         self.act("extend", {"form": True})
         self.assertIn("(empty cells)\n1 counted  ada: ", self.told("add", *self.WORDS, "--blank-is-unranked", "form"))
         self.assertEqual(self.lines(), ["ada 1,-,-,2", "ben 1,2,3,4"])
-        # a table without a head, and heads that the shell has cut
-        self.write("form", "ada,1,2,4,3\nben,1,2,4,3\n")
-        said = "--name: `Ada` is an elector, so the table seems to have no header line; nothing was added"
-        self.assert_refused(("add", "--csv", "--name=Ada", "--ranks=1,2,4,3", "form"), 2, said)
+        # heads that the shell has cut
         words = ("add", "--csv", "--name", "n", "--ranks", "The", "lake,b,c,d", "form")
         self.assert_refused(words, 2, "--csv: there is no file lake,b,c,d; nothing was added: ")
 

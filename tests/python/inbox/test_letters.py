@@ -12,10 +12,8 @@ from debvote_tools.outbox import letter_folder
 
 from tests.support import elections, letters, pgp
 from tests.support.called import LAKE, LettersTest
-from tests.support.letters import TEN, mailbox
+from tests.support.letters import OTHER_RANKS as OTHER, RANKS, TEN, mailbox
 from tests.support.terminal import Terminal
-
-RANKS, OTHER = "1,2,4,3", "2,1,4,3"
 
 # asks for the lock of the book while debvote would run, and notes both
 ASKING = """#!/usr/bin/python3
@@ -533,23 +531,22 @@ class AtTheEnd(LettersTest):
         detail = self.acts()[-1][1]
         return detail["waiting"], detail["after_end"], detail.get("because")
 
-    def test_letters_of_after_the_end_need_no_act_at_the_close(self) -> None:
-        """Whatever else they wait for. Where none waits that came in time, the page has no reason to tell."""
-        away = letters.letter("ada", "I am away\n", head="Auto-Submitted: auto-replied\n", **self.late)
+    def test_a_letter_in_time_needs_a_reason(self) -> None:
+        """Letters of after the end need no act at the close, whatever else they wait for: the page has no reason to tell."""
+        away = letters.letter("dan", "I am away\n", head="Auto-Submitted: auto-replied\n", **self.late)
         self.add(away, letters.letter("ben", f"> ben {RANKS}\n", sender="x, y", **self.late))
         self.told("close", "--force", "--because", "in a hurry")
         self.assertEqual(self.closed(), (0, 2, None))
-
-    def test_a_letter_in_time_needs_a_reason(self) -> None:
-        self.add(letter("ada", "hello"), letter("ben", f"ben {RANKS}", **self.late))
-        self.assertEqual(self.numbers()["waiting"], 2)
-        self.assertIn("These arrived in time, and close stops while they wait: 1\n", self.told("status"))
+        self.told("reopen", "--because", "a letter was forgotten")
+        self.add(letter("ada", "hello"), letter("cleo", f"cleo {RANKS}", **self.late))
+        self.assertEqual(self.numbers()["waiting"], 4)
+        self.assertIn("These arrived in time, and close stops while they wait: 3\n", self.told("status"))
         for words in ((), ("--force",), ("--force", "--because", " "), ("--because", "hello is no ballot")):
-            said = "these letters arrived in time, and wait: 1; nothing was changed: "
+            said = "these letters arrived in time, and wait: 3; nothing was changed: "
             self.assert_refused(("close", *words), 9, said, "--force --because TEXT")
         said = self.told("close", "--force", "--because", "hello is no ballot")
         self.assertIn("\n1 letter that arrived in time did not go in; the result page says so.\n", said)
-        self.assertEqual(self.closed(), (1, 1, "hello is no ballot"))
+        self.assertEqual(self.closed(), (1, 3, "hello is no ballot"))
 
 
 class Signed(LettersTest):
@@ -576,20 +573,24 @@ class Signed(LettersTest):
         return letter(name, self.keys.inline(name, f"{name} {RANKS}\n[{self.mark}]\n", "20261123T095000"), number=number)
 
     def test_one_that_waited_for_a_key(self) -> None:
-        """One that was set aside stays so; also its copies: with another head, and one that anybody sends with another Message-ID."""
-        self.add(self.signed("fay"))
+        """One that was set aside stays so, and one that was entered by hand; also their copies: with another head, and one that anybody
+        sends with another Message-ID, which only its signature shows.
+        """
+        self.add(self.signed("fay"), self.signed("eve"))
         self.told("held", 1, "--set-aside")
+        self.told("held", 2, "--enter", 4)
         self.assertIn("signed with a key that is not in the keyring", self.add(self.signed("ben"), self.signed("ada")))
         # a copy with another head is the same letter once more, before the key comes and after it
         self.add(b"X-Status: R\n" + self.signed("ben"), self.signed("ben").replace(b"Subject: my", b"Subject: My"))
-        self.call_with("ada", "ben", "cleo", "fay")
+        self.call_with("ada", "ben", "cleo", "eve", "fay")
         shown = self.told("held")
         self.assertEqual((shown.count("it goes in with the next add of letters"), shown.count("1 letter waits.")), (1, 1), shown)
-        self.assert_fault(self.election("close"), 9, "these letters arrived in time, and wait: 2;")
-        self.assertIn("2 counted  ben: ", self.add(self.signed("ben")))
-        said = self.add(b"X-Status: R\n" + self.signed("fay"), self.signed("fay", number=2))
+        self.assert_fault(self.election("close"), 9, "these letters arrived in time, and wait: 3;")
+        self.assertIn("3 counted  ben: ", self.add(self.signed("ben")))
+        said = self.add(b"X-Status: R\n" + self.signed("fay"), *(self.signed(name, number=2) for name in ("ada", "ben", "eve", "fay")))
         self.assertIn("0 ballots of letters went in; 0 letters wait; ", said)
-        self.assertEqual(self.exported()[0], f"ada {RANKS}\nben {RANKS}\n")
+        self.assertEqual((self.numbers()["waiting"], self.numbers()["stopping"]), (0, []))
+        self.assertEqual(self.exported()[0], f"eve {RANKS}\nada {RANKS}\nben {RANKS}\n")
         self.told("close")
 
     def test_one_about_which_gpgv_was_slow(self) -> None:
@@ -601,16 +602,6 @@ class Signed(LettersTest):
         with mock.patch.object(signature, "SECONDS", 0.2):
             self.assertIn("gpgv did not answer about its signature in time", self.in_this_process(*words, path=f"{place}:"))
         self.assertIn("1 counted  ada: ", self.told(*words))
-
-    def test_a_copy_that_only_its_signature_shows_stops_no_close(self) -> None:
-        self.add(self.signed("ada"), self.signed("ben"))
-        self.told("held", 2, "--enter", 4)
-        self.call_with("ada", "ben", "cleo")
-        self.add(self.signed("ada", number=2), self.signed("ben", number=2))
-        self.assertEqual((self.numbers()["waiting"], self.numbers()["stopping"]), (0, []))
-        self.assertEqual(self.exported()[0], f"ada {RANKS}\nben {RANKS}\n")
-        self.told("close")
-
 
 class OwnMarks(LettersTest):
     """What an election knows of its electors' own marks."""

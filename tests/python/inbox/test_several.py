@@ -7,9 +7,7 @@ from debvote_tools.inbox.judging import Ballot
 from debvote_tools.inbox.letter import ParsedLetter
 from debvote_tools.inbox.rules import LetterCase, Outcome
 
-from tests.support.letters import OTHER_RANKS, RANKS, alternatives, at, judged, letter, lines_in, outcome, outcomes, parsed
-
-BALLOT, OTHER = f"ada {RANKS}", f"ada {OTHER_RANKS}"
+from tests.support.letters import BALLOT, OTHER, RANKS, alternatives, at, judged, letter, lines_in, outcome, outcomes, parsed
 
 
 def hour(of_day: int, second: int = 0) -> str:

@@ -11,10 +11,10 @@ from debvote_tools.inbox.lines import repaired_line
 from debvote_tools.outbox.letter_folder import in_place
 
 from tests.support import elections
+from tests.support.called import LAKE
 from tests.support.letters import letter
 from tests.support.outgoing import AT, END, OTHER_RANKS, RANKS, TITLE, OutTest, one_line, parsed
 
-LAKE = "At the lake, then In the town hall, then Further discussion, then Sell the house and meet there"
 FORM = f"The page of the vote, which writes the line of your ballot for you, and on which the result will be: {AT}"
 LINE = (
     "Your line, with a rank in the place of each _. The first place is for option 1, and so on; 1 is the best, equal ranks are allowed, "
@@ -25,6 +25,7 @@ WHEN = f"{TITLE} Vote until: Friday, 4 December 2026, 18:00 (UTC)"
 OPTIONS = "Option 1: At the lake Option 2: In the town hall Option 3: Sell the house and meet there (majority ratio 3) "
 OPTIONS += "Option 4: Further discussion (the default option)"
 EARLIER = "Mon, 23 Nov 2026 09:59:00 +0000"
+NONE = "No ballot of yours that counts has come yet."
 ELSEWHERE = "A letter in your name came from another address, and waits until the secretary has looked at it."
 
 
@@ -253,6 +254,10 @@ class Names(OutTest):
             self.assertIn(f"  receipt, 2026-11-23 10:00:00 UTC, to {address}: written\n", shown)
         self.add_lines(f"ada {OTHER_RANKS}")
         self.assertEqual([message["To"] for message in self.written("receipts").values()], ["ada@new.example"])
+        # whoever changes an address back does not hide what came meanwhile
+        self.change_roll("", "")
+        self.add_lines("ada 1,1,1,1")
+        self.assertEqual(sorted(message["To"] for message in self.written("receipts").values()), wanted[1:])
 
 
 class ReceiptsAndReminders(OutTest):
@@ -436,12 +441,16 @@ class ReceiptsAndReminders(OutTest):
             letter("ada", f"ada {OTHER_RANKS}\n", number=2, time="Mon, 23 Nov 2026 09:00:00 +0000"),
             letter("ada", "thanks\n", number=3, time="Mon, 23 Nov 2026 09:30:00 +0000"),
             *(twice, twice.replace(b"Received: from a", b"Received: from c"), letter("cleo", "hi\n"), b"X-Y: z\n" + letter("cleo", "hi\n")),
+            letter("fay", f"fay {RANKS}\n", sender="F\u00e1y <fay@club.example>"),
         )
+        why = "the name of its sender is not encoded"
+        self.assertIn(f"\n        {why}, so programs may read it in different ways\n", self.told("held"))
         texts = self.texts("receipts")
-        self.assertEqual({name: text.count("has arrived") for name, text in texts.items()}, {"ada": 3, "ben": 1, "cleo": 1, "dan": 1, "eve": 0})
+        self.assertEqual({name: text.count("has arrived") for name, text in texts.items()}, {"ada": 3, "ben": 1, "cleo": 1, "dan": 1, "eve": 0, "fay": 1})
         self.assertRegex(texts["ada"], r"08:00 \(UTC\) has arrived\. A later.*09:00 \(UTC\) has arrived\. It counts.*09:30 \(UTC\) has arrived\. No")
         self.assertIn("No ballot from it was entered. The reason: the secretary has looked at it, and set it aside.", texts["dan"])
         self.assertIn("A letter in your name came from another address. The secretary has set it aside.", texts["eve"])
+        self.assertIn(f" look at it first. The reason: {why}. Send it with a name without accents", texts["fay"])
 
     def test_heads_that_came_add_no_line(self) -> None:
         coded = "=?utf-8?q?=3Ca=40b=3E=0D=0ABcc=3A_all=40x.example?="
@@ -453,14 +462,6 @@ class ReceiptsAndReminders(OutTest):
         self.assertEqual(message["To"], "ada@club.example")
         names = "From To Subject Date Message-ID X-Unsent Auto-Submitted MIME-Version Content-Type Content-Transfer-Encoding"
         self.assertEqual([name for name, _ in message.raw_items()], names.split())
-
-    def test_a_name_of_the_sender_that_is_not_encoded(self) -> None:
-        """Its letter waits, and the elector and the secretary read the true reason; the address is read all the same."""
-        self.add(letter("ada", f"ada {RANKS}\n", sender="Ad\u00e1 <ada@club.example>"))
-        why = "the name of its sender is not encoded"
-        self.assertIn(f"\n        {why}, so programs may read it in different ways\n", self.told("held"))
-        said = f"No ballot from it is entered yet: the secretary has to look at it first. The reason: {why}. Send it with a name without accents"
-        self.assertIn(said, self.texts("receipts")["ada"])
 
     def test_a_line_that_was_refused_is_quoted_and_votes_for_nobody(self) -> None:
         """Nor does it where the receipt is answered, with or without a ballot, and the quotation has no marks. One with words is not quoted."""
@@ -475,7 +476,11 @@ class ReceiptsAndReminders(OutTest):
         self.assertEqual(self.exported()[0].splitlines()[5:], [f"{name} {OTHER_RANKS}" for name in found])
 
     def test_to_whom_reminders_go(self) -> None:
-        self.add_lines(f"ada {RANKS}")
+        """A line that came and does not count is told with the reason, as in the receipt. A letter that was set aside is not told again."""
+        self.add_lines(f"ada {RANKS}", "fay 1,2", f"gus {RANKS}")
+        self.done("strike", 3, "--because", "not his")
+        self.add(letter("hal", "hello\n"))
+        self.done("held", 1, "--set-aside")
         self.add(letter("cleo", "I want the lake\n"), letter("dan", f"dan {RANKS}\n", sender="x@x.example"))
         self.add(
             letter("eve", f"eve {RANKS}\n", sender="x@x.example", time="Mon, 23 Nov 2026 08:00:00 +0000"),
@@ -483,7 +488,14 @@ class ReceiptsAndReminders(OutTest):
         )
         texts = self.texts("reminders")
         self.assertEqual(sorted(texts), [name for name in elections.NAMES if name != "ada"])
-        self.assertTrue(texts["ben"].startswith(f"Dear Ben, No ballot of yours that counts has come yet. {WHEN} {FORM}#ben/"), texts["ben"])
+        for name in ("ben", "hal"):
+            self.assertTrue(texts[name].startswith(f"Dear {name.title()}, {NONE} {WHEN} {FORM}#{name}/"), texts[name])
+        refused = "It is not a valid ballot of this vote, so it does not count. It has 2 ranks, and the vote has 4 options."
+        wanted = (("fay", "A line with your name", refused), ("gus", "Your ballot", "and the secretary has struck it. It does not count."))
+        for name, begins, ends in wanted:
+            begin, told, rest = texts[name].partition(f"{ends} ")
+            self.assertTrue(begin.startswith(f"Dear {name.title()}, {NONE} {begins} "), texts[name])
+            self.assertIn(f"You can send a right line now, and need not wait. {WHEN} {FORM}#{name}/", rest)
         self.assertIn(f"{LINE}ben _,_,_,_", texts["ben"])
         # whose letter waits is told so, and what can be done meanwhile
         self.assertIn("No ballot from it is entered yet: the secretary has to look at it first.", texts["cleo"])
@@ -506,29 +518,10 @@ class ReceiptsAndReminders(OutTest):
             self.assertNotIn("after the end", self.texts("receipts")["ben"])
             self.set_clock("2026-11-23T10:00:00+00:00")
 
-    def test_a_line_that_came_and_does_not_count_is_told(self) -> None:
-        """With the reason, as in the receipt, and how to vote now. A letter that was set aside is not told again."""
-        self.add_lines("ada 1,2", f"ben {RANKS}", f"cleo {RANKS}")
-        self.done("strike", 2, "--because", "not his")
-        self.add(letter("dan", "hello\n"))
-        self.done("held", 1, "--set-aside")
-        texts = self.texts("reminders")
-        refused = "It is not a valid ballot of this vote, so it does not count. It has 2 ranks, and the vote has 4 options."
-        wanted = (("ada", "A line with your name", refused), ("ben", "Your ballot", "and the secretary has struck it. It does not count."))
-        for name, begins, ends in wanted:
-            begin, told, rest = texts[name].partition(f"{ends} ")
-            self.assertTrue(begin.startswith(f"Dear {name.title()}, No ballot of yours that counts has come yet. {begins} "), texts[name])
-            self.assertIn(f"You can send a right line now, and need not wait. {WHEN} {FORM}#{name}/", rest)
-        self.assertTrue(texts["dan"].startswith(f"Dear Dan, No ballot of yours that counts has come yet. {WHEN}"), texts["dan"])
-
-
 class FullDisk(OutTest):
     """A disk that is full at any write: receipts are noted if their files are there, and the next run writes the others."""
 
     names = ["ada", "ben", "cleo"]
-
-    def full_at(self, call: str, count: int) -> elections.Ended:
-        return self.traced("-f", "-e", f"inject={call}:error=ENOSPC:when={count}", words=("letters", "receipts"))
 
     def receipts(self) -> dict[pathlib.Path, bytes]:
         return {file: file.read_bytes() for file in (self.folder / "letters").rglob("*.eml") if ".debvote" not in str(file)}
@@ -552,7 +545,7 @@ class FullDisk(OutTest):
                     number = len(self.book.acts())
                     self.add_lines(*(f"{name} {1 + number % 90},{1 + number // 90},-,1" for name in self.names))
                     before, files = len(self.rows("receipts")), self.receipts()
-                    ended = self.full_at(call, count)
+                    ended = self.traced("-f", "-e", f"inject={call}:error=ENOSPC:when={count}", words=("letters", "receipts"))
                     failures |= {call} if ended.status else set()
                     noted = [name for name, _ in self.rows("receipts")[before:]]
                     self.assertIn(noted, ([], self.names))
