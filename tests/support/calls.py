@@ -7,8 +7,7 @@ from debvote_tools.poll.call import CallData
 from debvote_tools.poll.sealed import SealedPoll, with_roll
 from debvote_tools.text.language import language_of
 
-BERLIN = datetime.timezone(datetime.timedelta(hours=1))
-UNTIL = datetime.datetime(2026, 12, 4, 18, tzinfo=BERLIN)
+UNTIL = datetime.datetime(2026, 12, 4, 18, tzinfo=datetime.timezone(datetime.timedelta(hours=1)))
 ADDRESS, PAGE = "vote+club@example.org", "https://example.org/vote/"
 ROLL = ("ada", "ben", "cleo", "dan")
 CODES = tuple(f"{number:x}" * 32 for number in range(10, 14))

@@ -34,10 +34,6 @@ LAUNCHERS = {
     str(ROOT / "bin" / "debvote-publish"): "debvote_tools.result.command_line",
 }
 
-# the settings that a fork can give to a run
-SETTINGS = {"capture_output", "cwd", "env", "input", "stdin", "text", "timeout"}
-
-
 # lets any process of this user trace the one that asks for it
 PR_SET_PTRACER, ANY = 0x59616D61, -1
 
@@ -102,8 +98,9 @@ def read_ahead() -> None:
 def is_plain(words: Sequence[object], how: Mapping[str, object]) -> bool:
     """Whether a fork runs this as a new process would."""
     is_known = len(words) > 1 and words[0] == sys.executable and str(words[1]) in LAUNCHERS
-    is_captured = how.get("capture_output") is True and how.get("stdin") in (None, subprocess.DEVNULL) and how.keys() <= SETTINGS
-    return is_known and is_captured and os.environ.get("DEBVOTE_FORKS") != "0"
+    is_captured = how.get("capture_output") is True and how.get("stdin") in (None, subprocess.DEVNULL)
+    has_settings = how.keys() <= {"capture_output", "cwd", "env", "input", "stdin", "text", "timeout"}
+    return is_known and is_captured and has_settings and os.environ.get("DEBVOTE_FORKS") != "0"
 
 
 def in_child(main: Callable, words: Sequence[object], how: Mapping[str, object], streams: Sequence[int]) -> None:

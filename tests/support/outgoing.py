@@ -181,18 +181,12 @@ class PlainServer:
         with connection, connection.makefile("rb") as lines:
             say("220 here")
             steps = {"EHLO": "helo", "HELO": "helo", "MAIL": "from", "RCPT": "to", "DATA": "data"}
-            is_letter = False
             for line in lines:
                 step = steps.get(line[:4].decode().upper(), "")
-                if is_letter:
-                    if line == b".\r\n":
-                        is_letter = False
-                        say(self.answers["letter"])
-                elif step:
-                    say(self.answers[step])
-                    is_letter = step == "data" and self.answers[step].startswith("354")
-                else:
-                    say("250 OK")
+                say(self.answers.get(step, "250 OK"))
+                # reads the letter up to its last line
+                if step == "data" and self.answers[step].startswith("354") and b".\r\n" in lines:
+                    say(self.answers["letter"])
 
 
 class SendTest(OutTest):

@@ -22,10 +22,8 @@ class Keys:
         # the process of a class ends without what atexit has
         multiprocessing.util.Finalize(None, self.end, exitpriority=0)
         self.fingerprints: dict[str, str] = {}
-        for name in ("ada", "ben", "cleo", "fay", "mallory"):
-            self.make(name, "never")
-        self.make("dan", EXPIRY)
-        self.make("eve", "never")
+        for name in ("ada", "ben", "cleo", "dan", "eve", "fay", "mallory"):
+            self.make(name, EXPIRY if name == "dan" else "never")
         # ada signs with a subkey
         self.gpg("--faked-system-time", "20240102T000000!", "--quick-add-key", self.fingerprints["ada"], "ed25519", "sign", "never")
 

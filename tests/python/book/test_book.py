@@ -53,7 +53,6 @@ int fcntl(int file, int command, ...) {
 }
 """
 
-
 # changes the first ballot
 CHANGED = "UPDATE envelope SET line = CAST('ada 4,3,2,1' AS BLOB) WHERE envelope = 1"
 
@@ -269,14 +268,6 @@ class Rewritten(BookTest):
         names["book"].close()
         return said.getvalue().splitlines() + fault
 
-    def assert_broken(self, act: int, *parts: str) -> None:
-        """Each command on whose words others rely says so, with the number of the act; so does the program of FORMATS."""
-        said = f"act {act} does not match its digest"
-        for words in RELYING:
-            with self.subTest(words):
-                self.assert_fault(self.election(*words), 9, "election.db", said, *parts)
-        self.assertIn(said, self.formats())
-
     def test_whole(self) -> None:
         """Each digest is over the one before and all rows of the act."""
         with contextlib.closing(sqlite3.connect(self.book)) as connection:
@@ -359,7 +350,11 @@ class Rewritten(BookTest):
         whole = self.read("election.db")
         for statement in (CHANGED, "DELETE FROM envelope WHERE envelope = 2", f"INSERT INTO envelope ({columns}) VALUES {added}"):
             self.sql(statement)
-            self.assert_broken(4)
+            # each command on whose words others rely says so; so does the program of FORMATS
+            for words in RELYING:
+                with self.subTest(statement, words=words):
+                    self.assert_fault(self.election(*words), 9, "election.db", "act 4 does not match its digest")
+            self.assertIn("act 4 does not match its digest", self.formats())
             self.book.write_bytes(whole)
 
     def test_rows_of_no_act(self) -> None:

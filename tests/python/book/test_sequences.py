@@ -242,7 +242,6 @@ class SequencesTest(LettersTest):
         return Step(["reopen", "--because", "a letter was forgotten", *words], None, [model])
 
     # ------------------------------------------------------------ how they are run
-
     def run_step(self, step: Step, chance: random.Random) -> tuple[Model, bool]:
         """Runs a command, perhaps not to its end, and returns the model that holds, and whether it was cut off."""
         kind = chance.random()

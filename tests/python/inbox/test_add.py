@@ -168,6 +168,21 @@ class Added(CalledTest):
             self.assert_refused(("add", *words), 2, f"{words[0]}: only for tables; nothing was added: give --csv too, or leave this out", given="x")
         self.assertEqual((self.acts(), self.sources()), ([], []))
 
+    def test_in_a_signed_vote_a_line_needs_force_and_a_reason(self) -> None:
+        self.act("call", {"signed": True}, {"keyring": b"keys"})
+        self.write("more", f"ada {RANKS}\n")
+        said = "more: in this vote letters must be signed, and nothing shows who sent a line of a file; nothing was added: "
+        for words in ([], ["--force"], ["--because", "they brought it"], ["--force", "--because", " "]):
+            self.assert_refused(("add", *words, "more"), 9, said, "--force --because TEXT")
+        self.assertIn("1 counted  ada: ", self.told("add", "--force", "--because", "they brought it", "more"))
+        detail = {"files": ["more"], "lines": 1, "passed_over": 0, "unsigned": True, "because": "they brought it"}
+        self.assertEqual(self.acts()[-1], ("add", detail))
+        # a table too, and with all else at once
+        self.write("form", "n,a,b,c,d\nada,x,2,3,4\nben,x,2,3,4\n")
+        ended = self.election("add", "--csv", "--name=n", "--ranks=a,b,c,d", "form")
+        self.assertRegex(ended.faults, r"\A.*letters must be signed.*\n.*debvote takes none of the 2 lines.*\n\Z")
+        self.assertEqual(ended.status, 9)
+
     def test_more_lines_than_debvote_takes(self) -> None:
         lines = [f"ada {a},{b},1,2" for a in range(1, 100) for b in range(1, 100)] * 10
         replies = [line for line in self.told("add", given="\n".join(lines)).splitlines() if line[0].isdigit()]
@@ -348,26 +363,6 @@ class OtherNames(CalledTest):
         ended = self.election("add", given="further discussion b\nada 2,1,4,3\ncleo 1,2,4,3\n")
         self.assertIn("standard input: line 1 names options of the poll in another order", ended.faults)
         self.assertRegex(self.told("add", given="anna-maier 1,2,3,4\n"), r"did you mean anna-meier\b.*anna-meier-2")
-
-
-class Signed(CalledTest):
-    def setUp(self) -> None:
-        super().setUp()
-        self.act("call", {"signed": True}, {"keyring": b"keys"})
-
-    def test_a_line_needs_force_and_a_reason(self) -> None:
-        self.write("more", f"ada {RANKS}\n")
-        said = "more: in this vote letters must be signed, and nothing shows who sent a line of a file; nothing was added: "
-        for words in ([], ["--force"], ["--because", "they brought it"], ["--force", "--because", " "]):
-            self.assert_refused(("add", *words, "more"), 9, said, "--force --because TEXT")
-        self.assertIn("1 counted  ada: ", self.told("add", "--force", "--because", "they brought it", "more"))
-        detail = {"files": ["more"], "lines": 1, "passed_over": 0, "unsigned": True, "because": "they brought it"}
-        self.assertEqual(self.acts()[-1], ("add", detail))
-        # a table too, and with all else at once
-        self.write("form", "n,a,b,c,d\nada,x,2,3,4\nben,x,2,3,4\n")
-        ended = self.election("add", "--csv", "--name=n", "--ranks=a,b,c,d", "form")
-        self.assertRegex(ended.faults, r"\A.*letters must be signed.*\n.*debvote takes none of the 2 lines.*\n\Z")
-        self.assertEqual(ended.status, 9)
 
 
 class Tables(CalledTest):

@@ -127,5 +127,4 @@ class Random(unittest.TestCase):
         began = time.process_time()
         found = collections.Counter(outcomes(*several, *of_one, *copies))
         self.assertEqual((found.total(), found["copy"], found[f"in: {BALLOT}"]), (11_950, 9_999, 1_551))
-        # no second is promised, but a time that grows with the square of the number would be minutes
         self.assertLess(time.process_time() - began, 20)

@@ -8,8 +8,7 @@ from debvote_tools.inbox.letter import may_be_ballot
 from debvote_tools.inbox.letter_lines import repaired_text
 from debvote_tools.inbox.reasons import Reason, ReasonWithValues, for_elector, for_secretary
 
-from tests.python.inbox import test_signatures
-from tests.python.inbox import test_table_of_letters
+from tests.python.inbox import test_signatures, test_table_of_letters
 from tests.support.letters import NAMES, at, label
 
 # values of each name that a reason may have

@@ -141,7 +141,7 @@ class Refused(OutTest):
         self.assertEqual(found["ada"]["From"], "vote@other.example")
         self.assertIn(f"{LINE}ada _,_,_,_", self.texts("reminders", "--from", "v@x.example")["ada"])
 
-    def test_addresses_of_before_the_call(self) -> None:
+    def test_addresses_of_before_the_call_and_that_of_the_result(self) -> None:
         # of several addresses the first that each server takes
         self.change_roll("ada@club", "ädä@club.example home@ada")
         self.done("call", "--to", "vote@club.example")
@@ -149,6 +149,18 @@ class Refused(OutTest):
         # the one that she had before the call gets no receipt
         self.add_lines(f"ada {RANKS}")
         self.assertEqual([message["To"] for message in self.written("receipts").values()], ["home@ada.example"])
+        # where the result is published is an act
+        self.done("close")
+        self.done("publish")
+        self.assert_fault(self.election("letters", "result"), 2, "--at: the letter must say where the result is published")
+        self.assert_fault(self.election("letters", "result", "--at", "ftp://x"), 2, "it must be the address of a page")
+        self.assertIn("https://x.example/r/#ada", self.texts("result", "--at", "https://x.example/r/")["ada"])
+        acts = [(act.name, act.detail) for act in self.book.acts()]
+        self.assertEqual(acts.count(("announce", {"at": "https://x.example/r/"})), 1)
+        self.texts("result", "--at", "https://x.example/r/")
+        self.assertEqual(len(self.book.acts()), len(acts))
+        self.assertIn("https://x.example/r/#ada", self.texts("result")["ada"])
+        self.assertIn("https://x.example/s/#ada", self.texts("result", "--at", "https://x.example/s/")["ada"])
 
 
 class OwnWords(OutTest):
@@ -608,7 +620,6 @@ class NoBallots(OutTest):
 
 
 class CloseAndResult(OutTest):
-
     def test_an_open_vote(self) -> None:
         self.assert_fault(self.election("letters", "result"), 9, "nothing is published")
         self.add_lines(f"ada {RANKS}", f"ben {RANKS}")
@@ -685,24 +696,6 @@ class CloseAndResult(OutTest):
                 for kind, fault in (said, ("call", "nobody is asked to vote"), ("reminders", "nobody is asked to vote")):
                     self.assert_fault(self.election("letters", kind), 9, fault)
                 self.add_lines(f"ben {RANKS}", words=("--came-before-close", "yes"))
-
-
-class ResultAt(OutTest):
-    call_words = ("--to", "vote@club.example")
-
-    def test_the_address_is_an_act(self) -> None:
-        self.add_lines(f"ada {RANKS}")
-        self.done("close")
-        self.done("publish")
-        self.assert_fault(self.election("letters", "result"), 2, "--at: the letter must say where the result is published")
-        self.assert_fault(self.election("letters", "result", "--at", "ftp://x"), 2, "it must be the address of a page")
-        self.assertIn("https://x.example/r/#ada", self.texts("result", "--at", "https://x.example/r/")["ada"])
-        acts = [(act.name, act.detail) for act in self.book.acts()]
-        self.assertEqual(acts.count(("announce", {"at": "https://x.example/r/"})), 1)
-        self.texts("result", "--at", "https://x.example/r/")
-        self.assertEqual(len(self.book.acts()), len(acts))
-        self.assertIn("https://x.example/r/#ada", self.texts("result")["ada"])
-        self.assertIn("https://x.example/s/#ada", self.texts("result", "--at", "https://x.example/s/")["ada"])
 
 
 class Secret(OutTest):
