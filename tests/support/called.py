@@ -28,8 +28,7 @@ class CalledTest(elections.ElectionTest):
     def setUp(self) -> None:
         super().setUp()
         # programs at a terminal and acts of the test itself write their notes where the other runs do
-        self.addCleanup(os.environ.__setitem__, "XDG_STATE_HOME", os.environ.get("XDG_STATE_HOME", ""))
-        os.environ["XDG_STATE_HOME"] = str(self.state)
+        self.enterContext(mock.patch.dict(os.environ, {"XDG_STATE_HOME": str(self.state)}))
         self.first_act = self.last_act() + 1
 
     @property
@@ -152,8 +151,7 @@ class LettersTest(CalledTest):
 
     def in_this_process(self, *words: str, path: str = "") -> str:
         """Runs a command here, where a test puts something between two of its steps; returns its output."""
-        env = {"PATH": f"{path}{elections.environment()['PATH']}", "XDG_STATE_HOME": str(self.state)}
-        with mock.patch.dict(os.environ, env), contextlib.chdir(self.folder):
+        with mock.patch.dict(os.environ, {"PATH": f"{path}{elections.environment()['PATH']}"}), contextlib.chdir(self.folder):
             with contextlib.redirect_stdout(io.StringIO()) as said, contextlib.redirect_stderr(io.StringIO()):
                 command_line.main(elections.ELECTION.parent, list(words))
         return said.getvalue()

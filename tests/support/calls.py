@@ -7,21 +7,14 @@ from debvote_tools.poll.call import CallData
 from debvote_tools.poll.sealed import SealedPoll, with_roll
 from debvote_tools.text.language import language_of
 
-BERLIN = datetime.timezone(datetime.timedelta(hours=1))
-UNTIL = datetime.datetime(2026, 12, 4, 18, tzinfo=BERLIN)
+UNTIL = datetime.datetime(2026, 12, 4, 18, tzinfo=datetime.timezone(datetime.timedelta(hours=1)))
 ADDRESS, PAGE = "vote+club@example.org", "https://example.org/vote/"
 ROLL = ("ada", "ben", "cleo", "dan")
 CODES = tuple(f"{number:x}" * 32 for number in range(10, 14))
 POLL = SealedPoll(
-    title="Where we meet",
-    options=("At the lake", "72 Euro", "Sell the house"),
-    ratios=(1, 1, 3),
-    default="None of the above",
-    quorum=1,
-    roll=ROLL,
-    deadline=UNTIL.isoformat(),
-    address=ADDRESS,
-)
+    "Where we meet", ("At the lake", "72 Euro", "Sell the house"), (1, 1, 3), default="None of the above", quorum=1, roll=ROLL,
+    deadline=UNTIL.isoformat(), address=ADDRESS,
+)  # fmt: skip
 CALL = CallData(language_of("en"), POLL, 2, until=UNTIL, to=ADDRESS, at=PAGE)
 SECRET = dataclasses.replace(CALL, poll=dataclasses.replace(with_roll(POLL, CODES), secret=True), has_aliases=True)
 WITH_CODES = dataclasses.replace(SECRET, has_aliases=False, has_codes_on_roll=True)

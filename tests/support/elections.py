@@ -12,6 +12,7 @@ import tempfile
 import unittest
 from collections.abc import Sequence
 from dataclasses import dataclass
+from unittest import mock
 
 from debvote_tools.book.book import open_book
 from debvote_tools.book.machine_note import Note
@@ -61,31 +62,8 @@ def environment() -> dict[str, str]:
     return {**os.environ, "PATH": os.pathsep.join([str(PROGRAM.parent), os.environ["PATH"]]), "PYTHONDONTWRITEBYTECODE": "1"}
 
 
-def clock_of(file: pathlib.Path) -> dict[str, str]:
-    """The environment in which programs find the time of a file."""
-    return {"PYTHONPATH": str(ROOT / "tests" / "clock"), "DEBVOTE_CLOCK": str(file)}
-
-
 # new elections, by what they begin with: each is made once in a process
 TEMPLATES: dict[object, pathlib.Path] = {}
-
-# whether it was tried that nobody may run the programs
-TRIED: set[bool] = set()
-
-
-def note_book(folder: pathlib.Path, state: pathlib.Path) -> None:
-    """Makes this machine know the book of a copied election."""
-    book = open_book(folder / "election.db")
-    last = book.last_act()
-    before = os.environ.get("XDG_STATE_HOME")
-    os.environ["XDG_STATE_HOME"] = str(state)
-    try:
-        book.note().put(Note(last.number, last.digest))
-    finally:
-        os.environ.pop("XDG_STATE_HOME")
-        if before is not None:
-            os.environ["XDG_STATE_HOME"] = before
-    book.connection.close()
 
 
 class ElectionTest(unittest.TestCase):
@@ -95,8 +73,9 @@ class ElectionTest(unittest.TestCase):
     names = NAMES
     # the list of members; if there is none, it is made of the names
     members = ""
-    # the arguments of `new` and of the call; without the latter the election is not called
+    # the arguments of `new`, of `codes`, and of the call; without the latter the election is not called
     new_words: Sequence[str] = ()
+    codes_words: Sequence[str] = ()
     call_words: Sequence[str] | None = ("--to", "vote@club.example")
     maxDiff = None
 
@@ -109,13 +88,16 @@ class ElectionTest(unittest.TestCase):
         self.begin()
 
     def begin(self) -> None:
-        key = (self.poll, tuple(self.names), self.members, tuple(self.new_words), self.call_words)
+        key = (self.poll, tuple(self.names), self.members, tuple(self.new_words), tuple(self.codes_words), self.call_words)
         if key not in TEMPLATES:
             TEMPLATES[key] = self.made()
             type(self).addClassCleanup(shutil.rmtree, TEMPLATES[key].parent, ignore_errors=True)
             type(self).addClassCleanup(TEMPLATES.pop, key)
         shutil.copytree(TEMPLATES[key], self.folder)
-        note_book(self.folder, self.state)
+        # this machine knows the book of the copy
+        book = open_book(self.folder / "election.db")
+        with contextlib.closing(book.connection), mock.patch.dict(os.environ, {"XDG_STATE_HOME": str(self.state)}):
+            book.note().put(Note(book.last_act().number, book.last_act().digest))
 
     def made(self) -> pathlib.Path:
         """A new election, which the tests of this process copy."""
@@ -126,7 +108,7 @@ class ElectionTest(unittest.TestCase):
         self.done("roll", cwd=place / "election")
         if self.call_words is not None:
             if "secret = true" in self.poll:
-                self.done("codes", cwd=place / "election")
+                self.done("codes", *self.codes_words, cwd=place / "election")
             self.done("call", *self.call_words, cwd=place / "election")
         return place / "election"
 
@@ -153,9 +135,8 @@ class ElectionTest(unittest.TestCase):
 
     def set_clock(self, time: str) -> None:
         """From now on the programs find this time, which has its offset."""
-        file = self.scratch / "clock"
-        file.write_text(time)
-        self.clock = clock_of(file)
+        (self.scratch / "clock").write_text(time)
+        self.clock = {"PYTHONPATH": str(ROOT / "tests" / "clock"), "DEBVOTE_CLOCK": str(self.scratch / "clock")}
 
     def election(self, *words: object, **how: object) -> Ended:
         return self.run_program(sys.executable, ELECTION, *words, **how)
@@ -188,18 +169,11 @@ class ElectionTest(unittest.TestCase):
         if nobody and shutil.which("setpriv") is None:
             self.skipTest("setpriv is not installed, and root may read and write everywhere")
         self.scratch.chmod(0o755)
-        # once in a process it is tried whether nobody may run the programs
-        for command in ([PROGRAM, "--version"], [sys.executable, ELECTION, "--help"]) if not TRIED else []:
+        for command in ([PROGRAM, "--version"], [sys.executable, ELECTION, "--help"]):
             tried = self.run_program(*nobody, *command)
             said = f"{command[0]} can't be run by everybody, and this test runs it as nobody: chmod o+rX what leads there"
             self.assertEqual(tried.status, 0, f"{said}; {tried.faults}")
-        TRIED.add(True)
         return self.run_program(*nobody, sys.executable, ELECTION, *words, **how)
-
-    def close_folder(self) -> None:
-        """From now on nobody may write into the folder of the election, as long as the test runs."""
-        self.addCleanup(self.folder.chmod, 0o755)
-        self.folder.chmod(0o555)
 
     def debvote(self, *words: object, **how: object) -> Ended:
         return self.run_program(PROGRAM, *words, **how)

@@ -6,18 +6,10 @@ from tests.support import case_tables, publishing
 
 # cases of the tables in tests/cases/
 CASES = [
-    "casting-vote-in-a-tie",
-    "dropped-all-without-ballots",
-    "dropped-for-quorum-and-majority-says-quorum",
-    "dropped-one-for-each-cause",
-    "late-last-envelope-0-makes-all-late",
-    "majority-worded-more-than-and-a-last-envelope",
-    "quorum-0Q-is-no-quorum",
-    "rounds-cycle-of-31-options",
-    "sheet-names-as-they-are",
-    "sheet-refused-lines-of-each-kind",
-    "votes-of-hyphens-alone",
-]
+    "casting-vote-in-a-tie", "dropped-all-without-ballots", "dropped-for-quorum-and-majority-says-quorum", "dropped-one-for-each-cause",
+    "late-last-envelope-0-makes-all-late", "majority-worded-more-than-and-a-last-envelope", "quorum-0Q-is-no-quorum",
+    "rounds-cycle-of-31-options", "sheet-names-as-they-are", "sheet-refused-lines-of-each-kind", "votes-of-hyphens-alone",
+]  # fmt: skip
 
 # names that would be tags, ends of texts, places of the page or of the picture, or words of the sheet
 HOSTILE_POLL = r"""

@@ -12,7 +12,6 @@ class Expecting(unittest.TestCase):
         self.addCleanup(self.tell)
 
     def expect(self, name: str, found: object, wanted: object) -> None:
-        """Checks one named fact."""
         try:
             self.assertEqual(found, wanted)
         except AssertionError as error:

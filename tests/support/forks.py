@@ -34,10 +34,6 @@ LAUNCHERS = {
     str(ROOT / "bin" / "debvote-publish"): "debvote_tools.result.command_line",
 }
 
-# the settings that a fork can give to a run
-SETTINGS = {"capture_output", "cwd", "env", "input", "stdin", "text", "timeout"}
-
-
 # lets any process of this user trace the one that asks for it
 PR_SET_PTRACER, ANY = 0x59616D61, -1
 
@@ -66,8 +62,11 @@ def run(words: Sequence[object], tracer: Sequence[object] = (), **how: object) -
             status = awaited(child, how.get("timeout"), words)
         os.close(begin)
         os.close(go)
-        texts = [read(file, is_text=bool(how.get("text"))) for file in (output, faults)]
-    return subprocess.CompletedProcess(words, status, *texts)
+        # what the run wrote, from the beginning
+        output.seek(0)
+        faults.seek(0)
+        texts = [output.read(), faults.read()]
+    return subprocess.CompletedProcess(words, status, *([data.decode() for data in texts] if how.get("text") else texts))
 
 
 @contextlib.contextmanager
@@ -99,15 +98,9 @@ def read_ahead() -> None:
 def is_plain(words: Sequence[object], how: Mapping[str, object]) -> bool:
     """Whether a fork runs this as a new process would."""
     is_known = len(words) > 1 and words[0] == sys.executable and str(words[1]) in LAUNCHERS
-    is_captured = how.get("capture_output") is True and how.get("stdin") in (None, subprocess.DEVNULL) and how.keys() <= SETTINGS
-    return is_known and is_captured and os.environ.get("DEBVOTE_FORKS") != "0"
-
-
-def read(file: object, *, is_text: bool) -> bytes | str:
-    """The output of a run, from the file that it went to."""
-    file.seek(0)
-    data = file.read()
-    return data.decode() if is_text else data
+    is_captured = how.get("capture_output") is True and how.get("stdin") in (None, subprocess.DEVNULL)
+    has_settings = how.keys() <= {"capture_output", "cwd", "env", "input", "stdin", "text", "timeout"}
+    return is_known and is_captured and has_settings and os.environ.get("DEBVOTE_FORKS") != "0"
 
 
 def in_child(main: Callable, words: Sequence[object], how: Mapping[str, object], streams: Sequence[int]) -> None:

@@ -23,6 +23,9 @@ SAMPLES = ROOT / "tests" / "letters"
 NAMES = tuple(elections.NAMES)
 POLL = f"{elections.POLL}roll = {json.dumps(NAMES)}\n"
 RANKS, OTHER_RANKS = "1,2,4,3", "2,1,4,3"
+BALLOT, OTHER = f"ada {RANKS}", f"ada {OTHER_RANKS}"
+IN = f"in: {BALLOT}"
+FLOWED, HTML = "text/plain; charset=utf-8; format=flowed", "text/html; charset=utf-8"
 MARK = elections.ANY_MARK
 # the own mark of each elector, and the subjects of a letter of ours and of the page of the call
 OWN = {name: re.sub("[ilo]", "x", f"{name}23456789")[:10] for name in NAMES}
@@ -30,8 +33,6 @@ TITLE = "Where we meet in spring"
 BY_PAGE = f"Ballot: {TITLE}"
 
 TEN = "Mon, 23 Nov 2026 10:00:00 +0000"
-CALLED = datetime.datetime(2026, 11, 20, 9, tzinfo=datetime.UTC)
-NOW = datetime.datetime(2026, 11, 25, 9, tzinfo=datetime.UTC)
 # what was written to each elector
 OURS = {name: {f"<call.{name}@club.example>"} for name in NAMES}
 
@@ -86,7 +87,7 @@ def circumstances(
     }
     usual: dict[str, object] = {
         "mark": MARK, "subject": BY_PAGE, "electors": electors, "is_marked": False, "is_signed": keys is not None,
-        "called": CALLED, "end": None, "first_close": None, "now": NOW, "our_letters": OURS, "decisions": {},
+        "called": at(9, day=20), "end": None, "first_close": None, "now": at(9, day=25), "our_letters": OURS, "decisions": {},
     }  # fmt: skip
     return Circumstances(**{**usual, **other})  # type: ignore[arg-type]
 

@@ -5,9 +5,7 @@ import email
 import email.message
 import email.policy
 import logging
-import os
 import pathlib
-import signal
 import socket
 import sqlite3
 import subprocess
@@ -183,18 +181,12 @@ class PlainServer:
         with connection, connection.makefile("rb") as lines:
             say("220 here")
             steps = {"EHLO": "helo", "HELO": "helo", "MAIL": "from", "RCPT": "to", "DATA": "data"}
-            is_letter = False
             for line in lines:
                 step = steps.get(line[:4].decode().upper(), "")
-                if is_letter:
-                    if line == b".\r\n":
-                        is_letter = False
-                        say(self.answers["letter"])
-                elif step:
-                    say(self.answers[step])
-                    is_letter = step == "data" and self.answers[step].startswith("354")
-                else:
-                    say("250 OK")
+                say(self.answers.get(step, "250 OK"))
+                # reads the letter up to its last line
+                if step == "data" and self.answers[step].startswith("354") and b".\r\n" in lines:
+                    say(self.answers["letter"])
 
 
 class SendTest(OutTest):
@@ -226,23 +218,3 @@ class SendTest(OutTest):
         env = elections.environment() | self.clock | {"XDG_STATE_HOME": str(self.state)}
         words = [sys.executable, elections.ELECTION, "letters", kind, "--send", "--server", self.server.name]
         return subprocess.Popen(words, cwd=self.folder, env=env, stdout=subprocess.PIPE, stderr=subprocess.DEVNULL, text=True)
-
-    def send_until_killed(self, kind: str, step: str, number: int) -> int:
-        """Sends letters by a program that is killed at a step of one of them; returns how it ended."""
-        began, process = self.server.started, self.sending(kind)
-
-        def kill(now: str, count: int) -> bool:
-            if (now, count - began) == (step, number):
-                os.kill(process.pid, signal.SIGKILL)
-                process.wait()
-                return now != "data"
-            return False
-
-        self.server.at = kill
-        try:
-            process.wait(elections.SECONDS)
-        finally:
-            process.kill()
-            process.wait()
-        self.server.at = lambda now, count: False
-        return process.returncode

@@ -22,10 +22,8 @@ class Keys:
         # the process of a class ends without what atexit has
         multiprocessing.util.Finalize(None, self.end, exitpriority=0)
         self.fingerprints: dict[str, str] = {}
-        for name in ("ada", "ben", "cleo", "fay", "mallory"):
-            self.make(name, "never")
-        self.make("dan", EXPIRY)
-        self.make("eve", "never")
+        for name in ("ada", "ben", "cleo", "dan", "eve", "fay", "mallory"):
+            self.make(name, EXPIRY if name == "dan" else "never")
         # ada signs with a subkey
         self.gpg("--faked-system-time", "20240102T000000!", "--quick-add-key", self.fingerprints["ada"], "ed25519", "sign", "never")
 
@@ -50,14 +48,12 @@ class Keys:
 
     def revoked(self, name: str) -> bytes:
         said = (self.home / "openpgp-revocs.d" / f"{self.fingerprints[name]}.rev").read_text().replace(":-----BEGIN", "-----BEGIN")
-        other = pathlib.Path(tempfile.mkdtemp(prefix="pgp-"))
-        try:
+        with tempfile.TemporaryDirectory(prefix="pgp-") as other:
             for data in (self.ring(name), said.encode()):
                 subprocess.run(["gpg", "--homedir", other, "--batch", "--quiet", "--import"], input=data, capture_output=True, check=True)
-            return subprocess.run(["gpg", "--homedir", other, "--batch", "--export"], capture_output=True, check=True).stdout
-        finally:
+            ring = subprocess.run(["gpg", "--homedir", other, "--batch", "--export"], capture_output=True, check=True).stdout
             subprocess.run(["gpgconf", "--homedir", other, "--kill", "all"], capture_output=True)
-            shutil.rmtree(other, ignore_errors=True)
+        return ring
 
     def signature(self, name: str, data: bytes, time: str, *words: str) -> bytes:
         who = ("--faked-system-time", f"{time}!", "--local-user", self.fingerprints[name])

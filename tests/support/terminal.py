@@ -56,7 +56,6 @@ class Terminal:
         os.write(self.keys, keys.encode())
 
     def after(self, keys: str, words: str) -> str:
-        """Types these keys, and returns the text of the terminal up to these words."""
         self.type(keys)
         return self.until(words)
 

@@ -53,7 +53,6 @@ int fcntl(int file, int command, ...) {
 }
 """
 
-
 # changes the first ballot
 CHANGED = "UPDATE envelope SET line = CAST('ada 4,3,2,1' AS BLOB) WHERE envelope = 1"
 
@@ -110,24 +109,12 @@ class Copies(BookTest):
             self.assert_fault(odd, 2, "--because: the text has the character U+", "nothing was changed")
         self.done("add", "--yes", *MOVED, "more")
         self.assertEqual([line.split()[4] for line in self.done("log").output.splitlines()[::2]][-2:], ["moved", "add"])
-        self.done("add", "--yes", "--again", "more")
-
-    def test_restored_disk(self) -> None:
-        """No file of a disk shows that all of it was put back, so the secretary says it."""
-        kept = self.scratch / "kept"
-        self.add("ada 1,2,3,4")
-        for folder in (self.folder, self.state):
-            shutil.copytree(folder, kept / folder.name)
-        self.write("more", "ben 1,2,3,4\n")
-        self.done("add", "--yes", "more")
-        for folder in (self.folder, self.state):
-            shutil.rmtree(folder)
-            (kept / folder.name).rename(folder)
-        self.write("more", "ada 1,2,3,4\nben 1,2,3,4\n")
-        self.assertIn("2 counted", self.done("add", "--yes", *MOVED, "more").output)
+        # no file of a disk shows that all of it was put back, so the secretary says it where nothing stops
+        self.write("more", "ida 1,2,3,4\n")
+        self.assertIn("3 counted", self.done("add", "--yes", *MOVED, "more").output)
         self.done("close")
         self.done("publish")
-        self.assertIn("in which act 4 was the last", self.read("result/index.html").decode())
+        self.assertIn("in which act 6 was the last", self.read("result/index.html").decode())
 
     def test_gone_on_elsewhere(self) -> None:
         copy = self.scratch / "copy"
@@ -200,32 +187,25 @@ class Copies(BookTest):
         self.write("members.csv", elections.members_of(elections.NAMES))
         self.assertEqual(self.done("roll").faults, "")
 
-    def note_file(self) -> pathlib.Path:
-        """What this computer noted of the election."""
-        place = str(self.book.resolve())
-        files = (file for file in (self.state / "debvote").iterdir() if file.suffix == "" and file.name != "lock")
-        [note] = (file for file in files if json.loads(file.read_text())["path"] == place)
-        return note
-
-    def injected(self, inject: str, *words: str) -> elections.Ended:
-        """Runs a command whose calls that write the next note fail."""
-        return self.traced("-P", self.note_file().with_suffix(".next"), "-e", f"inject={inject}", words=words)
-
     def test_no_room_for_the_note(self) -> None:
         """Room is made before the act. What fails after the commit leaves the note at an earlier act of the book."""
         self.add("ada 1,2,3,4")
         self.write("more", "hal 1,2,3,4\n")
-        before, noted = self.contents(), self.note_file().read_bytes()
+        files = (file for file in (self.state / "debvote").iterdir() if not file.suffix and file.name != "lock")
+        [note] = (file for file in files if json.loads(file.read_text())["path"] == str(self.book.resolve()))
+        following, before, noted = note.with_suffix(".next"), self.contents(), note.read_bytes()
+
+        def injected(call: str) -> elections.Ended:
+            """Adds lines, while a call that writes the next note fails."""
+            return self.traced("-P", following, "-e", f"inject={call}", words=("add", "--yes", "more"))
+
         for call in ("write:error=ENOSPC", "fsync:error=EIO"):
-            ended = self.injected(call, "add", "--yes", "more")
-            self.assert_fault(ended, 7, "this computer must note there", "nothing was changed")
-            self.assertEqual((self.contents(), self.note_file().read_bytes()), (before, noted))
-        ended = self.injected("rename:error=ENOSPC", "add", "--yes", "more")
-        self.assertEqual((ended.status, ended.faults), (0, ""), ended)
-        self.assertEqual(self.note_file().read_bytes(), noted)
+            self.assert_fault(injected(call), 7, "this computer must note there", "nothing was changed")
+            self.assertEqual((self.contents(), note.read_bytes()), (before, noted))
+        ended = injected("rename:error=ENOSPC")
+        self.assertEqual((ended.status, ended.faults, note.read_bytes()), (0, "", noted), ended)
         self.add("ben 1,2,3,4")
-        self.assertEqual(json.loads(self.note_file().read_bytes())["act"], 6)
-        self.assertFalse(self.note_file().with_suffix(".next").exists())
+        self.assertEqual((json.loads(note.read_bytes())["act"], following.exists()), (6, False))
         # where it can't be written
         self.write("more", "ida 1,2,3,4\n")
         before = self.contents()
@@ -288,14 +268,6 @@ class Rewritten(BookTest):
         names["book"].close()
         return said.getvalue().splitlines() + fault
 
-    def assert_broken(self, act: int, *parts: str) -> None:
-        """Each command on whose words others rely says so, with the number of the act; so does the program of FORMATS."""
-        said = f"act {act} does not match its digest"
-        for words in RELYING:
-            with self.subTest(words):
-                self.assert_fault(self.election(*words), 9, "election.db", said, *parts)
-        self.assertIn(said, self.formats())
-
     def test_whole(self) -> None:
         """Each digest is over the one before and all rows of the act."""
         with contextlib.closing(sqlite3.connect(self.book)) as connection:
@@ -338,21 +310,6 @@ class Rewritten(BookTest):
         self.assertIn("The chain is whole: 9 acts", self.done("log", "--check").output)
         self.assertEqual(len(self.formats()), 1)
 
-    def test_an_act_with_its_digest_made_anew(self) -> None:
-        """Whoever changes an act can compute its digest, but then the next act does not match."""
-        self.add("cleo 1,2,3,4")
-        columns = "envelope, elector, line, source, letter, place, time, late"
-        [(before,)] = self.rows("SELECT digest FROM act WHERE act = 3")
-        [[*act, _]] = self.rows("SELECT * FROM act WHERE act = 4")
-        sources = self.rows("SELECT source, name, data FROM source WHERE act = 4")
-        first, *others = self.rows(f"SELECT {columns} FROM envelope WHERE act = 4")
-        changed = (*first[:2], b"ada 4,3,2,1", *first[3:])
-        envelopes = [as_json(*row, line=2) for row in (changed, *others)]
-        rows = ["source", *(as_json(*row) for row in sources), "envelope", *envelopes]
-        digest = hashlib.sha256("\n".join([before, as_json(*act), *rows]).encode()).hexdigest()
-        self.sql(CHANGED, f"UPDATE act SET digest = '{digest}' WHERE act = 4")
-        self.assert_broken(5)
-
     def fill_each_table(self) -> None:
         self.write("mail", "From: Ada <ada@club.example>\nMessage-ID: <1@x>\nSubject: x\n\nHello\n")
         self.done("add", "--yes", "mail")
@@ -393,7 +350,11 @@ class Rewritten(BookTest):
         whole = self.read("election.db")
         for statement in (CHANGED, "DELETE FROM envelope WHERE envelope = 2", f"INSERT INTO envelope ({columns}) VALUES {added}"):
             self.sql(statement)
-            self.assert_broken(4)
+            # each command on whose words others rely says so; so does the program of FORMATS
+            for words in RELYING:
+                with self.subTest(statement, words=words):
+                    self.assert_fault(self.election(*words), 9, "election.db", "act 4 does not match its digest")
+            self.assertIn("act 4 does not match its digest", self.formats())
             self.book.write_bytes(whole)
 
     def test_rows_of_no_act(self) -> None:
@@ -442,10 +403,7 @@ class Rewritten(BookTest):
             "view x": ["CREATE VIEW x AS SELECT * FROM act"],
             "table x": ["CREATE TABLE x (y)"],
             "table sqlite_stat1": ["ANALYZE"],
-            "table struck": [
-                writable,
-                "UPDATE sqlite_schema SET sql = replace(sql, 'act INTEGER', 'act  INTEGER') WHERE name = 'struck'",
-            ],
+            "table struck": [writable, "UPDATE sqlite_schema SET sql = replace(sql, 'act INTEGER', 'act  INTEGER') WHERE name = 'struck'"],
         }.items():
             with contextlib.closing(sqlite3.connect(self.book, isolation_level=None)) as connection:
                 for statement in statements:
@@ -459,21 +417,14 @@ class Rewritten(BookTest):
 
     def test_nothing_is_built_on_a_broken_book(self) -> None:
         """Each act computes the digest of the one before it anew."""
-        whole = self.read("election.db")
         self.sql(CHANGED)
         self.write("more", "hal 1,2,3,4\n")
         strike, call = ("strike", "1", "--because", "x"), ("call", "--at", "https://club.example/")
         for words in (("add", "--yes", "more"), strike, ("undo", "--yes"), call):
             self.assert_fault(self.election(*words), 9, "act 4 does not match its digest", "nothing was changed")
-        # an act that is cut off
-        self.book.write_bytes(whole)
-        for table in ("envelope", "source", "act"):
-            self.sql(f"DELETE FROM {table} WHERE act = 4")
-        self.assert_stops("older copy")
 
     def test_what_no_command_can_read(self) -> None:
         """It is told as what it is, by whatever command meets it."""
-        whole = self.read("election.db")
         whole = self.read("election.db")
         for act, statement in {
             1: "UPDATE act SET detail = '{' WHERE act = 1",
@@ -569,8 +520,9 @@ class OnTheDisk(BookTest):
             self.assertEqual(len(places), renames, calls)
             for at, path in places:
                 self.assertEqual(calls[at - 1 : at + 2], [("fsync", path), ("rename", path), ("fsync", str(pathlib.Path(path).parent))])
-
-    def test_what_can_not_take_its_place_is_gone(self) -> None:
+        # what can't take its place is gone
+        self.done("reopen", "--because", "x")
+        (self.folder / "letters" / "closed.txt").unlink()
         self.calls("close", inject="rename:error=EIO:when=2")
         self.assertEqual([file.name for file in self.folder.rglob("*") if file.name.startswith(".debvote-")], [])
         self.assertFalse((self.folder / "letters" / "closed.txt").exists())
@@ -639,7 +591,8 @@ class Places(BookTest):
         self.add("ada 1,2,3,4")
         for file in (*self.folder.rglob("*"), self.state, *self.state.rglob("*")):
             file.chmod(0o755 if file.is_dir() else 0o444)
-        self.close_folder()
+        self.addCleanup(self.folder.chmod, 0o755)
+        self.folder.chmod(0o555)
         ended = self.without_rights("status")
         self.assertEqual(ended.status, 0, ended)
         self.assertIn("Lines: 1", ended.output)

@@ -4,6 +4,7 @@ DEBVOTE_DAMAGES=7000 tries more of them.
 """
 
 import contextlib
+import functools
 import os
 import pathlib
 import random
@@ -48,19 +49,11 @@ def block(data: bytearray, chance: random.Random, size: int) -> None:
     data[at : at + size] = chance.choice([bytes(size), chance.randbytes(size), data[other : other + size]])
 
 
-def sector(data: bytearray, chance: random.Random) -> None:
-    block(data, chance, SECTOR)
-
-
-def page(data: bytearray, chance: random.Random) -> None:
-    block(data, chance, PAGE)
-
-
 def cut_end(data: bytearray, chance: random.Random) -> None:
     del data[chance.choice([chance.randrange(len(data)), chance.randrange(len(data) // PAGE) * PAGE]) :]
 
 
-KINDS = [one_bit, one_bit, one_byte, some_bytes, first_bytes, sector, page, cut_end]
+KINDS = [one_bit, one_bit, one_byte, some_bytes, first_bytes, cut_end, *(functools.partial(block, size=size) for size in (SECTOR, PAGE))]
 
 
 def content(file: pathlib.Path) -> tuple[object, ...]:
@@ -119,14 +112,7 @@ class Damaged(elections.ElectionTest):
                 self.assertRegex(line, r"\A(debvote-election|debvote|Note|Next|\s)", (seed, words))
 
 
-def of_some(first: int):
-    def test(self: Damaged) -> None:
-        self.seeds(first)
-
-    return test
-
-
 # a class for each part, so that they run side by side
 for first in range(4):
-    globals()[f"Damaged{first}"] = type(f"Damaged{first}", (Damaged,), {"test_damage": of_some(first)})
+    globals()[f"Damaged{first}"] = type(f"Damaged{first}", (Damaged,), {"test_damage": functools.partialmethod(Damaged.seeds, first)})
 del first

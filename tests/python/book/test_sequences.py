@@ -9,6 +9,7 @@ import collections
 import concurrent.futures
 import copy
 import dataclasses
+import functools
 import os
 import random
 import re
@@ -241,7 +242,6 @@ class SequencesTest(LettersTest):
         return Step(["reopen", "--because", "a letter was forgotten", *words], None, [model])
 
     # ------------------------------------------------------------ how they are run
-
     def run_step(self, step: Step, chance: random.Random) -> tuple[Model, bool]:
         """Runs a command, perhaps not to its end, and returns the model that holds, and whether it was cut off."""
         kind = chance.random()
@@ -291,9 +291,7 @@ class SequencesTest(LettersTest):
         self.assertEqual(status["without_ballot"], [name for name in elections.NAMES if name not in {line.split()[0] for line in standing}])
         self.done("log", "--check")
 
-
-def sequence(seed: int):
-    def test(self: SequencesTest) -> None:
+    def sequence(self, seed: int) -> None:
         chance, model, cut_off = random.Random(seed), Model(), 0
         for _ in range(LENGTH):
             model, is_cut_off = self.run_step(self.step(model, chance), chance)
@@ -302,12 +300,10 @@ def sequence(seed: int):
         self.check_numbers()
         print(f"sequence {seed}: {cut_off} of {LENGTH} commands were cut off")
 
-    return test
-
 
 # a class for each few sequences, so that they run side by side
 for first in range(1, SEQUENCES + 1, 3):
-    tests = {f"test_{seed}": sequence(seed) for seed in range(first, min(first + 3, SEQUENCES + 1))}
+    tests = {f"test_{seed}": functools.partialmethod(SequencesTest.sequence, seed) for seed in range(first, min(first + 3, SEQUENCES + 1))}
     globals()[f"Sequences{first}"] = type(f"Sequences{first}", (SequencesTest,), tests)
 del first, tests
 

@@ -8,7 +8,7 @@ import subprocess
 import sys
 
 from tests.support import elections
-from tests.support.called import HALL, LAKE, OTHER_RANKS, RANKS, CalledTest
+from tests.support.called import HALL, LAKE, RANKS, CalledTest
 
 RIGHT = (
     "A valid line in this poll: ada 1,2,3,4 (an elector of the roll, a space, and 4 ranks with commas between, "
@@ -70,14 +70,6 @@ class Added(CalledTest):
         self.assertEqual((ended.returncode, ended.stderr), (0, b""))
         self.assertEqual([name for name, _ in self.sources()], [*names, "\\xff"])
         self.assertEqual(self.acts()[-1][1]["files"], ["\\xff"])
-
-    def test_ten_thousand_lines(self) -> None:
-        names = [f"{self.names[number % 9]}{'x' if number % 10 == 0 else ''}" for number in range(10_000)]
-        lines = [f"{name} 1,2,{number // 99 % 99 + 1},{number % 99 + 1}" for number, name in enumerate(names)]
-        self.write("many", "\n".join(lines) + "\n")
-        told = [line for line in self.told("add", "many").splitlines() if line[0].isdigit()]
-        self.assertEqual([int(line.split()[0]) for line in told], list(range(1, 10_001)))
-        self.assertEqual(self.lines(), lines)
 
     def test_each_change_is_told(self) -> None:
         came = b"\xef\xbb\xbfada 1,2,4,3\r\n Ben\t 2, 1 ,4,3 \r\n\r\ncleo 1,2,4,3\rdan  1,2,4,3"
@@ -176,8 +168,26 @@ class Added(CalledTest):
             self.assert_refused(("add", *words), 2, f"{words[0]}: only for tables; nothing was added: give --csv too, or leave this out", given="x")
         self.assertEqual((self.acts(), self.sources()), ([], []))
 
+    def test_in_a_signed_vote_a_line_needs_force_and_a_reason(self) -> None:
+        self.act("call", {"signed": True}, {"keyring": b"keys"})
+        self.write("more", f"ada {RANKS}\n")
+        said = "more: in this vote letters must be signed, and nothing shows who sent a line of a file; nothing was added: "
+        for words in ([], ["--force"], ["--because", "they brought it"], ["--force", "--because", " "]):
+            self.assert_refused(("add", *words, "more"), 9, said, "--force --because TEXT")
+        self.assertIn("1 counted  ada: ", self.told("add", "--force", "--because", "they brought it", "more"))
+        detail = {"files": ["more"], "lines": 1, "passed_over": 0, "unsigned": True, "because": "they brought it"}
+        self.assertEqual(self.acts()[-1], ("add", detail))
+        # a table too, and with all else at once
+        self.write("form", "n,a,b,c,d\nada,x,2,3,4\nben,x,2,3,4\n")
+        ended = self.election("add", "--csv", "--name=n", "--ranks=a,b,c,d", "form")
+        self.assertRegex(ended.faults, r"\A.*letters must be signed.*\n.*debvote takes none of the 2 lines.*\n\Z")
+        self.assertEqual(ended.status, 9)
+
     def test_more_lines_than_debvote_takes(self) -> None:
-        self.told("add", given="".join(f"ada {a},{b},1,2\n" for a in range(1, 100) for b in range(1, 100)) * 10)
+        lines = [f"ada {a},{b},1,2" for a in range(1, 100) for b in range(1, 100)] * 10
+        replies = [line for line in self.told("add", given="\n".join(lines)).splitlines() if line[0].isdigit()]
+        self.assertEqual([int(line.split()[0]) for line in replies], list(range(1, 98_011)))
+        self.assertEqual(self.lines(), lines)
         self.told("add", given=f"ben {RANKS}\n" * (100_000 - len(self.lines())))
         said = "with the new lines there would be 100001 lines and "
         limits = "; nothing was added: debvote takes at most 100000 lines and 33554432 bytes: add fewer"
@@ -259,10 +269,6 @@ class NoBallots(CalledTest):
         self.told("add", "--force", "good", "wrong", "letter")
         self.assertEqual(len(self.lines()), 5)
 
-    def test_force_where_nothing_stops_is_no_fault_and_is_not_told(self) -> None:
-        self.assertEqual(self.told("add", "--force", given="ada 1,2,4,3\n"), f"1 counted  ada: {LAKE}\nAdded 1 line (1 counted).\n{NEXT}\n")
-        self.assertEqual(self.acts(), [("add", {"files": ["standard input"], "lines": 1, "passed_over": 0})])
-
     def test_fewer_than_half_of_a_file_or_of_all(self) -> None:
         said = "monday: debvote takes only 1 of the 3 lines as ballots; nothing was added: look at the file (its first line is `Dear "
         files = {"good": "ada 1,2,4,3\nben 1,2,4,3\ncleo 1,2,4,3\n", "one": "one\n", "two": "two\n", "monday": "Dear all,\nada 1,2,4,3\nGreetings\n"}
@@ -276,9 +282,11 @@ class NoBallots(CalledTest):
         self.assertNotIn("monday:2: ", ended.output)
         self.told("add", "--force", "monday")
         self.assertEqual(self.lines(), ["Dear all,", "ada 1,2,4,3", "Greetings"])
-        # half of them stop nothing, and one line alone does not
+        # half of them stop nothing, and one line alone does not; that --force was needless is not told
         self.assertIn("Added 2 lines (1 replaced, 1 bad shape).\n", self.told("add", given="ada 2,1,4,3\nx\n"))
         self.assertIn("6 bad shape  y: ", self.told("add", given="y\n\n"))
+        self.assertTrue(self.told("add", "--force", given="ben 1,2,4,3\n").endswith(f"{LAKE}\nAdded 1 line (1 counted).\n{NEXT}\n"))
+        self.assertEqual(self.acts()[-1][1], {"files": ["standard input"], "lines": 1, "passed_over": 0})
 
 
 class OtherOrder(CalledTest):
@@ -357,53 +365,6 @@ class OtherNames(CalledTest):
         self.assertRegex(self.told("add", given="anna-maier 1,2,3,4\n"), r"did you mean anna-meier\b.*anna-meier-2")
 
 
-class Signed(CalledTest):
-    def setUp(self) -> None:
-        super().setUp()
-        self.act("call", {"signed": True}, {"keyring": b"keys"})
-
-    def test_a_line_needs_force_and_a_reason(self) -> None:
-        self.write("more", f"ada {RANKS}\n")
-        said = "more: in this vote letters must be signed, and nothing shows who sent a line of a file; nothing was added: "
-        for words in ([], ["--force"], ["--because", "they brought it"], ["--force", "--because", " "]):
-            self.assert_refused(("add", *words, "more"), 9, said, "--force --because TEXT")
-        self.assertIn("1 counted  ada: ", self.told("add", "--force", "--because", "they brought it", "more"))
-        detail = {"files": ["more"], "lines": 1, "passed_over": 0, "unsigned": True, "because": "they brought it"}
-        self.assertEqual(self.acts()[-1], ("add", detail))
-        # a table too, and with all else at once
-        self.write("form", "n,a,b,c,d\nada,x,2,3,4\nben,x,2,3,4\n")
-        ended = self.election("add", "--csv", "--name=n", "--ranks=a,b,c,d", "form")
-        self.assertRegex(ended.faults, r"\A.*letters must be signed.*\n.*debvote takes none of the 2 lines.*\n\Z")
-        self.assertEqual(ended.status, 9)
-
-
-class CodesOnRoll(CalledTest):
-    """No code is told that was not typed."""
-
-    names = ["0a" * 16, "0b" * 16, "0c" * 16]
-
-    def setUp(self) -> None:
-        super().setUp()
-        self.act("extend", {"codes_on_roll": True})
-
-    def test_of_an_undo_and_a_strike_numbers_alone(self) -> None:
-        first, second, third = self.names
-        self.told("add", given=f"{first} {RANKS}\n{second} {RANKS}\n")
-        self.told("add", given=f"{first} {OTHER_RANKS}\n{third} {RANKS}\n")
-        output = self.told("undo")
-        self.assertIn("\n  1 elector: no ballot is left; 1 elector: an earlier ballot\n", output)
-        output += self.told("strike", 2, "--because", "a test")
-        self.assertIn(f"Struck envelope 2: `CODE {RANKS}`, because: a test\nThe current ballot of that code: none\n", output)
-        for code in self.names:
-            self.assertNotIn(code, output)
-        shown = self.told("show", first)
-        self.assertTrue(shown.startswith(f"{first}\n  envelope 1, "), shown)
-        self.assertNotIn("@", shown)
-        ended = self.election("show", first[:-1])
-        self.assert_fault(ended, 9, "show: no code on the roll is ", "type the code as it was handed out")
-        self.assertNotIn(first, ended.faults)
-
-
 class Tables(CalledTest):
     WORDS = ("--csv", "--name=n", "--ranks=a,b,c,d")
 
@@ -424,18 +385,6 @@ class Tables(CalledTest):
         self.write("form", "n,a,b,c,d\ncleo,1,2,4,3\ncleo,1,2,4,3\ncleo,1,2,x,3\n")
         self.assertIn("Added 3 lines (1 counted, 1 replaced, 1 bad shape).\n", self.told("add", *self.WORDS, "form"))
 
-    def test_a_form_that_is_exported_again_newest_first(self) -> None:
-        self.write("form", "n,a,b,c,d\nben,1,2,4,3\nada,1,2,4,3\n")
-        self.told("add", *self.WORDS, "--newest-first", "form")
-        self.write("form", "n,a,b,c,d\nada,2,1,4,3\nben,1,2,4,3\nada,1,2,4,3\n")
-        # the row that is new may be the older one
-        said = "form: it has two different ballots of ada (row 2 and row 4), and the one that is entered last counts; nothing was added: "
-        self.assert_refused(("add", *self.WORDS, "form"), 9, said, "--oldest-first or --newest-first")
-        output = self.told("add", *self.WORDS, "--newest-first", "form")
-        self.assertIn("form: 2 lines are ignored, since they came before; 1 is new\n3 replaced  ada: ", output)
-        self.assertNotIn("--again", output)
-        self.assertEqual(self.lines()[-1], "ada 2,1,4,3")
-
     def test_an_empty_cell_is_a_hyphen_if_the_call_says_so_and_heads(self) -> None:
         self.write("form", "n,a,b,c,d\nada,1,,,2\nben,1,2,3,4\n")
         said = "--blank-is-unranked: the call does not say that an empty cell counts as a hyphen, so electors may have meant something else; nothing was "
@@ -443,10 +392,7 @@ class Tables(CalledTest):
         self.act("extend", {"form": True})
         self.assertIn("(empty cells)\n1 counted  ada: ", self.told("add", *self.WORDS, "--blank-is-unranked", "form"))
         self.assertEqual(self.lines(), ["ada 1,-,-,2", "ben 1,2,3,4"])
-        # a table without a head, and heads that the shell has cut
-        self.write("form", "ada,1,2,4,3\nben,1,2,4,3\n")
-        said = "--name: `Ada` is an elector, so the table seems to have no header line; nothing was added"
-        self.assert_refused(("add", "--csv", "--name=Ada", "--ranks=1,2,4,3", "form"), 2, said)
+        # heads that the shell has cut
         words = ("add", "--csv", "--name", "n", "--ranks", "The", "lake,b,c,d", "form")
         self.assert_refused(words, 2, "--csv: there is no file lake,b,c,d; nothing was added: ")
 

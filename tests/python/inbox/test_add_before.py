@@ -105,6 +105,9 @@ class Before(CalledTest):
         self.write("below", "n,a,b,c,d\ncleo,2,1,4,3\ncleo,1,2,4,3\n")
         older = "below: the ballot of cleo in row 2 is older than that in row 3, which came before"
         self.assert_refused(("add", *TABLE, "--oldest-first", "below"), 9, older, "nothing was added: take the older ballot out, or ")
+        self.assertNotIn("--again", self.assert_ignored(1, 1, *TABLE, "--newest-first", name="below"))
+        self.assertEqual(self.lines()[3:], [f"cleo {OTHER_RANKS}"])
+        self.told("undo")
         self.assert_ignored(1, 2, *TABLE, "--oldest-first")
         self.assertEqual(self.lines()[3:], [f"cleo {OTHER_RANKS}", f"dan {RANKS}"])
         # by now both came before, in whatever order
@@ -133,33 +136,28 @@ class Before(CalledTest):
         # by now it stands, so that there is nothing to tell
         self.assertNotIn("--again", self.assert_ignored(2, 0, "--again", name="monday"))
 
-    def test_a_line_that_is_taken_again_came_once(self) -> None:
-        """It is known by its new envelope: to take it again twice enters nothing, and the same line once more is a new one."""
-        self.write("more", f"cleo {RANKS}\ncleo {OTHER_RANKS}\n")
+    def test_lines_of_one_elector_that_are_taken_again(self) -> None:
+        """A later row of the same file is nothing since. A line is known by its new envelope: to take it again twice enters nothing, and
+        the same line once more is a new one.
+        """
+        two = f"cleo {RANKS}\ncleo {OTHER_RANKS}\n"
+        self.write("more", two)
         self.told("add", "more")
+        for words in ((), ("--again",)):
+            self.assertNotIn("--again", self.assert_ignored(2, 0, *words))
         self.told("desk", given="cleo -,-,-,1\n")
+        self.assertEqual(self.assert_ignored(2, 0).count("and cleo has voted since (envelope 5)"), 2)
+        # both go in again, in their order
         self.assertIn("Added 2 lines (2 replaced).\n", self.told("add", "--again", "more"))
-        self.assertEqual(self.acts()[-1][1]["again"], [3, 4])
-        self.assertEqual(self.lines()[5:], [f"cleo {RANKS}", f"cleo {OTHER_RANKS}"])
+        self.assertEqual((self.acts()[-1][1]["again"], self.lines()[5:]), ([3, 4], two.splitlines()))
         self.assertNotIn("--again", self.assert_ignored(2, 0, "--again"))
-        self.write("more", f"cleo {RANKS}\ncleo {OTHER_RANKS}\ncleo {RANKS}\n")
+        self.write("more", f"{two}cleo {RANKS}\n")
         self.assert_ignored(2, 1)
         self.assertEqual(self.lines()[7:], [f"cleo {RANKS}"])
         # what an `undo` took back is known by its old envelope again
         self.told("undo")
         self.told("undo")
         self.assertIn("cleo has voted since (envelope 5)", self.assert_ignored(2, 1))
-
-    def test_a_later_row_of_the_same_file_is_nothing_since(self) -> None:
-        self.write("more", f"cleo {RANKS}\ncleo {OTHER_RANKS}\n")
-        self.told("add", "more")
-        self.assertNotIn("--again", self.assert_ignored(2, 0))
-        self.assertNotIn("--again", self.assert_ignored(2, 0, "--again"))
-        self.told("desk", given="cleo -,-,-,1\n")
-        self.assertEqual(self.assert_ignored(2, 0).count("and cleo has voted since (envelope 5)"), 2)
-        # both go in again, in their order
-        self.told("add", "--again", "more")
-        self.assertEqual(self.lines()[-2:], [f"cleo {RANKS}", f"cleo {OTHER_RANKS}"])
         # of many the first are told
         self.write("more", "".join(f"dan {number},1,1,1\n" for number in range(1, 31)))
         self.told("add", "more")

@@ -4,10 +4,12 @@ import collections
 import random
 import time
 import unittest
+import unittest.mock
 
-from tests.support.letters import NAMES, OTHER_RANKS, RANKS, alternatives, letter, lines_in, outcomes, parsed
+from debvote_tools.inbox import vote
 
-BALLOT = f"ada {RANKS}"
+from tests.support.letters import BALLOT, NAMES, OTHER_RANKS, RANKS, alternatives, letter, lines_in, outcomes, parsed
+
 MIXED = "multipart/mixed; boundary=b"
 FOLDED = "".join(f" {number}\n" for number in range(60_000))
 
@@ -31,7 +33,6 @@ class Bombs(unittest.TestCase):
             "1,000 letters within each other": letter("ada", "Content-Type: message/rfc822\n\n" * 1000, kind="message/rfc822"),
             "40 parts within each other, and many lines": letter("ada", nested(40) + "x\n" * 1_000_000, kind="multipart/mixed; boundary=b0"),
             "a million lines in the head": letter("ada", BALLOT, head="X: y\n" * 1_000_000),
-            "60,000 lines in the head": letter("ada", BALLOT, head="X: y\n" * 40_000),
             "a field of 200 KB": letter("ada", BALLOT, head=f"Subject: x\n{FOLDED[:200_000]}\n"),
             "encoded words without end": letter("ada", BALLOT, head=f"Subject: {'=?x?q?' * 40_000}\n"),
             "an address list": letter("ada", BALLOT, sender=", ".join(["ada@club.example"] * 10_000)),
@@ -77,6 +78,12 @@ class Bombs(unittest.TestCase):
         # many lines in the head are no trouble
         self.assertEqual(outcomes(letter("ada", BALLOT, head="X: y\n" * 40_000)), [f"in: {BALLOT}"])
 
+    def test_more_lines_than_debvote_takes_at_once(self) -> None:
+        """It is asked in parts. Else some hundred letters of a stranger would stop each command that judges letters."""
+        lines = [b"ada 1,2", b"ben 2,1", b"x" * 31, b"cleo 1", b"dan 1"]
+        with unittest.mock.patch.object(vote, "LINES_LIMIT", 2), unittest.mock.patch.object(vote, "BALLOTS_LIMIT", 32):
+            self.assertEqual(list(vote.in_parts(lines)), [lines[:2], lines[2:3], lines[3:]])
+
 
 class Random(unittest.TestCase):
     good = [
@@ -120,5 +127,4 @@ class Random(unittest.TestCase):
         began = time.process_time()
         found = collections.Counter(outcomes(*several, *of_one, *copies))
         self.assertEqual((found.total(), found["copy"], found[f"in: {BALLOT}"]), (11_950, 9_999, 1_551))
-        # no second is promised, but a time that grows with the square of the number would be minutes
         self.assertLess(time.process_time() - began, 20)

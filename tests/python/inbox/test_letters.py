@@ -12,10 +12,8 @@ from debvote_tools.outbox import letter_folder
 
 from tests.support import elections, letters, pgp
 from tests.support.called import LAKE, LettersTest
-from tests.support.letters import TEN, mailbox
+from tests.support.letters import OTHER_RANKS as OTHER, RANKS, TEN, mailbox
 from tests.support.terminal import Terminal
-
-RANKS, OTHER = "1,2,4,3", "2,1,4,3"
 
 # asks for the lock of the book while debvote would run, and notes both
 ASKING = """#!/usr/bin/python3
@@ -127,35 +125,25 @@ class Adding(LettersTest):
         self.told("held", 5, "--enter", 1, "--force")
         self.assertEqual((self.stands("eve"), self.late_lines()), (RANKS, [f"eve {OTHER}"]))
 
-    def add_after_the_close(self) -> None:
-        """A letter that had arrived in time; then the vote is opened again."""
+    def test_letters_in_time_that_were_added_after_the_close(self) -> None:
+        """One whose ballot is entered at a desk, too, and one that is entered again as in time: neither is a doubt of the result."""
         self.told("desk", given=f"cleo {RANKS}\n")
         self.told("close")
-        self.assertRegex(self.add(letter("ada", f"ada {RANKS}")), r"\nNext: debvote-election status\n$")
-        self.assertEqual(self.exported(), (f"cleo {RANKS}\n", f"ada {RANKS}\n"))
+        self.assertRegex(self.add(letter("ada", f"ada {RANKS}"), letter("ben", f"ben {RANKS}")), r"\nNext: debvote-election status\n$")
+        late = f"ada {RANKS}\nben {RANKS}\n"
+        self.assertEqual(self.exported(), (f"cleo {RANKS}\n", late))
         how = "run debvote-election reopen --in-time 2 --because TEXT"
         self.assert_fault(self.election("publish"), 9, "the ballot of letter 1 is late", f"to count it {how}")
         self.assert_fault(self.election("held", 1, "--enter", 1), 9, "it was entered, and is late", f"if it came in time, {how}")
         said = self.told("reopen", "--because", "a letter was forgotten")
-        self.assertIn("Note: still late: 2; if one of them came before the first close, close again and run", said)
+        self.assertIn("Note: still late: 2, 3; if one of them came before the first close, close again and run", said)
         self.assert_fault(self.election("held", 1, "--enter", 1), 9, f"if it came in time, close again and {how}")
-
-    def assert_published(self) -> None:
-        """The letter that was entered again as in time is no doubt of the result."""
-        self.assertEqual(self.exported(), (f"cleo {RANKS}\nada {RANKS}\n", f"ada {RANKS}\n"))
+        self.told("desk", "--came-before-close", "yes", given=f"ada {RANKS}\n")
+        self.told("close")
+        self.assertIn("Envelope 5, entered anew from late envelope 3", self.told("reopen", "--in-time", "3", "--because", "it came in time"))
+        self.assertEqual(self.exported(), (f"cleo {RANKS}\n{late}", late))
         self.told("close")
         self.told("publish")
-
-    def test_a_letter_in_time_that_was_added_after_the_close(self) -> None:
-        self.add_after_the_close()
-        self.told("close")
-        self.assertIn("Envelope 3, entered anew from late envelope 2", self.told("reopen", "--in-time", "2", "--because", "it came in time"))
-        self.assert_published()
-
-    def test_a_letter_in_time_whose_ballot_is_entered_at_a_desk(self) -> None:
-        self.add_after_the_close()
-        self.told("desk", "--came-before-close", "yes", given=f"ada {RANKS}\n")
-        self.assert_published()
 
     def test_nothing_of_files_with_a_fault_is_entered_or_kept(self) -> None:
         self.write("lines", f"ben {RANKS}\n")
@@ -185,15 +173,6 @@ class Adding(LettersTest):
                     self.assert_fault(self.election("add", *words, more, "inbox.mbox"), 2, f"{words[0]}: {said}")
                     self.assertEqual(self.contents(), before)
 
-    def test_an_extension_judges_anew(self) -> None:
-        self.set_clock("2026-11-20T10:00:00+00:00")
-        self.told("call", "--until", "2026-11-23 09:00", "--zone", "UTC")
-        self.set_clock("2026-11-23T11:00:00+00:00")
-        self.assertIn("after the end of the vote", self.add(letter("ada", f"ada {RANKS}")))
-        self.told("call", "--until", "2026-11-24 09:00", "--zone", "UTC")
-        self.add(letter("ben", f"ben {RANKS}"))
-        self.assertEqual(self.exported()[0], f"ada {RANKS}\nben {RANKS}\n")
-
     def test_letters_of_after_the_first_close(self) -> None:
         self.set_clock("2026-11-24T09:00:00+00:00")
         self.told("desk", given=f"ada {RANKS}\n")
@@ -210,23 +189,13 @@ class Adding(LettersTest):
             self.assertNotIn("arrived in time", self.told("close"))
             self.assertIn("'waiting': 0, 'after_end': ", str(self.acts()[-1][1]))
             self.told("reopen", "--because", "another bag")
-        for number, name in ((1, "ben"), (2, "cleo")):
-            self.told("held", number, "--enter", 1)
-            self.assertEqual(self.exported()[0], f"ada {RANKS}\n")
-            self.assertIn(f"{name} {RANKS}\n", self.exported()[1])
-
-    def test_letters_of_before_and_after_the_first_close_at_once(self) -> None:
-        self.set_clock("2026-11-24T09:00:00+00:00")
-        self.told("close")
-        self.told("reopen", "--because", "a bag was forgotten")
-        self.set_clock("2026-11-25T09:00:00+00:00")
-        for name, day in (("ben", 23), ("cleo", 25)):
-            self.add(letter(name, f"My ballot: 1\n{name} {RANKS}", f"Mon, {day} Nov 2026 08:00:00 +0000"))
+        # one that arrived before the first close
+        self.add(letter("dan", f"My ballot: 1\ndan {RANKS}"))
         said = "--enter: some of these letters arrived before the first close, and some after it"
-        self.assert_fault(self.election("held", 1, 2, "--enter"), 9, said)
-        for number in (1, 2):
+        self.assert_fault(self.election("held", 1, 3, "--enter"), 9, said)
+        for number in (1, 2, 3):
             self.told("held", number, "--enter")
-        self.assertEqual(self.exported(), (f"ben {RANKS}\n", f"cleo {RANKS}\n"))
+        self.assertEqual(self.exported(), (f"ada {RANKS}\ndan {RANKS}\n", f"ben {RANKS}\ncleo {RANKS}\n"))
 
     def test_a_letter_that_another_desk_enters_is_not_set_aside(self) -> None:
         self.add(letter("ada", f"I thought about it for 3 days:\n\nada {RANKS}"))
@@ -238,36 +207,17 @@ class Adding(LettersTest):
         self.overtaken(letter_folder, "letter_files", ("undo", "--yes"), ("letters", "receipts"))
         self.assertNotIn("receipt", self.told("show", "ada"))
 
-    def test_a_copy_of_one_that_was_entered_by_hand_and_taken_back(self) -> None:
-        """The secretary has decided of it, and it waits until it is entered anew, also if nothing is wrong with its copy."""
-        good = letter("ada", f"ada {RANKS}")
-        self.add(good.split(b"\n", 1)[1])
-        self.assertIn("no Received line", self.told("held"))
-        self.told("held", 1, "--enter", 1)
-        self.told("undo", "--yes")
-        self.assertIn("1 copy passed over", self.add(good))
-        self.assertEqual(self.exported()[0], "")
-
     def test_undo_and_strike_of_ballots_of_letters(self) -> None:
-        box = (letter("ada", f"ada {RANKS}"), letter("ben", f"ben {RANKS}"))
-        self.add(*box)
-        self.told("undo", "--yes")
-        self.assertEqual(self.exported()[0], "")
-        self.assertIn("its ballot was taken back", self.told("held"))
-        # a copy with another head is the same letter
-        self.assertIn("2 letters wait", self.add(*(b"X-Status: R\n" + one for one in box)))
-        self.assert_fault(self.election("close"), 9, "these letters arrived in time, and wait: 1, 2")
-        self.assertIn("0 ballots of letters went in; 2 letters wait", self.add(*box))
-        self.told("held", "1", "--enter", "1")
-        self.told("strike", "3", "--because", "she asked for it")
-        self.assertIn("1 letter waits", self.told("held"))
-        self.assertIn("Set aside: 1", self.told("held"))
-        self.assertIn("its ballot was struck", self.told("held", "1"))
-
-    def test_all_come_back_by_one_command(self) -> None:
         box = (letter("ada", f"ada {RANKS}"), letter("ben", f"ben {RANKS}"), letter("cleo", f"cleo {RANKS}"), letter("dan", "hello"))
         self.add(*box)
         self.assertIn("debvote-election held --enter enters these letters again\n", self.told("undo", "--yes"))
+        self.assertEqual(self.exported()[0], "")
+        self.assertIn("its ballot was taken back", self.told("held"))
+        # a copy with another head is the same letter
+        self.assertIn("4 letters wait", self.add(*(b"X-Status: R\n" + one for one in box)))
+        self.assert_fault(self.election("close"), 9, "these letters arrived in time, and wait: 1, 2, 3, 4")
+        self.assertIn("0 ballots of letters went in; 4 letters wait", self.add(*box))
+        # all come back by one command
         self.told("desk", given=f"ben {OTHER}\n")
         said = self.told("held", "--enter")
         self.assertIn("Waits on: letter 2: its elector has voted since\n", said)
@@ -275,6 +225,11 @@ class Adding(LettersTest):
         self.assertIn("\n2 letters wait.\n", said)
         self.assertEqual(self.exported()[0], f"ben {OTHER}\nada {RANKS}\ncleo {RANKS}\n")
         self.assert_fault(self.election("held", "--enter"), 9, "--enter: no letter was taken back that has one ballot")
+        self.told("strike", "5", "--because", "she asked for it")
+        listed = self.told("held")
+        self.assertIn("2 letters wait", listed)
+        self.assertIn("Set aside: 1", listed)
+        self.assertIn("its ballot was struck", self.told("held", "1"))
 
 
 class ReadOnce(LettersTest):
@@ -522,18 +477,6 @@ class InTime(LettersTest):
         self.assertEqual((self.numbers()["waiting"], self.numbers()["stopping"]), (2, []))
         self.assert_counted()
 
-    def test_what_is_a_ballot_needs_reopen(self) -> None:
-        self.told("close")
-        self.add(self.wordy)
-        self.told("reopen", "--because", "a letter was forgotten")
-        self.assertIn("These arrived in time, and close stops while they wait: 1\n", self.told("status"))
-        self.assert_fault(self.election("close"), 9, "these letters arrived in time, and wait: 1;")
-        self.told("held", 1, "--enter", 3)
-        self.told("close")
-        self.assertEqual(self.exported(), (f"cleo {RANKS}\nben {OTHER}\nada {OTHER}\n", ""))
-        self.assertIn("Winner: 2 In the town hall", self.election("count").output)
-        self.told("publish")
-
     def test_forced(self) -> None:
         """The page says how many, and the same letters stop nothing again; another one does."""
         self.told("close")
@@ -588,22 +531,22 @@ class AtTheEnd(LettersTest):
         detail = self.acts()[-1][1]
         return detail["waiting"], detail["after_end"], detail.get("because")
 
-    def test_letters_of_after_the_end_need_no_act_at_the_close(self) -> None:
-        """Whatever else they wait for. Where none waits that came in time, the page has no reason to tell."""
-        away = letters.letter("ada", "I am away\n", head="Auto-Submitted: auto-replied\n", **self.late)
+    def test_a_letter_in_time_needs_a_reason(self) -> None:
+        """Letters of after the end need no act at the close, whatever else they wait for: the page has no reason to tell."""
+        away = letters.letter("dan", "I am away\n", head="Auto-Submitted: auto-replied\n", **self.late)
         self.add(away, letters.letter("ben", f"> ben {RANKS}\n", sender="x, y", **self.late))
         self.told("close", "--force", "--because", "in a hurry")
         self.assertEqual(self.closed(), (0, 2, None))
-
-    def test_a_letter_in_time_needs_a_reason(self) -> None:
-        self.add(letter("ada", "hello"), letter("ben", f"ben {RANKS}", **self.late))
-        self.assertEqual(self.numbers()["waiting"], 2)
+        self.told("reopen", "--because", "a letter was forgotten")
+        self.add(letter("ada", "hello"), letter("cleo", f"cleo {RANKS}", **self.late))
+        self.assertEqual(self.numbers()["waiting"], 4)
+        self.assertIn("These arrived in time, and close stops while they wait: 3\n", self.told("status"))
         for words in ((), ("--force",), ("--force", "--because", " "), ("--because", "hello is no ballot")):
-            said = "these letters arrived in time, and wait: 1; nothing was changed: "
+            said = "these letters arrived in time, and wait: 3; nothing was changed: "
             self.assert_refused(("close", *words), 9, said, "--force --because TEXT")
         said = self.told("close", "--force", "--because", "hello is no ballot")
         self.assertIn("\n1 letter that arrived in time did not go in; the result page says so.\n", said)
-        self.assertEqual(self.closed(), (1, 1, "hello is no ballot"))
+        self.assertEqual(self.closed(), (1, 3, "hello is no ballot"))
 
 
 class Signed(LettersTest):
@@ -630,15 +573,24 @@ class Signed(LettersTest):
         return letter(name, self.keys.inline(name, f"{name} {RANKS}\n[{self.mark}]\n", "20261123T095000"), number=number)
 
     def test_one_that_waited_for_a_key(self) -> None:
+        """One that was set aside stays so, and one that was entered by hand; also their copies: with another head, and one that anybody
+        sends with another Message-ID, which only its signature shows.
+        """
+        self.add(self.signed("fay"), self.signed("eve"))
+        self.told("held", 1, "--set-aside")
+        self.told("held", 2, "--enter", 4)
         self.assertIn("signed with a key that is not in the keyring", self.add(self.signed("ben"), self.signed("ada")))
         # a copy with another head is the same letter once more, before the key comes and after it
         self.add(b"X-Status: R\n" + self.signed("ben"), self.signed("ben").replace(b"Subject: my", b"Subject: My"))
-        self.call_with("ada", "ben", "cleo")
+        self.call_with("ada", "ben", "cleo", "eve", "fay")
         shown = self.told("held")
         self.assertEqual((shown.count("it goes in with the next add of letters"), shown.count("1 letter waits.")), (1, 1), shown)
-        self.assert_fault(self.election("close"), 9, "these letters arrived in time, and wait: 1;")
-        self.assertIn("2 counted  ben: ", self.add(self.signed("ben")))
-        self.assertEqual(self.exported()[0], f"ada {RANKS}\nben {RANKS}\n")
+        self.assert_fault(self.election("close"), 9, "these letters arrived in time, and wait: 3;")
+        self.assertIn("3 counted  ben: ", self.add(self.signed("ben")))
+        said = self.add(b"X-Status: R\n" + self.signed("fay"), *(self.signed(name, number=2) for name in ("ada", "ben", "eve", "fay")))
+        self.assertIn("0 ballots of letters went in; 0 letters wait; ", said)
+        self.assertEqual((self.numbers()["waiting"], self.numbers()["stopping"]), (0, []))
+        self.assertEqual(self.exported()[0], f"eve {RANKS}\nada {RANKS}\nben {RANKS}\n")
         self.told("close")
 
     def test_one_that_was_set_aside_stays_so(self) -> None:
@@ -666,15 +618,6 @@ class Signed(LettersTest):
         words = ("add", "--yes", str(self.box(self.signed("ada"))))
         self.assertIn("gpgv did not answer about its signature in time", self.while_gpgv_is_slow(*words))
         self.assertIn("1 counted  ada: ", self.told(*words))
-
-    def test_a_copy_that_only_its_signature_shows_stops_no_close(self) -> None:
-        self.add(self.signed("ada"), self.signed("ben"))
-        self.told("held", 2, "--enter", 4)
-        self.call_with("ada", "ben", "cleo")
-        self.add(self.signed("ada", number=2), self.signed("ben", number=2))
-        self.assertEqual((self.numbers()["waiting"], self.numbers()["stopping"]), (0, []))
-        self.assertEqual(self.exported()[0], f"ada {RANKS}\nben {RANKS}\n")
-        self.told("close")
 
 
 class OwnMarks(LettersTest):
@@ -721,37 +664,29 @@ class Secret(OwnMarks):
 class Family(LettersTest):
     """Ballots of two electors in one letter."""
 
-    letter = letter("ada", f"ada {RANKS}\nben {OTHER}\nben says no to the lake")
+    def assert_left(self, waiting: int, *lines: str) -> None:
+        self.assertEqual((self.numbers()["waiting"], self.lines()), (waiting, list(lines)))
 
-    def waiting(self) -> int:
-        return int(self.numbers()["waiting"])
-
-    def assert_each_is_entered(self, *words: object, line: str) -> None:
-        """Ada's ballot by its line, and that of Ben, who has the same address, in this way. Until then the letter waits."""
+    def test_each_is_entered_taken_back_or_struck(self) -> None:
+        """Until each has had a ballot the letter waits, and stops the close; then nothing waits, whatever is struck."""
         self.change_roll("ben@", "ada@")
-        self.add(self.letter)
+        self.add(letter("ada", f"ada {RANKS}\nben {OTHER}\nben says no to the lake"))
         self.assertIn("ballots of several electors: ada, ben", self.told("held"))
         self.told("held", 1, "--enter", 1)
-        self.assertEqual(self.waiting(), 1)
-        self.told("held", 1, *words)
-        self.assertEqual((self.waiting(), self.exported()[0]), (0, f"ada {RANKS}\n{line}\n"))
-
-    def test_each_is_entered_by_its_line(self) -> None:
-        self.assert_each_is_entered("--enter", 2, "--force", line=f"ben {OTHER}")
-
-    def test_one_is_typed(self) -> None:
-        self.assert_each_is_entered("--as", "ben 2,-,1,-", line="ben 2,-,1,-")
-
-    def test_one_is_taken_back_or_struck(self) -> None:
-        """Then the letter waits, and stops the close. Once each has had one, nothing waits, whatever is struck."""
-        self.add(self.letter)
-        self.told("held", 1, "--enter", 1)
+        self.assert_left(1, f"ada {RANKS}")
+        self.told("held", 1, "--as", "ben 2,-,1,-")
+        self.assert_left(0, f"ada {RANKS}", "ben 2,-,1,-")
         self.told("undo", "--yes")
-        self.assertEqual(self.waiting(), 1)
+        self.told("held", 1, "--enter", 2, "--force")
+        self.assert_left(0, f"ada {RANKS}", f"ben {OTHER}")
+        self.told("undo", "--yes")
+        self.told("undo", "--yes")
+        self.assert_left(1)
         self.told("held", 1, "--enter", 2)
-        self.told("strike", 2, "--because", "ben asked for it")
-        self.assertEqual((self.waiting(), self.election("close").status), (1, 9))
+        self.told("strike", 4, "--because", "ben asked for it")
+        self.assert_left(1)
+        self.assertEqual(self.election("close").status, 9)
         self.told("held", 1, "--enter", 1)
-        self.assertEqual((self.lines(), self.waiting()), ([f"ada {RANKS}"], 0))
-        self.told("strike", 3, "--because", "ada asked for it")
-        self.assertEqual((self.lines(), self.waiting()), ([], 0))
+        self.assert_left(0, f"ada {RANKS}")
+        self.told("strike", 5, "--because", "ada asked for it")
+        self.assert_left(0)

@@ -8,8 +8,7 @@ from debvote_tools.inbox.letter import may_be_ballot
 from debvote_tools.inbox.letter_lines import repaired_text
 from debvote_tools.inbox.reasons import Reason, ReasonWithValues, for_elector, for_secretary
 
-from tests.python.inbox import test_signatures
-from tests.python.inbox import test_table_of_letters
+from tests.python.inbox import test_signatures, test_table_of_letters
 from tests.support.letters import NAMES, at, label
 
 # values of each name that a reason may have
@@ -48,6 +47,6 @@ class Sentences(unittest.TestCase):
         test_signatures.Table.setUpClass()
         signed = [becomes for _, becomes, _ in test_signatures.Table().rows()]
         found = {one.partition(": ")[2] for one in (*(row.becomes for row in test_table_of_letters.TABLE), *signed)}
-        # these are of letters beside others, and of a gpgv that hangs
-        found |= {"came before", "slow signature", "perhaps copy", "parted off"}
+        # these are of letters beside others, of what an act decided, and of a gpgv that hangs
+        found |= {"came before", "parted off", "taken back", "put back", "set aside", "struck", "slow signature", "perhaps copy"}
         self.assertEqual({label(reason()) for reason in Reason} - found, set())

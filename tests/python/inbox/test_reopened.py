@@ -1,10 +1,9 @@
 """Letters and lines of a vote that was closed and opened again: which count, in which order, and what is told."""
 
 from tests.support.called import LettersTest
-from tests.support.letters import OTHER_RANKS, RANKS, letter
+from tests.support.letters import BALLOT, OTHER, OTHER_RANKS, RANKS, letter
 from tests.support.terminal import Terminal
 
-BALLOT, OTHER = f"ada {RANKS}", f"ada {OTHER_RANKS}"
 ELEVEN = "Mon, 23 Nov 2026 11:00:00 +0000"
 IN_TIME = ("--because", "it was in time")
 

@@ -7,9 +7,7 @@ from debvote_tools.inbox.judging import Ballot
 from debvote_tools.inbox.letter import ParsedLetter
 from debvote_tools.inbox.rules import LetterCase, Outcome
 
-from tests.support.letters import OTHER_RANKS, RANKS, alternatives, at, judged, letter, lines_in, outcome, outcomes, parsed
-
-BALLOT, OTHER = f"ada {RANKS}", f"ada {OTHER_RANKS}"
+from tests.support.letters import BALLOT, OTHER, RANKS, alternatives, at, judged, letter, lines_in, outcome, outcomes, parsed
 
 
 def hour(of_day: int, second: int = 0) -> str:
@@ -128,6 +126,10 @@ class Several(unittest.TestCase):
             "the mark of another vote": first().replace(b"To: ", b"Subject: [0123456789abcdef]\nTo: "),
             "another HTML": alternatives("ada", f"{BALLOT}\n", f"<p>{OTHER}</p>"),
         }
+        # one that a mailbox hides comes as a file, too
+        hidden = parsed(first(), is_parted_off=True)
+        for letters in ((hidden, first()), (first(), hidden)):
+            self.assertEqual(sorted(outcomes(*letters)), ["copy", f"in: {BALLOT}"])
         for what, copy in forged.items():
             for copy_hour in (9, 10, 11):
                 with self.subTest(what=what, hour=copy_hour):
@@ -161,6 +163,9 @@ class Several(unittest.TestCase):
         kept: ParsedLetter = parsed(first())
         for decision, becomes in wanted.items():
             self.assertEqual(outcomes(kept, b"X-Status: R\n" + first(), decisions={kept.digest: decision}), [becomes, "copy"])
+        # also if the kept one could not go in by itself, and nothing is wrong with its copy
+        kept = parsed(first(time=None))
+        self.assertEqual(outcomes(kept, first(), decisions={kept.digest: queries.TAKEN_BACK}), ["copy", "waits: taken back"])
         # a ballot that goes in counts for those after it
         found = judged(first(), letter("ada", "hello", number=2, time=hour(9)))
         told = [(outcome(one), one.has_voted_since) for one in found]

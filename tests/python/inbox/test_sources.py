@@ -221,16 +221,6 @@ class Conservation(unittest.TestCase):
             data = b"".join(chance.choices(self.lines, k=chance.randint(0, 12)))
             self.assertEqual(b"".join(above + one + below for above, one, below in sections_of(data)), data)
 
-    def test_each_file_of_a_folder_is_a_letter_or_named(self) -> None:
-        chance = random.Random(5)
-        with tempfile.TemporaryDirectory(prefix="debvote-letters-") as name:
-            folder = pathlib.Path(name)
-            for number in range(200):
-                (folder / f"{number}.eml").write_bytes(self.changed(chance))
-            found = letters_of_folder(folder)
-            named = [raw.where for raw in read_in(found)] + [where for where, _ in passed_over_in(found)]
-            self.assertEqual(sorted(named), sorted(map(str, folder.iterdir())))
-
 
 class Folders(unittest.TestCase):
     def setUp(self) -> None:

@@ -9,7 +9,6 @@ from debvote_tools.cli.faults import Fault, Status
 from debvote_tools.inbox.tables import heads_of, lines_of_table
 from debvote_tools.poll.sealed import SealedPoll
 
-
 ROLL = ["ada", "ben", "1"]
 SHOWN = ("Am See", "Im Rathaus Süd", "Keins")
 POLL = SealedPoll("Where", ("At the lake", "In the town hall"), (1, 1), "Neither", 1, tuple(ROLL), shown_options=SHOWN)

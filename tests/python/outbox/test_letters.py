@@ -1,8 +1,6 @@
 """`letters`: what goes to the electors as files, to whom, and that nothing of it reads as a ballot."""
 
 import contextlib
-import email
-import email.header
 import hashlib
 import pathlib
 import re
@@ -13,10 +11,10 @@ from debvote_tools.inbox.lines import repaired_line
 from debvote_tools.outbox.letter_folder import in_place
 
 from tests.support import elections
+from tests.support.called import LAKE
 from tests.support.letters import letter
-from tests.support.outgoing import AT, OTHER_RANKS, RANKS, TITLE, OutTest, one_line, parsed
+from tests.support.outgoing import AT, END, OTHER_RANKS, RANKS, TITLE, OutTest, one_line, parsed
 
-LAKE = "At the lake, then In the town hall, then Further discussion, then Sell the house and meet there"
 FORM = f"The page of the vote, which writes the line of your ballot for you, and on which the result will be: {AT}"
 LINE = (
     "Your line, with a rank in the place of each _. The first place is for option 1, and so on; 1 is the best, equal ranks are allowed, "
@@ -27,13 +25,13 @@ WHEN = f"{TITLE} Vote until: Friday, 4 December 2026, 18:00 (UTC)"
 OPTIONS = "Option 1: At the lake Option 2: In the town hall Option 3: Sell the house and meet there (majority ratio 3) "
 OPTIONS += "Option 4: Further discussion (the default option)"
 EARLIER = "Mon, 23 Nov 2026 09:59:00 +0000"
+NONE = "No ballot of yours that counts has come yet."
 ELSEWHERE = "A letter in your name came from another address, and waits until the secretary has looked at it."
 
 
 class Call(OutTest):
     def test_it_has_title_end_form_the_own_line_and_the_mark(self) -> None:
         self.assertIn("Wrote 9 letters: letters/call/", self.done("letters", "call").output)
-        found = self.written("call")
         found = self.written("call")
         self.assertEqual(sorted(found), elections.NAMES)
         for name, message in found.items():
@@ -143,22 +141,7 @@ class Refused(OutTest):
         self.assertEqual(found["ada"]["From"], "vote@other.example")
         self.assertIn(f"{LINE}ada _,_,_,_", self.texts("reminders", "--from", "v@x.example")["ada"])
 
-    def test_a_long_name_of_the_sender(self) -> None:
-        """No encoded word is longer than 75 characters, and no line with one longer than 76."""
-        for name in map(str.strip, ("ä" * 100, "ä b " * 25, "日" * 100, "Bü" * 14)):
-            with self.subTest(name=name):
-                self.done("call", "--to", f"{name} <vote@club.example>")
-                self.done("letters", "call")
-                [file] = [one for one in self.files("call") if one.stem == "ada"]
-                head = file.read_bytes().partition(b"\n\n")[0]
-                sender = email.header.decode_header(email.message_from_bytes(head)["From"])
-                self.assertEqual(str(email.header.make_header(sender)), f"{name} <vote@club.example>")
-                for line in (line for line in head.split(b"\n") if b"=?" in line):
-                    self.assertLessEqual(len(line), 76)
-                    self.assertLessEqual(max(map(len, line.split())), 75)
-                self.done("call", "--take-back")
-
-    def test_addresses_of_before_the_call(self) -> None:
+    def test_addresses_of_before_the_call_and_that_of_the_result(self) -> None:
         # of several addresses the first that each server takes
         self.change_roll("ada@club", "ädä@club.example home@ada")
         self.done("call", "--to", "vote@club.example")
@@ -166,6 +149,18 @@ class Refused(OutTest):
         # the one that she had before the call gets no receipt
         self.add_lines(f"ada {RANKS}")
         self.assertEqual([message["To"] for message in self.written("receipts").values()], ["home@ada.example"])
+        # where the result is published is an act
+        self.done("close")
+        self.done("publish")
+        self.assert_fault(self.election("letters", "result"), 2, "--at: the letter must say where the result is published")
+        self.assert_fault(self.election("letters", "result", "--at", "ftp://x"), 2, "it must be the address of a page")
+        self.assertIn("https://x.example/r/#ada", self.texts("result", "--at", "https://x.example/r/")["ada"])
+        acts = [(act.name, act.detail) for act in self.book.acts()]
+        self.assertEqual(acts.count(("announce", {"at": "https://x.example/r/"})), 1)
+        self.texts("result", "--at", "https://x.example/r/")
+        self.assertEqual(len(self.book.acts()), len(acts))
+        self.assertIn("https://x.example/r/#ada", self.texts("result")["ada"])
+        self.assertIn("https://x.example/s/#ada", self.texts("result", "--at", "https://x.example/s/")["ada"])
 
 
 class OwnWords(OutTest):
@@ -202,29 +197,8 @@ class OwnWords(OutTest):
         self.assertEqual(self.numbers()["voters"], 9)
 
 
-class CodesOnRoll(OutTest):
-    poll = elections.POLL + "secret = true\n"
-    call_words = None
-
-    def test_nobody_knows_whose_a_code_is(self) -> None:
-        self.done("codes", "--on-roll")
-        self.done("call", "--to", "vote@club.example")
-        for kind in ("call", "receipts", "reminders"):
-            self.assert_fault(self.election("letters", kind), 9, "codes are on the roll", "call/call.txt")
-        # so the close goes on to no letters
-        self.assertTrue(self.told("close").endswith(" before you count anything.\nNext: debvote-election count\n"))
-
-
 class Paper(OutTest):
-    names = ["ada", "ben"]
-
-    def made(self) -> object:  # type: ignore[override]
-        original = elections.members_of
-        elections.members_of = lambda names: 'who,mail\n"Ada <script>alert(1)</script> & Söhne",\nBen,ben@club.example\nEve,\n'
-        try:
-            return super().made()
-        finally:
-            elections.members_of = original
+    members = 'who,mail\n"Ada <script>alert(1)</script> & Söhne",\nBen,ben@club.example\nEve,\n'
 
     def test_who_has_no_address_gets_a_page(self) -> None:
         ended = self.done("letters", "call")
@@ -271,9 +245,10 @@ class Paper(OutTest):
 
 class Names(OutTest):
     names = ["ada-2", "ada"]
+    call_words = ("--to", "vote@club.example", "--at", AT, "--until", END, "--zone", "Europe/Berlin")
 
     def test_no_letter_takes_the_place_of_another(self) -> None:
-        """Two letters to ada, at her old address and her new one, beside one to ada-2."""
+        """Two letters to ada, at her old address and her new one, beside one to ada-2. Their times are in the zone of the end."""
         self.change_roll(",ada@club", ",ada@new")
         self.add_lines("ada 1", f"ada-2 {RANKS}")
         wanted = ["ada-2@club.example", "ada@club.example", "ada@new.example"]
@@ -282,7 +257,19 @@ class Names(OutTest):
         # the old address does not learn the own mark, neither in the subject nor in the text, which has the right line
         said = {message["To"]: (bool(re.search(MARKS, message["Subject"])), f"{AT}#ada/" in one_line(message)) for message in found}
         self.assertEqual(said, {"ada-2@club.example": (True, False), "ada@club.example": (False, False), "ada@new.example": (True, True)})
-        self.assertTrue(all("ada _,_,_,_" in one_line(message) for message in found if "ada@" in message["To"]))
+        for message in found:
+            self.assertEqual("ada _,_,_,_" in one_line(message), message["To"].startswith("ada@"))
+            # on a busy machine some seconds later
+            self.assertRegex(one_line(message), r"\bMonday, 23 November 2026, 11:00(:\d\d)? \(UTC\+01:00\)")
+        shown = self.told("show", "ada")
+        for address in wanted[1:]:
+            self.assertIn(f"  receipt, 2026-11-23 10:00:00 UTC, to {address}: written\n", shown)
+        self.add_lines(f"ada {OTHER_RANKS}")
+        self.assertEqual([message["To"] for message in self.written("receipts").values()], ["ada@new.example"])
+        # whoever changes an address back does not hide what came meanwhile
+        self.change_roll("", "")
+        self.add_lines("ada 1,1,1,1")
+        self.assertEqual(sorted(message["To"] for message in self.written("receipts").values()), wanted[1:])
 
 
 class ReceiptsAndReminders(OutTest):
@@ -466,23 +453,16 @@ class ReceiptsAndReminders(OutTest):
             letter("ada", f"ada {OTHER_RANKS}\n", number=2, time="Mon, 23 Nov 2026 09:00:00 +0000"),
             letter("ada", "thanks\n", number=3, time="Mon, 23 Nov 2026 09:30:00 +0000"),
             *(twice, twice.replace(b"Received: from a", b"Received: from c"), letter("cleo", "hi\n"), b"X-Y: z\n" + letter("cleo", "hi\n")),
+            letter("fay", f"fay {RANKS}\n", sender="F\u00e1y <fay@club.example>"),
         )
+        why = "the name of its sender is not encoded"
+        self.assertIn(f"\n        {why}, so programs may read it in different ways\n", self.told("held"))
         texts = self.texts("receipts")
-        self.assertEqual({name: text.count("has arrived") for name, text in texts.items()}, {"ada": 3, "ben": 1, "cleo": 1, "dan": 1, "eve": 0})
+        self.assertEqual({name: text.count("has arrived") for name, text in texts.items()}, {"ada": 3, "ben": 1, "cleo": 1, "dan": 1, "eve": 0, "fay": 1})
         self.assertRegex(texts["ada"], r"08:00 \(UTC\) has arrived\. A later.*09:00 \(UTC\) has arrived\. It counts.*09:30 \(UTC\) has arrived\. No")
         self.assertIn("No ballot from it was entered. The reason: the secretary has looked at it, and set it aside.", texts["dan"])
         self.assertIn("A letter in your name came from another address. The secretary has set it aside.", texts["eve"])
-
-    def test_the_next_one_goes_to_the_old_address_too(self) -> None:
-        self.change_roll("ada@club", "ada@new")
-        self.add_lines(f"ada {RANKS}", f"ben {RANKS}")
-        found = sorted(message["To"] for message in self.written("receipts").values())
-        self.assertEqual(found, ["ada@club.example", "ada@new.example", "ben@club.example"])
-        shown = self.told("show", "ada")
-        for address in ("ada@club.example", "ada@new.example"):
-            self.assertIn(f"  receipt, 2026-11-23 10:00:00 UTC, to {address}: written\n", shown)
-        self.add_lines(f"ada {OTHER_RANKS}")
-        self.assertEqual([message["To"] for message in self.written("receipts").values()], ["ada@new.example"])
+        self.assertIn(f" look at it first. The reason: {why}. Send it with a name without accents", texts["fay"])
 
     def test_heads_that_came_add_no_line(self) -> None:
         coded = "=?utf-8?q?=3Ca=40b=3E=0D=0ABcc=3A_all=40x.example?="
@@ -494,14 +474,6 @@ class ReceiptsAndReminders(OutTest):
         self.assertEqual(message["To"], "ada@club.example")
         names = "From To Subject Date Message-ID X-Unsent Auto-Submitted MIME-Version Content-Type Content-Transfer-Encoding"
         self.assertEqual([name for name, _ in message.raw_items()], names.split())
-
-    def test_a_name_of_the_sender_that_is_not_encoded(self) -> None:
-        """Its letter waits, and the elector and the secretary read the true reason; the address is read all the same."""
-        self.add(letter("ada", f"ada {RANKS}\n", sender="Ad\u00e1 <ada@club.example>"))
-        why = "the name of its sender is not encoded"
-        self.assertIn(f"\n        {why}, so programs may read it in different ways\n", self.told("held"))
-        said = f"No ballot from it is entered yet: the secretary has to look at it first. The reason: {why}. Send it with a name without accents"
-        self.assertIn(said, self.texts("receipts")["ada"])
 
     def test_a_line_that_was_refused_is_quoted_and_votes_for_nobody(self) -> None:
         """Nor does it where the receipt is answered, with or without a ballot, and the quotation has no marks. One with words is not quoted."""
@@ -516,7 +488,11 @@ class ReceiptsAndReminders(OutTest):
         self.assertEqual(self.exported()[0].splitlines()[5:], [f"{name} {OTHER_RANKS}" for name in found])
 
     def test_to_whom_reminders_go(self) -> None:
-        self.add_lines(f"ada {RANKS}")
+        """A line that came and does not count is told with the reason, as in the receipt. A letter that was set aside is not told again."""
+        self.add_lines(f"ada {RANKS}", "fay 1,2", f"gus {RANKS}")
+        self.done("strike", 3, "--because", "not his")
+        self.add(letter("hal", "hello\n"))
+        self.done("held", 1, "--set-aside")
         self.add(letter("cleo", "I want the lake\n"), letter("dan", f"dan {RANKS}\n", sender="x@x.example"))
         self.add(
             letter("eve", f"eve {RANKS}\n", sender="x@x.example", time="Mon, 23 Nov 2026 08:00:00 +0000"),
@@ -524,7 +500,14 @@ class ReceiptsAndReminders(OutTest):
         )
         texts = self.texts("reminders")
         self.assertEqual(sorted(texts), [name for name in elections.NAMES if name != "ada"])
-        self.assertTrue(texts["ben"].startswith(f"Dear Ben, No ballot of yours that counts has come yet. {WHEN} {FORM}#ben/"), texts["ben"])
+        for name in ("ben", "hal"):
+            self.assertTrue(texts[name].startswith(f"Dear {name.title()}, {NONE} {WHEN} {FORM}#{name}/"), texts[name])
+        refused = "It is not a valid ballot of this vote, so it does not count. It has 2 ranks, and the vote has 4 options."
+        wanted = (("fay", "A line with your name", refused), ("gus", "Your ballot", "and the secretary has struck it. It does not count."))
+        for name, begins, ends in wanted:
+            begin, told, rest = texts[name].partition(f"{ends} ")
+            self.assertTrue(begin.startswith(f"Dear {name.title()}, {NONE} {begins} "), texts[name])
+            self.assertIn(f"You can send a right line now, and need not wait. {WHEN} {FORM}#{name}/", rest)
         self.assertIn(f"{LINE}ben _,_,_,_", texts["ben"])
         # whose letter waits is told so, and what can be done meanwhile
         self.assertIn("No ballot from it is entered yet: the secretary has to look at it first.", texts["cleo"])
@@ -547,38 +530,10 @@ class ReceiptsAndReminders(OutTest):
             self.assertNotIn("after the end", self.texts("receipts")["ben"])
             self.set_clock("2026-11-23T10:00:00+00:00")
 
-    def test_a_line_that_came_and_does_not_count_is_told(self) -> None:
-        """With the reason, as in the receipt, and how to vote now. A letter that was set aside is not told again."""
-        self.add_lines("ada 1,2", f"ben {RANKS}", f"cleo {RANKS}")
-        self.done("strike", 2, "--because", "not his")
-        self.add(letter("dan", "hello\n"))
-        self.done("held", 1, "--set-aside")
-        texts = self.texts("reminders")
-        refused = "It is not a valid ballot of this vote, so it does not count. It has 2 ranks, and the vote has 4 options."
-        wanted = (("ada", "A line with your name", refused), ("ben", "Your ballot", "and the secretary has struck it. It does not count."))
-        for name, begins, ends in wanted:
-            begin, told, rest = texts[name].partition(f"{ends} ")
-            self.assertTrue(begin.startswith(f"Dear {name.title()}, No ballot of yours that counts has come yet. {begins} "), texts[name])
-            self.assertIn(f"You can send a right line now, and need not wait. {WHEN} {FORM}#{name}/", rest)
-        self.assertTrue(texts["dan"].startswith(f"Dear Dan, No ballot of yours that counts has come yet. {WHEN}"), texts["dan"])
-
-
-class ReceiptsElsewhere(OutTest):
-    call_words = ("--to", "vote@club.example", "--until", "2026-12-04 18:00", "--zone", "Europe/Berlin")
-
-    def test_times_are_in_the_zone_of_the_end(self) -> None:
-        self.add_lines(f"ada {RANKS}")
-        # on a busy machine some seconds later
-        self.assertRegex(self.texts("receipts")["ada"], r"Your ballot of Monday, 23 November 2026, 11:00(:\d\d)? \(UTC\+01:00\) has arrived\.")
-
-
 class FullDisk(OutTest):
     """A disk that is full at any write: receipts are noted if their files are there, and the next run writes the others."""
 
     names = ["ada", "ben", "cleo"]
-
-    def full_at(self, call: str, count: int) -> elections.Ended:
-        return self.traced("-f", "-e", f"inject={call}:error=ENOSPC:when={count}", words=("letters", "receipts"))
 
     def receipts(self) -> dict[pathlib.Path, bytes]:
         return {file: file.read_bytes() for file in (self.folder / "letters").rglob("*.eml") if ".debvote" not in str(file)}
@@ -602,7 +557,7 @@ class FullDisk(OutTest):
                     number = len(self.book.acts())
                     self.add_lines(*(f"{name} {1 + number % 90},{1 + number // 90},-,1" for name in self.names))
                     before, files = len(self.rows("receipts")), self.receipts()
-                    ended = self.full_at(call, count)
+                    ended = self.traced("-f", "-e", f"inject={call}:error=ENOSPC:when={count}", words=("letters", "receipts"))
                     failures |= {call} if ended.status else set()
                     noted = [name for name, _ in self.rows("receipts")[before:]]
                     self.assertIn(noted, ([], self.names))
@@ -620,11 +575,21 @@ class FullDisk(OutTest):
 class NoBallots(OutTest):
     """No line of what goes out reads as a ballot, however it is wrapped."""
 
-    # names and texts that try to
-    poll = elections.POLL.replace("At the lake", "ada 1").replace("Where we meet in spring", "ben 1 2 3 4")
+    # names and texts that try to, and names of the list of members
+    ballot = f"ada {RANKS}"
+    long = f"Where we meet in the spring of the year that comes after this one, or {ballot}"
+    poll = elections.POLL.replace("At the lake", "ada 1").replace("In the town hall", long).replace("Further discussion", ballot)
+    poll = poll.replace("Where we meet in spring", f"ben 1 2 3 4 {long}")
+    members = f'name,who,mail\nada,"{ballot}",ada@club.example\nben,"{"y" * 70} {ballot} {"x" * 80}",ben@club.example\n'
+    members += "".join(f"{name},{name.title()},{name}@club.example\n" for name in elections.NAMES[2:])
 
     def test_no_line_is_a_ballot(self) -> None:
+        self.write("letter.txt", f"Write as ada does: {self.ballot}\n{self.ballot}\n")
+        self.done("call")
         found = self.written("call")
+        for text in (found["ben"].get_content(), self.read("call/call.txt").decode()):
+            lines = [line.strip() for line in text.splitlines()]
+            self.assertEqual((f"|{self.ballot}" in lines, self.ballot in lines), (True, False), text)
         self.add_lines(f"ada {RANKS}", "ben 1,2", f"cleo {RANKS}", f"cleo {OTHER_RANKS}")
         self.add(letter("dan", f"I vote dan {RANKS} today\n"), letter("eve", f"fay {RANKS}\ngus {RANKS}\n"))
         kinds = {"call": found, "receipts": self.written("receipts"), "reminders": self.written("reminders")}
@@ -655,7 +620,6 @@ class NoBallots(OutTest):
 
 
 class CloseAndResult(OutTest):
-
     def test_an_open_vote(self) -> None:
         self.assert_fault(self.election("letters", "result"), 9, "nothing is published")
         self.add_lines(f"ada {RANKS}", f"ben {RANKS}")
@@ -682,48 +646,30 @@ class CloseAndResult(OutTest):
         self.assertIn("open the index.html that you downloaded and compared, and read that file", texts["ada"])
         # each act that the page tells
         self.assertIn("That was before the time until which one could vote.", texts["ada"])
-        # none of a vote that is open again
+        # none of a vote that is open again; each publication has its letters
         self.done("reopen", "--because", "a bag was forgotten")
         self.assert_fault(self.election("letters", "result"), 9, "nothing is published")
-
-    def test_of_the_last_publication(self) -> None:
-        self.add_lines(f"ada {RANKS}", f"ben {OTHER_RANKS}")
-        self.done("strike", 2, "--because", "a mistake of 'ours' & <yours>")
-        self.add_lines("ben 2,1,-,3")
         self.done("close", "--early")
-        self.assertEqual(self.election("publish").status, 1)
-        text = self.texts("result")["ada"]
-        tied = "Option 1: At the lake and Option 2: In the town hall are tied. The casting vote has to choose one of them."
-        self.assertIn(f"No option has won yet: {tied}", text)
-        words = ["--cast-by", "the chair", "--cast-on", "2026-11-23"]
-        self.done("publish", "--casting", "In the town hall", *words)
-        text = self.texts("result")["ada"]
-        for said in (
-            "Winner: Option 2: In the town hall by casting vote",
-            'The secretary says that the casting vote was that of "the chair", given on 23 November 2026.',
-            "The secretary struck envelope 2: its line does not count. The reason, in the secretary's words: (a mistake of 'ours' & <yours>)",
-        ):
-            self.assertIn(said, text)
-
-    def test_doubts(self) -> None:
-        self.add_lines(f"ada {RANKS}", "ben 1", "cleo 1", words=("--force",))
-        self.done("close", "--early")
-        self.done("publish", "--force", "--because", "they were asked")
-        text = self.texts("result")["ada"]
-        self.assertIn("What is doubtful about this result: - More than half of the lines of the ballot file are refused: 2 of 3.", text)
-        self.assertIn("Why it was published all the same, in the secretary's words: (they were asked)", text)
+        self.done("publish", "result-2")
+        self.assertEqual(sorted(self.texts("result")), elections.NAMES)
 
     def test_why_no_ballot_of_an_elector_counts(self) -> None:
-        self.add_lines(f"ada {RANKS}", "ben 1,2", f"cleo {RANKS}")
-        self.done("strike", 3, "--because", "not hers")
+        self.add_lines(f"ada {RANKS}", "ben 1,2", f"cleo {RANKS}", "hal 1,2")
+        self.done("strike", 3, "--because", "a mistake of 'ours' & <yours>")
         self.add_lines(f"gus {RANKS}")
         self.done("undo", "--yes")
         self.add(letter("eve", "hello\n"))
         self.done("close", "--early", "--force", "--because", "enough")
         self.add_lines(f"dan {RANKS}")
-        self.done("publish", "--force", "--because", "enough")
+        self.done("publish", "--force", "--because", "they were asked")
         texts = self.texts("result")
         self.assertNotIn("that counts", texts["ada"])
+        for said in (
+            "What is doubtful about this result: - More than half of the lines of the ballot file are refused: 2 of 3.",
+            "Why it was published all the same, in the secretary's words: (they were asked)",
+            "The secretary struck envelope 3: its line does not count. The reason, in the secretary's words: (a mistake of 'ours' & <yours>)",
+        ):
+            self.assertIn(said, texts["ada"])
         for name, why in (
             ("ben", "It is not a valid ballot of this vote, so it does not count. It has 2 ranks, and the vote has 4 options."),
             ("cleo", "and the secretary has struck it. It does not count."),
@@ -750,24 +696,6 @@ class CloseAndResult(OutTest):
                 for kind, fault in (said, ("call", "nobody is asked to vote"), ("reminders", "nobody is asked to vote")):
                     self.assert_fault(self.election("letters", kind), 9, fault)
                 self.add_lines(f"ben {RANKS}", words=("--came-before-close", "yes"))
-
-
-class ResultAt(OutTest):
-    call_words = ("--to", "vote@club.example")
-
-    def test_the_address_is_an_act(self) -> None:
-        self.add_lines(f"ada {RANKS}")
-        self.done("close")
-        self.done("publish")
-        self.assert_fault(self.election("letters", "result"), 2, "--at: the letter must say where the result is published")
-        self.assert_fault(self.election("letters", "result", "--at", "ftp://x"), 2, "it must be the address of a page")
-        self.assertIn("https://x.example/r/#ada", self.texts("result", "--at", "https://x.example/r/")["ada"])
-        acts = [(act.name, act.detail) for act in self.book.acts()]
-        self.assertEqual(acts.count(("announce", {"at": "https://x.example/r/"})), 1)
-        self.texts("result", "--at", "https://x.example/r/")
-        self.assertEqual(len(self.book.acts()), len(acts))
-        self.assertIn("https://x.example/r/#ada", self.texts("result")["ada"])
-        self.assertIn("https://x.example/s/#ada", self.texts("result", "--at", "https://x.example/s/")["ada"])
 
 
 class Secret(OutTest):
@@ -800,30 +728,24 @@ class Secret(OutTest):
         self.add(letter("ada", f"ada {RANKS}\n", head=f"In-Reply-To: {found['Message-ID']}\nSubject: Re: {found['Subject']}\n", time=EARLIER))
         self.assertEqual(self.numbers()["valid"], 1)
 
-    def test_a_doubt_tells_no_number_of_lines(self) -> None:
-        self.add_lines(f"ada {RANKS}", "ben 1", "cleo 1", words=("--force",))
-        self.done("close", "--early")
-        self.done("publish", "--yes", "--force", "--because", "they were asked")
-        for text in self.texts("result").values():
-            self.assertIn("- More than half of the lines that came are refused. - The vote was closed on ", text)
-            self.assertNotIn("2 of 3", text)
-
     def test_nothing_else_has_codes_or_ranks(self) -> None:
         codes = self.codes()
-        self.add_lines(f"ada {RANKS}", "ben 1,2")
+        self.add_lines(f"ada {RANKS}", "ben 1,2", "eve 1", words=("--force",))
         self.add(letter("cleo", f"{codes['cleo']} {RANKS}\n"), letter("dan", f"dan {RANKS}\n{codes['dan']}\n"))
         found = [*self.written("receipts").values(), *self.written("reminders").values()]
         self.done("call", "--until", "2026-12-06 12:00", "--zone", "UTC")
         self.done("close", "--early", "--force", "--because", "x")
         found += self.written("closed").values()
         aliases = [alias for alias, in self.book.rows("SELECT alias FROM elector_state WHERE alias <> ''")]
-        self.done("publish", "--yes")
+        self.done("publish", "--yes", "--force", "--because", "they were asked")
         private = self.run_program("sh", "-c", "cd out && sha256sum *").output if self.done("export", "out") else ""
         results = self.texts("result")
         self.assertIn("find it with your name, ada, and your code, under", results["ada"])
         self.assertNotIn("#", results["ada"])
         self.assertIn("cat seal.txt ballots.txt | sha256sum", results["ada"])
         self.assertIn("learns what you type into it, with or without a network", " ".join(results["ada"].split()))
+        for text in results.values():
+            self.assertRegex(text, r"- More than half of the lines that came are refused\. - (?!.*2 of 3)")
         for text in [one_line(message) for message in found] + list(results.values()):
             self.assertFalse([code for code in [*codes.values(), *aliases] if code in text])
             self.assertNotRegex(text, r"[a-z]+ \d,\d,\d,\d")

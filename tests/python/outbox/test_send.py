@@ -427,13 +427,30 @@ class Killed(SendTest):
 
     names = ["ada", "ben", "cleo"]
 
+    def status_of_killed(self, step: str, number: int) -> int:
+        """Sends the call by a program that is killed at a step of one of the letters; returns how it ended."""
+        began, process = self.server.started, self.sending("call")
+        self.addCleanup(process.kill)
+
+        def kill(now: str, count: int) -> bool:
+            is_then = (now, count - began) == (step, number)
+            if is_then:
+                process.kill()
+                process.wait()
+            return is_then and now != "data"
+
+        self.server.at = kill
+        process.communicate(timeout=elections.SECONDS)
+        self.server.at = lambda now, count: False
+        return process.returncode
+
     def test_none_is_lost_and_only_that_of_the_kill_may_go_out_twice(self) -> None:
         addresses = [f"{name}@club.example" for name in self.names]
         for kills, (step, number) in enumerate(itertools.product(("mail", "rcpt", "data"), range(3))):
             with self.subTest(step=step, number=number):
                 self.server.taken.clear()
                 self.done("call", "--until", f"2026-12-{5 + kills:02} 18:00", "--zone", "UTC")
-                self.assertEqual(self.send_until_killed("call", step, number), -9)
+                self.assertEqual(self.status_of_killed(step, number), -9)
                 self.assert_sent("call")
                 twice = [addresses[number]] if step == "data" else []
                 self.assertEqual(sorted(self.server.addresses()), sorted([*addresses, *twice]))

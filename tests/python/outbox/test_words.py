@@ -2,6 +2,8 @@
 
 import dataclasses
 import datetime
+import email
+import email.header
 import itertools
 import pathlib
 import re
@@ -67,16 +69,11 @@ WAITS = next(one for one in all_that_came() if one.became is Outcome.WAITS and o
 
 
 def texts(now: Composer) -> list[str]:
-    return [
-        now.call_letter(ADA, is_extension=False),
-        now.call_letter(ADA._replace(code="c0de"), is_extension=False),
-        now.call_letter(ADA, is_extension=True),
-        now.reminder(ADA, [WAITS]),
-        now.reminder(ADA, []),
-        now.receipt(ADA, all_that_came()),
-        now.text("closed_to_elector.txt", ADA, letter="CLOSED\n"),
-        *(now.text("result_to_elector.txt", ADA, letter="RESULT\n", ranks=ranks, fates=all_that_came()) for ranks in ("1,2,3", None)),
-    ]
+    with_code = ADA._replace(code="c0de")
+    calls = (now.call_letter(elector, is_extension=is_extension) for elector, is_extension in ((ADA, False), (with_code, False), (ADA, True)))
+    results = (now.text("result_to_elector.txt", ADA, letter="RESULT\n", ranks=ranks, fates=all_that_came()) for ranks in ("1,2,3", None))
+    closed = now.text("closed_to_elector.txt", ADA, letter="CLOSED\n")
+    return [*calls, now.reminder(ADA, [WAITS]), now.reminder(ADA, []), now.receipt(ADA, all_that_came()), closed, *results]
 
 
 class Texts(unittest.TestCase):
@@ -99,7 +96,6 @@ class Texts(unittest.TestCase):
 
     def test_a_secret_vote_repeats_no_ranks_and_a_signed_one_asks_for_a_signature(self) -> None:
         self.assertIn("(ada 1,2,3)", vote().receipt(ADA, all_that_came()))
-        self.assertNotRegex(vote(has_aliases=True).receipt(ADA, all_that_came()), r"\d,\d|in words|Lake, then")
         text = " ".join(vote(is_signed=True).reminder(ADA, []).split())
         self.assertIn("has to be signed with OpenPGP", text)
         self.assertNotIn("send the line alone", text)
@@ -138,7 +134,7 @@ class Texts(unittest.TestCase):
         result = now.text("result_to_elector.txt", elector, letter="RESULT\n", ranks=None, fates=all_that_came())
         for text in (now.reminder(elector, all_that_came()), now.receipt(elector, all_that_came()), result):
             self.assertIn("It has 1 rank, and the vote has 3 options.", " ".join(text.split()))
-            self.assertNotRegex(text, r"ada \d|\d,\d|\||c0de")
+            self.assertNotRegex(text, r"ada \d|\d,\d|\||c0de|in words|Lake, then")
 
 
 class CallLetter(unittest.TestCase):
@@ -243,14 +239,11 @@ class CallLetter(unittest.TestCase):
 
 @unittest.skipUnless(BROWSER, "chromium is not installed")
 class Printed(unittest.TestCase):
-    def setUp(self) -> None:
-        self.printed: list[tuple[Composer, str]] = []
-
-    def assert_sides(self) -> None:
-        """Each letter that was printed has at most two sides, and a place for the rank of each option. All are printed at once."""
+    def assert_sides(self, printed: list[tuple[Composer, str]]) -> None:
+        """Each letter has at most two sides, and a place for the rank of each option. All are printed at once."""
         folder = pathlib.Path(self.enterContext(tempfile.TemporaryDirectory()))
         pages = []
-        for number, (now, text) in enumerate(self.printed):
+        for number, (now, text) in enumerate(printed):
             how = {"style": resources(PACKAGE, "letter.css"), "title": "Spring", "letters": [("Ada", rows_to_print(text))]}
             page = render_page(PACKAGE, "print.html", now.call_data.language, **how).decode()
             self.assertEqual(page.count('<p class="option"><span class="rank"></span>  Op'), len(now.call_data.poll.names))
@@ -265,23 +258,19 @@ class Printed(unittest.TestCase):
         data = (folder / "page.pdf").read_bytes()
         sides = sorted(map(int, re.findall(rb"(\d+) 0 obj\s*<</Type\s*/Page\b", data)))
         begins = [sides.index(int(re.search(rb"/at%d \[(\d+) 0 R" % number, data)[1])) for number in range(len(pages) + 1)]
-        for (_, text), first, following in zip(self.printed, begins, begins[1:], strict=False):
+        for (_, text), first, following in zip(printed, begins, begins[1:], strict=False):
             self.assertIn(following - first, (1, 2), text)
 
-    def test_a_letter_has_at_most_two_sides(self) -> None:
-        """With twelve options, no page, a secret code, and 600 characters of the secretary's own."""
+    def test_a_letter_has_at_most_two_sides_and_the_texts_or_where_they_are(self) -> None:
+        """With twelve options, no page, a secret code, and 600 characters of the secretary's own; or with texts, if they have room."""
+        printed = []
         names = tuple(f"A rather long name of an option, as societies have them, number {number}" for number in range(1, 12))
         poll = dataclasses.replace(POLL, options=names, ratios=(1,) * 11)
         for code in LANGUAGES:
             now = vote(code, poll=poll, at=None, has_aliases=True, letter_text="Paper ballots go into the box in the hall of our house.\n" * 11)
             text = now.call_letter(GUS._replace(code="c0de" * 8), is_extension=False)
             self.assertGreater(len(text.splitlines()), 70)
-            self.printed.append((now, text))
-        self.assert_sides()
-
-    def test_who_has_no_address_gets_the_texts_on_paper_or_reads_where_they_are(self) -> None:
-        """As many as two sides have; and all else that others read on the page."""
-        for code in LANGUAGES:
+            printed.append((now, text))
             for number, at in ((1, vote().call_data.at), (8, None), (9, vote().call_data.at), (70, vote().call_data.at), (70, None)):
                 poll = dataclasses.replace(POLL, explanations=("A lake, and a meadow with room for forty tents.\n\n" * number, "", ""))
                 now = vote(code, poll=poll, at=at, letter_text="Dear friends,\n\npaper goes into the box in the hall.\n")
@@ -293,8 +282,8 @@ class Printed(unittest.TestCase):
                 for head in ("What decides", "What will be public"):
                     self.assertIn(now.call_data.language.say(head).upper(), text)
                 self.assertEqual(f"{at}#{GUS.name}/{GUS.mark}" in text, at is not None)
-                self.printed.append((now, text))
-        self.assert_sides()
+                printed.append((now, text))
+        self.assert_sides(printed)
 
     def test_on_paper_the_ballot_is_cut_off_and_has_no_code(self) -> None:
         """It has all that is given back, and nothing else asks for ranks, or for an e-mail."""
@@ -352,6 +341,13 @@ class Bytes(unittest.TestCase):
             [address] = found["From"].addresses
             self.assertEqual((address.display_name, address.addr_spec), (on_one_line(name), "vote@club.example"))
             self.assertEqual((found["To"], found["Bcc"]), ("ada@club.example", None))
+        # no encoded word is longer than 75 characters, and no line with one longer than 76
+        for name in ("\u00e4" * 100, "\u00e4 b " * 24 + "c", "\u65e5" * 100, "B\u00fc" * 14):
+            data = self.message("text\n", sender_name=name)
+            sender = email.header.decode_header(email.message_from_bytes(data)["From"])
+            self.assertEqual(str(email.header.make_header(sender)), f"{name} <vote@club.example>")
+            for line in (line for line in data.split(b"\n") if b"=?" in line):
+                self.assertLessEqual((len(line) > 76, max(map(len, line.split())) > 75), (False, False), line)
         elector = ADA._replace(who="Ada\r\nBcc: x@y.example\n\nada 1,2,3\u2028" + "x" * 500)
         text = vote().text("closed_to_elector.txt", elector, letter="CLOSED\n")
         self.assertEqual(len(text.split("\n\n")), 2)
