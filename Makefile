@@ -37,5 +37,5 @@ claim: ## make docs/claim.html, what one believes when one believes a sheet, and
 all: ## prove everything, try all edits, and run all tests: tests/all
 	@tests/all
 
-deb: ## build the Debian package of the built program in TO=/tmp/debvote-package
+deb: ## build the Debian package of the program that make build proved in TO=/tmp/debvote-package
 	@packaging/deb "$(TO)"

@@ -39,6 +39,9 @@ MOST_OPTIONS, MOST_ELECTORS = 32, 10_000
 # letters of a mailbox
 LETTERS = 10_000
 
+# six questions take at most so many times as long as one, with these electors, each of whom votes twice by a line and some by letter
+QUESTIONS, TIMES, MANY, FEW = "ABCDEF", 3, 2_000, 500
+
 
 @contextlib.contextmanager
 def before(clock: pathlib.Path) -> Iterator[None]:
@@ -71,6 +74,52 @@ def new_election(room: pathlib.Path, poll: str, members: str, path: str) -> None
     (room / "members.csv").write_text(members)
     command([ELECTION, "roll"], room, path)
     command([ELECTION, "call", "--to", "vote@club.example"], room, path)
+
+
+def asked(room: pathlib.Path, labels: str, clock: pathlib.Path, path: str) -> dict[str, float]:
+    """The seconds of each command of a whole election that asks these questions; of one without a label if there are none."""
+    names = [f"elector-{number}" for number in range(MANY)]
+    poll = 'title = "T"\noptions = ["A", "B", "C"]\nratios = [1, 1, 1]\ndefault = "N"\nquorum = 1\n'
+    command([ELECTION, "new", *(["--questions", len(labels)] if labels else []), room], room.parent, path)
+    for place in [f"polls/{label}.toml" for label in labels] or ["poll.toml"]:
+        (room / place).write_text(poll)
+    if labels:
+        (room / "polls/title.txt").write_text("T\n")
+    (room / "members.csv").write_text("name,who,mail\n" + "".join(f"{name},{name},{name}@club.example\n" for name in names))
+    with before(clock):
+        command([ELECTION, "roll"], room, path)
+        command([ELECTION, "call", "--to", "vote@club.example", "--at", "https://club.example/"], room, path)
+
+    def ballot(name: str, ranks: str) -> str:
+        return " ".join([name, *(f"{label} {ranks}" for label in labels)] if labels else [name, ranks])
+
+    lines = [ballot(name, ranks) for ranks in ("1,2,3,4", "2,1,3,4") for name in names[FEW:]]
+    (room / "lines").write_text("".join(f"{line}\n" for line in lines))
+    mark = hashlib.sha256((room / "call" / ("polls.sha256" if labels else "poll.toml")).read_bytes()).hexdigest()[:16]
+    texts = (ballot(name, "1,2,3,4") for name in names[:FEW])
+    (room / "inbox").write_text("".join(letter_of(number, name, text, mark) for number, (name, text) in enumerate(zip(names, texts))))
+    runs = [
+        ("letters call", ["letters", "call"]),
+        ("add, lines", ["add", "--yes", "lines"]),
+        ("add, letters", ["add", "--yes", "inbox"]),
+        ("status", ["status"]),
+        ("show", ["show", names[FEW]]),
+        ("receipts", ["letters", "receipts"]),
+        ("close", ["close", "--early"]),
+        ("count", ["count"]),
+        ("publish", ["publish", "--force", "--because", "it is early"]),
+        ("letters result", ["letters", "result"]),
+    ]
+    return {name: command([ELECTION, *words], room, path, (0, 1)) for name, words in runs}
+
+
+def several_questions(folder: pathlib.Path, path: str) -> Iterator[tuple[str, float, float]]:
+    """The same for six questions; the most is three times that of one."""
+    clock = folder / "clock"
+    clock.write_text("2026-11-20T09:00:00+00:00")
+    one, six = (asked(folder / f"asked-{len(labels)}", labels, clock, path) for labels in ("", QUESTIONS))
+    for name, seconds in six.items():
+        yield f"six questions, {name}", seconds, round(TIMES * one[name], 1)
 
 
 def large_election(folder: pathlib.Path, path: str) -> Iterator[tuple[str, float, float]]:
@@ -174,11 +223,11 @@ def main() -> int:
     failed = 0
     with tempfile.TemporaryDirectory(prefix="debvote-around-") as name:
         os.environ["XDG_STATE_HOME"] = str(pathlib.Path(name, "state"))
-        for part in (large_election, large_roll, largest_page, many_letters):
+        for part in (large_election, large_roll, largest_page, many_letters, several_questions):
             for what, seconds, most in part(pathlib.Path(name), path):
                 is_good = seconds <= most
                 failed += not is_good
-                print(f"{'' if is_good else 'TOO LONG '}{what:28}{seconds:7.1f} s, {most} s are the most", flush=True)
+                print(f"{'' if is_good else 'TOO LONG '}{what:30}{seconds:7.1f} s, {most} s are the most", flush=True)
     return 1 if failed else 0
 
 

@@ -18,7 +18,7 @@ from tests.support import debian, forks, program
 LONGEST = ["Sequences", "LargestTest", "Damaged", "In_", "Lines", "Marked", "RandomTest", "Sending"]
 
 # modules of tests that run no debvote, but for those that take no time: tests/quick runs them while it is built
-WITHOUT_PROGRAM = {"test_call_words", "test_electors", "test_secret", "test_translations", "test_words"}
+WITHOUT_PROGRAM = {"test_box", "test_call_words", "test_electors", "test_secret", "test_translations", "test_words"}
 
 
 def pytest_configure(config: pytest.Config) -> None:

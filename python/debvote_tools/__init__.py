@@ -6,4 +6,4 @@ docs/FORMATS.md.
 """
 
 # that of debvote, with which these programs come in one package
-VERSION = "2.1.0"
+VERSION = "3.0.0"

@@ -24,6 +24,11 @@ class Answer(NamedTuple):
     faults: str
     status: int
 
+    @property
+    def refusal(self) -> str:
+        """Why debvote did not do it, without its name."""
+        return self.faults.strip().removeprefix("debvote: ")
+
 
 class Finding(NamedTuple):
     """What `explain` says of a line: the word of `steps`, what is wrong, the names on the roll that
@@ -44,14 +49,16 @@ class Finding(NamedTuple):
 
 
 class Findings(NamedTuple):
-    """What `explain` says of each refused line, and the numbers of its last line. To debvote a line
-    is late after the poll's `last_envelope`, which no poll of an election has.
+    """What `explain` says of each refused line, and the numbers of its last line; and whether the
+    lines look like a table. To debvote a line is late after the poll's `last_envelope`, which no
+    poll of an election has.
     """
 
     refused: list[Finding]
     lines: int = 0
     valid: int = 0
     voters: int = 0
+    are_table: bool = False
 
 
 class Debvote:
@@ -95,11 +102,6 @@ class Debvote:
             raise refusal(answer)
         return answer
 
-    def replies(self, poll_bytes: bytes, ballots_bytes: bytes) -> list[str]:
-        """The reply of the box to each line, that to line i at index i - 1."""
-        lines = self.answer("steps", poll_bytes, ballots_bytes).text.splitlines()
-        return [line.partition(" ")[2] for line in lines]
-
     def findings(self, poll_bytes: bytes, ballots_bytes: bytes) -> Findings:
         return findings_in(self.answer("explain", poll_bytes, ballots_bytes).text)
 
@@ -111,13 +113,13 @@ class Debvote:
 
 
 def refusal(answer: Answer) -> Fault:
-    said = answer.faults.strip().removeprefix("debvote: ")
     cures: dict[int, str] = {
         Status.BAD_POLL: f"a poll has at most {POLL_LIMIT} bytes; debvote-election check says what is wrong with it",
         Status.BAD_BALLOTS: f"debvote takes at most {LINES_LIMIT} lines and {BALLOTS_LIMIT} bytes of ballots: add fewer",
     }
     cure = cures.get(answer.status, "run the command again")
-    return Fault("debvote", said or f"it ended with status {answer.status}", cure, answer.status)
+    said = answer.refusal or f"it ended with status {answer.status}"
+    return Fault("debvote", said, cure, answer.status)
 
 
 def casting_words(name: str | None) -> list[str]:
@@ -131,7 +133,9 @@ FINDING = re.compile(r"ballots:(\d+): (late|bad shape|bad rank count|bad not on 
 NEAR = re.compile(r"(\S+ is not on the roll); did you mean (\S+(?: or \S+)*)\?(.*)")
 TOTALS = re.compile(
     r"(\d+) lines: (\d+) valid, \d+ refused, \d+ of them late; (\d+) of \d+ electors have a ballot"
+    "; refused lines count for nothing"
 )
+TABLE = "the lines look like a table; its columns may stand in another order than the options"
 
 
 def findings_in(text: str) -> Findings:
@@ -146,7 +150,8 @@ def findings_in(text: str) -> Findings:
             near = tuple(found[2].split(" or "))
             finding = finding._replace(said=found[1], near=near, remark=found[3])
         refused.append(finding)
-    return Findings(refused, *map(int, totals.groups()))
+    count, valid, voters = map(int, totals.groups())
+    return Findings(refused, count, valid, voters, TABLE in lines)
 
 
 def standing_in(text: str) -> dict[str, str]:

@@ -1,4 +1,6 @@
-"""Files that are read up to a limit, and written whole or not at all; and the lock of a folder."""
+"""Files that are read up to a limit, and written whole or not at all; what is no plain text; and the
+lock of a folder.
+"""
 
 import contextlib
 import fcntl
@@ -12,7 +14,7 @@ import tempfile
 from collections.abc import Collection, Iterator, Mapping
 from typing import BinaryIO
 
-from debvote_tools.cli.faults import Fault, Status
+from debvote_tools.cli.faults import Fault, Status, bad_words
 from debvote_tools.cli.console import number_of, odd_sign
 
 # in bytes and in lines; of a longer file a byte more is read, so that debvote says that it is too
@@ -21,6 +23,16 @@ POLL_LIMIT, BALLOTS_LIMIT, LINES_LIMIT = 1_048_576, 33_554_432, 100_000
 
 # in bytes; ten thousand members or electors, with a letter about each, are shorter
 TABLE_LIMIT = 33_554_432
+
+PACKED, PDF = "a ZIP, as word processors and spreadsheets save", "a PDF"
+# how files begin that are no plain text
+BEGINNINGS = {
+    b"PK\x03\x04": PACKED,
+    b"PK\x05\x06": PACKED,
+    b"\xd0\xcf\x11\xe0": "a document of a word processor or spreadsheet",
+    b"{\\rtf": "a document with formats (RTF)",
+    b"%PDF": PDF,
+}
 
 # where a process has its open files by their numbers
 OWN_FILES = "/proc/self/fd"
@@ -34,14 +46,14 @@ def sha256_of(data: bytes) -> str:
     return hashlib.sha256(data).hexdigest()
 
 
+def kind_of(data: bytes) -> str | None:
+    return next((kind for start, kind in BEGINNINGS.items() if data.startswith(start)), None)
+
+
 def read_at_most(file: pathlib.Path | str, limit: int) -> bytes:
     """The bytes of a file, but no more than one above the limit. Raises OSError."""
     with open(file, "rb") as source:
         return source.read(limit + 1)
-
-
-def bad_file(file: object, reason: object, cure: str) -> Fault:
-    return Fault(file, reason, cure, Status.BAD_WORDS, None)
 
 
 def read_whole(
@@ -53,12 +65,12 @@ def read_whole(
     try:
         mode = os.stat(file).st_mode
         if not (may_wait or stat.S_ISREG(mode) or stat.S_ISDIR(mode)):
-            raise bad_file(file, "it is no plain file", unread + then)
+            raise bad_words(file, "it is no plain file", unread + then, None)
         data = read_at_most(file, limit)
     except OSError as error:
-        raise bad_file(file, error.strerror, unread + then) from None
+        raise bad_words(file, error.strerror, unread + then, None) from None
     if len(data) > limit:
-        raise bad_file(file, f"it is longer than {limit} bytes", f"shorten it{then}")
+        raise bad_words(file, f"it is longer than {limit} bytes", f"shorten it{then}", None)
     return data
 
 
@@ -83,14 +95,14 @@ def read_text(
     except UnicodeDecodeError as error:
         line = data.count(b"\n", 0, error.start) + 1
         cure = f"save it as plain text in UTF-8{then}"
-        raise bad_file(f"{file}:{line}", "it is not in UTF-8", cure) from None
+        raise bad_words(f"{file}:{line}", "it is not in UTF-8", cure, None) from None
     odd = odd_sign(text, allowed="\t\n", refused=refused)
     if odd is not None:
         line = text.count("\n", 0, text.index(odd)) + 1
         words = f"it has the character {number_of(odd)}, which no plain text has"
-        raise bad_file(f"{file}:{line}", words, f"take it out{then}")
+        raise bad_words(f"{file}:{line}", words, f"take it out{then}", None)
     if not text.strip():
-        raise bad_file(file, "it is empty", empty + then)
+        raise bad_words(file, "it is empty", empty + then, None)
     return text
 
 
@@ -127,8 +139,8 @@ def write_whole(file: pathlib.Path, data: bytes, mode: int) -> None:
         raise Fault(file, error.strerror, cure, Status.BAD_OUTPUT, done) from None
 
 
-def temporary_folder(place: pathlib.Path) -> pathlib.Path:
-    return pathlib.Path(tempfile.mkdtemp(prefix=TEMPORARY, dir=place))
+def temporary_folder(place: pathlib.Path, prefix: str = TEMPORARY) -> pathlib.Path:
+    return pathlib.Path(tempfile.mkdtemp(prefix=prefix, dir=place))
 
 
 @contextlib.contextmanager
@@ -159,15 +171,17 @@ def write_through(target: BinaryIO, data: bytes, mode: int) -> None:
 
 
 @contextlib.contextmanager
-def locked(place: pathlib.Path, *, is_directory: bool = False) -> Iterator[None]:
+def locked(
+    place: pathlib.Path, *, is_directory: bool = False, waits: bool = False
+) -> Iterator[None]:
     """Holds the lock of a file, and waits for it; or of a folder, and raises BlockingIOError if
-    another process has it.
+    another process has it, unless it `waits`.
 
     The lock of a process that is killed is free.
     """
     flags, how = os.O_RDWR | os.O_CREAT, fcntl.LOCK_EX
     if is_directory:
-        flags, how = os.O_DIRECTORY, fcntl.LOCK_EX | fcntl.LOCK_NB
+        flags, how = os.O_DIRECTORY, fcntl.LOCK_EX | (0 if waits else fcntl.LOCK_NB)
     handle = os.open(place, flags | os.O_CLOEXEC, 0o644)
     try:
         fcntl.flock(handle, how)
@@ -219,20 +233,32 @@ def write_made(
     modes: tuple[int, int],
     outdated: Collection[str] = (),
 ) -> list[pathlib.Path]:
-    """Writes the files that are missing or differ, and returns them. Outdated files are removed."""
+    """Writes the files that are missing or differ, and returns them. Outdated files are removed, and
+    what killed runs left, such as half of the slips.
+    """
     folder_mode, file_mode = modes
-    folder.mkdir(exist_ok=True)
-    folder.chmod(folder_mode)
+    places = list(dict.fromkeys([folder, *((folder / name).parent for name in files)]))
+    for place in places:
+        place.mkdir(exist_ok=True)
+        place.chmod(folder_mode)
     written = []
-    for name, data in files.items():
-        file = folder / name
-        if (
-            not file.is_file()
-            or file.read_bytes() != data
-            or file.stat().st_mode & 0o777 != file_mode
-        ):
-            write_whole(file, data, file_mode)
-            written.append(file)
-    for name in set(outdated) - files.keys():
-        (folder / name).unlink(missing_ok=True)
+    with locked(folder, is_directory=True, waits=True):
+        for place in places:
+            for left in place.glob(f"{TEMPORARY}*"):
+                left.unlink()
+        for name, data in files.items():
+            file = folder / name
+            if (
+                not file.is_file()
+                or file.read_bytes() != data
+                or file.stat().st_mode & 0o777 != file_mode
+            ):
+                write_whole(file, data, file_mode)
+                written.append(file)
+        for name in set(outdated) - files.keys():
+            (folder / name).unlink(missing_ok=True)
+        for place in {(folder / name).parent for name in outdated}.difference(places):
+            # somebody may have put a file there
+            with contextlib.suppress(OSError):
+                place.rmdir()
     return written

@@ -10,7 +10,7 @@
 
   // the ballot of an elector is shown above
   function unfoldNamed() {
-    const place = location.hash.slice(1);
+    const place = placeNamed();
     if (!document.getElementById(place)?.closest(".ballots, .roll")) unfold(place)?.scrollIntoView();
   }
 

@@ -55,6 +55,16 @@ function finderOf(electors) {
   };
 }
 
+// The place that the address of the page names; some programs write its letters by their numbers.
+function placeNamed() {
+  const place = location.hash.slice(1);
+  try {
+    return decodeURIComponent(place);
+  } catch {
+    return place;
+  }
+}
+
 // Nodes for a sentence with lists of nodes at its places.
 function nodesOf(sentence, places) {
   return sentence.split(/(\{[a-z]+\})/).flatMap((part) => (part.startsWith("{") ? places[part.slice(1, -1)] : [part]));

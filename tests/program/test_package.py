@@ -4,6 +4,8 @@ runs its programs as a user without rights. If dpkg-deb, objdump, strip or msgfm
 
 import gzip
 import hashlib
+import importlib.machinery
+import importlib.util
 import os
 import pathlib
 import re
@@ -18,7 +20,7 @@ from tests.support.program import PROGRAM, ROOT
 TOOLS = ["dpkg-deb", "objdump", "strip", "msgfmt"]
 
 # what packaging/deb reads, except the program and its sources
-PACKED = ["packaging", "bin", "python", "man", "completions", "docs", "examples", "CHANGELOG.md", "SECURITY.md", "crates.txt"]
+PACKED = ["packaging", "bin", "python", "man", "completions", "docs", "examples", "CHANGELOG.md", "SECURITY.md", "HANDLES"]
 
 # the files that a user looks for, each in its folder
 DOCS = "SECRETARY SECRET-VOTES SPECIAL-CASES READING-A-SHEET FORMATS DEFINITIONS"
@@ -43,7 +45,7 @@ def run(words, **how):
 
 
 def copy_to(folder, time, mask):
-    """A copy of the packed files and of those that they are compared with, each with this time, the program a second later."""
+    """A copy of the packed files and of those that were proved, each with this time."""
     before = os.umask(mask)
     for name in PACKED:
         if (ROOT / name).is_dir():
@@ -63,12 +65,21 @@ def copy_to(folder, time, mask):
     program = folder / "crates" / "debvote" / "out" / "debvote"
     program.parent.mkdir()
     shutil.copyfile(PROGRAM, program)
+    note_proved(folder)
     for file in folder.rglob("*"):
         os.utime(file, (time, time))
-    os.utime(program, (time + 1, time + 1))
     for file in (program, folder / "packaging" / "deb"):
         file.chmod(0o755)
     os.umask(before)
+
+
+def note_proved(folder):
+    """Writes what tests/build writes when the program and the sources of this folder are proved."""
+    note = folder / "crates" / "debvote" / "out" / "proved"
+    loader = importlib.machinery.SourceFileLoader("tests_build", str(ROOT / "tests" / "build"))
+    module = importlib.util.module_from_spec(importlib.util.spec_from_loader("tests_build", loader))
+    loader.exec_module(module)
+    note.write_text(module.checksums(folder))
 
 
 def build(expect, folder, to):
@@ -107,13 +118,23 @@ class PackageTest(expecting.Expecting):
         self.assertTrue(self.package.read_bytes() == self.other.read_bytes())
 
     def test_refusals(self):
-        """If there is no program, or one older than its sources, nothing is built, and a line says why."""
-        program = self.scratch / "one" / "crates" / "debvote" / "out" / "debvote"
-        os.utime(self.scratch / "one" / "crates" / "debvote" / "src" / "main.rt", (program.stat().st_mtime + 1,) * 2)
-        for said in ("crates/debvote/out/debvote is older than crates/debvote/src/main.rt", "crates/debvote/out/debvote is not there"):
+        """If there is no program, or one that was not proved from these sources, nothing is built, and a line says why."""
+        crate = self.scratch / "one" / "crates" / "debvote"
+        for name, change, said in (
+            ("src/main.rt", b"\n", "crates/debvote/src/main.rt: FAILED"),
+            ("out/debvote", b"\0", "crates/debvote/out/debvote: FAILED"),
+            ("out/proved", None, "nothing says that crates/debvote/out/debvote is proved"),
+            ("out/debvote", None, "crates/debvote/out/debvote is not there"),
+        ):
+            before = (crate / name).read_bytes()
+            if change is None:
+                (crate / name).unlink()
+            else:
+                (crate / name).write_bytes(before + change)
             _, faults, status = run([self.scratch / "one" / "packaging" / "deb", self.scratch / "none"])
             self.expect(said, (said in faults, status, os.listdir(self.scratch / "none")), (True, 1, []))
-            program.unlink(missing_ok=True)
+            if change is not None:
+                (crate / name).write_bytes(before)
         self.expect("no folder", run([ROOT / "packaging" / "deb"])[2], 1)
 
     def test_content(self):

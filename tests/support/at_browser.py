@@ -26,17 +26,18 @@ KEYS |= {digit: (ord(digit), digit) for digit in "0123456789"}
 # what the page of a call shows once a name is typed and ranks are chosen
 CHOOSE = """((name, ranks) => {
   const tell = (node, value) => { node.value = value; node.dispatchEvent(new Event("input", { bubbles: true })); };
-  const field = document.getElementById("Name"), words = document.getElementById("Words");
+  const field = document.getElementById("Name");
   if (name !== null && field) tell(field, name);
   [...document.querySelectorAll(".rank")].forEach((rank, place) => {
     for (const button of rank.querySelectorAll("input")) button.checked = button.value === ranks[place];
     tell(rank, ranks[place]);
   });
+  const words = [...document.querySelectorAll("#Ballot li")];
   const text = (id) => document.getElementById(id)?.textContent ?? "", node = (id) => document.getElementById(id);
   const seen = (id) => Boolean(node(id)?.checkVisibility());
-  return { line: text("Line"), said: text("Name-said"), missing: text("Missing"),
-    words: [...words.childNodes].map((part) => part.nodeType === 3 ? part.data : `{${part.dataset.option}}`).join(""),
-    names: Object.fromEntries([...words.querySelectorAll("b")].map((part) => [part.dataset.option, part.textContent])),
+  return { line: text("Line").replaceAll("\\n", " "), said: text("Name-said"), missing: text("Missing"),
+    words: words.map((part) => `${part.querySelector("b").textContent} {${part.querySelector("bdi").dataset.option}}`).join(", "),
+    names: Object.fromEntries(words.map((part) => part.querySelector("bdi")).map((part) => [part.dataset.option, part.textContent])),
     suggested: [...document.querySelectorAll("#Name-said button")].map((button) => button.textContent),
     letter: seen("Letter") && node("Letter").getAttribute("href"), ready: !node("Ready").hidden, long: !node("Long").hidden,
     unmarked: seen("Unmarked"), invalid: field?.getAttribute("aria-invalid"), wide: document.documentElement.scrollWidth };
@@ -53,6 +54,15 @@ BROKEN_WORDS = r"""((nodes) => nodes.flatMap((node) => {
   }
   return broken;
 }))"""
+
+
+# the numbers of options that are seen on another line than the beginning of their names
+LONE_NUMBERS = """[...document.querySelectorAll("i + bdi")].filter((name) => name.checkVisibility({ contentVisibilityAuto: true })).filter((name) => {
+  const begin = document.createRange();
+  begin.setStart(name.firstChild, 0);
+  begin.setEnd(name.firstChild, 1);
+  return Math.abs(begin.getBoundingClientRect().top - name.previousElementSibling.getBoundingClientRect().top) > 12;
+}).map((name) => name.previousElementSibling.textContent)"""
 
 
 class Window:
@@ -139,10 +149,10 @@ class Window:
         if not self.ask(f"new Promise((done) => {{ {look} }})"):
             raise AssertionError(f"it does not become true: {script}")
 
-    def press(self, key: str, shift: bool = False) -> None:
+    def press(self, key: str, shift: bool = False, control: bool = False) -> None:
         code, text = KEYS[key]
         name = f"Digit{key}" if key.isdigit() else {" ": "Space"}.get(key, key)
-        known = {"key": key, "code": name, "windowsVirtualKeyCode": code, "modifiers": 8 if shift else 0}
+        known = {"key": key, "code": name, "windowsVirtualKeyCode": code, "modifiers": (8 if shift else 0) | (2 if control else 0)}
         self.tell("Input.dispatchKeyEvent", type="keyDown", **known, **({"text": text} if text else {}))
         self.tell("Input.dispatchKeyEvent", type="keyUp", **known)
 
@@ -173,11 +183,10 @@ class Window:
         """Each paragraph of the answer, and each step of its lists, which are numbered."""
         return list(self.ask("[...document.querySelectorAll('#Answer p, #Answer li')].map((node) => node.textContent)"))
 
-    def count_again(self, letter: str = "", files: dict[str, bytes] | None = None) -> list[str]:
+    def count_again(self, files: dict[str, bytes] | None = None) -> list[str]:
         """What the page of a result says after a press of the button, or of that for files from the disk."""
         chosen = {name: base64.b64encode(data).decode() for name, data in (files or {}).items()}
         self.ask(f"""(() => {{
-          document.getElementById("Again-letter").value = {json.dumps(letter)};
           const chosen = new DataTransfer();
           for (const [name, data] of Object.entries({json.dumps(chosen)})) {{
             chosen.items.add(new File([Uint8Array.from(atob(data), (sign) => sign.charCodeAt(0))], name));

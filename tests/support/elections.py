@@ -97,20 +97,24 @@ class ElectionTest(unittest.TestCase):
         # this machine knows the book of the copy
         book = open_book(self.folder / "election.db")
         with contextlib.closing(book.connection), mock.patch.dict(os.environ, {"XDG_STATE_HOME": str(self.state)}):
-            book.note().put(Note(book.last_act().number, book.last_act().digest))
+            book.note().put(Note(book.last_act().number, book.last_act().digest, book.names))
 
     def made(self) -> pathlib.Path:
         """A new election, which the tests of this process copy."""
         place = pathlib.Path(tempfile.mkdtemp(prefix="debvote-template-"))
         self.done("new", *self.new_words, str(place / "election"), cwd=place)
-        (place / "election" / "poll.toml").write_text(self.poll)
-        (place / "election" / "members.csv").write_text(self.members or members_of(self.names))
+        self.fill_in(place / "election")
         self.done("roll", cwd=place / "election")
         if self.call_words is not None:
             if "secret = true" in self.poll:
                 self.done("codes", *self.codes_words, cwd=place / "election")
             self.done("call", *self.call_words, cwd=place / "election")
         return place / "election"
+
+    def fill_in(self, folder: pathlib.Path) -> None:
+        """Writes the poll and the members into the folder of a new election."""
+        (folder / "poll.toml").write_text(self.poll)
+        (folder / "members.csv").write_text(self.members or members_of(self.names))
 
     def done(self, *words: object, **how: object) -> Ended:
         """Runs debvote-election, which has to do what it is asked for."""

@@ -2,7 +2,8 @@
 
 Python takes longer to start, and to import the modules of debvote-election, than most runs take for their work. `run` takes
 arguments and settings as subprocess.run does. A plain run of a launcher is a fork. A new process runs another program, or one with
-flags or settings that a fork cannot have. With DEBVOTE_FORKS=0 every run is a new process.
+flags or settings that a fork cannot have, or from another thread than the main one: a fork that is made while another thread
+imports a module has the lock of imports for ever. With DEBVOTE_FORKS=0 every run is a new process.
 """
 
 import contextlib
@@ -17,6 +18,7 @@ import signal
 import subprocess
 import sys
 import tempfile
+import threading
 import time
 from collections.abc import Callable, Iterator, Mapping, Sequence
 
@@ -100,7 +102,8 @@ def is_plain(words: Sequence[object], how: Mapping[str, object]) -> bool:
     is_known = len(words) > 1 and words[0] == sys.executable and str(words[1]) in LAUNCHERS
     is_captured = how.get("capture_output") is True and how.get("stdin") in (None, subprocess.DEVNULL)
     has_settings = how.keys() <= {"capture_output", "cwd", "env", "input", "stdin", "text", "timeout"}
-    return is_known and is_captured and has_settings and os.environ.get("DEBVOTE_FORKS") != "0"
+    is_alone = threading.current_thread() is threading.main_thread()
+    return is_known and is_captured and has_settings and is_alone and os.environ.get("DEBVOTE_FORKS") != "0"
 
 
 def in_child(main: Callable, words: Sequence[object], how: Mapping[str, object], streams: Sequence[int]) -> None:

@@ -107,7 +107,7 @@ class LanguageTest(elections.ElectionTest):
         """A called election in a language, with all that a call may have."""
         place = self.begun(folder, language, codes=codes)
         names = ("--names",) if codes is None else ()
-        self.election(folder, "call", "--until", FIRST_END, "--zone", "Europe/Berlin", "--to", TO, "--at", AT, "--form", *names)
+        self.election(folder, "call", "--until", FIRST_END, "--zone", "Europe/Berlin", "--to", TO, "--at", AT, *names)
         return place
 
     def held(self, folder: str, language: str, *, is_secret: bool = False, has_letters: bool = True) -> pathlib.Path:

@@ -13,8 +13,9 @@ from debvote_tools.inbox.judging import Ballot, judge_all
 from debvote_tools.inbox.letter import ParsedLetter, parse
 from debvote_tools.inbox.letter_lines import Names, ReadLetter, from_json, to_json, with_lines
 from debvote_tools.inbox.mailbox import NotRead, RawLetter
-from debvote_tools.inbox.reasons import ReasonWithValues
+from debvote_tools.inbox.reasons import ReasonWithValues, for_secretary
 from debvote_tools.inbox.rules import Circumstances, LetterCase, Outcome
+from debvote_tools.poll.questions import LONGEST_LINE
 
 from tests.support import elections
 from tests.support.program import PROGRAM, ROOT
@@ -44,6 +45,7 @@ def at(hour: int, minute: int = 0, day: int = 23) -> datetime.datetime:
 class DebvoteReader:
     """Asks debvote about lines, each once a process, and counts how often it is asked."""
 
+    poll = POLL
     known: dict[bytes, str | None] = {}
 
     def __init__(self) -> None:
@@ -58,7 +60,7 @@ class DebvoteReader:
 
     def asked(self, lines: Sequence[bytes]) -> dict[bytes, str | None]:
         handle = os.memfd_create("poll")
-        os.write(handle, POLL.encode())
+        os.write(handle, self.poll.encode())
         words = [PROGRAM, "explain", "--poll", f"/proc/{os.getpid()}/fd/{handle}", "--ballots", "/dev/stdin"]
         text = subprocess.run(words, input=b"".join(line + b"\n" for line in lines), capture_output=True, check=False).stdout.decode("ascii")
         os.close(handle)
@@ -71,13 +73,13 @@ class DebvoteReader:
 
 
 def names(**other: object) -> Names:
-    usual: dict[str, object] = {"roll": frozenset(NAMES), "language": "en", "real_names": {name: name.capitalize() for name in NAMES}}
+    usual: dict[str, object] = {"roll": frozenset(NAMES), "language": "en", "real_names": {name: name.capitalize() for name in NAMES}, "longest_line": LONGEST_LINE, "words": {}}
     return Names(**{**usual, **other})  # type: ignore[arg-type]
 
 
 def circumstances(
     *, addresses: Mapping[str, Sequence[str]] | None = None, keys: Mapping[str, str] | None = None,
-    own_marks: Mapping[str, str] = OWN, roll: Collection[str] = NAMES, **other: object,
+    own_marks: Mapping[str, str] = OWN, own_marks_before: Collection[str] = (), roll: Collection[str] = NAMES, **other: object,
 ) -> Circumstances:  # fmt: skip
     """The circumstances of a vote that was called three days ago and has no end; with `keys` letters have to be signed."""
     listed = {name: [f"{name}@club.example"] for name in NAMES} if addresses is None else addresses
@@ -87,7 +89,8 @@ def circumstances(
     }
     usual: dict[str, object] = {
         "mark": MARK, "subject": BY_PAGE, "electors": electors, "is_marked": False, "is_signed": keys is not None,
-        "called": at(9, day=20), "end": None, "first_close": None, "now": at(9, day=25), "our_letters": OURS, "decisions": {},
+        "called": at(9, day=20), "end": None, "first_close": None, "is_closed": False, "now": at(9, day=25), "our_letters": OURS, "decisions": {},
+        "marks": {MARK}, "own_marks": {*filter(None, own_marks.values()), *own_marks_before},
     }  # fmt: skip
     return Circumstances(**{**usual, **other})  # type: ignore[arg-type]
 
@@ -147,7 +150,7 @@ def judged(
     *letters: bytes | ParsedLetter, reader: DebvoteReader | None = None, ballots: Mapping[str, Sequence[Ballot]] | None = None, **other: object
 ) -> list[LetterCase]:
     """What becomes of letters, in the order of their times."""
-    of_names = {name: value for name, value in other.items() if name in ("roll", "language", "real_names")}
+    of_names = {name: value for name, value in other.items() if name in ("roll", "language", "real_names", "words")}
     of_others = {name: value for name, value in other.items() if name not in ("language", "real_names")}
     return judge_all(read(*letters, reader=reader, **of_names), circumstances(**of_others), lambda _: ballots or {})
 
@@ -157,10 +160,13 @@ def label(why: ReasonWithValues) -> str:
 
 
 def outcome(one: LetterCase) -> str:
-    """What becomes of a letter, in a word and the ballot or the reason."""
+    """What becomes of a letter, in a word and the ballot or the reason, which has all values that its sentence needs."""
     if one.outcome is Outcome.GOES_IN:
         return f"in: {one.ballots[0].ballot}"
-    return one.outcome.value if one.reason is None else f"{one.outcome.value}: {label(one.reason)}"
+    if one.reason is None:
+        return one.outcome.value
+    for_secretary(one.reason)
+    return f"{one.outcome.value}: {label(one.reason)}"
 
 
 def outcomes(*letters: bytes | ParsedLetter, **other: object) -> list[str]:

@@ -16,7 +16,7 @@ DOUBT_WIDTHS = (360, 1280)
 
 # what a page shows: its own width and colours; whether the marked doubts stand in the first window, with nothing above them, and their
 # colours; the width of its picture, of the region that it lies in and of what was drawn, and the ink of its words; and of each bar its
-# number, the whole, the thousandths of the width that it takes, whether it is for the option, and its colours with that of its number
+# number, the whole, the thousandths of the width that it takes, whether it is of the winner, for or against the option, and its colours
 LOOK = """(() => {
   const style = (node, ...keys) => keys.map((key) => getComputedStyle(node)[key].replaceAll(" ", ""));
   const [paper] = style(document.body, "backgroundColor"), own = style(document.body, "backgroundColor", "color");
@@ -26,11 +26,12 @@ LOOK = """(() => {
     return place.left >= 0 && place.right <= innerWidth && place.bottom <= innerHeight && box.contains(middle);
   };
   const bar = (node) => {
-    const svg = node.parentNode, whole = svg.getBoundingClientRect().width, number = svg.parentNode.querySelector("span");
-    return { number: +node.getAttribute("width"), whole: svg.viewBox.baseVal.width, isFor: node.classList.contains("for"),
-      share: whole ? 1000 * node.getBoundingClientRect().width / whole : null, colours: [...style(node, "fill", "stroke"), ...style(number, "color")] };
+    const svg = node.parentNode, whole = svg.getBoundingClientRect().width;
+    return { number: +node.getAttribute("width"), whole: svg.viewBox.baseVal.width,
+      kind: (svg.closest(".won") ? "won " : "") + node.classList,
+      share: whole ? 1000 * node.getBoundingClientRect().width / whole : null, colours: style(node, "fill", "stroke") };
   };
-  return { wide: document.documentElement.scrollWidth, own, paper, bars: [...document.querySelectorAll(".bar svg > rect")].map(bar),
+  return { wide: document.documentElement.scrollWidth, own, paper, bars: [...document.querySelectorAll(".bar > rect[class]")].map(bar),
     doubts: doubts && [seen(doubts), ...style(doubts, "backgroundColor", "color"), ...style(doubts.querySelector("strong"), "color")],
     picture: picture && [picture.getBoundingClientRect().width, picture.closest(".wide").clientWidth, +picture.getAttribute("width"),
       ...style(picture.querySelector("text"), "fill")] };

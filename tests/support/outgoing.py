@@ -202,6 +202,8 @@ class SendTest(OutTest):
         return server
 
     def send(self, kind: str, *words: object) -> elections.Ended:
+        """Sends letters; reminders also within a day of the last ones."""
+        words = (*words, "--yes") if kind == "reminders" else words
         return self.election("letters", kind, "--send", "--server", self.server.name, *words)
 
     def assert_sent(self, kind: str, said: str = "", status: int = 0) -> elections.Ended:

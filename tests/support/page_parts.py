@@ -20,14 +20,11 @@ UNWANTED_TAGS = {"link", "iframe", "img", "object", "embed", "form", "base", "au
 UNWANTED_ATTRIBUTES = {"src", "style", "xlink:href"}
 
 
-# what is said of an option, and behind the name of the winner, by its kind
+# what is said of an option, and in the letter of what decides it, by its kind
 SENTENCES = {
-    "needs nothing": "It needs no quorum and no majority.",
-    "missed the quorum": "It needs {needed} to reach the quorum, and has {has}.",
-    "has what it needs": "It needs {needed}, and has {has}.",
-    "missed its majority": "It needs more for it than against it, {needed}, and has {has}.",
-    "missed a majority of a ratio": "It needs {times} times as many for it as against it, {needed}, and has {has}.",
-    "equal to the default option": "{number} ranked it equal to the default option.",
+    "missed the quorum": "It needs {needed} to reach the quorum.",
+    "missed its majority": "It needs more for it than against it: {needed}.",
+    "missed a majority of a ratio": "It needs {times} times as many for it as against it: {needed}.",
     "its own defeat removed": "It beats {b} by {over} to {under}, but this defeat was set aside in round {round} as the weakest.",
     "loses directly": "{a} beats it by {over} to {under}.",
     "loses by a chain": "{a} beats {b} by {over} to {under}.",
@@ -36,18 +33,20 @@ SENTENCES = {
     "left with many": "It is left with {number} other options, and no defeat among them is left.",
     "lost by the casting vote": "The casting vote chose {winner}.",
     "a tie of two": "No option has won yet: {left} are tied. The casting vote has to choose one of them. {against}",
-    "a tie of many": "No option has won yet: {left} are tied. The casting vote has to choose one of them. No defeat among them is left.",
-    "the casting vote": "has won by the casting vote. These options were left: {left}.",
-    "the default option, a few failed": "has won. It is the default option. All other options were dropped. {failed}",
-    "the default option, many failed": "has won. It is the default option. All other options were dropped. The nearest, {nearest}",
-    "a circle": "has won. Options beat each other in a circle, so the weakest defeat was set aside: {last}. "
+    "a tie of many": "No option has won yet: {left} are tied. The casting vote has to choose one of them. {tied}",
+    "a tie by defeats that were removed": "The defeats among them were set aside as the weakest.",
+    "a tie without defeats": "None of them beats another.",
+    "the casting vote": "Winner: {winner} by casting vote. These options were left: {left}.",
+    "the default option, a few failed": "Winner: {winner}. All other options were dropped. {failed}",
+    "the default option, many failed": "Winner: {winner}. All other options were dropped. The nearest, {nearest}",
+    "a circle": "Winner: {winner}. Options beat each other in a circle, so the weakest defeat was set aside: {last}. "
     "Then it beats {beaten}, and nothing beats it.",
-    "circles": "has won. Options beat each other in circles, so {number} weakest defeats were set aside, the last of them {last}. "
+    "circles": "Winner: {winner}. Options beat each other in circles, so {number} weakest defeats were set aside, the last of them {last}. "
     "Then it beats {beaten}, and nothing beats it.",
-    "beats by chains": "has won. It beats {beaten}, and each other one by a chain of defeats.",
-    "beats one": "has won. It beats {beaten}.",
-    "beats each of two": "has won. It beats each option that was not dropped: {beaten}.",
-    "beats each of many": "has won. It beats each option that was not dropped, most narrowly {narrowest}.",
+    "beats by chains": "Winner: {winner}. It beats {beaten}, and each other one by a chain of defeats.",
+    "beats one": "Winner: {winner}. It beats {beaten}.",
+    "beats each of two": "Winner: {winner}. It beats each option that was not dropped: {beaten}.",
+    "beats each of many": "Winner: {winner}. It beats each option that was not dropped, most narrowly {narrowest}.",
 }
 
 
@@ -158,23 +157,27 @@ def try_page(expect, name, folder):
 class Parts:
     """The parts of a page beside the count of the reference."""
 
-    def __init__(self, page, count, names):
+    def __init__(self, page, letter, count, names):
         """`names` are those that people read of title (0) and options, where they differ from the plain ones."""
-        self.page, self.count, self.names = page, count, names
+        self.page, self.letter, self.count, self.names = page, " ".join(letter.split()), count, names
+        # an option on the page, and in the letter
+        self.numbered = "{}\u00a0{}"
         self.sections = sections_of(page)
         # the kinds of sentences that were met
         self.met = collections.Counter()
 
     def name(self, option):
-        return f"Option {option}: {self.names.get(option, self.count.poll.names[option])}"
+        return self.numbered.format(option, self.names.get(option, self.count.poll.names[option]))
 
     def entries(self, heading, kind="ul"):
         return [entry.text() for found in list(self.sections[heading].all(kind)) for entry in found.all("li")]
 
     def check(self):
         """Meets all parts with the count. Raises Wrong, or returns the kinds of sentences that the page has."""
-        for part in "headings facts deciding lines rule bars options table defeats rounds ballots who_voted".split():
+        for part in "headings named facts panel lines rule bars options table defeats why_not rounds ballots who_voted".split():
             getattr(self, part)()
+        self.numbered = "Option {}: {}"
+        self.deciding()
         return self.met
 
     def say(self, kind, pair=None, **places):
@@ -194,14 +197,23 @@ class Parts:
         demand_equal("the first heading", levels[0], 1)
         demand_equal("headings that skip a level", [level for before, level in zip(levels, levels[1:]) if level > before + 1], [])
 
+    def named(self):
+        """Each name of an option beside its number is that of this option."""
+        for node in tree_of(self.page).within():
+            pairs = [pair for pair in zip(node.inner, node.inner[2:]) if isinstance(pair[0], Node) and pair[0].tag == "i"]
+            for number, name in pairs:
+                option = int(number.text())
+                demand_equal("a named option", (name.tag, name.text()), ("bdi", self.names.get(option, self.count.poll.names[option])))
+
     def facts(self):
-        """The numbers below the winner."""
+        """The numbers below the winner; what is none is not told."""
         count, poll = self.count, self.count.poll
         found = [entry.text() for entry in tree_of(self.page).one("ul", "facts").all("li")]
         reached = any(count.votes[option, poll.default] >= least_of(count) for option in poll.ratios)
         quorum = [f"quorum {least_of(count)} {'reached' if reached else 'not reached'}"] if poll.quorum else []
-        lines = f"{counted(len(count.lines) - count.valid, 'line')} of {len(count.lines)} refused"
-        demand_equal("the facts", found, [f"{len(count.last)} of {len(poll.roll)} voted", *quorum, lines])
+        refused = len(count.lines) - count.valid
+        lines = [f"{refused} of {counted(len(count.lines), 'line')} refused"] if refused else []
+        demand_equal("the facts", found, [f"{len(count.last)} of {len(poll.roll)} voted", *quorum, *lines])
 
     def lines(self):
         count, poll, valid = self.count, self.count.poll, self.count.valid
@@ -225,49 +237,49 @@ class Parts:
         demand_equal("the quorum", (of in said, "No quorum is asked for." in said), (poll.quorum > 0, poll.quorum == 0))
 
     def bars(self):
-        """The winner first, then as the rounds leave the options; of each the name, the chip, the numbers, the bar and the mark."""
+        """All but the default option, the winner first, then as the rounds leave them; of each the name, the chip, the bar with its mark,
+        the numbers, and what it lacks if it was dropped."""
         count, poll = self.count, self.count.poll
         default, least = poll.default, least_of(count)
-        whole, hint = max(len(count.last), least, 1), next(self.sections["Why"].all("p", "hint")).text()
-        name = self.name(default)
-        said = (f"For: how many prefer the option to {name}. Against: how many prefer {name} to it." in hint, f"stands for {whole}." in hint)
+        section = self.sections["Who-had-enough-votes"]
+        whole, hint = max(len(count.last), least, 1), next(section.all("p", "hint")).text()
+        said = (f"prefer the option to the default option, {self.name(default)}." in hint, f"stands for {whole}." in hint)
         demand_equal("the hint of the bars", said, (True, whole != len(count.last)))
         last = {o: max((n for n, (kept, _) in enumerate(count.rounds, 1) if o in kept), default=0) for o in poll.options}
-        order = sorted(poll.options, key=lambda o: (o != count.winner, o in count.dropped, -last[o], o))
-        lists = [list(found.all("li")) for found in self.sections["Why"].all("ol", "options")]
+        order = sorted(poll.ratios, key=lambda o: (o != count.winner, o in count.dropped, -last[o], o))
+        lists = [list(found.all("li")) for found in section.all("ol", "options")]
         demand_equal("how many options are seen, and folded", list(map(len, lists)), [len(order)] if len(order) <= 8 else [5, len(order) - 5])
         for option, entry in zip(order, [entry for entries in lists for entry in entries]):
-            ended = {"won": "won", "left": "tied", "lost": "lost"}.get(count.ended(option), f"no {count.ended(option)}")
-            chip = ended + (" · default option" if option == default else "")
-            head = entry.one("p", "option")
-            demand_equal(f"the head of {option}", [part.text() for part in head.inner if isinstance(part, Node)], [self.name(option), chip])
-            demand_equal(f"the number of {option}", head.one("span", "number").text(), str(option))
-            demand_equal(f"the reason of {option}", as_read(entry.one("p", "reason")), " ".join(self.reasons(option)))
-            bars = list(entry.all("div", "bar"))
-            if option == default:
-                demand_equal("the bar of the default option", bars, [])
-                continue
+            chip = f"no {count.dropped[option]}" if option in count.dropped else "enough"
+            head = [part.text() for part in entry.one("p", "option").inner if isinstance(part, Node)]
+            demand_equal(f"the head of {option}", head, [self.name(option), chip])
             over, under = count.votes[option, default], count.votes[default, option]
-            (bar,) = bars
-            demand_equal(f"the numbers of {option}", [part.text() for part in bar.all("span")], [f"{over} for", f"{under} against"])
+            equal = len(count.last) - over - under
+            for_it = f"{over} for, {equal} equal" if equal else f"{over} for"
+            demand_equal(f"the numbers of {option}", [part.text() for part in entry.one("p", "numbers").all("span")], [for_it, f"{under} against"])
+            demand_equal(f"what {option} lacks", [part.text() for part in entry.all("p", "reason")], [self.lack(option)] if option in count.dropped else [])
             needed = needed_by(count, option)
-            demand_equal(f"the bar of {option}", bar_of(bar.one("svg")), (whole, over, whole - under, under, [needed] if needed <= whole else []))
+            demand_equal(f"the bar of {option}", bar_of(entry.one("svg", "bar")), (whole, over, whole - under, under, [needed] if needed <= whole else []))
 
-    def reasons(self, option):
-        """Why it ended so for an option, a sentence each."""
-        count, default = self.count, self.count.poll.default
-        if option == default:
-            yield self.say("needs nothing")
-        else:
-            ratio = count.poll.ratios[option]
-            majority = "missed its majority" if ratio == 1 else "missed a majority of a ratio"
-            kind = {None: "has what it needs", "quorum": "missed the quorum", "majority": majority}[count.dropped.get(option)]
-            times = f"more than {ratio}" if count.poll.is_more_than else str(ratio)
-            yield self.say(kind, needed=needed_by(count, option), has=count.votes[option, default], times=times)
-            if equal := sum(ranks[option - 1] == ranks[default - 1] for ranks in count.last.values()):
-                yield self.say("equal to the default option", number=equal)
-        if option in count.dropped or option == count.winner and not count.final[1:]:
-            return
+    def lack(self, option):
+        """What an option lacks that was dropped."""
+        count, ratio = self.count, self.count.poll.ratios[option]
+        majority = "missed its majority" if ratio == 1 else "missed a majority of a ratio"
+        kind = {"quorum": "missed the quorum", "majority": majority}[count.dropped[option]]
+        return self.say(kind, needed=needed_by(count, option), times=f"more than {ratio}" if count.poll.is_more_than else str(ratio))
+
+    def why_not(self):
+        """Of each option that was not dropped and has not won what became of it."""
+        count = self.count
+        others = [option for option in count.poll.options if option not in count.dropped and option != count.winner]
+        heads = [head.text() for head in self.sections["Defeats"].all("h4")]
+        demand_equal("the parts below the defeats", heads, ["Why the others have not won"] * bool(others) + ["Rounds"])
+        found = [" ".join(entry.split(" ")) for entry in self.entries("Defeats")[max(len(count.defeats), 0) :]]
+        demand_equal("why the others have not won", sorted(found), sorted(f"{self.name(option)}: {' '.join(self.fate(option))}" for option in others))
+
+    def fate(self, option):
+        """What became of an option that was not dropped and has not won, a sentence each."""
+        count = self.count
         if option not in count.final:
             yield from (self.say("its own defeat removed", pair) for _, gone in count.rounds for pair in sorted(gone) if pair[0] == option)
             first, *more = self.chain(option)
@@ -298,31 +310,94 @@ class Parts:
             chains, last = chains | step, sorted(step)
         return chains[self.count.winner if self.count.winner in chains else min(within & chains.keys())]
 
-    def deciding(self):
-        """The name of the winner stands alone, and below it what decides it."""
-        count, section = self.count, self.sections["Result"]
-        head, text = section.one("h2"), as_read(next(section.all("p")))
+    def panel(self):
+        """How it ended, the name of the winner, and the winner against each rival: no bar but that of a defeat that was set aside has
+        fewer for the winner than against it."""
+        count, section, default = self.count, self.sections["Result"], self.count.poll.default
+        head, texts = section.one("h2"), [part.text() for part in section.all("p")]
         left = in_words(list(map(self.name, count.final)))
         if count.winner is None:
-            demand_equal("the head of a tie", (head.text(), list(head.within())), ("A tie", []))
-            kind, more = ("a tie of many", {}) if count.final[2:] else ("a tie of two", {"against": self.against(*count.final)})
+            more = self.tied() if count.final[2:] else self.against(*count.final)
+            wanted = ["No option has won yet", left, f"The casting vote has to choose one of them. {more}"]
+            demand_equal("a tie", (head.text(), list(head.within()), texts), ("A tie", [], wanted))
+            return
+        name = self.names.get(count.winner, count.poll.names[count.winner])
+        demand_equal("the head of the result", (head.text(), [node.tag for node in head.within()]), (name, ["b", "bdi"]))
+        demand_equal("whether it is long", head.attributes.get("class"), "long" if len(name) > 60 else None)
+        if count.final[1:]:
+            said = "Those who publish this page do not say whose casting vote it was, or when it was given."
+            more = f"These options were left: {left}." if count.final[2:] else self.against(*count.final)
+            demand_equal("a casting vote", texts, ["Has won by the casting vote", more, said])
+            return
+        demand_equal("how it ended", texts[0], "The default option has won" if count.winner == default else "Has won")
+        rows = [self.shown(entry) for entry in section.one("ul", "duels").all("li")]
+        demand_equal("the rivals", rows, list(self.failed() if count.winner == default else self.rivals(count.winner)))
+
+    def tied(self):
+        """Of more than two that are left, why."""
+        among = {pair for _, gone in self.count.rounds for pair in gone if {*pair} <= {*self.count.final}}
+        return self.say("a tie by defeats that were removed" if among else "a tie without defeats")
+
+    def shown(self, entry):
+        """A row of the panel: its texts, its bar, and whether it is one of a defeat that holds."""
+        texts = [part.text() for head in entry.all("p", "duel") for part in head.inner if isinstance(part, Node)] or [entry.text()]
+        texts += [part.text() for part in entry.all("p", "reason")]
+        return texts, *map(bar_of, entry.all("svg", "bar")), entry.attributes.get("class")
+
+    def failed(self):
+        """The options that the default option has outlived, the nearest first."""
+        count, default = self.count, self.count.poll.default
+        rows = sorted((needed_by(count, o) - count.votes[o, default], o) for o in count.dropped)
+        for _, option in few(rows):
+            over, under, needed = count.votes[option, default], count.votes[default, option], needed_by(count, option)
+            whole = max(len(count.last), least_of(count), 1, needed)
+            yield [self.name(option), f"{over} of {needed}", self.lack(option)], (whole, over, whole - under, under, [needed]), None
+        yield from others_of(rows)
+
+    def rivals(self, winner):
+        """Those whom the winner beats, the nearest first; defeats that were set aside; and those whom it beats by chains."""
+        count, votes = self.count, self.count.votes
+        removed = [pair for _, pairs in count.rounds for pair in sorted(pairs)]
+        beaten = sorted((votes[a, b] - votes[b, a], b) for a, b in count.defeats - set(removed) if a == winner)
+        aside = [a if b == winner else b for a, b in removed if winner in (a, b)]
+
+        def row(rival, *more, kind=None):
+            over, under, whole = votes[winner, rival], votes[rival, winner], len(count.last)
+            demand(kind is None or over > under, f"the bar of {rival} contradicts the result")
+            # by its name alone: a number there would be read as one of votes
+            name = self.names.get(rival, count.poll.names[rival])
+            equal = f", {whole - over - under}\xa0equal" if over + under < whole else ""
+            return [f"against {name}", f"{over} to {under}{equal}", *more], (whole, over, whole - under, under, []), kind
+
+        yield from (row(rival, kind="won") for _, rival in few(beaten))
+        yield from others_of(beaten)
+        yield from (row(rival, "set aside: the weakest defeat in a circle of options that beat each other") for rival in few(aside))
+        yield from others_of(aside)
+        rest = set(count.poll.options) - set(count.dropped) - {winner, *aside, *(rival for _, rival in beaten)}
+        if rest:
+            yield [f"and {len(rest)} other options by chains of defeats" if len(rest) > 1 else "and 1 other option by a chain of defeats"], None
+
+    def deciding(self):
+        """In the letter: what decides it, in numbers."""
+        count = self.count
+        left = in_words(list(map(self.name, count.final)))
+        if count.winner is None:
+            kind, more = ("a tie of many", {"tied": self.tied()}) if count.final[2:] else ("a tie of two", {"against": self.against(*count.final)})
             wanted = self.say(kind, left=left, **more)
         else:
-            name = self.names.get(count.winner, count.poll.names[count.winner])
-            tags = [("b", {"data-option": str(count.winner)}), ("bdi", {})][: 2 if count.winner in self.names else 1]
-            demand_equal("the head of the result", (head.text(), [(node.tag, node.attributes) for node in head.within()]), (name, tags))
-            wanted = self.say("the casting vote", left=left) if count.final[1:] else self.deciding_alone(count.winner)
-        demand_equal("what decides it", text, wanted)
+            winner = {"winner": self.name(count.winner)}
+            wanted = self.say("the casting vote", left=left, **winner) if count.final[1:] else self.deciding_alone(count.winner, winner)
+        demand(f" {' '.join(wanted.split())} " in self.letter, f"what decides it, in the letter: {wanted} is not in {self.letter[:600]}")
 
-    def deciding_alone(self, winner):
+    def deciding_alone(self, winner, places):
         count, default = self.count, self.count.poll.default
         if winner == default:
             demand_equal("all others were dropped", set(count.dropped), set(count.poll.options) - {default})
             rows = sorted((needed_by(count, o) - count.votes[o, default], o) for o in count.dropped)
             failed = [(self.name(o), f"needs {needed_by(count, o)} and has {count.votes[o, default]}.") for _, o in rows]
             if len(failed) > 3:
-                return self.say("the default option, many failed", nearest=", ".join(failed[0]))
-            return self.say("the default option, a few failed", failed=" ".join(map(" ".join, failed)))
+                return self.say("the default option, many failed", nearest=", ".join(failed[0]), **places)
+            return self.say("the default option, a few failed", failed=" ".join(map(" ".join, failed)), **places)
         removed = [pair for _, pairs in count.rounds for pair in sorted(pairs)]
         others = set(count.poll.options) - set(count.dropped) - {winner}
         demand(not any(b == winner for _, b in count.defeats - set(removed)), "nothing beats the winner")
@@ -330,13 +405,14 @@ class Parts:
         rows = [f"{self.name(b)} by {count.votes[winner, b]} to {count.votes[b, winner]}" for _, b in pairs]
         narrowest = f"{len(rows)} options, most narrowly {rows[0]}" if len(rows) > 2 else in_words(rows)
         if removed:
-            places = {"number": len(removed), "last": self.defeat(removed[-1]), "beaten": narrowest}
+            places |= {"number": len(removed), "last": self.defeat(removed[-1]), "beaten": narrowest}
             return self.say("circles" if removed[1:] else "a circle", **places)
         if len(rows) < len(others):
             chains = reference.transitive_defeats([o for o in count.poll.options if o not in count.dropped], count.defeats)
             demand({b for a, b in chains if a == winner} >= others, "the winner beats all by chains")
-            return self.say("beats by chains", beaten=narrowest)
-        return self.say({1: "beats one", 2: "beats each of two"}.get(len(others), "beats each of many"), beaten=narrowest, narrowest=rows[0])
+            return self.say("beats by chains", beaten=narrowest, **places)
+        kind = {1: "beats one", 2: "beats each of two"}.get(len(others), "beats each of many")
+        return self.say(kind, beaten=narrowest, narrowest=rows[0], **places)
 
     def defeat(self, pair):
         a, b = pair
@@ -360,14 +436,19 @@ class Parts:
         for a, row in zip(poll.options, rows):
             ended = count.ended(a)
             said, kind = {"won": (" won", "won"), "left": (" tied", "left"), "lost": ("", None)}.get(ended, (f" no {ended}", "dropped"))
-            demand_equal(f"the head of row {a}", row.one("th").text(), self.name(a) + said)
+            default = " default option" if a == poll.default else ""
+            demand_equal(f"the head of row {a}", row.one("th").text(), self.name(a) + default + said)
             demand_equal(f"the kind of row {a}", row.attributes.get("class"), kind)
             cells = [(cell.text(), cell.attributes.get("class")) for cell in row.all("td")]
             beats = {b: "beats" if (a, b) in count.defeats else None for b in poll.options}
             demand_equal(f"row {a}", cells, [("-", None) if a == b else (str(count.votes[a, b]), beats[b]) for b in poll.options])
 
     def defeats(self):
-        demand_equal("Defeats", self.entries("Defeats"), list(map(self.defeat, sorted(self.count.defeats))))
+        wanted = list(map(self.defeat, sorted(self.count.defeats)))
+        demand_equal("Defeats", self.entries("Defeats")[: len(wanted)], wanted)
+        rows = [entry for found in list(self.sections["Defeats"].all("ul")) for entry in found.all("li")][: len(wanted)]
+        numbers = [[str(self.count.votes[a, b]), str(self.count.votes[b, a])] for a, b in sorted(self.count.defeats)]
+        demand_equal("numbers in sentences are bold", [[number.text() for number in row.all("b")] for row in rows], numbers)
 
     def rounds(self):
         wanted = []
@@ -388,10 +469,10 @@ class Parts:
         steps = []
         for rank in sorted({rank for rank in ranks if rank is not None}):
             equal = [self.name(option) for option, other in enumerate(ranks, start=1) if other == rank]
-            steps.append(("equally " if len(equal) > 1 else "") + in_words(equal))
+            steps.append(in_words(equal) + (" equally" if len(equal) > 1 else ""))
         unranked = [self.name(option) for option, rank in enumerate(ranks, start=1) if rank is None]
-        behind = f"; not ranked: {in_words(unranked)}" if unranked else ""
-        return "; then ".join(steps) + behind if steps else "nothing is preferred"
+        behind = f"; not ranked, and so behind all others: {in_words(unranked)}" if unranked else ""
+        return ", then ".join(steps) + behind if steps else "no option is ranked, so nothing is preferred"
 
     def who_voted(self):
         """The electors in the order of the roll: who has a ballot that counts, and who has none and so a place here."""
@@ -435,6 +516,17 @@ def least_of(count):
     return next(number for number in range(20_000) if (2 * number) ** 2 >= square)
 
 
+def few(rows):
+    """Those that have a row of their own in the panel: two, or all three, so that never one alone is not named."""
+    return rows if len(rows) == 3 else rows[:2]
+
+
+def others_of(rows):
+    """The row of the panel for those that have none of their own."""
+    if len(rows) > 3:
+        yield [f"and {len(rows) - 2} other options"], None
+
+
 def counted(number, thing):
     return f"{number} {thing}{'' if number == 1 else 's'}"
 
@@ -450,10 +542,3 @@ def share(voters, electors):
     if 0 < voters < electors:
         rounded = min(max(rounded, tenth), decimal.Decimal("99.9"))
     return f"{str(rounded).removesuffix('.0')} %"
-
-
-def as_read(node):
-    """A text in which each option is marked by its number."""
-    for option in node.all("b"):
-        demand(option.text().startswith(f"Option {option.attributes['data-option']}: "), f"the mark of {option.text()}")
-    return node.text()

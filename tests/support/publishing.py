@@ -1,12 +1,15 @@
 """What the tests of debvote-publish share: a folder for each test, and the programs, which run as a user runs them."""
 
 import concurrent.futures
+import dataclasses
 import os
 import pathlib
 import sys
 import tempfile
 
-from tests.support import expecting, forks
+from debvote_tools.result import command_line, folder
+
+from tests.support import at_browser, expecting, forks
 from tests.support.elections import HAS_PICTURES, NO_PICTURE, PUBLISH, SECONDS
 from tests.support.program import PROGRAM, ROOT
 
@@ -71,3 +74,35 @@ class PublishTest(expecting.Expecting):
     @classmethod
     def setUpClass(cls):
         cls.scratch = pathlib.Path(cls.enterClassContext(tempfile.TemporaryDirectory(prefix="debvote-publish-")))
+
+
+@at_browser.NEEDS_BROWSER
+class ResultPageTest(PublishTest):
+    """Tests of pages in a browser."""
+
+    @classmethod
+    def setUpClass(cls):
+        super().setUpClass()
+        cls.window = cls.enterClassContext(at_browser.Window(800, 900))
+
+    def page_of(self, room=None, change=None):
+        """The window, with the page, in which the first text of a change is the other one."""
+        text = ((room or self.room) / "result" / "index.html").read_text()
+        changed = text.replace(*change, 1) if change else text
+        self.assertEqual(changed != text, change is not None)
+        # a changed page would not run, since its policy names its scripts
+        file = self.scratch / "page.html"
+        file.write_text(changed)
+        self.window.open(file)
+        return self.window
+
+    def published(self, room, name, **changes):
+        """A room with the result of the files of another one, with what an election adds to them."""
+        programs = PROGRAM.parent
+        files = {"poll": str(room / "poll.toml"), "ballots": str(room / "ballots")}
+        two = command_line.facts_of(command_line.Arguments(**files, casting=None, desks=1, language="en", target="result"), programs)
+        made_room = plain_room(self.scratch / name)
+        with folder.beside(made_room / "result") as new:
+            folder.filled(new.folder, {"": dataclasses.replace(two, **changes)}, programs)
+            new.take_place(made_room / "result")
+        return made_room

@@ -195,7 +195,7 @@ def is_toml_1_0(file):
 
 def try_made(folder, count, names):
     """Compares data, names, refused lines and sentences of a folder. Returns the kinds of sentences found."""
-    data, table, page = ((folder / name).read_text() for name in ("result.json", "votes.csv", "index.html"))
+    data, table, page, letter = ((folder / name).read_text() for name in ("result.json", "votes.csv", "index.html", "letter.txt"))
     document = document_of(count, publishing.run([PROGRAM, "--version"])[0].strip(), names)
     demand(json.loads(data) == document, f"result.json: {data} in place of {document}")
     demand(list(json.loads(data)) == list(document), "the order of its keys")
@@ -204,7 +204,7 @@ def try_made(folder, count, names):
         shown = f"<bdi>{pages.escaped(text)}</bdi>" if number else f'<h1 dir="auto">{pages.escaped(text)}</h1>'
         demand(shown in page, f"name of {number}")
     try_refused(page, count)
-    return pages.Parts(page, count, names).check()
+    return pages.Parts(page, letter, count, names).check()
 
 
 def try_published(expect, name, folder, casting):

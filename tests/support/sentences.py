@@ -17,9 +17,10 @@ ROOT = pathlib.Path(__file__).resolve().parents[2]
 PACKAGE = ROOT / "python" / "debvote_tools"
 LOCALE = PACKAGE / "locale"
 
-# the functions whose first argument is a sentence, and those whose first two are its singular and its plural
+# the functions whose first argument is a sentence, those of which each is one, and those whose first two are its singular and its plural
 WITH_ONE = {"say", "say_each", "marked", "between"}
-WITH_TWO = {"say_number", "numbered"}
+WITH_MANY = {"marked_each", "marked_by_name"}
+WITH_TWO = {"say_number"}
 
 
 @dataclasses.dataclass(frozen=True)
@@ -57,6 +58,8 @@ def texts_of(call: ast.Call) -> list[tuple[str, ...]]:
     if name in WITH_TWO:
         one, many = (literals(word) for word in call.args[:2])
         return [(first, second) for first in one for second in many]
+    if name in WITH_MANY:
+        return [(text,) for word in (*call.args, *(named.value for named in call.keywords)) for text in literals(word)]
     if name in WITH_ONE and call.args:
         return [(text,) for text in literals(call.args[0])]
     return []

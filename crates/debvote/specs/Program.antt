@@ -1,7 +1,8 @@
 -- What the system gives the program, and how a run ends on that.
-use Rattle.std.specs.Prelude.{◌≡◌, ◌<◌, ◌⊎◌, ◌↔◌, ℕ, Bool, List, None}
+use Rattle.std.specs.Prelude.{◌≡◌, ◌<◌, ◌≤◌, ◌⊎◌, ◌↔◌, ℕ, Bool, false, List, None}
 use Rattle.vote_command_line.specs.declared.ArgsFault.{ArgsFault}
 use Rattle.vote_command_line.specs.declared.ArgsFault.TheVariants.{NotUtf8, Memory}
+use Rattle.vote_commands.specs.TakingVotes.{AreTakenAtDesks, Taking}
 use Rattle.vote_program.specs.Outputs.{Written}
 use Rattle.vote_program.specs.ProgramAnswers.{AnswersJoined, AnswersWorded, AnswersWords}
 
@@ -9,11 +10,18 @@ use Rattle.vote_program.specs.ProgramAnswers.{AnswersJoined, AnswersWorded, Answ
 abbrev pub AreNotGiven : ArgsFault → Type 0
 AreNotGiven fault = (fault ≡ NotUtf8) ⊎ (fault ≡ Memory)
 
--- The exit status with which `answer` ends, where neither the files nor standard input tell anything: that of some words after the program's
--- name, that of a joined input, or that of words which are not given.
-abbrev pub AnswersSystem : Bool → ℕ → Type 0
-AnswersSystem at_terminal answered =
+-- the votes are taken in threads, with no gate that may stop a desk
+abbrev pub TakesInThreads : Taking
+TakesInThreads poll lines desks taken = AreTakenAtDesks (λ desk. false) poll.now lines.now desks taken
+
+-- The exit status with which `answer` ends for these words, so many with the program's name, where neither the files nor standard input
+-- tell anything: without words after the name it is that of a joined input, and else that of the words.
+abbrev pub AnswersGiven : Bool → ℕ → List (List ℕ) → ℕ → Type 0
+AnswersGiven at_terminal count words answered =
     (written errors : Written) × ((answered ≡ 7) ↔ (written.old.faults < written.new.faults))
-    × (((words : List (List ℕ)) × AnswersWorded (λ name. None) (λ made. Unit {0}) words written errors answered)
-    ⊎ (AnswersJoined at_terminal None (λ made. Unit {0}) written errors answered
-    ⊎ ((fault : ArgsFault) × AreNotGiven fault × AnswersWords fault written errors answered)))
+    × (count ≤ 1 → AnswersJoined at_terminal None (λ made. Unit {0}) written errors answered)
+    × (1 < count → AnswersWorded (λ name. None) (λ made. Unit {0}) TakesInThreads words written errors answered)
+
+-- the exit status for words that are not given
+abbrev pub RefusesWords : ArgsFault → ℕ → Type 0
+RefusesWords fault answered = (written errors : Written) × AnswersWords fault written errors answered

@@ -13,12 +13,24 @@ const FAULTY: &str =
 
 /// The findings in it.
 const FINDINGS: &str = "poll: key title: an integer; a text is wanted\n\
+    \x20 1 | title = 3\n\
+    \x20   | ^^^^^^^^^\n\
     poll: key roll: it is missing above all tables, and is in [more]; a list of texts is wanted\n\
     poll: name of option 2: \"B \" ends with a space; an option's name has 1 to 40 printable characters of ASCII, no space at either end, and no other option has it\n\
-    poll: name of option 3: \"A\" is option 1 too; an option's name has 1 to 40 printable characters of ASCII, no space at either end, and no other option has it\n\
-    poll: ratios: 12 for option 2; a ratio is a whole number from 1 to 10\n\
+    \x20 2 | options = [\"A\", \"B \"]\n\
+    \x20   |                 ^^^^\n\
+    poll: name of option 3: \"A\" is option 1 too; an option's name has 1 to 40 printable characters of ASCII, no space at either end, and no other option has it; the default is option 3: it is no part of `options`\n\
+    \x20 4 | default = \"A\"\n\
+    \x20   | ^^^^^^^^^^^^^\n\
+    poll: ratios: 12 for option 2; a ratio is a whole number from 1 to 10; ratio S: S votes for it against each vote for the default: 1 for half, 2 for two thirds, 3 for three quarters\n\
+    \x20 3 | ratios = [1, 12]\n\
+    \x20   | ^^^^^^^^^^^^^^^^\n\
     poll: quorum: 11 found; a quorum is a whole number from 0 to 10: how many times Q is needed, half the square root of the number of electors\n\
+    \x20 5 | quorum = 11\n\
+    \x20   | ^^^^^^^^^^^\n\
     poll: wording: \"most\" found; a wording is at_least or more_than\n\
+    \x20 7 | wording = \"most\"\n\
+    \x20   | ^^^^^^^^^^^^^^^^\n\
     poll: key more.roll is not read; it is read above all tables alone\n\
     poll: key rest is not read\n\
     poll: key rol is not read; did you mean roll?\n";
@@ -64,7 +76,7 @@ fn crowd(alloc: Global) -> Result<(String, Option<PollFault>), AllocError> {
 fn a_roll_with_one_name_too_many(rt: HostRuntime) -> Result<(), Fail> {
     let (findings, fault) = crowd(rt.alloc())?;
     assert_same(&rt, fault, Some(PollFault::RollSize));
-    let most = "poll: size of roll: 10001 found; a roll has 1 to 10000 names\n";
+    let most = "poll: size of roll: 10001 found; a roll has 1 to 10000 names\n  6 | roll = [\"v0\",\"v1\",\"v2\",\"v3\",\"v4\",\"v5\",\"v6\",\"v7\",\"v8\",\"v9\",\"v\n    | ^^^^^^^^^^^^^^^^^^^^^^^^^^^^^^^^^^^^^^^^^^^^^^^^^^^^^^^^^^^^\n";
     assert_same(&rt, findings.as_str(), most);
     Ok(())
 }

@@ -1,6 +1,5 @@
 //! Counts of two files in memory. So the facts about files that report their bytes are about files that there are.
 
-ghost use Rattle.std.specs.Prelude.{false};
 ghost use Rattle.vote_steps.specs.Desks.{AreDesks};
 ghost use Rattle.vote_commands.specs.TakingVotes.{AreVotesTaken};
 
@@ -35,7 +34,7 @@ fn counted<R: Threads + Wait + Sync>(
     output.extend_from_slice(b"first\n")?;
     let take = |poll: &Poll, lines: &Lines<'_>, desks: u8| -> Result<Audited, VoteFault>
         requires { AreDesks desks }
-        ensures { AreVotesTaken (λ desk. false) poll.now lines.now desks result }
+        ensures { AreVotesTaken poll.now lines.now desks result }
     { take_votes(rt, alloc, poll, lines, desks, &NoGate) };
     let count = count_in_memory(
         alloc,

@@ -6,7 +6,7 @@
 //! written, the test fails with `refused` or `refused a thread`. So whoever runs it with one growth or one start after another
 //! refused sees whether there is any other answer.
 
-ghost use Rattle.std.specs.Prelude.{◌≡◌, false};
+ghost use Rattle.std.specs.Prelude.{◌≡◌};
 ghost use Rattle.vote_request.specs.Requests.{DesksFit};
 ghost use Rattle.vote_steps.specs.Desks.{AreDesks};
 ghost use Rattle.vote_commands.specs.TakingVotes.{AreVotesTaken};
@@ -87,9 +87,9 @@ fn performed_on<G: Gate + Sync, R: Threads + Wait + Sync>(
 {
     let take = |poll: &Poll, lines: &Lines<'_>, desks: u8| -> Result<Audited, VoteFault>
         requires { AreDesks desks }
-        ensures { AreVotesTaken G.bars poll.now lines.now desks result }
+        ensures { AreVotesTaken poll.now lines.now desks result }
     { take_votes(rt, alloc, poll, lines, desks, gate) };
-    perform_on::<G, _, Paper>(alloc, request, take, paper)
+    perform_on::<_, Paper>(alloc, request, take, paper)
 }
 
 /// Counts the cycle at one desk on such a paper. Returns whether a prefix of the sheet is written, how long it is, how often the
@@ -181,9 +181,9 @@ fn calls_metered<R: Threads + Wait + Sync, L: Ledger>(
     let mut sink = WriterSink::new(endless(alloc)?, Meter::<L>::new(blank));
     let take = |poll: &Poll, lines: &Lines<'_>, desks: u8| -> Result<Audited, VoteFault>
         requires { AreDesks desks }
-        ensures { AreVotesTaken (λ desk. false) poll.now lines.now desks result }
+        ensures { AreVotesTaken poll.now lines.now desks result }
     { take_votes(rt, alloc, poll, lines, desks, &NoGate) };
-    let counted = run::<NoGate, _, WriterSink<Paper, L>>(
+    let counted = run::<_, WriterSink<Paper, L>>(
         alloc,
         CYCLE.as_bytes(),
         BALLOTS.as_bytes(),
@@ -381,7 +381,7 @@ fn memory_of_perform_on_explain(rt: HostRuntime) -> Result<(), Fail> {
         poll_name: None,
     };
     let findings =
-        "the ballot file has carriage returns at the ends of its lines of bad shape, as on Windows: this can be mended with tr -d '\\r' < 'my ballots' > 'my ballots'.new\nballots:1: bad rank count: 2 ranks, the poll has 4 options\nballots:2: bad shape: column 11: carriage return; a ballot has a comma or its end there, or a second digit of the rank\na ballot line of this poll: v0 1,2,3,4\n2 lines: 0 valid, 2 refused, 0 of them late; 0 of 9 electors have a ballot\n";
+        "the ballot file has carriage returns at the ends of its lines of bad shape, as on Windows: this can be mended with tr -d '\\r' < 'my ballots' > 'my ballots'.new\nballots:1: bad rank count: 2 ranks, the poll has 4 options\n  1 | v0 1,2\n    |    ^^^\nballots:2: bad shape: column 11: carriage return; a ballot has a comma or its end there, or a second digit of the rank\n  2 | v1 1,2,3,4\\x0D\n    |           ^^^^\na ballot line of this poll: `v0 1,2,3,4`: the ranks of 1 A, 2 B, 3 C, 4 None; 1 is the best\n2 lines: 0 valid, 2 refused, 0 of them late; 0 of 9 electors have a ballot; refused lines count for nothing\n";
     walk(&rt, rt.alloc(), &request, findings, Ended::Found)
 }
 

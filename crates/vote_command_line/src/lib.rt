@@ -16,4 +16,4 @@ mod command_line;
 pub use command_line::{ArgsFault, NamedRequest, parse_args};
 
 /// The version of the program, as `debvote --version` prints it.
-pub const VERSION: &str = "2.1.0";
+pub const VERSION: &str = "3.0.0";

@@ -1,5 +1,5 @@
 -- What a count knows of the votes that it had taken.
-use Rattle.std.proofs.Common.{◌≡◌, ℕ, Bool, List, Ok, Result, length, subst}
+use Rattle.std.proofs.Common.{◌≡◌, List, Ok, Result, length, subst}
 use Rattle.std.specs.Prelude.{All, IfOk}
 use Rattle.vote_poll_text.specs.Lines.{HasTooManyLines, lines_of}
 use Rattle.vote_poll.specs.PollContent.{PollContent}
@@ -13,10 +13,10 @@ use Rattle.vote_commands.specs.TakenVotes.{AreBallotsTaken}
 use Rattle.vote_commands.specs.TakingVotes.{AreVotesTaken}
 
 -- the inputs that are given are seen as these
-pub ballots_taken : (bars : ℕ → Bool) (poll : PollContent) (given inputs : Inputs) (lines : List Text) (taken : Result Audited VoteFault) (audited : Audited) → given ≡ inputs
-    → lines ≡ lines_of given.ballots → ¬ HasTooManyLines given.ballots → AreVotesTaken bars poll lines given.desks taken → taken ≡ Ok audited
+pub ballots_taken : (poll : PollContent) (given inputs : Inputs) (lines : List Text) (taken : Result Audited VoteFault) (audited : Audited) → given ≡ inputs
+    → lines ≡ lines_of given.ballots → ¬ HasTooManyLines given.ballots → AreVotesTaken poll lines given.desks taken → taken ≡ Ok audited
     → AreBallotsTaken poll inputs (lines, audited)
-ballots_taken bars poll given inputs lines taken audited same split few votes is =
+ballots_taken poll given inputs lines taken audited same split few votes is =
     let of_given : AreBallotsTaken poll given (lines, audited) = record {
       lines = split;
       few = few;

@@ -1,5 +1,5 @@
 -- Why a count is refused, what it returns, and how it ends.
-use Rattle.std.specs.Prelude.{◌≡◌, ◌≢◌, ◌+◌, ℕ, Bool, List, All, length, Option, Some, None, option_map, IfSome, Ok}
+use Rattle.std.specs.Prelude.{◌≡◌, ◌≢◌, ◌+◌, ℕ, List, All, length, Option, Some, None, option_map, IfSome, Ok}
 use Rattle.std.proofs.Common.{Bor}
 use Rattle.vote_count.specs.declared.Decision.{Decision}
 use Rattle.vote_count.specs.declared.Decision.TheVariants as decision
@@ -11,7 +11,6 @@ use Rattle.vote_poll.specs.PollFile.{poll_in}
 use Rattle.vote_desks_box.specs.Desks.{SealedState}
 use Rattle.vote_desks_box.specs.Slips.{Rises}
 use Rattle.vote_desks.specs.Audit.{IsAuditedFor}
-use Rattle.vote_desks.specs.Faults.{AreSheetsOf, CanStopVotes, IsFoundIn, IsOfDesk}
 use Rattle.vote_desks.specs.declared.VoteFault.TheVariants as vote
 use Rattle.vote_sheet.specs.Picture.{IsPictureAndDecision}
 use Rattle.vote_sheet.specs.SheetOf.{IsSheetAndDecision}
@@ -21,6 +20,7 @@ use Rattle.vote_sheet.specs.declared.Verification.{Verification}
 use Rattle.vote_sheet.specs.declared.Verification.TheVariants as verification
 use Rattle.vote_commands.specs.Inputs.{Inputs}
 use Rattle.vote_commands.specs.Runs.{GoesThrough, StopsAtLines, StopsAtPoll, StopsWhere}
+use Rattle.vote_commands.specs.TakingVotes.{StopsVotes, Taking}
 use Rattle.vote_commands.specs.TextAndEnd.{TextAndEnd}
 use Rattle.vote_commands.specs.declared.fault.Ended.{Ended}
 use Rattle.vote_commands.specs.declared.fault.Ended.TheVariants as ended
@@ -45,17 +45,16 @@ pub record IsNamed (poll : PollContent) (named : Option Text) (option : Option �
   pub option_is : option ≡ casting_option poll named
   pub range : IfSome option (IsOption (option_count poll))
 
--- Both are allowed: the votes are taken, or they are stopped by a fault that they can have at this many desks with a gate that may stop these desks. If the fault is the audit's, there is some legal box, with the slips of each desk, in which the audit finds it.
-abbrev pub StopsAtVotes : (ℕ → Bool) → ℕ → PollContent → List Text → Option RunFault → Type 0
-StopsAtVotes bars desks poll lines (Some (run.Vote fault)) =
-    (fault ≢ vote.Memory) × CanStopVotes bars fault × IsOfDesk desks fault × IsFoundIn (AreSheetsOf desks) poll lines fault
-StopsAtVotes bars desks poll lines stop = GoesThrough stop
+-- both are allowed: the votes are taken, or they are stopped by a fault by which the call that takes them may stop them
+abbrev pub StopsAtVotes : Taking → ℕ → PollContent → List Text → Option RunFault → Type 0
+StopsAtVotes Takes desks poll lines (Some (run.Vote fault)) = (fault ≢ vote.Memory) × StopsVotes Takes poll lines desks fault
+StopsAtVotes Takes desks poll lines stop = GoesThrough stop
 
 -- a count is stopped by its poll, by a casting vote that names no option, by too many lines, or by its votes, in this order
-abbrev pub StopsCount : (ℕ → Bool) → Inputs → Option RunFault → Type 0
-StopsCount bars inputs =
+abbrev pub StopsCount : Taking → Inputs → Option RunFault → Type 0
+StopsCount Takes inputs =
     StopsAtPoll (poll_in inputs.poll) (λ poll.
-    StopsWhere (NamesNoOption poll inputs.casting) run.NoSuchOption (StopsAtLines inputs.ballots (StopsAtVotes bars inputs.desks poll (lines_of inputs.ballots))))
+    StopsWhere (NamesNoOption poll inputs.casting) run.NoSuchOption (StopsAtLines inputs.ballots (StopsAtVotes Takes inputs.desks poll (lines_of inputs.ballots))))
 
 -- how a count with this decision ends
 abbrev pub ended_by_decision : Decision → Ended

@@ -1,5 +1,5 @@
 -- What the program does with the bytes of its inputs, for each kind of request.
-use Rattle.std.specs.Prelude.{◌≡◌, ℕ, Bool, Option, None, option_copied, Result, IfOk, IsSomeAnd, OnErr, OnOk}
+use Rattle.std.specs.Prelude.{◌≡◌, Option, None, option_copied, Result, IfOk, IsSomeAnd, OnErr, OnOk}
 use Rattle.std.proofs.Common.{Bor}
 use Rattle.std.specs.Result.{result_err}
 use Rattle.vote_poll.specs.PollFile.{poll_in}
@@ -8,6 +8,7 @@ use Rattle.vote_commands.specs.Counting.{IsCountFor, IsCountedIn, StopsCount}
 use Rattle.vote_commands.specs.Explaining.{Explains}
 use Rattle.vote_commands.specs.Inputs.{Inputs, inputs_at}
 use Rattle.vote_commands.specs.Runs.{GoesThrough, IsCheck, IsListing, Runs, StopsAtLines, StopsAtPoll, Tells}
+use Rattle.vote_commands.specs.TakingVotes.{Taking}
 use Rattle.vote_request.specs.declared.Listing.{Listing}
 use Rattle.vote_request.specs.declared.Purpose.{Purpose}
 use Rattle.vote_request.specs.declared.Request.{Request}
@@ -26,8 +27,8 @@ abbrev pub TellsNoBox : FinishedRun → Type 0
 TellsNoBox finished = finished.audited ≡ None
 
 -- The result of counting these inputs for this purpose is written, and the run ends as it says. The box in which the votes were counted is returned if the run comes to its end, otherwise no box.
-pub record Counts (bars : ℕ → Bool) (made_for : Purpose (Bor Text)) (inputs : Inputs) (old new : Option Text) (finished : FinishedRun) : Type 0 where
-  pub runs : Runs (StopsCount bars inputs) (Tells (IsCountFor made_for inputs) finished.end) old new (result_err finished.end)
+pub record Counts (Takes : Taking) (made_for : Purpose (Bor Text)) (inputs : Inputs) (old new : Option Text) (finished : FinishedRun) : Type 0 where
+  pub runs : Runs (StopsCount Takes inputs) (Tells (IsCountFor made_for inputs) finished.end) old new (result_err finished.end)
   pub counted_in : OnOk finished.end (IsSomeAnd finished.audited (IsCountedIn inputs))
   pub uncounted : OnErr finished.end (TellsNoBox finished)
 
@@ -43,9 +44,9 @@ Checks poll_text = Runs (StopsAtPoll (poll_in poll_text) (λ poll. GoesThrough))
 abbrev pub EndsDone : Result Ended RunFault → Type 0
 EndsDone result = IfOk result (λ end. end ≡ ended.Done)
 
--- what a run of a request appends to the sink, and how it ends; only a count returns a box; `bars` says which desks a gate may stop
-abbrev pub Performs : (ℕ → Bool) → LoadedRequest → Option Text → Option Text → FinishedRun → Type 0
-Performs bars (request.Count poll ballots desks casting made_for) old new finished = Counts bars made_for (inputs_at poll ballots desks casting) old new finished
-Performs bars (request.List poll ballots listed) old new finished = Lists listed poll.now ballots.now old new (result_err finished.end) × EndsDone finished.end × TellsNoBox finished
-Performs bars (request.Check poll) old new finished = Checks poll.now old new (result_err finished.end) × EndsDone finished.end × TellsNoBox finished
-Performs bars (request.Explain poll ballots file poll_name) old new finished = Explains poll.now (option_copied ballots) old new finished.end × TellsNoBox finished
+-- what a run of a request appends to the sink, and how it ends; only a count returns a box
+abbrev pub Performs : Taking → LoadedRequest → Option Text → Option Text → FinishedRun → Type 0
+Performs Takes (request.Count poll ballots desks casting made_for) old new finished = Counts Takes made_for (inputs_at poll ballots desks casting) old new finished
+Performs Takes (request.List poll ballots listed) old new finished = Lists listed poll.now ballots.now old new (result_err finished.end) × EndsDone finished.end × TellsNoBox finished
+Performs Takes (request.Check poll) old new finished = Checks poll.now old new (result_err finished.end) × EndsDone finished.end × TellsNoBox finished
+Performs Takes (request.Explain poll ballots file poll_name) old new finished = Explains poll.now (option_copied ballots) old new finished.end × TellsNoBox finished

@@ -1,5 +1,5 @@
 -- The votes of the inputs after they were taken. Each run that counts begins with them.
-use Rattle.std.specs.Prelude.{◌≡◌, ◌≢◌, ℕ, Bool, List, All, Some, IfSome, Ok, length}
+use Rattle.std.specs.Prelude.{◌≡◌, ◌≢◌, List, All, Some, IfSome, Ok, length}
 use Rattle.vote_poll_text.specs.Lines.{HasTooManyLines, lines_of}
 use Rattle.vote_poll.specs.Options.{IsOption}
 use Rattle.vote_poll.specs.PollContent.{PollContent, option_count}
@@ -11,6 +11,7 @@ use Rattle.vote_sheet.specs.Texts.{Text}
 use Rattle.vote_commands.specs.Counting.{IsNamed, StopsCount}
 use Rattle.vote_commands.specs.Inputs.{Inputs}
 use Rattle.vote_commands.specs.Runs.{Stops}
+use Rattle.vote_commands.specs.TakingVotes.{Taking}
 use Rattle.vote_commands.specs.declared.fault.RunFault.{RunFault}
 use Rattle.vote_commands.specs.declared.fault.RunFault.TheVariants as run
 use Rattle.vote_commands.specs.declared.votes.TakenVotes.{TakenVotes}
@@ -35,6 +36,6 @@ pub record AreTaken (inputs : Inputs) (taken : TakenVotes) : Type 0 where
   pub ballots : AreBallotsTaken taken.poll inputs (taken.lines, taken.audited)
 
 -- this fault stops the taking of the inputs' votes; it is not a fault of the output
-pub record StopsTaking (bars : ℕ → Bool) (inputs : Inputs) (fault : RunFault) : Type 0 where
-  pub stops : Stops (StopsCount bars inputs) (Some fault)
+pub record StopsTaking (Takes : Taking) (inputs : Inputs) (fault : RunFault) : Type 0 where
+  pub stops : Stops (StopsCount Takes inputs) (Some fault)
   pub unwritten : fault ≢ run.Output

@@ -17,7 +17,8 @@ use vote_sheet::check_text;
 #[tactic(auto, using(crate::proofs::Stopping::stops_at_poll))]
 fn check_file(alloc: Global, poll_text: &[u8]) -> Result<String, RunFault>
     ensures check { IfOk result (IsText (IsCheck poll_text.now)) }
-    ensures stops { Stops (StopsAtPoll (poll_in poll_text.now) (λ poll. GoesThrough)) (result_err result) }
+    ensures stops { Stops (StopsAtPoll (poll_in poll_text.now) (λ poll. GoesThrough))
+        (result_err result) }
     ensures unwritten { result ≢ Err RunFault.Output }
 {
     let poll = match poll_of_file(alloc, poll_text) {
@@ -29,7 +30,8 @@ fn check_file(alloc: Global, poll_text: &[u8]) -> Result<String, RunFault>
 
 /// Reads a poll file, and writes how many options and electors it has.
 pub fn check_poll<W: Sink>(alloc: Global, poll_text: &[u8], sink: &mut W) -> Result<(), RunFault>
-    ensures checks { Checks poll_text.now (W.contents sink.old) (W.contents sink.new) (result_err result) }
+    ensures checks { Checks poll_text.now (W.contents sink.old) (W.contents sink.new)
+        (result_err result) }
     ensures output { IsErrOf result RunFault.Output ↔ (W.faults sink.old < W.faults sink.new) }
     ensures flushed { OnOk result (W.flushed sink.new ≡ true) }
 {

@@ -16,7 +16,7 @@ use crate::output::{RunText, write_run};
 use crate::votes::{CountInputs, TakenVotes, take_inputs};
 use std::alloc::{AllocError, Global};
 use vote_count::Decision;
-use vote_desks::{AuditWitness, Audited, Gate, VoteFault};
+use vote_desks::{AuditWitness, Audited, VoteFault};
 use vote_files::Sink;
 use vote_poll::{Lines, Poll};
 use vote_request::Purpose;
@@ -79,20 +79,20 @@ fn text_of_taken(
 }
 
 /// The text of a count of the inputs for this purpose, and the witness of its audit.
-fn count_inputs<G: Gate, V: FnOnce(&Poll, &Lines<'_>, u8) -> Result<Audited, VoteFault> + Drop>(
+fn count_inputs<V: FnOnce(&Poll, &Lines<'_>, u8) -> Result<Audited, VoteFault> + Drop>(
     alloc: Global,
     inputs: &CountInputs<'_>,
     purpose: Purpose<&[u8]>,
     take: V,
 ) -> Result<(RunText, AuditWitness), RunFault>
     requires desks { AreDesks inputs.now.desks }
-    requires take { TakesVotes G.bars (V.pre take) (V.post take) }
+    requires take { TakesVotes (V.pre take) (V.post take) }
     ensures counted { IfOk result (λ counted. IsCountFor purpose.entry inputs.now counted.0) }
     ensures desks { IfOk result (λ counted. IsCountedIn inputs.now counted.1) }
-    ensures stops { Stops (StopsCount G.bars inputs.now) (result_err result) }
+    ensures stops { Stops (StopsCount (V.post take) inputs.now) (result_err result) }
     ensures unwritten { result ≢ Err RunFault.Output }
 {
-    let taken = match take_inputs::<G, V>(alloc, inputs, take) {
+    let taken = match take_inputs(alloc, inputs, take) {
         Ok(taken) => taken,
         Err(fault) => return Err(fault),
     };
@@ -103,11 +103,7 @@ fn count_inputs<G: Gate, V: FnOnce(&Poll, &Lines<'_>, u8) -> Result<Audited, Vot
 /// Takes the votes of a ballot file by this call, at most once, and writes the text for this purpose, with the option that the
 /// casting vote names. A run that stops has written nothing, or a prefix if its output failed.
 #[tactic(auto, using(crate::proofs::Stopping::stops_at_output))]
-pub fn count_for<
-    G: Gate,
-    V: FnOnce(&Poll, &Lines<'_>, u8) -> Result<Audited, VoteFault> + Drop,
-    W: Sink,
->(
+pub fn count_for<V: FnOnce(&Poll, &Lines<'_>, u8) -> Result<Audited, VoteFault> + Drop, W: Sink>(
     alloc: Global,
     inputs: &CountInputs<'_>,
     purpose: Purpose<&[u8]>,
@@ -115,12 +111,13 @@ pub fn count_for<
     sink: &mut W,
 ) -> FinishedRun
     requires desks { AreDesks inputs.now.desks }
-    requires take { TakesVotes G.bars (V.pre take) (V.post take) }
-    ensures counts { Counts G.bars purpose.entry inputs.now (W.contents sink.old) (W.contents sink.new) result }
+    requires take { TakesVotes (V.pre take) (V.post take) }
+    ensures counts { Counts (V.post take) purpose.entry inputs.now (W.contents sink.old)
+        (W.contents sink.new) result }
     ensures output { IsErrOf result.end RunFault.Output ↔ (W.faults sink.old < W.faults sink.new) }
     ensures flushed { OnOk result.end (W.flushed sink.new ≡ true) }
 {
-    let (counted, witness) = match count_inputs::<G, V>(alloc, inputs, purpose, take) {
+    let (counted, witness) = match count_inputs(alloc, inputs, purpose, take) {
         Ok(counted) => counted,
         Err(fault) => return unaudited(Err(fault)),
     };
@@ -137,7 +134,7 @@ pub fn count_for<
 /// names. Nothing is written before the sheet is complete.
 ///
 /// For callers of the library; the program calls `perform`.
-pub fn run<G: Gate, V: FnOnce(&Poll, &Lines<'_>, u8) -> Result<Audited, VoteFault> + Drop, W: Sink>(
+pub fn run<V: FnOnce(&Poll, &Lines<'_>, u8) -> Result<Audited, VoteFault> + Drop, W: Sink>(
     alloc: Global,
     poll_text: &[u8],
     ballots: &[u8],
@@ -147,9 +144,10 @@ pub fn run<G: Gate, V: FnOnce(&Poll, &Lines<'_>, u8) -> Result<Audited, VoteFaul
     sink: &mut W,
 ) -> FinishedRun
     requires desks { AreDesks desks }
-    requires take { TakesVotes G.bars (V.pre take) (V.post take) }
+    requires take { TakesVotes (V.pre take) (V.post take) }
     ensures counts { let inputs = inputs_at poll_text.entry ballots.entry desks casting.entry in
-        Counts G.bars Purpose.Sheet inputs (W.contents sink.old) (W.contents sink.new) result }
+        Counts (V.post take) Purpose.Sheet inputs (W.contents sink.old) (W.contents sink.new)
+        result }
     ensures output { IsErrOf result.end RunFault.Output ↔ (W.faults sink.old < W.faults sink.new) }
     ensures flushed { OnOk result.end (W.flushed sink.new ≡ true) }
 {
@@ -159,5 +157,5 @@ pub fn run<G: Gate, V: FnOnce(&Poll, &Lines<'_>, u8) -> Result<Audited, VoteFaul
         desks,
         casting,
     };
-    count_for::<G, V, W>(alloc, &inputs, Purpose::Sheet, take, sink)
+    count_for(alloc, &inputs, Purpose::Sheet, take, sink)
 }

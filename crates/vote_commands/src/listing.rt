@@ -61,7 +61,8 @@ fn list_files(
     listing: Listing,
 ) -> Result<String, RunFault>
     ensures listed { IfOk result (IsText (IsListing listing poll_text.now ballots.now)) }
-    ensures stops { Stops (StopsAtPoll (poll_in poll_text.now) (λ poll. StopsAtLines ballots.now GoesThrough)) (result_err result) }
+    ensures stops { Stops (StopsAtPoll (poll_in poll_text.now)
+        (λ poll. StopsAtLines ballots.now GoesThrough)) (result_err result) }
     ensures unwritten { result ≢ Err RunFault.Output }
 {
     let poll = match poll_of_file(alloc, poll_text) {
@@ -79,7 +80,8 @@ pub fn print_listing<W: Sink>(
     listing: Listing,
     sink: &mut W,
 ) -> Result<(), RunFault>
-    ensures lists { Lists listing poll_text.now ballots.now (W.contents sink.old) (W.contents sink.new) (result_err result) }
+    ensures lists { Lists listing poll_text.now ballots.now (W.contents sink.old)
+        (W.contents sink.new) (result_err result) }
     ensures output { IsErrOf result RunFault.Output ↔ (W.faults sink.old < W.faults sink.new) }
     ensures flushed { OnOk result (W.flushed sink.new ≡ true) }
 {
@@ -99,7 +101,8 @@ pub fn print_steps<W: Sink>(
     ballots: &[u8],
     sink: &mut W,
 ) -> Result<(), RunFault>
-    ensures lists { Lists Steps poll_text.now ballots.now (W.contents sink.old) (W.contents sink.new) (result_err result) }
+    ensures lists { Lists Steps poll_text.now ballots.now (W.contents sink.old)
+        (W.contents sink.new) (result_err result) }
     ensures output { IsErrOf result RunFault.Output ↔ (W.faults sink.old < W.faults sink.new) }
     ensures flushed { OnOk result (W.flushed sink.new ≡ true) }
 {
@@ -110,7 +113,8 @@ pub fn print_steps<W: Sink>(
 ///
 /// For callers of the library; the program calls `perform`.
 pub fn steps_joined<W: Sink>(alloc: Global, input: &[u8], sink: &mut W) -> Result<(), RunFault>
-    ensures lists { let parts = joined_parts input.now in Lists Steps parts.0 parts.1 (W.contents sink.old) (W.contents sink.new) (result_err result) }
+    ensures lists { let parts = joined_parts input.now in Lists Steps parts.0 parts.1
+        (W.contents sink.old) (W.contents sink.new) (result_err result) }
     ensures output { IsErrOf result RunFault.Output ↔ (W.faults sink.old < W.faults sink.new) }
     ensures flushed { OnOk result (W.flushed sink.new ≡ true) }
 {

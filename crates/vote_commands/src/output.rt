@@ -26,7 +26,8 @@ impl Model for RunText {
 
 /// Writes the text of a run. Only the output can fail from here on.
 pub(crate) fn write_run<W: Sink>(sink: &mut W, text: &[u8]) -> Result<(), RunFault>
-    ensures writes { Writes (λ meant. meant ≡ text.now) (W.contents sink.old) (W.contents sink.new) (result_err result) }
+    ensures writes { Writes (λ meant. meant ≡ text.now) (W.contents sink.old) (W.contents sink.new)
+        (result_err result) }
     ensures only { IfErr result (λ fault. fault ≡ RunFault.Output) }
     ensures output { IsErr result ↔ (W.faults sink.old < W.faults sink.new) }
     ensures flushed { OnOk result (W.flushed sink.new ≡ true) }

@@ -17,7 +17,7 @@ use std::alloc::Global;
 use std::io::Write;
 use std::marker::Brand;
 use std::sync::ledger::{Blank, Ledger};
-use vote_desks::{Audited, Gate, VoteFault};
+use vote_desks::{Audited, VoteFault};
 use vote_files::{Meter, Sink, WriterSink};
 use vote_poll::{Lines, Poll};
 use vote_request::{Listing, Request};
@@ -45,7 +45,8 @@ pub fn perform_listing<W: Sink>(
     listing: Listing,
     sink: &mut W,
 ) -> FinishedRun
-    ensures lists { Lists listing poll.now ballots.now (W.contents sink.old) (W.contents sink.new) (result_err result.end) }
+    ensures lists { Lists listing poll.now ballots.now (W.contents sink.old) (W.contents sink.new)
+        (result_err result.end) }
     ensures end { EndsDone result.end }
     ensures none { TellsNoBox result }
     ensures output { IsErrOf result.end RunFault.Output ↔ (W.faults sink.old < W.faults sink.new) }
@@ -56,14 +57,16 @@ pub fn perform_listing<W: Sink>(
 
 /// Performs a request: writes the output that these bytes, this casting vote and this number of desks call for, and returns how
 /// the run ended. Only a count takes votes, by this call.
-pub fn perform<
-    G: Gate,
-    V: FnOnce(&Poll, &Lines<'_>, u8) -> Result<Audited, VoteFault> + Drop,
-    W: Sink,
->(alloc: Global, request: &LoadedRequest<'_>, take: V, sink: &mut W) -> FinishedRun
+pub fn perform<V: FnOnce(&Poll, &Lines<'_>, u8) -> Result<Audited, VoteFault> + Drop, W: Sink>(
+    alloc: Global,
+    request: &LoadedRequest<'_>,
+    take: V,
+    sink: &mut W,
+) -> FinishedRun
     requires desks { DesksFit request.now }
-    requires take { TakesVotes G.bars (V.pre take) (V.post take) }
-    ensures performs { Performs G.bars request.now (W.contents sink.old) (W.contents sink.new) result }
+    requires take { TakesVotes (V.pre take) (V.post take) }
+    ensures performs { Performs (V.post take) request.now (W.contents sink.old)
+        (W.contents sink.new) result }
     ensures output { IsErrOf result.end RunFault.Output ↔ (W.faults sink.old < W.faults sink.new) }
     ensures flushed { OnOk result.end (W.flushed sink.new ≡ true) }
 {
@@ -81,7 +84,7 @@ pub fn perform<
                 desks: *desks,
                 casting: *casting,
             };
-            count_for::<G, V, W>(alloc, &inputs, *purpose, take, sink)
+            count_for(alloc, &inputs, *purpose, take, sink)
         }
         Request::List {
             poll,
@@ -100,32 +103,34 @@ pub fn perform<
 
 /// Performs a request on a sink over a writer, and returns the writer. The sink counts with this blank.
 fn perform_metered<
-    G: Gate,
     V: FnOnce(&Poll, &Lines<'_>, u8) -> Result<Audited, VoteFault> + Drop,
     W: Write,
     L: Ledger,
 >(alloc: Global, request: &LoadedRequest<'_>, take: V, writer: W, blank: Blank) -> (W, FinishedRun)
     requires desks { DesksFit request.now }
-    requires take { TakesVotes G.bars (V.pre take) (V.post take) }
+    requires take { TakesVotes (V.pre take) (V.post take) }
     requires name { blank.name ≡ L.name }
     requires parts { blank.parts ≡ L.parts }
     requires two { blank.parts ≡ 2 }
-    ensures { Performs G.bars request.now (W.contents writer) (W.contents result.0) result.1 }
+    ensures { Performs (V.post take) request.now (W.contents writer) (W.contents result.0)
+        result.1 }
 {
     let mut sink = WriterSink::new(writer, Meter::<L>::new(blank));
-    let finished = perform::<G, V, WriterSink<W, L>>(alloc, request, take, &mut sink);
+    let finished = perform(alloc, request, take, &mut sink);
     (sink.into_writer(), finished)
 }
 
 /// [`perform`] on a writer of std. Returns the writer.
-pub fn perform_on<
-    G: Gate,
-    V: FnOnce(&Poll, &Lines<'_>, u8) -> Result<Audited, VoteFault> + Drop,
-    W: Write,
->(alloc: Global, request: &LoadedRequest<'_>, take: V, writer: W) -> (W, FinishedRun)
+pub fn perform_on<V: FnOnce(&Poll, &Lines<'_>, u8) -> Result<Audited, VoteFault> + Drop, W: Write>(
+    alloc: Global,
+    request: &LoadedRequest<'_>,
+    take: V,
+    writer: W,
+) -> (W, FinishedRun)
     requires desks { DesksFit request.now }
-    requires take { TakesVotes G.bars (V.pre take) (V.post take) }
-    ensures { Performs G.bars request.now (W.contents writer) (W.contents result.0) result.1 }
+    requires take { TakesVotes (V.pre take) (V.post take) }
+    ensures { Performs (V.post take) request.now (W.contents writer) (W.contents result.0)
+        result.1 }
 {
-    perform_metered::<G, V, W, Brand>(alloc, request, take, writer, Blank::new(2))
+    perform_metered::<V, W, Brand>(alloc, request, take, writer, Blank::new(2))
 }

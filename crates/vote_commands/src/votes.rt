@@ -4,6 +4,7 @@ ghost use Rattle.std.specs.Prelude.{◌≡◌, IfErr, IfNone, IfOk, IfSome, opti
 ghost use Rattle.vote_poll.specs.PollFile.{poll_in};
 ghost use Rattle.vote_steps.specs.Desks.{AreDesks};
 ghost use Rattle.vote_commands.specs.Counting.{IsNamed, NamesNoOption};
+ghost use Rattle.vote_commands.specs.Reading.{AsksForNoVotes};
 ghost use Rattle.vote_commands.specs.TakenVotes.{AreBallotsTaken, AreTaken, StopsTaking};
 ghost use Rattle.vote_commands.specs.TakingVotes.{TakesVotes};
 
@@ -11,7 +12,7 @@ use crate::fault::RunFault;
 use crate::reading::{lines_of_file, poll_of_file};
 use std::alloc::Global;
 use std::marker::Model;
-use vote_desks::{Audited, Gate, VoteFault};
+use vote_desks::{Audited, VoteFault};
 use vote_poll::{Lines, Poll};
 
 /// The inputs of a run that counts.
@@ -59,14 +60,11 @@ fn named_option(poll: &Poll, casting: Option<&[u8]>) -> Option<Option<u8>>
 }
 
 /// The poll of the poll file, and its option that the casting vote names, if there is a casting vote.
-#[tactic(auto, using(crate::proofs::Stopping::count_without_poll, crate::proofs::Stopping::count_without_option))]
-fn read_poll<G: Gate>(
-    alloc: Global,
-    inputs: &CountInputs<'_>,
-) -> Result<(Poll, Option<u8>), RunFault>
+#[tactic(auto, using(crate::proofs::Stopping::without_poll, crate::proofs::Stopping::without_option))]
+fn read_poll(alloc: Global, inputs: &CountInputs<'_>) -> Result<(Poll, Option<u8>), RunFault>
     ensures poll { IfOk result (λ read. poll_in inputs.now.poll ≡ Ok read.0) }
     ensures casting { IfOk result (λ read. IsNamed read.0 inputs.now.casting read.1) }
-    ensures stopped { IfErr result (StopsTaking G.bars inputs.now) }
+    ensures stopped { IfErr result (AsksForNoVotes inputs.now) }
 {
     let poll = match poll_of_file(alloc, inputs.poll) {
         Ok(poll) => poll,
@@ -81,18 +79,18 @@ fn read_poll<G: Gate>(
 /// Takes the votes of the ballot file by this call, and returns the lines and the audited box. `poll` is the poll of the poll file,
 /// and has the option that the casting vote names.
 #[tactic(auto, using(crate::proofs::Stopping::count_without_votes))]
-fn take_ballots<'t, G: Gate, V: FnOnce(&Poll, &Lines<'_>, u8) -> Result<Audited, VoteFault> + Drop>(
+fn take_ballots<'t, V: FnOnce(&Poll, &Lines<'_>, u8) -> Result<Audited, VoteFault> + Drop>(
     alloc: Global,
     poll: &Poll,
     inputs: &CountInputs<'t>,
     take: V,
 ) -> Result<(Lines<'t>, Audited), RunFault>
-    requires take { TakesVotes G.bars (V.pre take) (V.post take) }
+    requires take { TakesVotes (V.pre take) (V.post take) }
     requires desks { AreDesks inputs.now.desks }
     requires poll { poll_in inputs.now.poll ≡ Ok poll.now }
     requires casting { ¬ NamesNoOption poll.now inputs.now.casting }
     ensures taken { IfOk result (AreBallotsTaken poll.now inputs.now) }
-    ensures stopped { IfErr result (StopsTaking G.bars inputs.now) }
+    ensures stopped { IfErr result (StopsTaking (V.post take) inputs.now) }
 {
     let lines = match lines_of_file(alloc, inputs.ballots) {
         Ok(lines) => lines,
@@ -106,21 +104,21 @@ fn take_ballots<'t, G: Gate, V: FnOnce(&Poll, &Lines<'_>, u8) -> Result<Audited,
 }
 
 /// Reads the poll, then the casting vote, then the lines, and takes the votes by this call.
+#[tactic(auto, using(crate::proofs::Stopping::count_without_votes_asked))]
 pub(crate) fn take_inputs<
     't,
-    G: Gate,
     V: FnOnce(&Poll, &Lines<'_>, u8) -> Result<Audited, VoteFault> + Drop,
 >(alloc: Global, inputs: &CountInputs<'t>, take: V) -> Result<TakenVotes<'t>, RunFault>
     requires desks { AreDesks inputs.now.desks }
-    requires take { TakesVotes G.bars (V.pre take) (V.post take) }
+    requires take { TakesVotes (V.pre take) (V.post take) }
     ensures taken { IfOk result (AreTaken inputs.now) }
-    ensures stopped { IfErr result (StopsTaking G.bars inputs.now) }
+    ensures stopped { IfErr result (StopsTaking (V.post take) inputs.now) }
 {
-    let (poll, casting) = match read_poll::<G>(alloc, inputs) {
+    let (poll, casting) = match read_poll(alloc, inputs) {
         Ok(read) => read,
         Err(fault) => return Err(fault),
     };
-    let (lines, audited) = match take_ballots::<G, V>(alloc, &poll, inputs, take) {
+    let (lines, audited) = match take_ballots(alloc, &poll, inputs, take) {
         Ok(taken) => taken,
         Err(fault) => return Err(fault),
     };

@@ -1,4 +1,5 @@
 pub mod Words
+pub mod Heads
 pub mod Scanning
 pub mod Nearest
 pub mod Listing

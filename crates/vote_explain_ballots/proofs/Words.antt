@@ -1,5 +1,5 @@
 -- The names that the proofs of this crate share.
-pub use Rattle.std.proofs.Common.{Bool, Bor, List, None, Option, Some, [], ap, append-nil, append_assoc, ap₂, arith, codes, drop, false, filter, get_or, inl, inr, length, map, min, nat_le, not, refl, rules, slice_get, string_bytes, subst, suc, sym}
+pub use Rattle.std.proofs.Common.{Bool, Bor, List, None, Option, Some, [], ap, append-nil, append_assoc, ap₂, arith, codes, decimal, drop, false, filter, get_or, inl, inr, length, map, min, nat_le, not, refl, rules, slice_get, string_bytes, subst, suc, sym}
 pub use Rattle.std.proofs.Common.{take, take-append-drop, take_all, true, zero, ℕ, ◌&&◌, ◌++◌, ◌+◌, ◌-◌, ◌<◌, ◌==◌, ◌||◌, ◌∙◌, ◌∷◌, ◌≡◌, ◌≤◌}
 pub use Rattle.std.specs.List.{All, Contains, after_first, before_first, enumerate_from, flat_map, list_all, list_any, onto_first, position_or_len, slice_split}
 pub use Rattle.std.specs.Prelude.{cond, is_some, option_and_then, ◌↔◌}
@@ -20,7 +20,8 @@ pub use Rattle.vote_steps.specs.History.{before_close, is_closed, is_valid, repl
 pub use Rattle.vote_sheet.specs.Texts.{Text}
 pub use Rattle.vote_explain_poll.specs.Findings.{AreLinesFor}
 pub use Rattle.vote_explain_poll.specs.Hints.{Adding}
-pub use Rattle.vote_explain_ballots.specs.Explained.{AreWarnings, IsIfText, IsLineHint, IsRemarked, IsStrangerHint, SaysRefusal, counted_text, finding, finding_head, question, stranger_words}
+pub use Rattle.vote_explain_ballots.specs.Explained.{IsIfText, IsLineHint, IsRemarked, IsStrangerHint, SaysRefusal, finding, finding_head, parted, question, stranger_words}
 pub use Rattle.vote_explain_ballots.specs.Places.{IsColumn, IsExit, IsLinePrefix, IsPartAfter, has_byte, may_end, next_part}
 pub use Rattle.vote_explain_ballots.specs.Refusals.{AreReplies, EachRefusalIsListed, Refusal, RefusedAsBySteps, if_refusing, refusal, refusal_by, refusal_of, refusals, refusing_reply, reply_to_cast}
+pub use Rattle.vote_explain_ballots.specs.Tables.{is_even, is_head, is_of_ranks, is_rank, is_sign, words_of}
 pub use Rattle.vote_explain_ballots.specs.Remarks.{IsNearest, IsRemark, edits_between, edits_from, is_title}

@@ -1,7 +1,7 @@
 -- What `explain` says of the lines of a ballot file. Which lines are listed, where each leaves the grammar, what a ballot has there, and
--- all numbers are fixed here. What a remark says is open.
-use Rattle.std.specs.Prelude.{◌≡◌, ℕ, ◌+◌, ◌≤◌, ◌==◌, ◌&&◌, ◌⊎◌, if◌then◌else◌, nat_le, nat_lt, Bool, true, false, option_map, unwrap_or, List, [], ◌∷◌, ◌++◌, count_by, drop, length, IsTrue, codes, decimal}
-use Rattle.std.specs.List.{All, before_first, concat, flat_map}
+-- what looks like a table, what the ranks of a ballot are of, and all numbers are fixed here. What a remark says is open.
+use Rattle.std.specs.Prelude.{◌≡◌, ℕ, ◌+◌, ◌==◌, ◌&&◌, if◌then◌else◌, nat_le, nat_lt, slice_index_or, Bool, true, false, option_map, unwrap_or, List, [], ◌∷◌, ◌++◌, count_by, drop, length, codes, decimal}
+use Rattle.std.specs.List.{All, before_first, concat, enumerate_from, flat_map}
 use Rattle.std.specs.Str.{byte}
 use Rattle.vote_poll.specs.PollContent.{PollContent, elector_count, last_in_time, option_count}
 use Rattle.vote_poll.specs.Readings.{is_ballot, is_space, reading}
@@ -15,9 +15,11 @@ use Rattle.vote_sheet.specs.LastBallots.{refused_count, valid_count, voter_count
 use Rattle.vote_sheet.specs.Steps.{reply_words}
 use Rattle.vote_sheet.specs.Texts.{Text, line}
 use Rattle.vote_explain_poll.specs.Findings.{AreLinesFor}
+use Rattle.vote_explain_poll.specs.Hints.{IsExcerpt}
 use Rattle.vote_explain_ballots.specs.Places.{IsExit, place_words}
 use Rattle.vote_explain_ballots.specs.Remarks.{IsFileText, IsNearest, IsRemark, can_be_ballots}
-use Rattle.vote_explain_ballots.specs.declared.TheConstants.{MOST_SHOWN}
+use Rattle.vote_explain_ballots.specs.declared.TheConstants.{MOST_REMARK, MOST_SHOWN}
+use Rattle.vote_explain_ballots.specs.Tables.{table_text}
 use Rattle.vote_explain_ballots.specs.Refusals.{Refusal, refusals}
 use Rattle.vote_explain_ballots.specs.declared.places.Exit.{Exit}
 
@@ -41,7 +43,7 @@ abbrev pub rank_count : Text → ℕ
 rank_count bytes = count_by (λ b. b == byte ",") bytes + 1
 
 unfoldable pub rank_count_words : ℕ → ℕ → Text
-rank_count_words ranks options = concat (decimal ranks ∷ codes " ranks, the poll has " ∷ decimal options ∷ codes " options" ∷ [])
+rank_count_words ranks options = concat (decimal ranks ∷ (if ranks == 1 then codes " rank" else codes " ranks") ∷ codes ", the poll has " ∷ decimal options ∷ codes " options" ∷ [])
 
 -- the question whether one of these names was meant, where there are some
 abbrev pub question : List Text → Text
@@ -74,13 +76,42 @@ finding_head number reply = codes "ballots:" ++ decimal number ++ codes ": " ++ 
 abbrev pub finding : Refusal → Text → Text
 finding refusal hint = finding_head refusal.number refusal.reply ++ hint ++ line_feed
 
-abbrev pub SaysRefusal : Bool → PollContent → Refusal → Text → Type 0
-SaysRefusal is_text poll refusal line = (hint : Text) × IsLineHint is_text poll refusal.bytes refusal.reply hint × (line ≡ finding refusal hint)
+-- nothing of a file that can't be ballots
+abbrev pub IsIfText : Bool → (Text → Type 0) → Text → Type 0
+IsIfText true Says text = Says text
+IsIfText false Says text = text ≡ []
 
--- nothing, or a line with a ballot of this poll
-abbrev pub IsExample : PollContent → Text → Type 0
-IsExample poll text =
-    (text ≡ []) ⊎ ((ballot : Text) × IsTrue (is_ballot (reading poll ballot)) × (text ≡ line (codes "a ballot line of this poll: " ∷ ballot ∷ [])))
+-- what is said of a refusal, and its line
+abbrev pub SaysRefusal : Bool → PollContent → Refusal → Text → Type 0
+SaysRefusal is_text poll refusal text =
+    (hint : Text) × (shown : Text) × IsLineHint is_text poll refusal.bytes refusal.reply hint × IsIfText is_text IsExcerpt shown × (text ≡ finding refusal hint ++ shown)
+
+-- ---- a ballot line of the poll, and what each of its ranks is of
+-- what stands before the first one of a row, and before the others
+abbrev pub parted : Text → ℕ → Text
+parted sign number = if number == 1 then codes " " else sign
+
+-- the first elector, who gives each option its number as its rank
+abbrev pub own_ballot : PollContent → Text
+own_ballot poll =
+    shown MOST_SHOWN (slice_index_or poll.roll 0 []) ++ flat_map (λ option. parted (codes ",") option.0 ++ decimal option.0) (enumerate_from 1 poll.options)
+
+-- the options in their order, each with its number
+abbrev pub own_options : PollContent → Text
+own_options poll = flat_map (λ option. parted (codes ", ") option.0 ++ decimal option.0 ++ codes " " ++ option.1) (enumerate_from 1 poll.options)
+
+-- a ballot, and the options that its ranks are of, as far as they have room in a remark
+abbrev pub order_words : Text → Text → Text
+order_words ballot options = line (codes "a ballot line of this poll: `" ∷ ballot ∷ codes "`: the ranks of" ∷ shown MOST_REMARK options ∷ codes "; 1 is the best" ∷ [])
+
+-- a line is refused that is not late
+abbrev pub has_bad_line : PollContent → List Text → Bool
+has_bad_line poll lines = nat_lt (length (drop (last_in_time poll) lines)) (refused_count poll lines)
+
+-- said of a file that can be ballots, where a line is refused that is not late
+abbrev pub example_text : Bool → PollContent → List Text → Text
+example_text is_text poll lines =
+    if is_text && has_bad_line poll lines && is_ballot (reading poll (own_ballot poll)) then order_words (own_ballot poll) (own_options poll) else []
 
 -- what a box that holds the lines counts, in the words of the result sheet
 pub record AreTotals (poll : PollContent) (lines : List Text) (totals : Totals) : Type 0 where
@@ -93,41 +124,24 @@ abbrev pub numbers_text : PollContent → List Text → Text
 numbers_text poll lines = line (
     decimal (length lines) ∷ codes " lines: " ∷ decimal (valid_count poll lines) ∷ codes " valid, " ∷ decimal (refused_count poll lines)
     ∷ codes " refused, " ∷ decimal (length (drop (last_in_time poll) lines)) ∷ codes " of them late; " ∷ decimal (voter_count poll lines) ∷ codes " of "
-    ∷ decimal (elector_count poll) ∷ codes " electors have a ballot" ∷ [])
-
-abbrev pub order_text : ℕ → Text
-order_text number = line (
-    codes "line " ∷ decimal number ∷ codes " names options of the poll in another order than the poll has them: the ranks below it may stand in that order" ∷ [])
-
--- the columns may be in another order by one of the lines, or by all, or nothing is said of it
-abbrev pub IsColumnsText : List Text → Text → Type 0
-IsColumnsText lines text =
-    (text ≡ []) ⊎ ((text ≡ line (codes "the lines look like a table; its columns may stand in another order than the options" ∷ []))
-    ⊎ ((number : ℕ) × (1 ≤ number) × (number ≤ length lines) × (text ≡ order_text number)))
+    ∷ decimal (elector_count poll) ∷ codes " electors have a ballot; refused lines count for nothing" ∷ [])
 
 -- that lines are counted, if the line with the number of the last envelope is there, and a line is refused that is not late
 abbrev pub counted_text : PollContent → List Text → Text
 counted_text poll lines =
     unwrap_or (option_map (λ last.
-    if nat_le last (length lines) && nat_lt (length (drop last lines)) (refused_count poll lines)
+    if nat_le last (length lines) && has_bad_line poll lines
     then line (codes "lines are counted: taking one out, or adding one above line " ∷ decimal last ∷ codes ", changes which ballots are late" ∷ []) else []) poll.last_envelope) []
 
-abbrev pub AreWarnings : PollContent → List Text → Text → Type 0
-AreWarnings poll lines text = (columns : Text) × IsColumnsText lines columns × (text ≡ columns ++ counted_text poll lines)
+-- what is said before the lines of a file that can be ballots
+abbrev pub warnings_text : Bool → PollContent → List Text → Text
+warnings_text is_text poll lines = if is_text then table_text poll lines ++ counted_text poll lines else []
 
--- nothing of a file that can't be ballots
-abbrev pub IsIfText : Bool → (Text → Type 0) → Text → Type 0
-IsIfText true Says text = Says text
-IsIfText false Says text = text ≡ []
-
--- what is remarked on the file, a line for each line that is refused, an example, and the numbers
+-- what is said of the file, a line for each line that is refused, a ballot line of the poll, and the numbers
 pub record IsExplained (poll : PollContent) (file : Text) (lines : List Text) (text : Text) : Type 0 where
   pub of_file : Text
   pub is_of_file : IsFileText of_file
-  pub warnings : Text
-  pub are_warnings : IsIfText (can_be_ballots file lines) (AreWarnings poll lines) warnings
   pub findings : Text
   pub are_findings : AreLinesFor (SaysRefusal (can_be_ballots file lines) poll) (refusals poll lines) findings
-  pub example : Text
-  pub is_example : IsExample poll example
-  pub is_said : text ≡ of_file ++ warnings ++ findings ++ example ++ numbers_text poll lines
+  pub is_said :
+      text ≡ of_file ++ warnings_text (can_be_ballots file lines) poll lines ++ findings ++ example_text (can_be_ballots file lines) poll lines ++ numbers_text poll lines

@@ -42,12 +42,14 @@ place_words part.Name count =
     if count == 0 then codes "the name there: a to z, 0 to 9, . or -"
     else if nat_lt count MAX_VOTER_NAME then codes "a space there, or more of the name: a to z, 0 to 9, . or -"
     else codes "a space there: a name has at most 32 bytes"
-place_words part.Rank count = codes "a rank there: a number from 1 to 99, or a hyphen"
+place_words part.Rank count = codes "a rank there: a number from 1 to 99, or a hyphen for an option that is not ranked, and so last"
 place_words part.Digit count =
     if nat_lt count (MAX_LINE - 1) then codes "a comma or its end there, or a second digit of the rank"
     else if nat_lt count MAX_LINE then codes "its end there, or a second digit of the rank: a line has at most 200 bytes"
     else codes "its end there: a line has at most 200 bytes"
-place_words part.RankEnd count = if nat_lt count (MAX_LINE - 1) then codes "a comma or its end there" else codes "its end there: a line has at most 200 bytes"
+place_words part.RankEnd count =
+    if nat_lt count (MAX_LINE - 1) then codes "a comma or its end there: a rank has at most two digits, or is a hyphen"
+    else codes "its end there: a line has at most 200 bytes"
 
 -- The part after the front of a ballot line of this number of bytes: it may have a byte exactly if the front and this byte are also the
 -- front of some ballot line, and it may end exactly if the front is a ballot line.

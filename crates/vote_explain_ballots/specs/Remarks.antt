@@ -4,12 +4,12 @@ use Rattle.std.specs.Prelude.{◌≡◌, ℕ, ◌+◌, ◌==◌, ◌≤◌, ◌�
 use Rattle.std.specs.List.{All, Contains, list_all, list_any, starts_with}
 use Rattle.vote_poll_text.specs.Lines.{line_feed}
 use Rattle.vote_poll_text.specs.Names.{is_printable}
-use Rattle.vote_explain_poll.specs.Syntax.{file_kind}
+use Rattle.vote_explain_poll.specs.Syntax.{file_kind, unmarked}
 use Rattle.vote_explain_ballots.specs.declared.TheConstants.{MOST_EDITS, MOST_REMARK, MOST_SHOWN}
 
--- the line begins as that of the title of a poll
+-- the line begins as that of the title of a poll, perhaps behind a byte-order mark
 abbrev pub is_title : List ℕ → Bool
-is_title line = starts_with nat_eq line (codes "title =")
+is_title line = starts_with nat_eq (unmarked line) (codes "title =")
 
 -- a file with these lines is plain text and no poll
 abbrev pub can_be_ballots : List ℕ → List (List ℕ) → Bool

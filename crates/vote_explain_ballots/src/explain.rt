@@ -1,19 +1,19 @@
 //! What is wrong with the lines of a ballot file, as a text.
-ghost use Rattle.std.specs.Prelude.{◌≡◌, IfOk, drop, length, string_bytes};
+ghost use Rattle.std.specs.Prelude.{◌≡◌, [], IfOk, drop, length, slice_index_or, string_bytes};
 ghost use Rattle.vote_poll.specs.PollContent.{last_in_time};
 ghost use Rattle.vote_poll.specs.Readings.{is_ballot, reading};
 ghost use Rattle.vote_poll_text.specs.Adding.{Adds};
 ghost use Rattle.vote_steps.specs.HeldLines.{HoldsLines};
 ghost use Rattle.vote_sheet.specs.LastBallots.{refused_count};
-ghost use Rattle.vote_explain_poll.specs.Hints.{Tells};
-ghost use Rattle.vote_explain_ballots.specs.Explained.{AreTotals, AreWarnings, IsExample, IsExplained, IsIfText, counted_text, numbers_text};
+ghost use Rattle.vote_explain_ballots.specs.Explained.{AreTotals, IsExplained, counted_text, example_text, has_bad_line, numbers_text, order_words, own_ballot, own_options, parted, warnings_text};
 ghost use Rattle.vote_explain_ballots.specs.Refusals.{EachRefusalIsListed, RefusedAsBySteps};
 
-use crate::columns::{is_of_bad_shape, push_columns};
 use crate::findings::Findings;
+use crate::tables::push_table;
 use crate::whole_file::push_file_text;
+use crate::{MOST_REMARK, MOST_SHOWN};
 use std::alloc::{AllocError, Global};
-use vote_poll::{Lines, Poll, Reading, read_line};
+use vote_poll::{Lines, Poll, Reading, push_shown, read_line};
 use vote_steps::laws::lines_are_counted;
 use vote_steps::{BallotBox, Step, Totals, cast_all};
 
@@ -42,17 +42,34 @@ fn totals_of(poll: &Poll, lines: &Lines<'_>, ballot_box: &BallotBox) -> Totals
     ballot_box.totals()
 }
 
-/// A ballot line of the poll: its first elector ranks the options in their order.
-fn example(alloc: Global, poll: &Poll) -> Result<String, AllocError> {
-    let mut ballot = String::new(alloc);
-    for byte in poll.voter_name(0).unwrap_or(b"") {
-        ballot.push(*byte as char)?;
+/// Adds what stands before the first one of a row, or this before the others.
+fn push_parted(text: &mut String, sign: &str, number: u8) -> Result<(), AllocError>
+    ensures { Adds result text.old (parted sign.now number) text.new }
+{
+    text.push_str(if number == 1 { " " } else { sign })
+}
+
+/// The name of the first elector.
+fn first_elector(poll: &Poll) -> &[u8]
+    ensures { result.now ≡ slice_index_or poll.now.roll 0 [] }
+{
+    poll.voter_name(0).unwrap_or(b"")
+}
+
+/// A ballot line of the poll, whose first elector gives each option its number as its rank; and the options with their numbers.
+fn own_ballot(alloc: Global, poll: &Poll) -> Result<(String, String), AllocError>
+    ensures { IfOk result (λ own. (string_bytes own.0 ≡ own_ballot poll.now) × (string_bytes own.1 ≡ own_options poll.now)) }
+{
+    let (mut ballot, mut options) = (String::new(alloc), String::new(alloc));
+    push_shown(&mut ballot, first_elector(poll), MOST_SHOWN)?;
+    for before in 0..poll.options() {
+        push_parted(&mut ballot, ",", before + 1)?;
+        write!(ballot, "{}", before + 1)?;
+        push_parted(&mut options, ", ", before + 1)?;
+        write!(options, "{} ", before + 1)?;
+        options.push_str(poll.option_name(before + 1))?;
     }
-    ballot.push_str(" 1")?;
-    for before in 1..poll.options() {
-        write!(ballot, ",{}", before + 1)?;
-    }
-    Ok(ballot)
+    Ok((ballot, options))
 }
 
 /// Whether the poll reads a ballot in a line.
@@ -62,23 +79,46 @@ fn is_ballot(poll: &Poll, line: &[u8]) -> bool
     matches!(read_line(poll, line), Reading::Ballot { .. })
 }
 
-/// Adds an example if it is wanted, and if it is a ballot of the poll.
+/// Adds a ballot line of the poll, and what each of its ranks is of.
+fn push_order(text: &mut String, ballot: &String, options: &String) -> Result<(), AllocError>
+    ensures { Adds result text.old (order_words (string_bytes ballot.now) (string_bytes options.now)) text.new }
+{
+    text.push_str("a ballot line of this poll: `")?;
+    text.push_str(ballot.as_str())?;
+    text.push_str("`: the ranks of")?;
+    push_shown(text, options.as_bytes(), MOST_REMARK)?;
+    text.push_str("; 1 is the best\n")?;
+    Ok(())
+}
+
+/// Whether a line is refused that is not late.
+fn has_bad_line(poll: &Poll, lines: &Lines<'_>, totals: &Totals) -> bool
+    requires { AreTotals poll.now lines.now totals.now }
+    ensures { result ≡ has_bad_line poll.now lines.now }
+{
+    (late_count(poll, lines) as u64) < totals.refused
+}
+
+/// Adds a ballot line of the poll, and what each of its ranks is of, if a line is refused that is not late, in a file that can be
+/// ballots.
 fn push_example(
     alloc: Global,
     text: &mut String,
+    is_text: bool,
     poll: &Poll,
-    is_wanted: bool,
+    lines: &Lines<'_>,
+    totals: &Totals,
 ) -> Result<(), AllocError>
-    ensures { Tells result text.old (IsExample poll.now) text.new }
+    requires { AreTotals poll.now lines.now totals.now }
+    ensures { Adds result text.old (example_text is_text poll.now lines.now) text.new }
 {
-    if !is_wanted {
+    let (ballot, options) = own_ballot(alloc, poll)?;
+    let has_bad_line = has_bad_line(poll, lines, totals);
+    if !(is_text & has_bad_line & is_ballot(poll, ballot.as_bytes())) {
         return Ok(());
     }
-    let example = example(alloc, poll)?;
-    if !is_ballot(poll, example.as_bytes()) {
-        return Ok(());
-    }
-    writeln!(text, "a ballot line of this poll: {}", example.as_str())
+    push_order(text, &ballot, &options)?;
+    Ok(())
 }
 
 /// Adds how many lines are valid, refused and late, and how many electors have a ballot.
@@ -95,7 +135,7 @@ fn push_totals(
     let (valid, refused, voters) = (totals.valid, totals.refused, totals.voters);
     writeln!(
         text,
-        "{count} lines: {valid} valid, {refused} refused, {late} of them late; {voters} of {electors} electors have a ballot"
+        "{count} lines: {valid} valid, {refused} refused, {late} of them late; {voters} of {electors} electors have a ballot; refused lines count for nothing"
     )
 }
 
@@ -113,7 +153,7 @@ fn push_counted(
     let Some(last) = poll.last_envelope() else {
         return Ok(());
     };
-    if lines.len() < last as usize || totals.refused <= late_count(poll, lines) as u64 {
+    if lines.len() < last as usize || !has_bad_line(poll, lines, totals) {
         return Ok(());
     }
     writeln!(
@@ -124,27 +164,26 @@ fn push_counted(
 
 /// Adds what is said before the lines, of a file that can be ballots.
 fn push_warnings(
+    alloc: Global,
     text: &mut String,
     is_text: bool,
     poll: &Poll,
     lines: &Lines<'_>,
-    steps: &[Step],
     totals: &Totals,
 ) -> Result<(), AllocError>
     requires { AreTotals poll.now lines.now totals.now }
-    ensures { Tells result text.old (IsIfText is_text (AreWarnings poll.now lines.now)) text.new }
+    ensures { Adds result text.old (warnings_text is_text poll.now lines.now) text.new }
 {
     if !is_text {
         return Ok(());
     }
-    push_columns(text, poll, lines, steps)?;
-    push_counted(text, poll, lines, totals)?;
-    Ok(())
+    push_table(alloc, text, poll, lines)?;
+    push_counted(text, poll, lines, totals)
 }
 
 /// What is wrong with the lines of a ballot file: what is remarked on the whole file; a line for each line that is refused, in their
-/// order, with the words that `steps` has for it and a hint; a ballot line as an example, if a line is of bad shape; and how many
-/// lines are valid and refused. `text` is the file of the lines, and `file` its name for a command that mends it, where it has one.
+/// order, with the words that `steps` has for it, a hint and the line; a ballot line of the poll, with what each rank is of; and how
+/// many lines are valid and refused. `text` is the file of the lines, and `file` its name for a command that mends it, where it has one.
 pub fn explain_ballots(
     alloc: Global,
     poll: &Poll,
@@ -159,10 +198,9 @@ pub fn explain_ballots(
     let (totals, steps) = (totals_of(poll, lines, &ballot_box), ballot_box.steps());
     let mut findings = Findings::new(alloc);
     let is_text = push_file_text(alloc, &mut findings.text, lines, text, steps, file)?;
-    push_warnings(&mut findings.text, is_text, poll, lines, steps, &totals)?;
+    push_warnings(alloc, &mut findings.text, is_text, poll, lines, &totals)?;
     findings.add_all(poll, lines, steps, is_text)?;
-    let is_wanted = is_text && steps.iter().any(is_of_bad_shape);
-    push_example(alloc, &mut findings.text, poll, is_wanted)?;
+    push_example(alloc, &mut findings.text, is_text, poll, lines, &totals)?;
     push_totals(&mut findings.text, poll, lines, &totals)?;
     Ok(Explained {
         text: findings.text,

@@ -77,12 +77,14 @@ pub(crate) fn place_words(part: Part, count: usize) -> &'static str
         Part::Name if count < MAX_VOTER_NAME =>
             "a space there, or more of the name: a to z, 0 to 9, . or -",
         Part::Name => "a space there: a name has at most 32 bytes",
-        Part::Rank => "a rank there: a number from 1 to 99, or a hyphen",
+        Part::Rank =>
+            "a rank there: a number from 1 to 99, or a hyphen for an option that is not ranked, and so last",
         Part::Digit if count < MAX_LINE - 1 =>
             "a comma or its end there, or a second digit of the rank",
         Part::Digit if count < MAX_LINE =>
             "its end there, or a second digit of the rank: a line has at most 200 bytes",
-        Part::RankEnd if count < MAX_LINE - 1 => "a comma or its end there",
+        Part::RankEnd if count < MAX_LINE - 1 =>
+            "a comma or its end there: a rank has at most two digits, or is a hyphen",
         Part::Digit | Part::RankEnd => "its end there: a line has at most 200 bytes",
     }
 }

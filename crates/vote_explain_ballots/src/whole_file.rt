@@ -6,10 +6,10 @@ ghost use Rattle.vote_poll_text.specs.Names.{is_printable};
 ghost use Rattle.vote_explain_poll.specs.Hints.{Tells};
 ghost use Rattle.vote_explain_ballots.specs.Remarks.{IsFileText, IsRemark, can_be_ballots, is_title};
 
-use crate::columns::is_of_bad_shape;
+use crate::findings::is_of_bad_shape;
 use crate::{MARK, MOST_REMARK};
 use std::alloc::{AllocError, Global};
-use vote_explain_poll::file_kind;
+use vote_explain_poll::{file_kind, unmarked};
 use vote_poll::Lines;
 use vote_poll_text::{is_printable, push_mending};
 use vote_steps::Step;
@@ -65,12 +65,19 @@ fn push_file_line(text: &mut String, remark: &str) -> Result<(), AllocError>
     writeln!(text, "the ballot file {remark}")
 }
 
-/// Whether a line begins as that of the title of a poll.
+/// Whether a line begins as that of the title of a poll, perhaps behind a byte-order mark.
+fn is_title(line: &[u8]) -> bool
+    ensures { result ≡ is_title line.now }
+{
+    unmarked(line).starts_with(b"title =")
+}
+
+/// Whether a line is as that of the title of a poll.
 fn has_title(lines: &Lines<'_>) -> bool
     ensures { result ≡ list_any is_title lines.now }
 {
     for place in 0..lines.len() {
-        if lines.line(place).starts_with(b"title =") {
+        if is_title(lines.line(place)) {
             return true;
         }
     }

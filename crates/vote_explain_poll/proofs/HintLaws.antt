@@ -1,5 +1,5 @@
 -- What is shown of any words is a hint.
-use Rattle.vote_explain_poll.proofs.Words.{◌≡◌, ◌≢◌, ◌/◌, ◌∙◌, ◌≤◌, ◌*◌, ◌∷◌, ◌==◌, [], ℕ, Bool, List, not, true, take, length, refl, arith, length-append, length-take, IsHint}
+use Rattle.vote_explain_poll.proofs.Words.{◌≡◌, ◌≢◌, ◌/◌, ◌∙◌, ◌≤◌, ◌*◌, ◌∷◌, ◌==◌, [], ℕ, Bool, List, not, true, take, length, refl, arith, length-append, length-take, IsHint, IsHintLine, hint_line}
 use Rattle.std.specs.List.{flat_map, list_all}
 use Rattle.std.proofs.lemmas.Bool.Decides.{nat_tests}
 use Rattle.std.proofs.lemmas.List.Elements.{All-weaker}
@@ -31,3 +31,6 @@ hint_of words =
       unbroken = All-weaker (λ b. stays b ≡ true) (λ b. b ≢ 10) (λ b is same. grind (arith, nat_tests)) (flat_map shown_byte part) (AllPass-from_list_all stays (flat_map shown_byte part) (shown_are part).0);
       short = omega (arith, (shown_are part).1, length-take (MAX_HINT / 4) words);
     }
+
+pub hint_line_is : (words : List ℕ) → IsHintLine (hint_line words)
+hint_line_is words = (shown (MAX_HINT / 4) words, hint_of words, refl)

@@ -1,3 +1,3 @@
 pub mod Words
 pub mod Lines
-mod HintLaws
+pub mod HintLaws

@@ -5,6 +5,6 @@ pub use Rattle.std.proofs.lemmas.List.{length-take, take_more}
 pub use Rattle.toml.specs.View.{members_view, table_view}
 pub use Rattle.vote_poll_keys.specs.Keys.{all_keys, document, key_named}
 pub use Rattle.vote_explain_poll.specs.Findings.{AreLinesFor, SaysFault, SaysKey, key_head}
-pub use Rattle.vote_explain_poll.specs.Hints.{Adding, IsHint}
+pub use Rattle.vote_explain_poll.specs.Hints.{Adding, IsHint, IsHintLine, hint_line}
 pub use Rattle.vote_explain_poll.specs.Syntax.{column_number, last_line}
 pub use Rattle.vote_explain_poll.specs.UnreadKeys.{edits_to, path_of, table_holds_name, unread_in}

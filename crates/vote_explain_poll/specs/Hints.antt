@@ -1,5 +1,5 @@
 -- What a hint is, its limits, and what calls say that add to a text.
-use Rattle.std.specs.Prelude.{◌≡◌, ◌≤◌, ◌/◌, ℕ, List, ◌++◌, Result, OnOk, length, string_bytes}
+use Rattle.std.specs.Prelude.{◌≡◌, ◌⊎◌, [], ◌≤◌, ◌/◌, ℕ, List, ◌++◌, Result, OnOk, length, string_bytes}
 use Rattle.std.specs.declared.string.String.{String}
 use Rattle.vote_poll_text.specs.Lines.{IsUnbroken, line_feed}
 use Rattle.vote_poll_text.specs.Shown.{shown}
@@ -18,8 +18,20 @@ pub record IsHint (hint : List ℕ) : Type 0 where
   pub unbroken : IsUnbroken hint
   pub short : length hint ≤ MAX_HINT
 
+-- these words as a hint, and a line feed
+abbrev pub hint_line : List ℕ → List ℕ
+hint_line words = shown (MAX_HINT / 4) words ++ line_feed
+
 abbrev pub IsHintLine : List ℕ → Type 0
 IsHintLine line = (hint : List ℕ) × IsHint hint × (line ≡ hint ++ line_feed)
+
+-- a line of a file, and a mark below a place in it
+abbrev pub IsExcerpt : List ℕ → Type 0
+IsExcerpt text = (line : List ℕ) × (mark : List ℕ) × IsHintLine line × IsHintLine mark × (text ≡ line ++ mark)
+
+-- nothing, or this
+abbrev pub IsLineShown : List ℕ → Type 0
+IsLineShown text = (text ≡ []) ⊎ IsExcerpt text
 
 -- a text was added of which this is said, and nothing else has changed
 abbrev pub Adding : (List ℕ → Type 0) → List ℕ → List ℕ → Type 0

@@ -1,8 +1,9 @@
 -- What is said of a poll file that is no TOML, by the place of an error in it: how many bytes stand before the error.
-use Rattle.std.specs.Prelude.{◌≡◌, ◌⊎◌, ℕ, ◌+◌, ◌-◌, ◌≤◌, not, Bool, List, [], ◌++◌, Option, Some, None, count_by, length, slice_index_or, take, codes, decimal, ◌==◌, ◌||◌, if◌then◌else◌, ◌∷◌, nat_eq}
-use Rattle.std.specs.List.{list_any, starts_with}
+use Rattle.std.specs.Prelude.{◌≡◌, ◌⊎◌, ℕ, ◌+◌, ◌-◌, ◌≤◌, not, Bool, List, [], ◌++◌, Option, Some, None, count_by, drop, filter, length, slice_index_or, take, codes, decimal, ◌==◌, ◌&&◌, ◌||◌, false, if◌then◌else◌, ◌∷◌, nat_eq}
+use Rattle.std.specs.List.{Contains, list_any, slice_split, starts_with}
+use Rattle.std.specs.Str.{byte}
 use Rattle.vote_poll_text.specs.Lines.{feed_count, parts_of}
-use Rattle.vote_poll_text.specs.Names.{is_within}
+use Rattle.vote_poll_text.specs.Names.{is_printable, is_within}
 use Rattle.vote_poll.specs.BallotLine.{IsBallotText}
 use Rattle.vote_explain_poll.specs.Hints.{IsHintLine}
 
@@ -41,6 +42,11 @@ pub record IsPlaceFinding (text finding : List ℕ) : Type 0 where
   pub is_mark : IsHintLine mark
   pub is_text : finding ≡ place_words (take place text) ++ hint ++ line ++ mark
 
+-- of the first two bytes one is printable, and the other is a zero
+abbrev pub begins_as_utf_16 : List ℕ → Bool
+begins_as_utf_16 (a ∷ b ∷ rest) = (is_printable a && b == 0) || (a == 0 && is_printable b)
+begins_as_utf_16 other = false
+
 -- What the file is with whose sign the text begins, or that has a zero among its first bytes. The sign of UTF-32 may begin with that of UTF-16.
 abbrev pub file_kind : List ℕ → Option (List ℕ)
 file_kind text =
@@ -51,16 +57,30 @@ file_kind text =
     else if begins (codes "%PDF") then Some (codes "a PDF file")
     else if begins (codes "{\\rtf") then Some (codes "an RTF file")
     else if begins (0xD0 ∷ 0xCF ∷ 0x11 ∷ 0xE0 ∷ []) then Some (codes "an old Word or Excel file")
+    else if begins_as_utf_16 text then Some (codes "UTF-16")
     else if list_any (λ b. b == 0) (take 16 text) then Some (codes "no text")
     else None
 
--- What is said of a file that is this; and of plain text that the files may be exchanged if the first line is that of a ballot, or else
--- the place.
+-- the text without a byte-order mark at its beginning
+abbrev pub unmarked : List ℕ → List ℕ
+unmarked text = if starts_with nat_eq text (0xEF ∷ 0xBB ∷ 0xBF ∷ []) then drop 3 text else text
+
+-- the lines of the text that are not empty, without a mark; a carriage return ends a line as a line feed does
+abbrev pub full_lines : List ℕ → List (List ℕ)
+full_lines text = filter (λ line. not (length line == 0)) (slice_split (λ b. b == 10 || b == 13) (unmarked text))
+
+-- of these lines the first is that of a ballot; or it may be a head, which has no equals sign, and the second is that of a ballot
+unfoldable pub BeginAsBallots : List (List ℕ) → Type 0
+BeginAsBallots lines =
+    let first = slice_index_or lines 0 [] in
+    IsBallotText first ⊎ (¬ Contains first (byte "=") × IsBallotText (slice_index_or lines 1 []))
+
+-- What is said of a file that is this; and of plain text that the files may be exchanged if it begins as ballots, or else the place.
 abbrev pub IsFindingOf : Option (List ℕ) → List ℕ → List ℕ → Type 0
 IsFindingOf (Some kind) text finding = finding ≡ codes "the poll file is " ++ kind ++ codes "; a poll is plain text in UTF-8\n"
 IsFindingOf None text finding =
-    (IsBallotText (first_line text) × (finding ≡ codes "the poll file looks like ballots: are the files exchanged?\n"))
-    ⊎ (¬ IsBallotText (first_line text) × IsPlaceFinding text finding)
+    (BeginAsBallots (full_lines text) × (finding ≡ codes "the poll file looks like ballots: are the files exchanged?\n"))
+    ⊎ (¬ BeginAsBallots (full_lines text) × IsPlaceFinding text finding)
 
 -- what the file is, if it is no plain text
 abbrev pub IsSyntaxFinding : List ℕ → List ℕ → Type 0

@@ -1,6 +1,8 @@
 //! A poll file read once, for the poll and for all that is wrong with it.
 ghost use Rattle.std.specs.Prelude.{◌≡◌, ◌≢◌, Ok, Err, IfOk, string_bytes};
 ghost use Rattle.toml.specs.View.{table_view};
+ghost use Rattle.vote_poll_keys.specs.FoundView.{found_view};
+ghost use Rattle.vote_poll_keys.specs.KeyFaults.{found_in};
 ghost use Rattle.vote_poll_keys.specs.Keys.{document};
 ghost use Rattle.vote_poll.specs.PollFaults.{faults_in};
 ghost use Rattle.vote_poll.specs.PollFile.{poll_in, poll_in_table};
@@ -27,14 +29,16 @@ pub struct ExplainedPoll {
 /// The findings of a table with these faults: a line for each, and for each key that is not read.
 fn findings_of(
     alloc: Global,
+    poll: &[u8],
     table: &Table,
     keys: &FoundKeys<'_>,
     faults: &[PollFault],
 ) -> Result<String, AllocError>
+    requires { found_view keys.now ≡ found_in (table_view table.now) }
     ensures { IfOk result (λ findings. AreFindings faults.now (table_view table.now) (string_bytes findings)) }
 {
     let unread = unread_keys(alloc, table)?;
-    let hints = Hints::of(alloc, table, keys, &unread)?;
+    let hints = Hints::of(alloc, poll, table, keys, &unread)?;
     let mut findings = String::new(alloc);
     for fault in faults {
         push_fault_line(alloc, &mut findings, *fault, &hints)?;
@@ -45,8 +49,8 @@ fn findings_of(
     Ok(findings)
 }
 
-/// What the table of a poll file says, and all that is wrong with it: it is judged as [`Poll::from_text`] judges it.
-fn explain_table(alloc: Global, table: &Table) -> Result<ExplainedPoll, AllocError>
+/// What a poll file with this table says, and all that is wrong with it: it is judged as [`Poll::from_text`] judges it.
+fn explain_table(alloc: Global, poll: &[u8], table: &Table) -> Result<ExplainedPoll, AllocError>
     ensures findings { IfOk result (λ told. AreFindings (faults_in (Ok (table_view table.now))) (table_view table.now) (string_bytes told.findings)) }
     ensures outcome { IfOk result (λ told. told.outcome ≡ poll_in_table (table_view table.now)) }
     ensures known { IfOk result (λ told. told.outcome ≢ Err Memory) }
@@ -54,7 +58,7 @@ fn explain_table(alloc: Global, table: &Table) -> Result<ExplainedPoll, AllocErr
     let keys = FoundKeys::of_table(alloc, table)?;
     let mut faults = keys.key_faults(alloc, table)?;
     push_faults(alloc, &mut faults, &keys)?;
-    let findings = findings_of(alloc, table, &keys, &faults)?;
+    let findings = findings_of(alloc, poll, table, &keys, &faults)?;
     match Poll::unless_faulty(alloc, &keys, &faults) {
         Err(PollFault::Memory) => Err(AllocError),
         outcome => Ok(ExplainedPoll { findings, outcome }),
@@ -77,7 +81,7 @@ pub fn explain_poll(
     ensures known { IfOk result (λ told. told.outcome ≢ Err Memory) }
 {
     match toml::table_from_slice(alloc, text) {
-        Ok(table) => explain_table(alloc, &table),
+        Ok(table) => explain_table(alloc, text, &table),
         Err(error) => {
             if error.is_memory() {
                 return Err(AllocError);

@@ -1,12 +1,16 @@
 //! The lines of findings: of a fault, with what was found and what is wanted, and of a key that is not read.
-ghost use Rattle.std.specs.Prelude.{◌≡◌, IfOk};
+ghost use Rattle.std.specs.Prelude.{◌≡◌, IfOk, string_bytes};
 ghost use Rattle.toml.specs.View.{table_view};
-ghost use Rattle.vote_explain_poll.specs.Findings.{SaysFault, SaysKey};
+ghost use Rattle.vote_poll_text.specs.Adding.{Adds};
+ghost use Rattle.vote_poll_keys.specs.FoundView.{found_view};
+ghost use Rattle.vote_explain_poll.specs.Findings.{IsSaidOfFault, IsSaidOfQuorum, SaysFault, SaysKey, size_of_roll, votes_needed, what_a_quorum_is};
 ghost use Rattle.vote_explain_poll.specs.Hints.{Tells};
 ghost use Rattle.vote_explain_poll.specs.UnreadKeys.{IsKeyRemark};
 
 use crate::characters::push_character;
 use crate::near::near_key;
+use crate::structure::{structure_of, texts_at};
+use crate::syntax::{first_line, line_begins, push_line_at};
 use crate::unread::UnreadKey;
 use crate::{MAX_SHOWN, push_hint_line};
 use indexmap::IndexMap;
@@ -61,19 +65,55 @@ fn push_shape(
     Ok(true)
 }
 
-/// Adds what a quorum is, and how many votes the least and the greatest one need with a roll of this size, if a roll may have it.
-fn push_quorum(words: &mut String, electors: usize) -> Result<(), AllocError> {
+/// Adds what a quorum is.
+fn push_what_a_quorum_is(words: &mut String) -> Result<(), AllocError>
+    ensures { Adds result words.old what_a_quorum_is words.new }
+{
     write!(
         words,
         "; a quorum is a whole number from 0 to {MAX_QUORUM_MULTIPLE}: how many times Q is needed, half the square root of the number of electors"
-    )?;
-    if electors == 0 || electors > MAX_ELECTORS {
-        return Ok(());
-    }
-    let (least, greatest) = (times_q(1, electors), times_q(MAX_QUORUM_MULTIPLE, electors));
+    )
+}
+
+/// Adds how many votes the least and the greatest quorum need.
+fn push_votes_needed(
+    words: &mut String,
+    electors: usize,
+    least: u64,
+    greatest: u64,
+) -> Result<(), AllocError>
+    ensures { Adds result words.old (votes_needed electors least greatest) words.new }
+{
     write!(
         words,
         "; with a roll of {electors}, the votes needed are {least} for 1 and {greatest} for {MAX_QUORUM_MULTIPLE}"
+    )
+}
+
+/// Adds what a quorum is, and how many votes the least and the greatest one need with a roll of this size, if a roll may have it.
+fn push_quorum(words: &mut String, electors: usize) -> Result<(), AllocError>
+    ensures { Tells result words.old (IsSaidOfQuorum electors) words.new }
+{
+    push_what_a_quorum_is(words)?;
+    if electors == 0 || electors > MAX_ELECTORS {
+        return Ok(());
+    }
+    let least = times_q(1, electors);
+    let greatest = times_q(MAX_QUORUM_MULTIPLE, electors);
+    push_votes_needed(words, electors, least, greatest)?;
+    Ok(())
+}
+
+/// What a ratio is.
+const A_RATIO: &str =
+    "; ratio S: S votes for it against each vote for the default: 1 for half, 2 for two thirds, 3 for three quarters";
+
+/// Adds where the default option stands, with so many other options.
+fn push_default(words: &mut String, others: usize) -> Result<(), AllocError> {
+    let number = others.saturating_add(1);
+    write!(
+        words,
+        "; the default is option {number}: it is no part of `options`"
     )
 }
 
@@ -81,10 +121,12 @@ fn push_quorum(words: &mut String, electors: usize) -> Result<(), AllocError> {
 fn push_ratios(words: &mut String, ratios: &[i64], others: usize) -> Result<(), AllocError> {
     if ratios.len() != others {
         let found = ratios.len();
-        return write!(
+        write!(
             words,
             "{found} found; one ratio is wanted for each option but the default, {others} in all"
-        );
+        )?;
+        push_default(words, others)?;
+        return words.push_str(A_RATIO);
     }
     let bad = ratios
         .iter()
@@ -94,7 +136,8 @@ fn push_ratios(words: &mut String, ratios: &[i64], others: usize) -> Result<(), 
     write!(
         words,
         "{ratio} for option {option}; a ratio is a whole number from 1 to {MAX_RATIO}"
-    )
+    )?;
+    words.push_str(A_RATIO)
 }
 
 /// What a value is.
@@ -125,17 +168,20 @@ fn push_wrong_entry(words: &mut String, key: PollKey, entries: &[Value]) -> Resu
     Ok(())
 }
 
-/// Adds what belongs at a key, whose value is of the wrong kind or missing. The roll has this size, if it is there.
-fn push_wanted(words: &mut String, key: PollKey, electors: usize) -> Result<(), AllocError> {
+/// Adds what belongs at a key, whose value is of the wrong kind or missing; nothing of a quorum.
+fn push_wanted(words: &mut String, key: PollKey) -> Result<(), AllocError> {
     match key {
         PollKey::Title | PollKey::DefaultOption => words.push_str("; a text is wanted"),
         PollKey::Wording => words.push_str("; a text is wanted: at_least or more_than"),
         PollKey::Options | PollKey::Roll => words.push_str("; a list of texts is wanted"),
-        PollKey::Ratios => write!(
-            words,
-            "; a list of whole numbers from 1 to {MAX_RATIO} is wanted, one for each option but the default"
-        ),
-        PollKey::Quorum => push_quorum(words, electors),
+        PollKey::Ratios => {
+            write!(
+                words,
+                "; a list of whole numbers from 1 to {MAX_RATIO} is wanted, one for each option but the default"
+            )?;
+            words.push_str(A_RATIO)
+        }
+        PollKey::Quorum => Ok(()),
         PollKey::LastEnvelope => {
             write!(words, "; a whole number from 0 to {MAX_LINES} is wanted")
         }
@@ -161,34 +207,63 @@ fn entries<T>(list: &Option<Vec<T>>) -> &[T] {
     list.as_deref().unwrap_or(&[])
 }
 
+/// How many names are on the roll that was found.
+fn roll_size(keys: &FoundKeys<'_>) -> usize
+    ensures { result ≡ size_of_roll (found_view keys.now) }
+{
+    match &keys.roll {
+        Some(roll) => roll.len(),
+        None => 0,
+    }
+}
+
+/// Where the texts are in the list of a key that is above all tables, and how many bytes each has.
+fn texts_of(alloc: Global, poll: &[u8], key: PollKey) -> Result<Vec<(usize, usize)>, AllocError> {
+    match structure_of(poll, key.name().as_bytes()).top {
+        Some(place) => texts_at(alloc, poll, place),
+        None => Ok(Vec::new(alloc)),
+    }
+}
+
 /// What hints on a poll file are made of.
 #[derive(Drop)]
 pub(crate) struct Hints<'f> {
+    poll: &'f [u8],
     /// The table of the file.
     file: &'f Table,
     keys: &'f FoundKeys<'f>,
     unread: &'f [UnreadKey<'f>],
     options: Vec<(&'f str, usize)>,
     roll: Vec<(&'f str, usize)>,
+    /// Where the options and the names of the roll are in the file, and how many bytes each has.
+    option_places: Vec<(usize, usize)>,
+    roll_places: Vec<(usize, usize)>,
+    line_begins: Vec<usize>,
 }
 
 impl<'f> Hints<'f> {
-    /// Of the table of a file, its keys that were found, and those that are not read.
+    /// Of a file with this table, its keys that were found, and those that are not read.
     pub(crate) fn of(
         alloc: Global,
+        poll: &'f [u8],
         file: &'f Table,
         keys: &'f FoundKeys<'f>,
         unread: &'f [UnreadKey<'f>],
     ) -> Result<Hints<'f>, AllocError>
-        ensures { IfOk result (λ hints. table_view hints.file.now ≡ table_view file.now) }
+        ensures file { IfOk result (λ hints. table_view hints.file.now ≡ table_view file.now) }
+        ensures keys { IfOk result (λ hints. hints.keys.now ≡ keys.now) }
     {
         let names = keys.option_names(alloc)?;
         Ok(Hints {
+            poll,
             file,
             keys,
             unread,
             options: with_first_places(alloc, entries(&names))?,
             roll: with_first_places(alloc, entries(&keys.roll))?,
+            option_places: texts_of(alloc, poll, PollKey::Options)?,
+            roll_places: texts_of(alloc, poll, PollKey::Roll)?,
+            line_begins: line_begins(alloc, poll)?,
         })
     }
 
@@ -210,7 +285,8 @@ impl<'f> Hints<'f> {
         }
     }
 
-    /// Adds what was found where the file has a fault, and what is wanted there, in words that may be longer than a hint.
+    /// Adds what was found where the file has a fault, and what is wanted there, in words that may be longer than a hint; of a quorum only
+    /// what was found.
     fn push_fault(&self, words: &mut String, fault: PollFault) -> Result<(), AllocError> {
         let keys = self.keys;
         let others = entries(&keys.options).len();
@@ -224,17 +300,17 @@ impl<'f> Hints<'f> {
                     "; a title has 1 to {MAX_TITLE} printable characters of ASCII"
                 )
             }
-            PollFault::OptionCount => write!(
-                words,
-                "{} found; with the default option, a poll has 2 to {MAX_OPTIONS}",
-                others.saturating_add(1)
-            ),
+            PollFault::OptionCount => {
+                write!(
+                    words,
+                    "{} found; with the default option, a poll has 2 to {MAX_OPTIONS}",
+                    others.saturating_add(1)
+                )?;
+                push_default(words, others)
+            }
             PollFault::OptionName(option) => self.push_option(words, option.saturating_sub(1)),
             PollFault::Ratio => push_ratios(words, entries(&keys.ratios), others),
-            PollFault::Quorum => {
-                write!(words, "{} found", keys.quorum.unwrap_or(0))?;
-                push_quorum(words, self.roll.len())
-            }
+            PollFault::Quorum => write!(words, "{} found", keys.quorum.unwrap_or(0)),
             PollFault::RollSize => {
                 let found = self.roll.len();
                 write!(words, "{found} found; a roll has 1 to {MAX_ELECTORS} names")
@@ -262,7 +338,11 @@ impl<'f> Hints<'f> {
         write!(
             words,
             "; an option's name has 1 to {MAX_OPTION_NAME} printable characters of ASCII, no space at either end, and no other option has it"
-        )
+        )?;
+        match entries(&self.keys.options).len() {
+            others if others == place => push_default(words, others),
+            _ => Ok(()),
+        }
     }
 
     /// Adds what is wrong with the name of the voter at a place, from 0.
@@ -281,7 +361,7 @@ impl<'f> Hints<'f> {
     fn push_key(&self, words: &mut String, key: PollKey) -> Result<(), AllocError> {
         let Some(value) = value_at(self.file, key) else {
             self.push_tables(words, key)?;
-            return push_wanted(words, key, self.roll.len());
+            return push_wanted(words, key);
         };
         words.push_str(kind_words(value))?;
         if let Value::Array(entries) = value
@@ -289,7 +369,7 @@ impl<'f> Hints<'f> {
         {
             push_wrong_entry(words, key, entries)?;
         }
-        push_wanted(words, key, self.roll.len())
+        push_wanted(words, key)
     }
 
     /// Adds that a key is missing, and each table that has it.
@@ -308,19 +388,65 @@ impl<'f> Hints<'f> {
     }
 }
 
-/// Adds the line of a fault: the words of its fault line, and what was found.
+/// The key at which a fault is, if it is at one.
+fn key_of(fault: PollFault) -> Option<PollKey> {
+    match fault {
+        PollFault::Syntax | PollFault::Memory => None,
+        PollFault::Key(key) => Some(key),
+        PollFault::Title => Some(PollKey::Title),
+        PollFault::OptionCount => Some(PollKey::Options),
+        PollFault::OptionName(_) => Some(PollKey::DefaultOption),
+        PollFault::Ratio => Some(PollKey::Ratios),
+        PollFault::Quorum => Some(PollKey::Quorum),
+        PollFault::RollSize | PollFault::VoterName(_) => Some(PollKey::Roll),
+        PollFault::LastEnvelope => Some(PollKey::LastEnvelope),
+        PollFault::Wording => Some(PollKey::Wording),
+    }
+}
+
+impl<'f> Hints<'f> {
+    /// Where a fault is in the file, and how many bytes are there: a name in a list, or else the line of a key.
+    fn place_of(&self, fault: PollFault) -> Option<(usize, usize)> {
+        let text = match fault {
+            PollFault::OptionName(option) => self.option_places.get(option.saturating_sub(1)),
+            PollFault::VoterName(place) => self.roll_places.get(place),
+            _ => None,
+        };
+        if text.is_some() {
+            return text.copied();
+        }
+        let place = structure_of(self.poll, key_of(fault)?.name().as_bytes()).top?;
+        let line = first_line(self.poll.get(place..).unwrap_or(b""));
+        Some((place, line.len()))
+    }
+
+    /// What was found where the file has a fault, and what is wanted there.
+    fn words_of(&self, alloc: Global, fault: PollFault) -> Result<String, AllocError>
+        ensures { IfOk result (λ words. IsSaidOfFault (size_of_roll (found_view self.now.keys.now)) fault (string_bytes words)) }
+    {
+        let mut words = String::new(alloc);
+        self.push_fault(&mut words, fault)?;
+        if let PollFault::Quorum | PollFault::Key(PollKey::Quorum) = fault {
+            push_quorum(&mut words, roll_size(self.keys))?;
+        }
+        Ok(words)
+    }
+}
+
+/// Adds the line of a fault: the words of its fault line, what was found, and the line of the file at which it is.
 pub(crate) fn push_fault_line(
     alloc: Global,
     text: &mut String,
     fault: PollFault,
     hints: &Hints<'_>,
 ) -> Result<(), AllocError>
-    ensures { Tells result text.old (SaysFault fault) text.new }
+    ensures { Tells result text.old (SaysFault (size_of_roll (found_view hints.now.keys.now)) fault) text.new }
 {
     write!(text, "poll: {}: ", fault.words())?;
-    let mut words = String::new(alloc);
-    hints.push_fault(&mut words, fault)?;
+    let words = hints.words_of(alloc, fault)?;
     push_hint_line(text, words.as_bytes())?;
+    let begins = hints.line_begins.as_slice();
+    push_line_at(alloc, text, hints.poll, begins, hints.place_of(fault))?;
     Ok(())
 }
 

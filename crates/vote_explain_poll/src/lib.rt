@@ -3,7 +3,8 @@
 //!
 //! - [`explain_poll`] reads a poll file as [`Poll::from_text`](vote_poll::Poll::from_text) does, and gives beside the poll, or its first
 //!   fault, a text of findings.
-//! - [`file_kind`] says what a file is that is no plain text, and [`push_character`] names a character. Both are for all files.
+//! - [`file_kind`] says what a file is that is no plain text, [`unmarked`] leaves out a byte-order mark, and [`push_character`] names a
+//!   character. All three are for all files.
 //!
 //! **What is promised** (`specs/Findings.antt`), memory aside:
 //!
@@ -17,9 +18,13 @@
 //!   open.
 #![tactic(auto)]
 
-ghost use Rattle.vote_explain_poll.specs.Hints.{IsHint, IsHintLine, LimitsAreAsWritten, Tells};
+ghost use Rattle.std.specs.Prelude.{◌/◌};
+ghost use Rattle.vote_poll_text.specs.Adding.{Adds};
+ghost use Rattle.vote_poll_text.specs.Shown.{shown};
+ghost use Rattle.vote_explain_poll.specs.Hints.{IsHint, IsHintLine, LimitsAreAsWritten, Tells, hint_line};
 
 mod characters;
+mod excerpts;
 mod explain;
 mod file_kinds;
 mod findings;
@@ -29,8 +34,9 @@ mod syntax;
 mod unread;
 
 pub use characters::push_character;
+pub use excerpts::push_excerpt;
 pub use explain::{ExplainedPoll, explain_poll};
-pub use file_kinds::file_kind;
+pub use file_kinds::{file_kind, unmarked};
 use std::alloc::AllocError;
 use vote_poll_text::push_shown;
 
@@ -51,7 +57,8 @@ pub fn limits_are_as_written()
 
 /// Adds these words as a hint. Four characters may show a byte.
 pub(crate) fn push_hint(text: &mut String, words: &[u8]) -> Result<(), AllocError>
-    ensures { Tells result text.old IsHint text.new }
+    ensures hint { Tells result text.old IsHint text.new }
+    ensures words { Adds result text.old (shown (MAX_HINT / 4) words.now) text.new }
 {
     push_shown(text, words, MAX_HINT / 4)?;
     Ok(())
@@ -59,7 +66,8 @@ pub(crate) fn push_hint(text: &mut String, words: &[u8]) -> Result<(), AllocErro
 
 /// Adds these words as a hint, and a line feed.
 pub(crate) fn push_hint_line(text: &mut String, words: &[u8]) -> Result<(), AllocError>
-    ensures { Tells result text.old IsHintLine text.new }
+    ensures line { Tells result text.old IsHintLine text.new }
+    ensures words { Adds result text.old (hint_line words.now) text.new }
 {
     push_hint(text, words)?;
     text.push_str("\n")?;

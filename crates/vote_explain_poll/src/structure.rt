@@ -1,6 +1,7 @@
 //! What a file in TOML ends within, and where a key is in it. All before the end has to be in order.
 
 use crate::syntax::first_line;
+use std::alloc::{AllocError, Global};
 
 /// What a line defines: the key before its `=`, without quotation marks, or the name of a table in its brackets.
 pub(crate) fn definition(line: &[u8]) -> &[u8] {
@@ -57,26 +58,30 @@ pub(crate) struct Structure {
     pub(crate) open: Option<(&'static str, usize)>,
     /// The place of the first line that defines a key in the last table, or that defines a table.
     pub(crate) first: Option<usize>,
+    /// The place of the first line that defines a key above all tables.
+    pub(crate) top: Option<usize>,
 }
 
 /// The structure of a file, and in it the first line that defines this key or table.
 pub(crate) fn structure_of(file: &[u8], wanted: &[u8]) -> Structure {
     let (mut next, mut depth, mut begins_line) = (0, 0usize, true);
-    let (mut open, mut first) = (None, None);
+    let (mut open, mut first, mut top, mut is_above) = (None, None, None, true);
     for place in 0..file.len() {
         if place < next {
             continue;
         }
         let rest = file.get(place..).unwrap_or(b"");
         let is_top = begins_line && depth == 0;
+        is_above = is_above && !(is_top && rest.starts_with(b"["));
         if is_top && definition(first_line(rest)) == wanted {
             first = first.or(Some(place));
+            top = top.or(first.filter(|_| is_above));
         } else if is_top && rest.starts_with(b"[") && !wanted.starts_with(b"[") {
             first = None;
         }
         let Some(length) = length_of_token(rest) else {
             let open = Some(("text", place));
-            return Structure { open, first };
+            return Structure { open, first, top };
         };
         next = place.saturating_add(length);
         begins_line = rest.starts_with(b"\n");
@@ -92,5 +97,32 @@ pub(crate) fn structure_of(file: &[u8], wanted: &[u8]) -> Structure {
         }
         open = open.filter(|_| depth > 0);
     }
-    Structure { open, first }
+    Structure { open, first, top }
+}
+
+/// The places of the texts in the list that begins in the line at a place, each with the number of its bytes.
+pub(crate) fn texts_at(
+    alloc: Global,
+    file: &[u8],
+    begin: usize,
+) -> Result<Vec<(usize, usize)>, AllocError> {
+    let mut texts = Vec::new(alloc);
+    let (mut next, mut depth) = (begin, 0usize);
+    for place in begin..file.len() {
+        if place < next {
+            continue;
+        }
+        let rest = file.get(place..).unwrap_or(b"");
+        let Some(length) = length_of_token(rest) else {
+            return Ok(texts);
+        };
+        next = place.saturating_add(length);
+        match rest {
+            [b'[', ..] => depth = depth.saturating_add(1),
+            [b']', ..] => return Ok(texts),
+            [b'"' | b'\'', ..] if depth > 0 => texts.push((place, length))?,
+            _ => {}
+        }
+    }
+    Ok(texts)
 }

@@ -2,15 +2,16 @@
 //! finds the error no contract says.
 ghost use Rattle.std.specs.Prelude.{◌≡◌, ◌≤◌, ◌++◌, IfOk, codes, decimal, length, string_bytes, take};
 ghost use Rattle.vote_poll_text.specs.Adding.{Adds};
+ghost use Rattle.vote_explain_poll.specs.Hints.{IsExcerpt, IsLineShown, Tells};
 ghost use Rattle.vote_explain_poll.specs.Syntax.{IsPlaceFinding, IsSyntaxFinding, begins_character, column_number, first_line, last_line, line_number};
 
 use crate::characters::push_character;
-use crate::file_kinds::file_kind;
+use crate::excerpts::push_excerpt;
+use crate::file_kinds::{begins_as_ballots, file_kind};
 use crate::structure::{definition, structure_of};
 use crate::{MAX_SHOWN, push_hint_line};
 use std::alloc::{AllocError, Global};
-use vote_poll::is_ballot_line;
-use vote_poll_text::{count_feeds, is_printable, push_mending, push_shown, split_at_feed};
+use vote_poll_text::{count_feeds, push_mending, push_shown, split_at_feed};
 
 /// A place in a text.
 #[derive(Clone, Copy, Drop)]
@@ -168,27 +169,55 @@ fn push_facts(
     push_unfinished(words, place)
 }
 
-/// A mark below the byte that follows these in what is shown of a line.
-fn mark_below(alloc: Global, bytes: &[u8]) -> Result<String, AllocError> {
-    let mut mark = String::new(alloc);
-    for byte in bytes {
-        mark.push_str(if is_printable(*byte) { " " } else { "    " })?;
-    }
-    mark.push_str("^")?;
-    Ok(mark)
+/// Adds the line of a place, in which so many bytes after the place are marked, but at most the rest of the line.
+fn push_line_of(
+    alloc: Global,
+    text: &mut String,
+    place: &Place<'_>,
+    wide: usize,
+) -> Result<(), AllocError>
+    ensures { Tells result text.old IsExcerpt text.new }
+{
+    let at = place.left.len();
+    let begin = place.before.len().saturating_sub(at);
+    let line = first_line(place.text.get(begin..).unwrap_or(b""));
+    push_excerpt(alloc, text, place.number, line, at, wide)?;
+    Ok(())
 }
 
-/// What is shown of the line of a place: its part around the place, and what of this stands before the place.
-fn part_around<'t>(place: &Place<'t>) -> (&'t [u8], &'t [u8]) {
-    let at = place.left.len();
-    let begin_of_line = place.before.len().saturating_sub(at);
-    let line = first_line(place.text.get(begin_of_line..).unwrap_or(b""));
-    let begin = at
-        .saturating_sub(MAX_SHOWN / 2)
-        .min(line.len().saturating_sub(MAX_SHOWN));
-    let part = line.get(begin..).unwrap_or(b"");
-    let before = part.get(..at.saturating_sub(begin)).unwrap_or(b"");
-    (part.get(..MAX_SHOWN).unwrap_or(part), before)
+/// Where the lines of a file begin, in their order.
+pub(crate) fn line_begins(alloc: Global, file: &[u8]) -> Result<Vec<usize>, AllocError> {
+    let mut begins = Vec::new(alloc);
+    begins.push(0)?;
+    for (place, byte) in file.iter().enumerate() {
+        if *byte == b'\n' {
+            begins.push(place.saturating_add(1))?;
+        }
+    }
+    Ok(begins)
+}
+
+/// Adds the line of a place in a file whose lines begin at these places, where there is such a place, in which so many bytes are marked.
+/// It reads that line alone: a file may have as many faults as bytes.
+pub(crate) fn push_line_at(
+    alloc: Global,
+    text: &mut String,
+    file: &[u8],
+    begins: &[usize],
+    place: Option<(usize, usize)>,
+) -> Result<(), AllocError>
+    ensures { Tells result text.old IsLineShown text.new }
+{
+    let Some((at, wide)) = place else {
+        return Ok(());
+    };
+    let number = begins.partition_point(|begin| *begin <= at);
+    let begin = begins.get(number.saturating_sub(1)).copied().unwrap_or(0);
+    let end = begins.get(number).copied().unwrap_or(file.len());
+    let line = file.get(begin..end).unwrap_or(b"");
+    let line = line.strip_suffix(b"\n").unwrap_or(line);
+    push_excerpt(alloc, text, number, line, at.saturating_sub(begin), wide)?;
+    Ok(())
 }
 
 /// The finding on a text that is no TOML, by its place, which is shown.
@@ -205,10 +234,14 @@ fn place_finding(
     push_place(&mut finding, place.number, column_number(place.left))?;
     let mut words = String::from_str(alloc, error.message())?;
     push_facts(&mut words, &place, error.message(), file)?;
-    let (line, before) = part_around(&place);
     push_hint_line(&mut finding, words.as_bytes())?;
-    push_hint_line(&mut finding, line)?;
-    push_hint_line(&mut finding, mark_below(alloc, before)?.as_bytes())?;
+    let span = error.span().unwrap_or(0..0);
+    push_line_of(
+        alloc,
+        &mut finding,
+        &place,
+        span.end.saturating_sub(span.start),
+    )?;
     Ok(finding)
 }
 
@@ -225,7 +258,7 @@ pub(crate) fn syntax_finding(
     if let Some(kind) = file_kind(text) {
         return format!(in alloc; "the poll file is {kind}; a poll is plain text in UTF-8\n");
     }
-    if is_ballot_line(first_line(text)) {
+    if begins_as_ballots(text) {
         let exchanged = "the poll file looks like ballots: are the files exchanged?\n";
         return String::from_str(alloc, exchanged);
     }

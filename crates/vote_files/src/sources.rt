@@ -1,6 +1,6 @@
 //! What a program reads from: files by their names, and standard input.
 
-ghost use Rattle.std.specs.Prelude.{◌≡◌, ◌≤◌, ℕ, List, [], ◌∷◌, None, Option, IfOk, IsErrOf, vec_len};
+ghost use Rattle.std.specs.Prelude.{◌≡◌, ◌≤◌, ℕ, List, [], ◌∷◌, None, Option, IfOk, IsErrOf, IsSome, vec_len};
 ghost use Rattle.std.specs.Result.{result_err};
 ghost use Rattle.vote_files.specs.declared.input.ReadFault.{ReadFault};
 ghost use Rattle.vote_files.specs.Device.{IsTooLong, IsWhole};
@@ -20,11 +20,12 @@ pub trait Sources {
     /// The readings that were made, the oldest first, if they are told.
     ghost file_readings: { Self → Option (List FileReading) };
 
-    /// All bytes of the file of this name, if they are no more than the limit.
+    /// All bytes of the file of this name, if they are no more than the limit. A file that tells its bytes has no fault of its device.
     fn read_file(&mut self, alloc: Global, name: &str, limit: usize) -> Result<Vec<u8>, ReadFault>
         ensures whole { IfOk result (λ bytes. IsWhole (file_bytes self.old name.now) bytes.items) }
         ensures within { IfOk result (λ bytes. vec_len bytes ≤ limit) }
         ensures too_long { IsErrOf result ReadFault.TooLong → IsTooLong (file_bytes self.old name.now) limit }
+        ensures device { IsErrOf result ReadFault.Device → ¬ IsSome (file_bytes self.old name.now) }
         ensures kept { file_bytes self.new ≡ file_bytes self.old }
         ensures read { HasRead file_readings self.old self.new (record { name = name.now; fault = result_err result } ∷ []) };
 }
@@ -37,11 +38,12 @@ pub trait StandardInput {
     /// Why each reading failed, if it did, the oldest first, if readings are told.
     ghost standard_readings: { Self → Option (List (Option ReadFault)) };
 
-    /// All bytes of standard input, if they are no more than the limit.
+    /// All bytes of standard input, if they are no more than the limit. One that tells its bytes has no fault of its device.
     fn read_standard_input(&mut self, alloc: Global, limit: usize) -> Result<Vec<u8>, ReadFault>
         ensures whole { IfOk result (λ bytes. IsWhole (standard_bytes self.old) bytes.items) }
         ensures within { IfOk result (λ bytes. vec_len bytes ≤ limit) }
         ensures too_long { IsErrOf result ReadFault.TooLong → IsTooLong (standard_bytes self.old) limit }
+        ensures device { IsErrOf result ReadFault.Device → ¬ IsSome (standard_bytes self.old) }
         ensures read { HasRead standard_readings self.old self.new (result_err result ∷ []) };
 }
 

@@ -13,7 +13,7 @@ use Rattle.vote_command_line.specs.Words.{AreArgsOf}
 use Rattle.vote_files.specs.Sources.{FileReading, HasRead}
 use Rattle.vote_sheet.specs.Texts.{Text}
 use Rattle.vote_program.specs.FileReadings.{read_whole}
-use Rattle.vote_program.specs.Outputs.{OutputState, Written, WritesNothing}
+use Rattle.vote_program.specs.Outputs.{OutputState, Written}
 use Rattle.vote_program.specs.SheetOfFiles.{AskForSheet, IsSheetOfFiles, WritesTheSheet}
 use Rattle.vote_memory_files.specs.Files.{FilesInMemory, bytes_named}
 use Rattle.vote_memory_count.specs.CountWords.{count_words}
@@ -91,6 +91,11 @@ ask_for_sheet files casting = record {
   ballots_are = refl;
   casting_is = voted casting;
 }
+
+pub asks_in_memory : (casting : Bool) (files : FilesInMemory) (words : List Text) → words ≡ count_words casting
+    → AskForSheet (bytes_named files) words files.poll files.ballots (if casting then Some (codes "B") else None)
+asks_in_memory casting files words asks =
+    subst (λ all. AskForSheet (bytes_named files) all files.poll files.ballots (if casting then Some (codes "B") else None)) (sym asks) (ask_for_sheet files casting)
 
 -- ---- the sheet of the two files
 same_some : (bytes text : Text) → Some bytes ≡ Some text → bytes ≡ text

@@ -1,7 +1,8 @@
 //! A count of two files in memory.
 
-ghost use Rattle.std.specs.Prelude.{◌≡◌, ◌∷◌, [], false, None, Some, IfOk, codes, if◌then◌else◌, map, string_bytes};
+ghost use Rattle.std.specs.Prelude.{◌≡◌, ◌∷◌, [], None, Some, IfOk, codes, if◌then◌else◌, map, string_bytes};
 ghost use Rattle.vote_commands.specs.TakingVotes.{TakesVotes};
+ghost use Rattle.vote_program.specs.CountEnds.{IsDueOrStopped};
 ghost use Rattle.vote_memory_count.specs.CountWords.{count_words};
 ghost use Rattle.vote_memory_count.specs.MemoryCounts.{IsCountOf};
 
@@ -44,12 +45,15 @@ fn count_metered<
 ) -> MemoryCount<'a>
     requires words { map string_bytes words.now ≡ codes "debvote" ∷ count_words _casting }
     requires unread { files.readings ≡ [] }
-    requires take { TakesVotes (λ desk. false) (V.pre take) (V.post take) }
+    requires take { TakesVotes (V.pre take) (V.post take) }
     requires output_name { output_blank.name ≡ O.name }
     requires output_parts { (output_blank.parts ≡ O.parts) × (output_blank.parts ≡ 2) }
     requires errors_name { errors_blank.name ≡ E.name }
     requires errors_parts { (errors_blank.parts ≡ E.parts) × (errors_blank.parts ≡ 2) }
-    ensures { IsCountOf files.entry.poll files.entry.ballots (if _casting then Some (codes "B") else None) output.items result }
+    ensures sheet { IsCountOf files.entry.poll files.entry.ballots
+        (if _casting then Some (codes "B") else None) output.items result }
+    ensures due { IsDueOrStopped (V.post take) files.entry.poll files.entry.ballots
+        (if _casting then Some (codes "B") else None) result.status }
 {
     let mut files = files;
     let mut input = NoInput::new();
@@ -84,8 +88,12 @@ pub fn count_in_memory<'a, V: FnOnce(&Poll, &Lines<'_>, u8) -> Result<Audited, V
     take: V,
     output: Vec<u8>,
 ) -> Result<MemoryCount<'a>, AllocError>
-    requires { TakesVotes (λ desk. false) (V.pre take) (V.post take) }
-    ensures { IfOk result (IsCountOf poll.entry.now ballots.entry.now (if casting then Some (codes "B") else None) output.items) }
+    requires { TakesVotes (V.pre take) (V.post take) }
+    ensures sheet { IfOk result (IsCountOf poll.entry.now ballots.entry.now
+        (if casting then Some (codes "B") else None) output.items) }
+    ensures due { IfOk result (λ counted.
+        IsDueOrStopped (V.post take) poll.entry.now ballots.entry.now
+        (if casting then Some (codes "B") else None) counted.status) }
 {
     let words = words_of_count(alloc, casting)?;
     Ok(count_metered::<V, Brand, Brand>(

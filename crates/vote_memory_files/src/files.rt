@@ -1,6 +1,6 @@
 //! A poll file and a ballot file in memory.
 
-ghost use Rattle.std.specs.Prelude.{◌≡◌, ◌≤◌, [], Some, IfOk, IsErrOf, option_copied, vec_len};
+ghost use Rattle.std.specs.Prelude.{◌≡◌, ◌≢◌, ◌<◌, ◌≤◌, [], Err, Some, IfOk, IsErrOf, IsSome, length, option_copied, vec_len};
 ghost use Rattle.std.specs.Result.{result_err};
 ghost use Rattle.vote_files.specs.Device.{IsTooLong};
 ghost use Rattle.vote_memory_files.specs.Files.{bytes_named};
@@ -8,7 +8,7 @@ ghost use Rattle.vote_memory_files.specs.Files.{bytes_named};
 use crate::log::{Log, Note};
 use std::alloc::Global;
 use std::marker::Model;
-use vote_files::{ReadFault, Sources, read_all};
+use vote_files::{ReadFault, Sources};
 
 /// A poll file and a ballot file, by the names `poll` and `ballots`.
 #[derive(Drop)]
@@ -26,14 +26,30 @@ impl<'a> Model for MemoryFiles<'a> {
     ghost view = { λ files. record { poll = files.poll.now; ballots = files.ballots.now; readings = files.log.readings } };
 }
 
-/// The bytes of the file of this name, if they are no more than the limit.
+/// A copy of these bytes, if they are no more than the limit.
+fn copy_within(alloc: Global, bytes: &[u8], limit: usize) -> Result<Vec<u8>, ReadFault>
+    ensures same { IfOk result (λ copy. copy.items ≡ bytes.now) }
+    ensures within { IfOk result (λ copy. vec_len copy ≤ limit) }
+    ensures too_long { IsErrOf result ReadFault.TooLong → limit < length bytes.now }
+    ensures device { result ≢ Err ReadFault.Device }
+{
+    if bytes.len() > limit {
+        return Err(ReadFault::TooLong);
+    }
+    let mut copy = Vec::new(alloc);
+    copy.extend_from_slice(bytes)?;
+    Ok(copy)
+}
+
+/// The bytes of this file, if it is there, and if they are no more than the limit.
 fn read_named(alloc: Global, file: Option<&[u8]>, limit: usize) -> Result<Vec<u8>, ReadFault>
     ensures whole { IfOk result (λ bytes. option_copied file.entry ≡ Some bytes.items) }
     ensures within { IfOk result (λ bytes. vec_len bytes ≤ limit) }
     ensures too_long { IsErrOf result ReadFault.TooLong → IsTooLong (option_copied file.entry) limit }
+    ensures device { IsErrOf result ReadFault.Device → ¬ IsSome (option_copied file.entry) }
 {
     match file {
-        Some(bytes) => read_all(alloc, bytes, limit),
+        Some(bytes) => copy_within(alloc, bytes, limit),
         None => Err(ReadFault::Device),
     }
 }

@@ -1,6 +1,7 @@
 -- How a request ends, once its files are read.
 use Rattle.std.proofs.Common.{ℕ, Bor, IfSome, List, Option, inr, subst, sym}
 use Rattle.vote_files.specs.Sources.{FileReading}
+use Rattle.vote_commands.specs.TakingVotes.{Taking}
 use Rattle.vote_commands.specs.declared.InputFile.TheVariants as file
 use Rattle.vote_commands.specs.declared.FinishedRun.{FinishedRun}
 use Rattle.vote_command_line.specs.ParsedArgs.{NamedRequest}
@@ -20,10 +21,10 @@ desks_stay (request.Check old_poll) poll ballots sheet fit = tt
 desks_stay (request.Explain old_poll given file poll_name) poll ballots sheet fit = tt
 
 -- the files that were read are those of the request, so it ends as it does on their bytes
-pub done_on_its_files : (file_bytes : List ℕ → Option (List ℕ)) (Reads : List FileReading → Type 0) (request : NamedRequest) (inputs : Inputs) (written : Written) (finished : FinishedRun)
-    → Reads (all_read (named_files request)) → AreReadOf file_bytes request inputs → IsRequestDone request inputs written finished
-    → EndsRequest file_bytes Reads request written finished
-done_on_its_files file_bytes Reads request inputs written finished read files done =
+pub done_on_its_files : (file_bytes : List ℕ → Option (List ℕ)) (Reads : List FileReading → Type 0) (Takes : Taking) (request : NamedRequest) (inputs : Inputs) (written : Written) (finished : FinishedRun)
+    → Reads (all_read (named_files request)) → AreReadOf file_bytes request inputs → IsRequestDone Takes request inputs written finished
+    → EndsRequest file_bytes Reads Takes request written finished
+done_on_its_files file_bytes Reads Takes request inputs written finished read files done =
     let loaded_is = done.1 in
     inr (
       loaded_is.0,
@@ -35,5 +36,5 @@ done_on_its_files file_bytes Reads request inputs written finished read files do
         ballots_are = subst (λ text. IfSome (ballot_file request) (λ name. IsReadWithin (limit_of file.Ballots) (file_bytes name.now) text)) (sym loaded_is.4) files.ballots_are;
         sheet_is = subst (λ text. IfSome (sheet_file request) (λ name. IsReadWithin (limit_of file.Sheet) (file_bytes name.now) text)) (sym loaded_is.5) files.sheet_is;
       },
-      subst (λ loaded. IsDone loaded written finished) loaded_is.6 done.2,
+      subst (λ loaded. IsDone Takes loaded written finished) loaded_is.6 done.2,
     )

@@ -1,6 +1,6 @@
 -- A count that ends with status 0 or 1 has written the sheet of its files.
-use Rattle.std.proofs.Common.{◌≡◌, ◌≢◌, ◌≤◌, ◌⊎◌, ◌++◌, ◌∙◌, ℕ, Bool, ap, arith, Bor, Err, List, [], ◌∷◌, None, Ok, Option, Result, Some, inl, inr, refl, subst, sym}
-use Rattle.std.specs.Prelude.{OnOk, codes, option_copied, slice_index, true, unwrap_or}
+use Rattle.std.proofs.Common.{◌≡◌, ◌≤◌, ◌⊎◌, ◌++◌, ◌∙◌, ℕ, ap, arith, Bor, Err, List, [], ◌∷◌, None, Ok, Option, Result, Some, inl, inr, refl, subst}
+use Rattle.std.specs.Prelude.{OnOk, option_copied, true}
 use Rattle.std.specs.Io.KnownBytes.{Appends}
 use Rattle.std.specs.Result.{result_err}
 use Rattle.vote_files.specs.Device.{IsWhole}
@@ -12,29 +12,27 @@ use Rattle.vote_poll_keys.specs.declared.fault.PollFault.TheVariants as poll_fau
 use Rattle.vote_desks_box.specs.declared.DeskFault.TheVariants as desk
 use Rattle.vote_desks.specs.declared.VoteFault.TheVariants as vote
 use Rattle.vote_sheet.specs.Texts.{Text}
-use Rattle.vote_request.specs.declared.Listing.TheVariants as listing
 use Rattle.vote_request.specs.declared.Purpose.TheVariants as purpose
 use Rattle.vote_request.specs.declared.Request.TheVariants as request
-use Rattle.vote_command_line.specs.ParsedArgs.{HasPurpose, HasText, NamedRequest}
-use Rattle.vote_command_line.specs.Words.{AreArgsOf, HaveArgsFault}
-use Rattle.vote_command_line.specs.declared.ArgsFault.{ArgsFault}
-use Rattle.vote_command_line.specs.declared.ArgsFault.TheVariants.{Help, Refused, NotUtf8, Memory}
+use Rattle.vote_command_line.specs.ParsedArgs.{NamedRequest}
 use Rattle.vote_commands.specs.Counting.{IsCountFor, NamesNoOption, StopsAtVotes, StopsCount}
 use Rattle.vote_commands.specs.Inputs.{Inputs, inputs_at}
 use Rattle.vote_commands.specs.Performing.{Counts}
 use Rattle.vote_commands.specs.Runs.{Runs, StopsAtLines, StopsWhere, Tells}
 use Rattle.vote_commands.specs.Status.{fault_status, status}
+use Rattle.vote_commands.specs.TakingVotes.{Taking}
 use Rattle.vote_commands.specs.declared.Ended.{Ended}
 use Rattle.vote_commands.specs.declared.InputFile.TheVariants as file
 use Rattle.vote_commands.specs.declared.FinishedRun.{FinishedRun}
 use Rattle.vote_commands.specs.declared.RunFault.{RunFault}
 use Rattle.vote_commands.specs.declared.RunFault.TheVariants as run
-use Rattle.vote_program.specs.ProgramAnswers.{AnswersWorded, AnswersWords}
+use Rattle.vote_program.specs.ProgramAnswers.{AnswersWorded}
 use Rattle.vote_program.specs.Outputs.{WritesNothing, Written}
 use Rattle.vote_program.specs.FileReadings.{read_whole}
 use Rattle.vote_program.specs.Errors.{SaysEnd}
 use Rattle.vote_program.specs.RequestEnds.{EndsRequest}
 use Rattle.vote_program.specs.SheetOfFiles.{AskForSheet, IsSheetOfFiles, WritesTheSheet}
+use Rattle.vote_program.proofs.Asked.{IsCountOfNames, asks_without_fault, count_is_asked}
 
 -- ---- which statuses are 0 or 1
 not_few : (n : ℕ) → 2 ≤ n → (n ≡ 0) ⊎ (n ≡ 1) → ⊥
@@ -70,14 +68,14 @@ past : (IsSo : Type 0) (fault : RunFault) (Next : Option RunFault → Type 0) �
 past IsSo fault Next (inl due) = let wrong = due.1 in λ so. cc
 past IsSo fault Next (inr on) = on.0
 
-names_an_option : (bars : ℕ → Bool) (inputs : Inputs) (poll : PollContent) → poll_in inputs.poll ≡ Ok poll → StopsCount bars inputs None → ¬ NamesNoOption poll inputs.casting
-names_an_option bars inputs poll meant stops =
-    past (NamesNoOption poll inputs.casting) run.NoSuchOption (StopsAtLines inputs.ballots (StopsAtVotes bars inputs.desks poll (lines_of inputs.ballots))) (rw meant at stops)
+names_an_option : (Takes : Taking) (inputs : Inputs) (poll : PollContent) → poll_in inputs.poll ≡ Ok poll → StopsCount Takes inputs None → ¬ NamesNoOption poll inputs.casting
+names_an_option Takes inputs poll meant stops =
+    past (NamesNoOption poll inputs.casting) run.NoSuchOption (StopsAtLines inputs.ballots (StopsAtVotes Takes inputs.desks poll (lines_of inputs.ballots))) (rw meant at stops)
 
-of_runs : (bars : ℕ → Bool) (inputs : Inputs) (old new : Option Text) (before : Text) (end : Ended) (answered : ℕ) → answered ≡ status (Ok end) → old ≡ Some before
-    → Runs (StopsCount bars inputs) (Tells (IsCountFor purpose.Sheet inputs) (Ok end)) old new None
+of_runs : (Takes : Taking) (inputs : Inputs) (old new : Option Text) (before : Text) (end : Ended) (answered : ℕ) → answered ≡ status (Ok end) → old ≡ Some before
+    → Runs (StopsCount Takes inputs) (Tells (IsCountFor purpose.Sheet inputs) (Ok end)) old new None
     → (sheet : Text) × IsSheetOfFiles inputs.poll inputs.ballots inputs.casting answered sheet × (new ≡ Some (before ++ sheet))
-of_runs bars inputs old new before end answered by_end is runs =
+of_runs Takes inputs old new before end answered by_end is runs =
     let text = runs.writes.0 in
     let tells = runs.writes.1 in
     let counted = tells.1 in
@@ -88,33 +86,33 @@ of_runs bars inputs old new before end answered by_end is runs =
         poll = counted.0;
         decision = made.0;
         meant = counted.1;
-        named = names_an_option bars inputs counted.0 counted.1 runs.stops;
+        named = names_an_option Takes inputs counted.0 counted.1 runs.stops;
         is_sheet = (printed.0, printed.1, tells.2 ∙ printed.2, printed.3);
         status_is = by_end ∙ ap (λ e. status (Ok e)) (tells.3 ∙ made.2);
       },
       grown old new before text is runs.writes.2,
     )
 
-of_counts : (bars : ℕ → Bool) (inputs : Inputs) (written : Written) (finished : FinishedRun) (before : Text) (end : Ended) (answered : ℕ)
-    → answered ≡ status (Ok end) → written.old.bytes ≡ Some before → finished.end ≡ Ok end → Counts bars purpose.Sheet inputs written.old.bytes written.new.bytes finished
+of_counts : (Takes : Taking) (inputs : Inputs) (written : Written) (finished : FinishedRun) (before : Text) (end : Ended) (answered : ℕ)
+    → answered ≡ status (Ok end) → written.old.bytes ≡ Some before → finished.end ≡ Ok end → Counts Takes purpose.Sheet inputs written.old.bytes written.new.bytes finished
     → (sheet : Text) × IsSheetOfFiles inputs.poll inputs.ballots inputs.casting answered sheet × (written.new.bytes ≡ Some (before ++ sheet))
-of_counts bars inputs written finished before end answered by_end old is counts =
-    of_runs bars inputs written.old.bytes written.new.bytes before end answered by_end old
-    (subst (λ r. Runs (StopsCount bars inputs) (Tells (IsCountFor purpose.Sheet inputs) r) written.old.bytes written.new.bytes (result_err r)) is counts.runs)
+of_counts Takes inputs written finished before end answered by_end old is counts =
+    of_runs Takes inputs written.old.bytes written.new.bytes before end answered by_end old
+    (subst (λ r. Runs (StopsCount Takes inputs) (Tells (IsCountFor purpose.Sheet inputs) r) written.old.bytes written.new.bytes (result_err r)) is counts.runs)
 
 -- ---- on the files of a request
 whole : (known : Option Text) (bytes told : Text) → known ≡ Some told → IsWhole known bytes → bytes ≡ told
 whole known bytes told is read = subst (λ k. IsWhole k bytes) is read
 
-of_task : (file_bytes : Text → Option Text) (Reads : List FileReading → Type 0) (poll_name ballots_name : Bor Text) (desks : ℕ) (option_name : Option (Bor Text)) (poll ballots before : Text) (written : Written)
+of_task : (file_bytes : Text → Option Text) (Reads : List FileReading → Type 0) (Takes : Taking) (poll_name ballots_name : Bor Text) (desks : ℕ) (option_name : Option (Bor Text)) (poll ballots before : Text) (written : Written)
     (finished : FinishedRun) (end : Ended) (answered : ℕ)
     → answered ≡ status (Ok end) → file_bytes poll_name.now ≡ Some poll → file_bytes ballots_name.now ≡ Some ballots → written.old.bytes ≡ Some before → finished.end ≡ Ok end
-    → EndsRequest file_bytes Reads (request.Count poll_name ballots_name desks option_name purpose.Sheet) written finished
+    → EndsRequest file_bytes Reads Takes (request.Count poll_name ballots_name desks option_name purpose.Sheet) written finished
     → (sheet : Text) × IsSheetOfFiles poll ballots (option_copied option_name) answered sheet × (written.new.bytes ≡ Some (before ++ sheet)) × (written.new.flushed ≡ true)
     × Reads (read_whole poll_name.now ∷ read_whole ballots_name.now ∷ [])
-of_task file_bytes Reads poll_name ballots_name desks option_name poll ballots before written finished end answered by_end poll_is ballots_are old is (inl unread) =
+of_task file_bytes Reads Takes poll_name ballots_name desks option_name poll ballots before written finished end answered by_end poll_is ballots_are old is (inl unread) =
     let wrong = unread.1 in cc
-of_task file_bytes Reads poll_name ballots_name desks option_name poll ballots before written finished end answered by_end poll_is ballots_are old is (inr done) =
+of_task file_bytes Reads Takes poll_name ballots_name desks option_name poll ballots before written finished end answered by_end poll_is ballots_are old is (inr done) =
     let files = done.4 in
     let counted = of_counts _ (inputs_at done.0 done.1 desks option_name) written finished before end answered by_end old is done.5.0 in
     let same_poll : done.0.now ≡ poll = whole _ _ _ poll_is files.poll_is.0 in
@@ -127,70 +125,35 @@ of_task file_bytes Reads poll_name ballots_name desks option_name poll ballots b
       done.3,
     )
 
--- ---- which request words ask for
-same_asked : {R : Type 0} (subcommand : Option (Text × R)) (name other : Text) (rows others : R) → subcommand ≡ Some (name, rows) → subcommand ≡ Some (other, others)
-    → (name ≡ other) × (rows ≡ others)
-same_asked subcommand name other rows others is also =
-    let same = ap (λ named. unwrap_or named (name, rows)) (sym is ∙ also) in (ap (λ pair. pair.0) same, ap (λ pair. pair.1) same)
-
-no_count : (name : Text) → codes "count" ≡ name → slice_index name 1 ≢ 111 → ⊥
-no_count name is other = other (ap (λ text. slice_index text 1) (sym is))
-
-same_value : {A : Type 0} (given : Option A) (x y : A) → given ≡ Some x → given ≡ Some y → y ≡ x
-same_value given x y is also = let both = sym is ∙ also in cc
-
-of_asked : (file_bytes : Text → Option Text) (Reads : List FileReading → Type 0) (words : List Text) (written : Written) (finished : FinishedRun) (end : Ended) (answered : ℕ) (poll ballots before : Text) (casting : Option Text) (request : NamedRequest)
-    → answered ≡ status (Ok end) → (asked : AskForSheet file_bytes words poll ballots casting) → AreArgsOf words request → written.old.bytes ≡ Some before → finished.end ≡ Ok end
-    → EndsRequest file_bytes Reads request written finished
+-- ---- on the words
+of_asked : (file_bytes : Text → Option Text) (Reads : List FileReading → Type 0) (Takes : Taking) (words : List Text) (written : Written) (finished : FinishedRun) (end : Ended) (answered : ℕ) (poll ballots before : Text) (casting : Option Text) (made : NamedRequest)
+    → answered ≡ status (Ok end) → (asked : AskForSheet file_bytes words poll ballots casting) → IsCountOfNames asked.poll_name.now asked.ballots_name.now (option_copied asked.option_name) made
+    → written.old.bytes ≡ Some before → finished.end ≡ Ok end → EndsRequest file_bytes Reads Takes made written finished
     → (sheet : Text) × IsSheetOfFiles poll ballots casting answered sheet × (written.new.bytes ≡ Some (before ++ sheet)) × (written.new.flushed ≡ true)
     × Reads (read_whole asked.poll_name.now ∷ read_whole asked.ballots_name.now ∷ [])
-of_asked file_bytes Reads words written finished end answered poll ballots before casting (request.Count poll_name ballots_name desks option_name purpose.Sheet) by_end sheet asks old is ends =
-    let wanted = sheet.request.1 in
-    let given = asks.1 in
-    let rows = (same_asked _ _ _ _ _ wanted.1 given.1).1 in
-    let same_poll = same_value _ _ _ wanted.2.0 (subst (λ found. HasText found (codes "poll") poll_name.now) (sym rows) given.2.0) in
-    let same_ballots = same_value _ _ _ wanted.2.1 (subst (λ found. HasText found (codes "ballots") ballots_name.now) (sym rows) given.2.1) in
-    let same_casting : option_copied option_name ≡ casting =
-    subst (λ found. HasPurpose found (option_copied option_name) purpose.Sheet) (sym rows) given.2.3 ∙ sym wanted.2.3 ∙ sheet.casting_is in
-    let told = of_task file_bytes Reads poll_name ballots_name desks option_name poll ballots before written finished end answered by_end
-    (ap file_bytes same_poll ∙ sheet.poll_is) (ap file_bytes same_ballots ∙ sheet.ballots_are) old is ends in
-    let read = subst (λ name. Reads (read_whole name ∷ read_whole ballots_name.now ∷ [])) same_poll told.4 in (
+of_asked file_bytes Reads Takes words written finished end answered poll ballots before casting (request.Count poll_name ballots_name desks option_name purpose.Sheet) by_end asked same old is ends =
+    let told = of_task file_bytes Reads Takes poll_name ballots_name desks option_name poll ballots before written finished end answered by_end
+    (ap file_bytes same.0 ∙ asked.poll_is) (ap file_bytes same.1 ∙ asked.ballots_are) old is ends in
+    let read = subst (λ name. Reads (read_whole name ∷ read_whole ballots_name.now ∷ [])) same.0 told.4 in (
       told.0,
-      subst (λ named. IsSheetOfFiles poll ballots named answered told.0) same_casting told.1,
+      subst (λ named. IsSheetOfFiles poll ballots named answered told.0) (same.2 ∙ asked.casting_is) told.1,
       told.2,
       told.3,
-      subst (λ name. Reads (read_whole sheet.poll_name.now ∷ read_whole name ∷ [])) same_ballots read,
+      subst (λ name. Reads (read_whole asked.poll_name.now ∷ read_whole name ∷ [])) same.1 read,
     )
-of_asked file_bytes Reads words written finished end answered poll ballots before casting (request.Count poll_name ballots_name desks option_name purpose.Picture) by_end sheet asks old is ends =
-    absurd (no_count _ (same_asked _ _ _ _ _ sheet.request.1.1 asks.1.1).0 (λ e. omega (arith, e)))
-of_asked file_bytes Reads words written finished end answered poll ballots before casting (request.Count poll_name ballots_name desks option_name (purpose.Verification other)) by_end sheet asks old is ends =
-    absurd (no_count _ (same_asked _ _ _ _ _ sheet.request.1.1 asks.1.1).0 (λ e. omega (arith, e)))
-of_asked file_bytes Reads words written finished end answered poll ballots before casting (request.List poll_name ballots_name listing.Steps) by_end sheet asks old is ends =
-    absurd (no_count _ (same_asked _ _ _ _ _ sheet.request.1.1 asks.1.1).0 (λ e. omega (arith, e)))
-of_asked file_bytes Reads words written finished end answered poll ballots before casting (request.List poll_name ballots_name listing.Standing) by_end sheet asks old is ends =
-    absurd (no_count _ (same_asked _ _ _ _ _ sheet.request.1.1 asks.1.1).0 (λ e. omega (arith, e)))
-of_asked file_bytes Reads words written finished end answered poll ballots before casting (request.Check poll_name) by_end sheet asks old is ends =
-    absurd (no_count _ (same_asked _ _ _ _ _ sheet.request.1.1 asks.1.1).0 (λ e. omega (arith, e)))
-of_asked file_bytes Reads words written finished end answered poll ballots before casting (request.Explain poll_name given told_file told_poll) by_end sheet asks old is ends =
-    absurd (no_count _ (same_asked _ _ _ _ _ sheet.request.1.1 asks.1.1).0 (λ e. omega (arith, e)))
-
--- words that ask for a sheet are a request
-is_task : (words : List Text) (request : NamedRequest) (fault : ArgsFault) (written errors : Written) (answered : ℕ) → AreArgsOf words request → HaveArgsFault words fault
-    → AnswersWords fault written errors answered → (answered ≡ 0) ⊎ (answered ≡ 1) → ⊥
-is_task words request (Help text) written errors answered asks none answers few = (rw asks.0 at none).2
-is_task words request (Refused text) written errors answered asks none answers few = not_few answered (omega (arith, answers.0)) few
-is_task words request NotUtf8 written errors answered asks none answers few = none
-is_task words request Memory written errors answered asks none answers few = not_few answered (omega (arith, answers.0)) few
+of_asked file_bytes Reads Takes words written finished end answered poll ballots before casting other by_end asked same old is ends = absurd same
 
 says_nothing : (result : Result Ended RunFault) (end : Ended) (errors : Written) → result ≡ Ok end → SaysEnd result errors → WritesNothing errors
 says_nothing result end errors is says = subst (λ r. SaysEnd r errors) is says
 
-pub of_words : (file_bytes : Text → Option Text) (Reads : List FileReading → Type 0) (words : List Text) (written errors : Written) (answered : ℕ)
-    → AnswersWorded file_bytes Reads words written errors answered → WritesTheSheet file_bytes Reads words written errors answered
-of_words file_bytes Reads words written errors answered (inl done) poll ballots before casting sheet old few =
+pub of_words : (file_bytes : Text → Option Text) (Reads : List FileReading → Type 0) (Takes : Taking) (words : List Text) (written errors : Written) (answered : ℕ)
+    → AnswersWorded file_bytes Reads Takes words written errors answered → WritesTheSheet file_bytes Reads words written errors answered
+of_words file_bytes Reads Takes words written errors answered (inl done) poll ballots before casting sheet old few =
     let came = ended done.1.end answered done.4 few in
-    let told = of_asked file_bytes Reads words written done.1 came.0 answered poll ballots before casting done.0 (done.4 ∙ ap status came.1) sheet done.2 old came.1 done.3 in
+    let same = count_is_asked words sheet.poll_name sheet.ballots_name sheet.desks sheet.option_name sheet.request done.0 done.2 in
+    let told = of_asked file_bytes Reads Takes words written done.1 came.0 answered poll ballots before casting done.0 (done.4 ∙ ap status came.1) sheet same old came.1 done.3 in
     (told.0, told.1, told.2, told.3, says_nothing done.1.end came.0 errors came.1 done.5, told.4)
-of_words file_bytes Reads words written errors answered (inr none) poll ballots before casting sheet old few =
-    let request = request.Count sheet.poll_name sheet.ballots_name sheet.desks sheet.option_name purpose.Sheet in
-    absurd (is_task words request none.0 written errors answered sheet.request none.1 none.3 few)
+of_words file_bytes Reads Takes words written errors answered (inr none) poll ballots before casting sheet old few =
+    let made = request.Count sheet.poll_name sheet.ballots_name sheet.desks sheet.option_name purpose.Sheet in
+    let five = asks_without_fault words made none.0 written errors answered sheet.request none.1 none.3 in
+    absurd (not_few answered (omega (arith, five)) few)

@@ -7,5 +7,6 @@ pub mod Errors
 pub mod RequestEnds
 pub mod ProgramAnswers
 pub mod SheetOfFiles
+pub mod CountEnds
 -- what private functions say of their parts
 pub mod LineParts

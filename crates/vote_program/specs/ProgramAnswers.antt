@@ -8,6 +8,7 @@ use Rattle.vote_command_line.specs.ParsedArgs.{NamedRequest}
 use Rattle.vote_command_line.specs.declared.ArgsFault.{ArgsFault}
 use Rattle.vote_command_line.specs.declared.ArgsFault.TheVariants.{Help}
 use Rattle.vote_commands.specs.Status.{status}
+use Rattle.vote_commands.specs.TakingVotes.{Taking}
 use Rattle.vote_commands.specs.declared.FinishedRun.{FinishedRun}
 use Rattle.vote_commands.specs.declared.RunFault.TheVariants as run
 use Rattle.vote_program.specs.RequestEnds.{EndsJoined, EndsRequest}
@@ -31,9 +32,9 @@ AnswersWords (Help text) written errors answered = AnswersHelp (string_bytes tex
 AnswersWords fault written errors answered = (answered ≡ args_status fault) × WritesNothing written × Says (args_text fault) errors
 
 -- the words make a request, which ends so on the bytes known of the names of its files; or they make none, for this fault, and no file is read
-abbrev pub AnswersWorded : (List ℕ → Option (List ℕ)) → (List FileReading → Type 0) → List (List ℕ) → Written → Written → ℕ → Type 0
-AnswersWorded file_bytes Reads words written errors answered =
-    ((request : NamedRequest) × (finished : FinishedRun) × AreArgsOf words request × EndsRequest file_bytes Reads request written finished
+abbrev pub AnswersWorded : (List ℕ → Option (List ℕ)) → (List FileReading → Type 0) → Taking → List (List ℕ) → Written → Written → ℕ → Type 0
+AnswersWorded file_bytes Reads Takes words written errors answered =
+    ((request : NamedRequest) × (finished : FinishedRun) × AreArgsOf words request × EndsRequest file_bytes Reads Takes request written finished
     × (answered ≡ status finished.end) × SaysEnd finished.end errors)
     ⊎ ((fault : ArgsFault) × HaveArgsFault words fault × Reads [] × AnswersWords fault written errors answered)
 

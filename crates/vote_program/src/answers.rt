@@ -1,9 +1,10 @@
 //! What the program answers to its words: the exit status, and what it writes.
 
-ghost use Rattle.std.specs.Prelude.{◌≡◌, ◌<◌, ◌≤◌, ◌↔◌, false, IfOk, drop, length, map, string_bytes};
+ghost use Rattle.std.specs.Prelude.{◌≡◌, ◌<◌, ◌≤◌, ◌↔◌, IfOk, drop, length, map, string_bytes};
 ghost use Rattle.vote_command_line.specs.Words.{texts_of};
 ghost use Rattle.vote_files.specs.Sources.{HasRead};
 ghost use Rattle.vote_commands.specs.TakingVotes.{TakesVotes};
+ghost use Rattle.vote_program.specs.CountEnds.{EndsAsDue};
 ghost use Rattle.vote_program.specs.Errors.{SaysHint};
 ghost use Rattle.vote_program.specs.Outputs.{written_by};
 ghost use Rattle.vote_program.specs.ProgramAnswers.{AnswersHelp, AnswersJoined, AnswersWorded, AnswersWords, words_in};
@@ -23,7 +24,8 @@ const TERMINAL_HINT: &str =
 
 /// Writes the help that words ask for. Returns the exit status.
 fn help<W: Sink, E: Sink>(text: &str, sink: &mut W, errors: &mut E) -> u8
-    ensures answers { AnswersHelp text.now (written_by W.contents W.faults W.flushed sink.old sink.new)
+    ensures answers { AnswersHelp text.now
+        (written_by W.contents W.faults W.flushed sink.old sink.new)
         (written_by E.contents E.faults E.flushed errors.old errors.new) result }
     ensures output { (result ≡ 7) ↔ (W.faults sink.old < W.faults sink.new) }
 {
@@ -36,7 +38,8 @@ fn help<W: Sink, E: Sink>(text: &str, sink: &mut W, errors: &mut E) -> u8
 /// Answers words that make no request: writes the help that they ask for, or says on standard error why they are refused. Returns
 /// the exit status.
 pub fn refuse<W: Sink, E: Sink>(fault: &ArgsFault, sink: &mut W, errors: &mut E) -> u8
-    ensures answers { AnswersWords fault.now (written_by W.contents W.faults W.flushed sink.old sink.new)
+    ensures answers { AnswersWords fault.now
+        (written_by W.contents W.faults W.flushed sink.old sink.new)
         (written_by E.contents E.faults E.flushed errors.old errors.new) result }
     ensures output { (result ≡ 7) ↔ (W.faults sink.old < W.faults sink.new) }
 {
@@ -56,8 +59,9 @@ fn answer_words<
     W: Sink,
     E: Sink,
 >(alloc: Global, files: &mut S, words: &[&str], take: V, sink: &mut W, errors: &mut E) -> u8
-    requires take { TakesVotes (λ desk. false) (V.pre take) (V.post take) }
-    ensures answers { AnswersWorded (S.file_bytes files.old) (HasRead S.file_readings files.old files.new) (texts_of words.now)
+    requires take { TakesVotes (V.pre take) (V.post take) }
+    ensures answers { AnswersWorded (S.file_bytes files.old)
+        (HasRead S.file_readings files.old files.new) (V.post take) (texts_of words.now)
         (written_by W.contents W.faults W.flushed sink.old sink.new)
         (written_by E.contents E.faults E.flushed errors.old errors.new) result }
     ensures output { (result ≡ 7) ↔ (W.faults sink.old < W.faults sink.new) }
@@ -73,7 +77,8 @@ fn answer_words<
 
 /// Says at a terminal what the program waits for.
 fn say_hint<E: Sink>(errors: &mut E, at_terminal: bool)
-    ensures { SaysHint at_terminal (written_by E.contents E.faults E.flushed errors.old errors.new) }
+    ensures { SaysHint at_terminal
+        (written_by E.contents E.faults E.flushed errors.old errors.new) }
 {
     if at_terminal {
         say(errors, TERMINAL_HINT);
@@ -88,7 +93,8 @@ fn answer_joined<I: StandardInput, W: Sink, E: Sink>(
     sink: &mut W,
     errors: &mut E,
 ) -> u8
-    ensures answers { AnswersJoined at_terminal (I.standard_bytes input.old) (HasRead I.standard_readings input.old input.new)
+    ensures answers { AnswersJoined at_terminal (I.standard_bytes input.old)
+        (HasRead I.standard_readings input.old input.new)
         (written_by W.contents W.faults W.flushed sink.old sink.new)
         (written_by E.contents E.faults E.flushed errors.old errors.new) result }
     ensures output { (result ≡ 7) ↔ (W.faults sink.old < W.faults sink.new) }
@@ -136,19 +142,24 @@ pub fn answer<
     sink: &mut W,
     errors: &mut E,
 ) -> u8
-    requires take { TakesVotes (λ desk. false) (V.pre take) (V.post take) }
+    requires take { TakesVotes (V.pre take) (V.post take) }
     ensures sheet { 1 < length given.now
-        → WritesTheSheet (S.file_bytes files.old) (HasRead S.file_readings files.old files.new) (words_in given.now)
+        → WritesTheSheet (S.file_bytes files.old) (HasRead S.file_readings files.old files.new)
+        (words_in given.now)
         (written_by W.contents W.faults W.flushed sink.old sink.new)
         (written_by E.contents E.faults E.flushed errors.old errors.new) result }
     ensures alone { length given.now ≤ 1
-        → AnswersJoined at_terminal (I.standard_bytes input.old) (HasRead I.standard_readings input.old input.new)
+        → AnswersJoined at_terminal (I.standard_bytes input.old)
+        (HasRead I.standard_readings input.old input.new)
         (written_by W.contents W.faults W.flushed sink.old sink.new)
         (written_by E.contents E.faults E.flushed errors.old errors.new) result }
     ensures worded { 1 < length given.now
-        → AnswersWorded (S.file_bytes files.old) (HasRead S.file_readings files.old files.new) (words_in given.now)
+        → AnswersWorded (S.file_bytes files.old) (HasRead S.file_readings files.old files.new)
+        (V.post take) (words_in given.now)
         (written_by W.contents W.faults W.flushed sink.old sink.new)
         (written_by E.contents E.faults E.flushed errors.old errors.new) result }
+    ensures due { 1 < length given.now
+        → EndsAsDue (S.file_bytes files.old) (V.post take) (words_in given.now) result }
     ensures no_input { 1 < length given.now → input.new ≡ input.old }
     ensures no_file { length given.now ≤ 1 → files.new ≡ files.old }
     ensures output { (result ≡ 7) ↔ (W.faults sink.old < W.faults sink.new) }

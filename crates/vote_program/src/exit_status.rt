@@ -22,7 +22,8 @@ pub(crate) fn say<E: Sink>(errors: &mut E, text: &str)
 pub fn report<E: Sink>(errors: &mut E, outcome: &Result<Ended, RunFault>) -> u8
     ensures status { result ≡ status outcome.now }
     ensures output { (result ≡ 7) ↔ IsErrOf outcome.now RunFault.Output }
-    ensures says { SaysEnd outcome.now (written_by E.contents E.faults E.flushed errors.old errors.new) }
+    ensures says { SaysEnd outcome.now
+        (written_by E.contents E.faults E.flushed errors.old errors.new) }
 {
     if let Err(fault) = outcome {
         say(errors, fault_line(fault).as_str());

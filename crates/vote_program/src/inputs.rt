@@ -41,11 +41,14 @@ fn read_named<S: Sources>(
     file: InputFile,
     name: &str,
 ) -> Result<Vec<u8>, RunFault>
-    ensures whole { IfOk result (λ bytes. IsReadWithin (limit_of file) (S.file_bytes files.old name.now) bytes.items) }
+    ensures whole { IfOk result (λ bytes.
+        IsReadWithin (limit_of file) (S.file_bytes files.old name.now) bytes.items) }
     ensures kept { S.file_bytes files.new ≡ S.file_bytes files.old }
-    ensures read { OnOk result (HasRead S.file_readings files.old files.new (read_whole name.now ∷ [])) }
+    ensures read { OnOk result (HasRead S.file_readings files.old files.new
+        (read_whole name.now ∷ [])) }
     ensures fault { IfErr result (IsUnread file (S.file_bytes files.old name.now) (limit_of file)
-        (λ fault. HasRead S.file_readings files.old files.new (record { name = name.now; fault = Some fault } ∷ []))) }
+        (λ fault. HasRead S.file_readings files.old files.new
+        (record { name = name.now; fault = Some fault } ∷ []))) }
 {
     match files.read_file(alloc, name, limit_of(file)) {
         Ok(bytes) => Ok(bytes),
@@ -60,13 +63,17 @@ fn read_if_named<S: Sources>(
     file: InputFile,
     name: Option<&str>,
 ) -> Result<Vec<u8>, RunFault>
-    ensures whole { IfOk result (λ bytes. IfSome name.entry (λ name. IsReadWithin (limit_of file) (S.file_bytes files.old name.now) bytes.items)) }
+    ensures whole { IfOk result (λ bytes. IfSome name.entry (λ name.
+        IsReadWithin (limit_of file) (S.file_bytes files.old name.now) bytes.items)) }
     ensures within { IfOk result (λ bytes. vec_len bytes ≤ limit_of file) }
     ensures unnamed { ¬ IsSome name.entry → IfOk result (λ bytes. bytes.items ≡ []) }
     ensures kept { S.file_bytes files.new ≡ S.file_bytes files.old }
-    ensures read { OnOk result (HasRead S.file_readings files.old files.new (option_to_list (option_map (λ name. read_whole name.now) name.entry))) }
-    ensures fault { IfErr result (λ told. IsSomeAnd name.entry (λ name. IsUnread file (S.file_bytes files.old name.now) (limit_of file)
-        (λ fault. HasRead S.file_readings files.old files.new (record { name = name.now; fault = Some fault } ∷ [])) told)) }
+    ensures read { OnOk result (HasRead S.file_readings files.old files.new
+        (option_to_list (option_map (λ name. read_whole name.now) name.entry))) }
+    ensures fault { IfErr result (λ told. IsSomeAnd name.entry
+        (λ name. IsUnread file (S.file_bytes files.old name.now) (limit_of file)
+        (λ fault. HasRead S.file_readings files.old files.new
+        (record { name = name.now; fault = Some fault } ∷ [])) told)) }
 {
     match name {
         Some(name) => read_named(files, alloc, file, name),
@@ -92,10 +99,14 @@ pub fn read_inputs<S: Sources>(
     ensures poll { IfOk result (λ inputs. vec_len inputs.poll ≤ POLL_LIMIT) }
     ensures ballots { IfOk result (λ inputs. vec_len inputs.ballots ≤ BALLOTS_LIMIT) }
     ensures sheet { IfOk result (λ inputs. vec_len inputs.sheet ≤ SHEET_LIMIT) }
-    ensures no_ballots { ¬ IsSome (ballot_file request.now) → IfOk result (λ inputs. inputs.ballots.items ≡ []) }
-    ensures no_sheet { ¬ IsSome (sheet_file request.now) → IfOk result (λ inputs. inputs.sheet.items ≡ []) }
-    ensures read { OnOk result (HasRead S.file_readings files.old files.new (all_read (named_files request.now))) }
-    ensures fault { IfErr result (IsOneUnread (S.file_bytes files.old) (HasRead S.file_readings files.old files.new) request.now) }
+    ensures no_ballots { ¬ IsSome (ballot_file request.now)
+        → IfOk result (λ inputs. inputs.ballots.items ≡ []) }
+    ensures no_sheet { ¬ IsSome (sheet_file request.now)
+        → IfOk result (λ inputs. inputs.sheet.items ≡ []) }
+    ensures read { OnOk result (HasRead S.file_readings files.old files.new
+        (all_read (named_files request.now))) }
+    ensures fault { IfErr result (IsOneUnread (S.file_bytes files.old)
+        (HasRead S.file_readings files.old files.new) request.now) }
 {
     let poll = match read_named(files, alloc, InputFile::Poll, request.poll()) {
         Ok(poll) => poll,
@@ -118,9 +129,11 @@ pub fn read_inputs<S: Sources>(
 
 /// All bytes of standard input, a joined input. One that can't be read is as a ballot file that can't be.
 pub fn read_joined<I: StandardInput>(input: &mut I, alloc: Global) -> Result<Vec<u8>, RunFault>
-    ensures whole { IfOk result (λ bytes. IsReadWithin JOINED_LIMIT (I.standard_bytes input.old) bytes.items) }
+    ensures whole { IfOk result (λ bytes.
+        IsReadWithin JOINED_LIMIT (I.standard_bytes input.old) bytes.items) }
     ensures read { OnOk result (HasRead I.standard_readings input.old input.new (None ∷ [])) }
-    ensures fault { IfErr result (IsUnread InputFile.Ballots (I.standard_bytes input.old) JOINED_LIMIT (λ fault. HasRead I.standard_readings input.old input.new (Some fault ∷ []))) }
+    ensures fault { IfErr result (IsUnread InputFile.Ballots (I.standard_bytes input.old) JOINED_LIMIT
+        (λ fault. HasRead I.standard_readings input.old input.new (Some fault ∷ []))) }
 {
     match input.read_standard_input(alloc, JOINED_LIMIT) {
         Ok(bytes) => Ok(bytes),

@@ -1,6 +1,6 @@
 //! The run of a request, or of a joined input, from its files to its end.
 
-ghost use Rattle.std.specs.Prelude.{◌≡◌, ◌<◌, ◌↔◌, false, Err, IsErrOf};
+ghost use Rattle.std.specs.Prelude.{◌≡◌, ◌<◌, ◌↔◌, Err, IsErrOf};
 ghost use Rattle.vote_request.specs.Requests.{DesksFit};
 ghost use Rattle.vote_commands.specs.Performing.{TellsNoBox};
 ghost use Rattle.vote_commands.specs.TakingVotes.{TakesVotes};
@@ -13,7 +13,7 @@ use crate::loaded_request::with_bytes;
 use std::alloc::Global;
 use vote_command_line::NamedRequest;
 use vote_commands::{FinishedRun, RunFault, perform, perform_listing, split_joined};
-use vote_desks::{Audited, NoGate, VoteFault};
+use vote_desks::{Audited, VoteFault};
 use vote_files::{Sink, Sources, StandardInput};
 use vote_poll::{Lines, Poll};
 use vote_request::Listing;
@@ -39,12 +39,13 @@ fn perform_with<V: FnOnce(&Poll, &Lines<'_>, u8) -> Result<Audited, VoteFault> +
     sink: &mut W,
 ) -> FinishedRun
     requires desks { DesksFit request.now }
-    requires take { TakesVotes (λ desk. false) (V.pre take) (V.post take) }
-    ensures done { IsRequestDone request.now inputs.now (written_by W.contents W.faults W.flushed sink.old sink.new) result }
+    requires take { TakesVotes (V.pre take) (V.post take) }
+    ensures done { IsRequestDone (V.post take) request.now inputs.now
+        (written_by W.contents W.faults W.flushed sink.old sink.new) result }
     ensures output { IsErrOf result.end RunFault.Output ↔ (W.faults sink.old < W.faults sink.new) }
 {
     let loaded = with_bytes(request, inputs);
-    perform::<NoGate, V, W>(alloc, &loaded, take, sink)
+    perform(alloc, &loaded, take, sink)
 }
 
 /// Reads the files of a request, before anything is checked, and performs it. A count takes its votes by this call.
@@ -55,8 +56,10 @@ pub fn carry_out<
     W: Sink,
 >(alloc: Global, files: &mut S, request: &NamedRequest<'_>, take: V, sink: &mut W) -> FinishedRun
     requires desks { DesksFit request.now }
-    requires take { TakesVotes (λ desk. false) (V.pre take) (V.post take) }
-    ensures ends { EndsRequest (S.file_bytes files.old) (HasRead S.file_readings files.old files.new) request.now (written_by W.contents W.faults W.flushed sink.old sink.new) result }
+    requires take { TakesVotes (V.pre take) (V.post take) }
+    ensures ends { EndsRequest (S.file_bytes files.old)
+        (HasRead S.file_readings files.old files.new) (V.post take) request.now
+        (written_by W.contents W.faults W.flushed sink.old sink.new) result }
     ensures output { IsErrOf result.end RunFault.Output ↔ (W.faults sink.old < W.faults sink.new) }
 {
     let inputs = match read_inputs(files, alloc, request) {
@@ -72,7 +75,9 @@ pub fn print_joined<I: StandardInput, W: Sink>(
     input: &mut I,
     sink: &mut W,
 ) -> FinishedRun
-    ensures ends { EndsJoined (I.standard_bytes input.old) (HasRead I.standard_readings input.old input.new) (written_by W.contents W.faults W.flushed sink.old sink.new) result }
+    ensures ends { EndsJoined (I.standard_bytes input.old)
+        (HasRead I.standard_readings input.old input.new)
+        (written_by W.contents W.faults W.flushed sink.old sink.new) result }
     ensures output { IsErrOf result.end RunFault.Output ↔ (W.faults sink.old < W.faults sink.new) }
 {
     let text = match read_joined(input, alloc) {

@@ -4,6 +4,7 @@ An act adds rows, in one transaction, and is reported only after its commit. Tri
 would change or remove a row.
 """
 
+import collections
 import contextlib
 import datetime
 import fcntl
@@ -21,6 +22,7 @@ from debvote_tools.book.machine_note import MachineNote, Note, machine_of
 from debvote_tools.cli.faults import Fault, Status, bad_words, kept_in
 from debvote_tools.files import read_at_most, uninterrupted
 from debvote_tools.text import times
+from debvote_tools.text.ballots import part_of
 
 NAME = "election.db"
 
@@ -32,14 +34,23 @@ RESTORED = "it was restored, as the secretary says"
 
 # "dbvt"; the version of the schema, and of what is kept of letters as JSON; and the program that
 # wrote the books of an earlier version
-APPLICATION_ID, VERSION = 0x64627674, 4
-PROGRAMS = {3: "debvote-election 2.0.0"}
+APPLICATION_ID, VERSION = 0x64627674, 5
+PROGRAMS = {3: "debvote-election 2.0.0", 4: "debvote-election 2.1.0"}
 
 # how a database of SQLite begins, and where its head has the version and the application id
 SQLITE, HEAD = b"SQLite format 3\0", 72
 VERSION_AT, ID_AT = slice(60, 64), slice(68, 72)
 
 SETTINGS = "foreign_keys=ON recursive_triggers=ON journal_mode=DELETE synchronous=EXTRA".split()
+
+# what became of each envelope, which every connection says for itself
+VIEWS = pathlib.Path(__file__).with_name("views.sql")
+
+# the views of the book that hold lines, as they are for one question: `views.sql` reads them then
+ONE_QUESTION = """CREATE TEMP VIEW {view} AS SELECT * FROM (
+  SELECT envelope, act, elector, part_of(line, '{label}') AS line, source, letter, place, time, late, answer, struck FROM main.{view}
+) WHERE line IS NOT NULL"""
+VIEWS_OF_LINES = ("entered", "ballot")
 
 # the byte of the file that SQLite locks for an act, and how many seconds an act waits for others
 RESERVED_BYTE, PATIENCE = 0x40000001, 120
@@ -64,20 +75,20 @@ ActName = (
 # given. `letters` and `lines` are how many came; of set aside, put back and enter their numbers
 #   new: language
 #   roll, addresses: electors, how many; codes: codes, how many, and on_roll
-#   call, extend, announce: to, to_name, at, as the command line names them; form, names, marked,
+#   call, extend, announce: to, to_name, at, as the command line names them; box, names, marked,
 #     signed, keyring, codes_on_roll, quorum_votes; call, extend: until, zone
 #   call, announce, publish: agreed, the checksums of texts that a secret vote may make public
 #   take back: call, its act; codes, how many have lapsed
-#   letters: letters; add: files, lines, letters, unsigned, passed_over, how many came before, and
-#     again, the envelopes of those that were entered again; desk: lines
+#   letters: letters, and box, what the box of the web host had; add: files, lines, letters, unsigned, and passed_over, how many came before;
+#     desk: lines
 #   add, desk: came_before_close, after reopen
 #   set aside, put back: letters; enter: letter or letters, and lines, empty if the ballot was typed
 #   undo: act, that it takes back; strike: envelope
-#   close: lines, checksum, seal, early; left, the letters that had arrived in time and wait, and
+#   close: questions, by label what it fixes of each (`Fixed`); early; left, the letters that had arrived in time and wait, and
 #     waiting, how many these are; after_end and before_call, how many others wait
 #   reopen: in_time, the late envelopes that were entered anew; force
 #   publish: words, casting, checksums, doubts, left
-#   letters out: kind, letters; letter sent: kind, server, user
+#   letters out: kind, letters, because; letter sent: kind, server, user
 #   moved: why; noted, the act that was noted, and there, the one that is there
 Detail = dict[str, Any]
 
@@ -121,19 +132,17 @@ class NewAct(NamedTuple):
     name: ActName
     detail: Detail
 
-    def insert_all(
-        self, table: str, columns: Sequence[str], rows: Iterable[Sequence[object]]
-    ) -> None:
+    def insert_all(self, table: str, columns: str, rows: Iterable[Sequence[object]]) -> None:
         """Adds rows of this act, each with its values in these columns."""
-        row, rest = f"({self.number}{', ?' * len(columns)})", iter(rows)
+        row, rest = f"({self.number}{', ?' * (columns.count(',') + 1)})", iter(rows)
         while part := list(itertools.islice(rest, ROWS_AT_ONCE)):
-            words = f"INSERT INTO {table} (act, {', '.join(columns)}) VALUES {row}"
+            words = f"INSERT INTO {table} (act, {columns}) VALUES {row}"
             values = list(itertools.chain.from_iterable(part))
             self.connection.execute(words + f", {row}" * (len(part) - 1), values)
 
     def insert(self, table: str, **values: object) -> int:
         """Adds a row of this act, and returns its number."""
-        self.insert_all(table, list(values), [tuple(values.values())])
+        self.insert_all(table, ", ".join(values), [tuple(values.values())])
         [(row,)] = self.connection.execute("SELECT last_insert_rowid()")
         return int(row)
 
@@ -146,14 +155,22 @@ class Book:
     ) -> None:
         self.path, self.connection, self.is_read_only = path, connection, is_read_only
         self.file, self.read_acts = file_at(path), list[DoneAct]()
+        # how many acts of each name were read
+        self.names = collections.Counter[str]()
         # what `queries.all_electors` has read, and when; the acts of this process, as `act 7 (add)`
         self.electors_at: tuple[object, list[Any]] = (None, [])
         self.own_acts: list[str] = []
+        # the label of the question that is shown alone
+        self.label = ""
 
     # ---- reading
     def rows(self, words: str, *values: object) -> list[Any]:
         with sqlite_faults(self.path):
             return self.connection.execute(words, values).fetchall()
+
+    def value(self, words: str, *values: object) -> Any:
+        """The one value that a query finds."""
+        return self.rows(words, *values)[0][0]
 
     def acts(self) -> Sequence[DoneAct]:
         """All acts, in their order. They never change, so only new ones are read."""
@@ -164,6 +181,7 @@ class Book:
                 self.read_acts.append(DoneAct(number, from_text(time), *others))
             except (ValueError, TypeError):
                 raise damaged(self.path, f"act {number} has no time") from None
+            self.names[others[0]] += 1
         return tuple(self.read_acts)
 
     def last_act(self) -> DoneAct:
@@ -175,12 +193,12 @@ class Book:
 
     def size(self) -> int:
         words = "SELECT page_count * page_size FROM pragma_page_count, pragma_page_size"
-        return int(self.rows(words)[0][0])
+        return int(self.value(words))
 
     def digest_at(self, act: int) -> str | None:
         """The digest of an act; None if there is no such act."""
-        [(digest,)] = self.rows("SELECT max(digest) FROM act WHERE act = ?", act)
-        return None if digest is None else str(digest)
+        digest: str | None = self.value("SELECT max(digest) FROM act WHERE act = ?", act)
+        return digest
 
     def demand_whole(self) -> None:
         """Stops if anything in the book is not as its acts wrote it."""
@@ -203,6 +221,23 @@ class Book:
                 with contextlib.suppress(sqlite3.Error):
                     self.connection.rollback()
 
+    @contextlib.contextmanager
+    def question(self, label: str) -> Iterator[None]:
+        """Queries within see one question alone: of each line the part that answers it, if one does.
+        Within one only the empty label is seen alone, and nothing is written.
+        """
+        views, before = VIEWS_OF_LINES if label else (), self.label
+        with sqlite_faults(self.path):
+            try:
+                for view in views:
+                    self.connection.execute(ONE_QUESTION.format(view=view, label=label))
+                self.label = label or before
+                yield
+            finally:
+                for view in views:
+                    self.connection.execute(f"DROP VIEW IF EXISTS temp.{view}")
+                self.label = before
+
     # ---- acts
     @contextlib.contextmanager
     def act(
@@ -224,15 +259,16 @@ class Book:
                 raise Fault(self.path, words, f"find out which of both is right, then {AGAIN}")
             if name != MOVED:
                 self.demand_noted()
-            if not chain.is_whole(self.connection, before.number):
-                raise damaged(self.path, chain.broken(before.number))
+            if (broken := chain.break_at(self.connection, before.number)) is not None:
+                raise damaged(self.path, broken)
             act = NewAct(self.connection, before.number + 1, times.now(), name, detail or {})
             yield act
             with uninterrupted():
                 digest = self.finish(act, before.digest)
         # a note that can't be written stays at an earlier act, as after a kill
         with contextlib.suppress(Fault, OSError):
-            note.put(Note(act.number, digest), is_moved=name == MOVED)
+            names = self.names + collections.Counter([name])
+            note.put(Note(act.number, digest, names), is_moved=name == MOVED)
 
     def finish(self, act: NewAct, digest_before: str) -> str:
         """Adds the row of the act, with its digest, and commits."""
@@ -268,8 +304,7 @@ class Book:
     @functools.cached_property
     def machine(self) -> str:
         """This machine, as the acts of this book name it."""
-        [(salt,)] = self.rows("SELECT salt FROM act WHERE act = 1")
-        return machine_of(salt)
+        return machine_of(self.value("SELECT salt FROM act WHERE act = 1"))
 
     def note(self) -> MachineNote:
         return MachineNote(self.machine, self.path.resolve())
@@ -279,7 +314,7 @@ class Book:
         with contextlib.suppress(Fault, OSError):
             if self.strangeness() is None:
                 last = self.last_act()
-                self.note().put(Note(last.number, last.digest))
+                self.note().put(Note(last.number, last.digest, self.names))
 
     def strangeness(self) -> str | None:
         """Why this is not the book that this machine knows; None if it is."""
@@ -289,7 +324,9 @@ class Book:
             return "this computer has never seen this election in this folder"
         if digest is None:
             ends = f"it ends with act {last.number}, and this computer has seen act {noted.act}"
-            return f"{ends}: it is an older copy"
+            lacks = collections.Counter(noted.names) - self.names
+            said = ", ".join(f"{name} ({count})" for name, count in lacks.items())
+            return f"{ends}: it is an older copy, which lacks {said}"
         if digest != noted.digest:
             how = "somebody went on from a copy, or made the book anew"
             return f"its act {noted.act} is not the one that this computer saw: {how}"
@@ -449,6 +486,8 @@ def connected(path: pathlib.Path, mode: str) -> sqlite3.Connection:
     for setting in ("trusted_schema=OFF", *(SETTINGS if mode == "rw" else ())):
         connection.execute(f"PRAGMA {setting}")
     chain.prepare(connection)
+    connection.create_function("part_of", 2, part_of, deterministic=True)
+    connection.executescript(VIEWS.read_text())
     return connection
 
 

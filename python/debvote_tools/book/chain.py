@@ -18,6 +18,8 @@ import sqlite3
 from collections.abc import Iterable, Iterator, Sequence
 from typing import Any
 
+from debvote_tools.files import sha256_of
+
 # the table of the acts themselves; each row of all others belongs to an act
 ACT = "act"
 
@@ -26,10 +28,10 @@ REFUSE = "CREATE TRIGGER {table}_{verb} BEFORE {verb} ON {table} BEGIN SELECT RA
 # in place of the digest before the first act
 BEGINNING = ""
 
-# how many rows are read at once; what is known of one letter may be as long as the letter
-ROWS_AT_ONCE, LONG_ROWS = 1_000, ("letter",)
+# how many rows are joined at once: what is known of one letter may be as long as the letter
+ROWS_AT_ONCE = 100
 
-ACT_OF = operator.itemgetter(0)
+ACT_OF, LAST = operator.itemgetter(0), operator.itemgetter(-1)
 
 
 # ---- the schema
@@ -87,70 +89,97 @@ def other_schema(connection: sqlite3.Connection) -> str | None:
 # ---- the chain
 def prepare(connection: sqlite3.Connection) -> None:
     """Gives the connection the function that the queries here use."""
-    connection.create_function(
-        "sha256", 1, lambda data: hashlib.sha256(data).hexdigest(), deterministic=True
-    )
+    connection.create_function("sha256", 1, sha256_of, deterministic=True)
 
 
 def digest_of(connection: sqlite3.Connection, before: str, act: Sequence[object]) -> str:
-    """The digest of an act (its row without the digest), with the rows that the book has of it,
-    which are found by an index.
+    """The digest of an act (its row without the digest), with the rows that the book has of it. An index
+    says where they begin and end, and the table what they are.
     """
-    row = [hashlib.sha256(one).hexdigest() if isinstance(one, bytes) else one for one in act]
+    row = [sha256_of(one) if isinstance(one, bytes) else one for one in act]
     line = json.dumps(row, ensure_ascii=False, separators=(",", ":"))
-    tables = (table for table in line_of() if table != ACT)
-    rows = ((table, pieces_of(connection, table, act[0])) for table in tables)
-    return digest_over(before, line.encode(), rows)
+    ends = "(SELECT {end}(rowid) FROM {{table}} WHERE act = ?1)"
+    between = f"rowid BETWEEN {ends.format(end='min')} AND {ends.format(end='max')}"
+    words = (
+        f"SELECT CAST({{line}} AS BLOB) FROM {{table}} WHERE {between} AND +act = ?1 ORDER BY rowid"
+    )
+    by_table = (
+        (table, connection.execute(words.format(table=table, line=columns), act[:1]))
+        for table, columns in line_of().items()
+        if table != ACT
+    )
+    return digest_over(before, line.encode(), by_table)
 
 
-def digest_over(before: str, line: bytes, rows: Iterable[tuple[str, Iterable[bytes]]]) -> str:
-    """The digest over the one before, the line of an act, and by table its rows, some at once."""
+def digest_over(
+    before: str, line: bytes, by_table: Iterable[tuple[str, Iterable[tuple[Any, ...]]]]
+) -> str:
+    """The digest over the one before, the line of an act, and by table its rows, each of which begins
+    with its line.
+    """
     digest = hashlib.sha256(before.encode() + b"\n" + line)
-    for table, pieces in rows:
-        name = f"\n{table}\n".encode()
-        for piece in pieces:
-            digest.update(name + piece)
-            name = b"\n"
+    for table, rows in by_table:
+        above, lines = f"\n{table}".encode(), (row[0] for row in rows)
+        while some := list(itertools.islice(lines, ROWS_AT_ONCE)):
+            digest.update(b"\n".join([above, *some]))
+            above = b""
     return digest.hexdigest()
 
 
-def pieces_of(connection: sqlite3.Connection, table: str, act: object) -> Iterator[bytes]:
-    """The rows of an act in a table, as lines, some at once: SQLite joins them faster than Python."""
-    at_once = 1 if table in LONG_ROWS else ROWS_AT_ONCE
-    next_row = f"SELECT min(rowid) FROM {table} WHERE act = ? AND rowid >= ?"
-    rows = f"SELECT {line_of()[table]} AS line FROM {table} WHERE rowid BETWEEN ? AND ? AND +act = ? ORDER BY rowid"
-    joined = f"SELECT CAST(group_concat(line, char(10)) AS BLOB) FROM ({rows})"
-    [(first,)] = connection.execute(next_row, (act, -(2**63)))
-    while first is not None:
-        last = first + at_once - 1
-        yield connection.execute(joined, (first, last, act)).fetchone()[0]
-        [(first,)] = connection.execute(next_row, (act, last + 1))
-
-
-def is_whole(connection: sqlite3.Connection, number: int) -> bool:
-    """Whether an act is as its digest and the act before say."""
+def break_at(connection: sqlite3.Connection, number: int) -> str | None:
+    """How the chain is broken at its last act, by index: the act is not as its digest and the act
+    before say, or there are rows that the next act would take for its own. None if it is whole.
+    """
     words = f"SELECT coalesce(max(digest), '{BEGINNING}') FROM {ACT} WHERE act = ?"
     [(before,)] = connection.execute(words, (number - 1,))
     [(*act, digest)] = connection.execute(f"SELECT * FROM {ACT} WHERE act = ?", (number,))
-    return bool(digest_of(connection, before, act) == digest)
+    if digest_of(connection, before, act) != digest:
+        return broken(number)
+    lasts: Iterator[int | None] = (
+        connection.execute(f"SELECT max(act) FROM {table}").fetchone()[0] for table in line_of()
+    )
+    last = max(filter(None, lasts))
+    return without_act(last) if last > number else None
 
 
 def broken(act: int) -> str:
     return f"act {act} does not match its digest"
 
 
+def without_act(act: int) -> str:
+    return f"it has rows of act {act}, and no such act"
+
+
 def damage(connection: sqlite3.Connection) -> list[str]:
     """What is not as the acts of a book wrote it."""
-    order = "".join(words for words, in connection.execute("PRAGMA integrity_check(1)"))
-    if order != "ok":
+    if (order := disorder(connection)) is not None:
         # in the rows of such a file there may be anything
-        return [f"SQLite says: {' '.join(order.split())}"]
+        mended = "; its tables are whole: on a copy of the file, REINDEX of sqlite3 mends it"
+        return [f"SQLite says: {order}{mended if is_mended_by_reindex(connection) else ''}"]
     found = []
     if (lost := connection.execute("PRAGMA foreign_key_check").fetchone()) is not None:
         found.append(f"row {lost[1]} of {lost[0]} names a row of {lost[2]} that is not there")
     if (broken_at := break_in(connection)) is not None:
         found.append(broken_at)
     return found
+
+
+def disorder(connection: sqlite3.Connection) -> str | None:
+    """What SQLite finds wrong with the file; None if nothing is."""
+    words = "".join(words for words, in connection.execute("PRAGMA integrity_check(1)"))
+    return None if words == "ok" else " ".join(words.split())
+
+
+def is_mended_by_reindex(connection: sqlite3.Connection) -> bool:
+    """Whether a copy, in memory, is whole once its indexes are made anew from the tables."""
+    with contextlib.closing(sqlite3.connect(":memory:")) as copy, contextlib.suppress(
+        sqlite3.Error
+    ):
+        connection.backup(copy)
+        prepare(copy)
+        copy.execute("REINDEX")
+        return disorder(copy) is None and break_in(copy) is None
+    return False
 
 
 def break_in(connection: sqlite3.Connection) -> str | None:
@@ -160,27 +189,21 @@ def break_in(connection: sqlite3.Connection) -> str | None:
     for act, by_table in itertools.groupby(found, key=ACT_OF):
         _, table, rows = next(by_table)
         if table != ACT:
-            return f"it has rows of act {act}, and no such act"
-        [(_, line, digest)] = rows
-        others = ((table, joined(rows)) for _, table, rows in by_table)
-        before = digest_over(before, line, others)
+            return without_act(act)
+        [(line, digest, _)] = rows
+        before = digest_over(before, line, ((its, rows) for _, its, rows in by_table))
         if before != digest:
             return broken(act)
     return None
 
 
-def joined(rows: Iterator[tuple[Any, ...]]) -> Iterator[bytes]:
-    while piece := list(itertools.islice(rows, ROWS_AT_ONCE)):
-        yield b"\n".join([line for _, line, _ in piece])
-
-
 def acts_in(
     connection: sqlite3.Connection, table: str
 ) -> Iterator[tuple[int, str, Iterator[tuple[Any, ...]]]]:
-    """The acts that have rows in a table, each with the table and the rows: act, line, and the
-    digest if the row is that of the act.
+    """The acts that have rows in a table, each with the table and the rows: line, the digest if the row
+    is that of the act, and act.
     """
-    for act, rows in itertools.groupby(connection.execute(query_of_all(table)), key=ACT_OF):
+    for act, rows in itertools.groupby(connection.execute(query_of_all(table)), key=LAST):
         yield act, table, rows
 
 
@@ -188,4 +211,4 @@ def query_of_all(table: str) -> str:
     """It reads the table, once, and no index in place of it."""
     line, digest = line_of()[table], "digest" if table == ACT else "NULL"
     order = "act" if table == ACT else "act, rowid"
-    return f"SELECT act, CAST({line} AS BLOB), {digest} FROM {table} NOT INDEXED ORDER BY {order}"
+    return f"SELECT CAST({line} AS BLOB), {digest}, act FROM {table} NOT INDEXED ORDER BY {order}"

@@ -14,21 +14,25 @@ from debvote_tools.book.book import NAME, ActName, Book, DoneAct, damaged, from_
 from debvote_tools.cli.arguments import Acting, demand_reason
 from debvote_tools.cli.console import tell_aside
 from debvote_tools.debvote import Debvote
-from debvote_tools.cli.faults import Fault, Status, stop_at
+from debvote_tools.cli.faults import Fault, Status, bad_words, stop_at
 from debvote_tools.text.language import Language, language_of
-from debvote_tools.poll.sealed import SealedPoll, read_plain
+from debvote_tools.poll.questions import Questions, read_questions
 
-POLL_FILE, MEMBERS_FILE, TEXTS = "poll.toml", "members.csv", "texts"
+MEMBERS_FILE, POLLS, TEXTS = "members.csv", "polls", "texts"
 CALL, LETTERS, RESULT, PRIVATE = "call", "letters", "result", "private"
-MADE = (CALL, LETTERS, RESULT, PRIVATE, TEXTS)
+MADE = (CALL, LETTERS, RESULT, PRIVATE, POLLS, TEXTS)
 
 # the letter of the result for all, in the folder of letters
 RESULT_LETTER = "result.txt"
 
-# the names of what is sealed: the poll of the call; in a secret vote the poll that has names; the
-# keys of those whose letters have to be signed; what the secretary writes at the head of letters,
-# in the file of the same name
+# the names of what is sealed: the polls of the call, each with its label behind the name, and in a
+# secret vote so the polls that have names, and so, with nothing in it, that a poll is a motion; the
+# title of several questions; the keys of those whose letters have to be signed; what the secretary
+# writes at the head of letters, in the file of the same name; the key of the box, which never leaves
+# the book, and its script
 POLL, POLL_WITH_NAMES, KEYRING, LETTER_TEXT = "poll", "poll with names", "keyring", "letter.txt"
+MOTION, TITLE = "motion", "title"
+BOX_KEY, BOX_SCRIPT = "box key", f"{CALL}/vote.php"
 
 
 # how far the election is; after `reopen` it is called again
@@ -81,6 +85,11 @@ class History(NamedTuple):
         return None if until is None else from_text(until)
 
     @property
+    def askings(self) -> list[DoneAct]:
+        """The acts that asked the box of the web host."""
+        return [act for act in self.since_call("letters") if "box" in act.detail]
+
+    @property
     def closes(self) -> list[DoneAct]:
         """The closes since the call that holds: those of a call that was taken back are over."""
         return self.since_call("close")
@@ -99,11 +108,12 @@ class History(NamedTuple):
         """Whether lines that are entered now are late, by the answer of whoever enters them."""
         return self.is_closed or (self.is_reopened and not came_before_close)
 
-    def acts_that_open_or_close(self) -> "History":
+    @property
+    def timing(self) -> list[DoneAct]:
         """The acts on which it depends whether the vote is open, and until when: a plan that is made
-        again is compared by them. `act` finds nothing in it.
+        again is compared by them.
         """
-        return History(self.named("call", "take back", "extend", "close", "reopen"))
+        return self.named("call", "take back", "extend", "close", "reopen")
 
     @property
     def stage(self) -> Stage:
@@ -112,15 +122,44 @@ class History(NamedTuple):
         return "closed" if self.since_call("close", "publish")[-1].name == "close" else "published"
 
 
-class Sealed(NamedTuple):
-    """The poll as everybody sees it, and as ballots are counted: they differ by aliases."""
+class Fixed(NamedTuple):
+    """What a close fixes of a question: how many lines are in time, and the checksum of the ballots
+    as they are published; in a secret vote with the random line that is above them.
+    """
 
-    public: SealedPoll
-    counted: SealedPoll
+    lines: int
+    checksum: str
+    seal: str = ""
+
+
+def fixed_by(close: DoneAct) -> dict[str, Fixed]:
+    """What a close has fixed, by the labels of the questions."""
+    return {label: Fixed(**of_one) for label, of_one in close.detail["questions"].items()}
+
+
+class Sealed(NamedTuple):
+    """The questions as everybody sees them, and as ballots are counted: they differ by aliases."""
+
+    public: Questions
+    counted: Questions
 
     @property
     def is_aliased(self) -> bool:
         return self.public != self.counted
+
+    def files(self) -> dict[str, bytes]:
+        """What the call seals of the polls, by the names under which the book has it."""
+        names = [(POLL, self.public), (POLL_WITH_NAMES, self.counted)][: 1 + self.is_aliased]
+        files = {
+            f"{name} {label}".strip(): poll.as_bytes()
+            for name, questions in names
+            for label, poll in questions.items()
+        }
+        motions = (label for label, poll in self.public.items() if poll.motion)
+        files |= {f"{MOTION} {label}".strip(): b"" for label in motions}
+        if title := self.counted.title:
+            files[TITLE] = title.encode()
+        return files
 
 
 class Election:
@@ -203,18 +242,18 @@ class Election:
     def history(self) -> History:
         return History(self.book.acts())
 
-    def sealed(self) -> Sealed:
-        """The poll as it was called. Stops before the call."""
-        call = self.called(self.history())
-        public = queries.sealed(self.book, POLL, call.number) or b""
-        counted = queries.sealed(self.book, POLL_WITH_NAMES, call.number) or public
+    def sealed(self, call: DoneAct | None = None) -> Sealed:
+        """The questions of the call that holds, or of another one. Stops before the call."""
+        act = (call or self.called(self.history())).number
+        public = queries.sealed_polls(self.book, POLL, act) or {"": b""}
+        counted = queries.sealed_polls(self.book, POLL_WITH_NAMES, act) or public
+        motions = queries.sealed_polls(self.book, MOTION, act)
+        title = (queries.sealed(self.book, TITLE, act) or b"").decode()
         try:
-            return Sealed(read_plain(public), read_plain(counted))
+            read = (read_questions(polls, motions, title) for polls in (public, counted))
+            return Sealed(*read)
         except Fault:
             raise damaged(self.path(NAME), "its sealed poll is not in plain form") from None
-
-    def demand_called(self, history: History) -> None:
-        self.called(history)
 
     def called(self, history: History) -> DoneAct:
         """The act of the call. Stops before it."""
@@ -247,4 +286,4 @@ def no_book(folder: pathlib.Path) -> Fault:
     elif any(os.path.lexists(folder / name) for name in ("journal", "ballots", "received")):
         words = "it is an election of debvote-election 1.x, which only 1.x can finish"
         cure = "install the version that began it, or begin anew in another folder"
-    return Fault(folder, words, cure, Status.BAD_WORDS, None)
+    return bad_words(folder, words, cure, None)

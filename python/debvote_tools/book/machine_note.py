@@ -1,4 +1,5 @@
-"""What this machine noted of a book: the number and the digest of the last act that it made or saw.
+"""What this machine noted of a book: the number and the digest of the last act that it made or saw,
+and how many acts of each name there were, so that an older copy can be told what it lacks.
 
 It lies outside of the election's folder. So a copy of yesterday that is put back, a book that another
 machine went on with, and a book that somebody wrote anew are noticed. It gets its room on the disk
@@ -7,21 +8,21 @@ earlier act of the same book, never at one that the book lacks.
 """
 
 import contextlib
-import hashlib
 import json
 import os
 import pathlib
-from collections.abc import Iterator
+from collections.abc import Iterator, Mapping
 from typing import NamedTuple
 
 from debvote_tools.cli.faults import Fault, Status
-from debvote_tools.files import locked, sync_folder
+from debvote_tools.files import locked, sha256_of, sync_folder
 
 MACHINE_ID = pathlib.Path("/etc/machine-id")
 MACHINE_DIGITS = 16
 
-# how much longer a note may be than one of act 0 without a digest
-ROOM = 20 + 64
+# how much longer a note may be than one of act 0 without a digest: a number, a digest, and for each of
+# some twenty names of acts a number
+ROOM = 20 + 64 + 20 * 40
 
 
 def machine_of(salt: bytes) -> str:
@@ -32,12 +33,13 @@ def machine_of(salt: bytes) -> str:
         machine_id = MACHINE_ID.read_bytes()
     except OSError:
         machine_id = b""
-    return hashlib.sha256(salt + machine_id).hexdigest()[:MACHINE_DIGITS]
+    return sha256_of(salt + machine_id)[:MACHINE_DIGITS]
 
 
 class Note(NamedTuple):
     act: int
     digest: str
+    names: Mapping[str, int] = {}
 
 
 class MachineNote:
@@ -47,7 +49,7 @@ class MachineNote:
         base = os.environ.get("XDG_STATE_HOME", "")
         state = pathlib.Path(base) if os.path.isabs(base) else pathlib.Path.home() / ".local/state"
         self.folder, self.path = state / "debvote", str(path)
-        self.file = self.folder / hashlib.sha256(f"{machine}\n{path}".encode()).hexdigest()[:40]
+        self.file = self.folder / sha256_of(f"{machine}\n".encode() + os.fsencode(path))[:40]
         # takes the place of the note
         self.next = self.file.with_suffix(".next")
 
@@ -55,7 +57,7 @@ class MachineNote:
         """The act that this machine noted; None if it has never seen this book here."""
         try:
             noted = json.loads(self.file.read_text())
-            return Note(int(noted["act"]), str(noted["digest"]))
+            return Note(int(noted["act"]), str(noted["digest"]), dict(noted["names"]))
         except FileNotFoundError:
             return None
         except (OSError, ValueError, LookupError, TypeError) as error:

@@ -2,13 +2,17 @@
 letters that came.
 """
 
+import bisect
 import collections
 import datetime
 import json
-from collections.abc import Collection, Iterable
-from typing import Final, Literal, NamedTuple
+import sys
+from collections.abc import Callable, Collection, Iterable, Iterator, Mapping, Sequence
+from typing import Final, NamedTuple, TypeVar
 
 from debvote_tools.book.book import Book, NewAct, as_text, from_text
+from debvote_tools.grouping import grouped
+from debvote_tools.text.ballots import answers_of, answers_text, differ
 
 
 # ---- electors
@@ -45,11 +49,6 @@ def electors(book: Book) -> list[Elector]:
     return [elector for elector in all_electors(book) if elector.position is not None]
 
 
-def public_names(electors: Iterable[Elector]) -> dict[str, str]:
-    """What a secret vote shows in place of each name: the alias, or a code of the roll itself."""
-    return {elector.name: elector.alias or elector.name for elector in electors}
-
-
 def new_elector(act: NewAct, name: str) -> Elector:
     """An elector whom the book did not know, not yet on the list."""
     return Elector(act.insert("elector", name=name), name, None, "", ())
@@ -60,24 +59,54 @@ def put_electors(act: NewAct, electors: Iterable[Elector]) -> None:
         (number, position, who, json.dumps(addresses, ensure_ascii=False), key, code, alias, mark)
         for number, _, position, who, addresses, key, code, alias, mark in electors
     )
-    columns = ["elector", "position", "who", "mail", "key", "code", "alias", "mark"]
-    act.insert_all("elector_state", columns, rows)
+    act.insert_all("elector_state", "elector, position, who, mail, key, code, alias, mark", rows)
 
 
 # ---- what is sealed
 def sealed(book: Book, name: str, act: int | None = None) -> bytes | None:
     """What was sealed under a name by the last act that did so."""
-    rows = book.rows(
-        "SELECT data FROM sealed WHERE name = ?1 AND act = coalesce(?2, act) ORDER BY act DESC LIMIT 1",
-        name,
-        act,
-    )
-    return rows[0][0] if rows else None
+    words = "SELECT data FROM sealed WHERE name = ?1 AND act = coalesce(?2, act) ORDER BY act DESC LIMIT 1"
+    data: bytes | None = book.value(f"SELECT ({words})", name, act)
+    return data
+
+
+def sealed_polls(book: Book, name: str, act: int) -> dict[str, bytes]:
+    """The polls that an act sealed under a name, by their labels, which are behind it."""
+    words = "SELECT ltrim(substr(name, length(?1) + 1)), data FROM sealed WHERE act = ?2 AND (name = ?1 OR name GLOB ?1 || ' ?') ORDER BY name"
+    return dict(book.rows(words, name, act))
+
+
+def labels_of(book: Book) -> list[str]:
+    """The labels of the questions, as lines have them: of one alone, which has none, or is the only
+    one that is seen, it is empty.
+    """
+    words = "SELECT ltrim(substr(name, 5)) FROM sealed WHERE {0} AND act = (SELECT max(act) FROM sealed WHERE {0}) ORDER BY name"
+    rows = book.rows(words.format("(name = 'poll' OR name GLOB 'poll ?')"))
+    return [""] if book.label or not rows else [label for label, in rows]
+
+
+def by_question(book: Book) -> Iterator[str]:
+    """The labels of the questions, each while the book shows that question alone."""
+    for label in labels_of(book):
+        with book.question(label):
+            yield label
+
+
+def files_sealed(book: Book, folder: str) -> dict[str, int]:
+    """The files of a folder that were ever sealed, by name, each with the last act that did so."""
+    words = "SELECT substr(name, length(?1) + 2), max(act) FROM sealed WHERE name GLOB ?1 || '/*' GROUP BY name"
+    return dict(book.rows(words, folder))
+
+
+def own_marks(book: Book) -> dict[str, str]:
+    """The own marks that electors have, or had, with their names."""
+    words = "SELECT mark, name FROM elector_state JOIN elector USING (elector) WHERE mark <> ''"
+    return dict(book.rows(words))
 
 
 def last_act_that_sealed(book: Book, name: str) -> int:
     """The last act that sealed something under a name; 0 if none did."""
-    return int(book.rows("SELECT coalesce(max(act), 0) FROM sealed WHERE name = ?", name)[0][0])
+    return int(book.value("SELECT coalesce(max(act), 0) FROM sealed WHERE name = ?", name))
 
 
 # ---- envelopes
@@ -98,58 +127,123 @@ class Envelope(NamedTuple):
     is_late: bool
     # the act that struck it: a `strike`, or the `undo` that took its act back
     struck: int | None
+    # why debvote refuses the line; None of a ballot
+    answer: str | None = None
+    # what became of it, as the view `fate` says: it counts if any of its answers does
+    became: str = "counts"
+    # the same of each answer, by the label of its question
+    by_question: Mapping[str, str] = {}
 
     @property
     def is_struck(self) -> bool:
         return self.struck is not None
 
+    def with_questions(self, became: Mapping[str, str]) -> "Envelope":
+        """The same, if it has several answers, of which this became."""
+        said = "counts" if "counts" in became.values() else self.became
+        return self._replace(became=said, by_question=became)
 
+
+# ---- which of two ballots of an elector is the later one
+# the number of a ballot that has no envelope yet: it will be greater than all
+NEXT: Final = sys.maxsize
+
+
+class Ballot(NamedTuple):
+    """A ballot that was entered, late or not, and is not struck, or that goes in or is passed over: its
+    time, in whole seconds, its line, whether it came by letter and is in time, by how many seconds
+    the clock was behind that gave it, and its envelope.
+    """
+
+    time: datetime.datetime
+    line: str
+    is_by_letter: bool = False
+    behind: int = 0
+    number: int = NEXT
+
+    def may_turn(self, other: "Ballot") -> bool:
+        """Whether by the clock of this computer it may stand on the other side of another ballot."""
+        ours, theirs = (one.time + datetime.timedelta(seconds=one.behind) for one in (self, other))
+        return (self.time < other.time) != (ours < theirs) and differ(self.line, other.line)
+
+    @property
+    def labels(self) -> set[str]:
+        """Those of the questions that it answers."""
+        return {*answers_of(self.line)}
+
+
+ABallot = TypeVar("ABallot", Ballot, Envelope)
+
+
+def by_time(ballot: Ballot | Envelope) -> tuple[datetime.datetime, int]:
+    """The order in which one ballot is later than another: by their times; of the same time, by their
+    envelopes. A letter has the time at which it arrived, or was signed; a line, and a letter of which
+    that is not known, has that of the act that entered it.
+
+    Which ballot counts the envelopes alone decide (`counting` in `views.sql`). So what is entered may
+    not replace a later ballot unless the secretary says so: all who look for one ask `later`.
+    """
+    return ballot.time, ballot.number
+
+
+def later(
+    ballots: Sequence[ABallot], time: datetime.datetime | None, number: int = NEXT
+) -> Sequence[ABallot]:
+    """Those ballots of an elector, in the order `by_time`, that are later than a ballot of this time
+    and envelope. Where its time is not known, each may be.
+    """
+    first = 0 if time is None else bisect.bisect_right(ballots, (time, number), key=by_time)
+    return ballots[first:]
+
+
+# ---- envelopes by conditions
 # conditions on envelopes, with the acts that no `undo` took back
-LATE = "late AND struck IS NULL"
+TO_COUNT, LATE = "NOT late AND struck IS NULL", "late AND struck IS NULL"
+A_BALLOT = "struck IS NULL AND answer IS NULL"
 NOT_UNDONE = "act NOT IN (SELECT json_extract(detail, '$.act') FROM act WHERE name = 'undo')"
 
-# the envelopes that were entered anew: late ones as in time, and others by `add --again`
-ANEW = "SELECT value FROM act, json_each(act.detail, '$.{key}') WHERE act.name = '{name}' AND act.{not_undone}"
-ANEW_IN_TIME = ANEW.format(key="in_time", name="reopen", not_undone=NOT_UNDONE)
-ANEW_BY_ADD = ANEW.format(key="again", name="add", not_undone=NOT_UNDONE)
+# the late envelopes that a `reopen` entered anew as in time, and those that none did
+ANEW = f"SELECT value FROM act, json_each(act.detail, '$.in_time') WHERE act.name = 'reopen' AND act.{NOT_UNDONE}"
+LEFT_LATE = f"{LATE} AND envelope NOT IN ({ANEW})"
 
 # those that came in files of lines and tables; a line that was entered anew came once, and is known
 # by its new envelope
-IN_FILES = f"source IS NOT NULL AND letter IS NULL AND {NOT_UNDONE} AND envelope NOT IN ({ANEW_IN_TIME} UNION {ANEW_BY_ADD})"
+IN_FILES = f"source IS NOT NULL AND letter IS NULL AND {NOT_UNDONE} AND envelope NOT IN ({ANEW})"
 
-COLUMNS = "envelope, act, elector, line, source, letter, place, time, late, struck"
-
-
-# the views of what was entered: all envelopes, and those that are in time and not struck, also with
-# lines that debvote refuses
-View = Literal["entered", "ballot"]
-ALL: Final = "entered"
-IN_TIME: Final = "ballot"
+COLUMNS = "envelope, act, elector, line, source, letter, place, time, late, struck, answer, became"
 
 
-def envelopes(
-    book: Book, condition: str = "1", *values: object, view: View = ALL
-) -> list[Envelope]:
-    """The envelopes that meet a condition, in their order."""
-    words = f"SELECT {COLUMNS} FROM {view} WHERE {condition} ORDER BY envelope"
-    rows = book.rows(words, *values)
-    return [Envelope._make([*row[:7], from_text(row[7]), bool(row[8]), row[9]]) for row in rows]
+def envelopes(book: Book, condition: str = "1", *values: object) -> list[Envelope]:
+    """The envelopes that meet a condition, in their order, with what became of each."""
+    rows = book.rows(f"SELECT {COLUMNS} FROM fate WHERE {condition} ORDER BY envelope", *values)
+    found = [
+        Envelope._make([*row[:7], from_text(row[7]), bool(row[8]), *row[9:], {"": row[-1]}])
+        for row in rows
+    ]
+    if labels_of(book) == [""]:
+        return found
+    became: dict[int, dict[str, str]] = collections.defaultdict(dict)
+    for label in by_question(book):
+        words = f"SELECT envelope, became FROM fate WHERE {condition}"
+        for number, its in book.rows(words, *values):
+            became[number][label] = its
+    return [one.with_questions(became[one.number]) for one in found]
 
 
-def lines(book: Book, condition: str = "1", *values: object, view: View = ALL) -> list[bytes]:
+def lines(book: Book, condition: str, *values: object) -> list[bytes]:
     """The line of each envelope that meets a condition, in their order."""
-    words = f"SELECT line FROM {view} WHERE {condition} ORDER BY envelope"
+    words = f"SELECT line FROM entered WHERE {condition} ORDER BY envelope"
     return [line for line, in book.rows(words, *values)]
 
 
-def lines_in_time(book: Book) -> list[bytes]:
-    """What debvote counts from: the line of each envelope that came in time and is not struck, in
-    their order; also those that it refuses, or that a later one replaces.
+def lines_to_count(book: Book) -> list[bytes]:
+    """What debvote counts from: the line of each envelope that is in time and not struck, in their
+    order; also those that it refuses, or that a later one replaces.
     """
-    return lines(book, view=IN_TIME)
+    return [line for _, line in numbered_lines_to_count(book)]
 
 
-def numbered_lines_in_time(book: Book) -> list[tuple[int, bytes]]:
+def numbered_lines_to_count(book: Book) -> list[tuple[int, bytes]]:
     """The same lines, each with the number of its envelope."""
     return book.rows("SELECT envelope, line FROM ballot ORDER BY envelope")
 
@@ -167,7 +261,7 @@ def has_come(book: Book, since: int) -> bool:
 
 
 def strike_envelopes(act: NewAct, numbers: Iterable[int]) -> None:
-    act.insert_all("struck", ["envelope"], ((number,) for number in numbers))
+    act.insert_all("struck", "envelope", ((number,) for number in numbers))
 
 
 class NewEnvelope(NamedTuple):
@@ -178,6 +272,7 @@ class NewEnvelope(NamedTuple):
     source: int | None = None
     letter: int | None = None
     time: datetime.datetime | None = None
+    answer: str | None = None
 
 
 def add_envelopes(
@@ -186,17 +281,25 @@ def add_envelopes(
     """Enters lines, each with the elector with whose name it begins."""
     now = as_text(act.time)
     rows = (
-        (elector, line, place, source, letter, as_text(time) if time else now, int(is_late))
-        for elector, (line, place, source, letter, time) in zip(electors, new)
+        (elector, line, place, source, letter, as_text(time) if time else now, int(is_late), answer)
+        for elector, (line, place, source, letter, time, answer) in zip(electors, new)
     )
-    act.insert_all(
-        "envelope", ["elector", "line", "place", "source", "letter", "time", "late"], rows
-    )
+    act.insert_all("envelope", "elector, line, place, source, letter, time, late, answer", rows)
+
+
+def entered_by(book: Book, act: int) -> tuple[int, set[int], list[tuple[bytes, str | None]]]:
+    """What an act entered: the number of its first envelope, the electors, and the lines, each with
+    debvote's answer.
+    """
+    words = "SELECT envelope, elector, line, answer FROM envelope WHERE act = ? ORDER BY 1"
+    rows = book.rows(words, act)
+    electors = {elector for _, elector, *_ in rows if elector is not None}
+    return rows[0][0] if rows else 0, electors, [(line, answer) for _, _, line, answer in rows]
 
 
 def last_envelope(book: Book) -> int:
     """The number of the last envelope; 0 if there is none."""
-    return int(book.rows("SELECT coalesce(max(envelope), 0) FROM envelope")[0][0])
+    return int(book.value("SELECT coalesce(max(envelope), 0) FROM envelope"))
 
 
 def elector_numbers(book: Book, names: Collection[str]) -> dict[str, int]:
@@ -211,23 +314,8 @@ MOST_LOOKED_FOR = 200
 
 def last_entering_act(book: Book) -> int | None:
     """The last act that entered lines and that no `undo` took back; None if there is none."""
-    number: int | None = book.rows(f"SELECT max(act) FROM envelope WHERE {NOT_UNDONE}")[0][0]
+    number: int | None = book.value(f"SELECT max(act) FROM envelope WHERE {NOT_UNDONE}")
     return number
-
-
-def lines_as_of(
-    book: Book, act: int, electors: Collection[int] | None = None, *, without: int = 0
-) -> list[bytes]:
-    """The line of each envelope that was in time and not struck when an act was done, in their
-    order, without those of one act: of all electors, or of some.
-    """
-    condition = "late = 0 AND (struck IS NULL OR struck > ?1) AND act <= ?1 AND act <> ?2"
-    if electors is None:
-        return lines(book, condition, act, without)
-    condition, numbers = f"{condition} AND {elector_condition(electors)}", json.dumps(
-        list(electors)
-    )
-    return lines(book, condition, act, without, numbers)
 
 
 def elector_condition(electors: Collection[int]) -> str:
@@ -237,23 +325,80 @@ def elector_condition(electors: Collection[int]) -> str:
     return f"{'+' if len(electors) > MOST_LOOKED_FOR else ''}elector IN (SELECT value FROM json_each(?))"
 
 
-def envelopes_of(book: Book, electors: Collection[int]) -> list[Envelope]:
-    """The envelopes of some electors that are not struck, also those that are late."""
-    return envelopes(
-        book, f"struck IS NULL AND {elector_condition(electors)}", json.dumps(list(electors))
-    )
+def names_and_lines(book: Book) -> list[tuple[int, str | None, bytes]]:
+    """The number of each envelope, the name of the elector for whom it is kept, and its line."""
+    words = "SELECT envelope, name, line FROM envelope LEFT JOIN elector USING (elector)"
+    return book.rows(f"{words} ORDER BY envelope")
 
 
-def lines_of_electors(book: Book, electors: Collection[int], *, without: int = 0) -> list[bytes]:
-    """The lines of some electors that are in time and not struck now, in their order, without those
-    of one act.
+def envelope_states(book: Book, elector: int | None) -> list[tuple[int, int | None]]:
+    """The numbers of an elector's envelopes, each with the act that struck it."""
+    words = "SELECT envelope, struck FROM entered WHERE elector = ? ORDER BY envelope"
+    return book.rows(words, elector)
+
+
+def envelopes_of(book: Book, electors: Collection[int], condition: str = "1") -> list[Envelope]:
+    """The envelopes of some electors that meet a condition."""
+    condition = f"{condition} AND {elector_condition(electors)}"
+    return envelopes(book, condition, json.dumps(list(electors)))
+
+
+def what_counts(book: Book, electors: Collection[int] | None = None) -> dict[str, str]:
+    """What counts now of each elector who has a valid ballot, or of some: by name the answers, as
+    `answers_in` reads them.
     """
-    return lines_as_of(book, book.last_number(), electors, without=without)
+    some = "" if electors is None else f" WHERE elector IN ({', '.join('?' * len(electors))})"
+    words = f"SELECT line FROM counting{some}"
+    return of_all_questions(book, lambda: (line for line, in book.rows(words, *electors or ())))
 
 
-def entered_anew(book: Book) -> set[int]:
-    """The late envelopes that a `reopen` entered anew as in time."""
-    return {int(number) for number, in book.rows(ANEW_IN_TIME)}
+def what_counted(
+    book: Book, act: int, electors: Collection[int] | None = None, *, without: int = 0
+) -> dict[str, str]:
+    """The same when an act was done, as if there were no lines of another act: of each elector the
+    last ballot.
+    """
+    condition = "answer IS NULL AND act <> ?2 AND late = 0 AND (struck IS NULL OR struck > ?1) AND act <= ?1"
+    values: list[object] = [act, without]
+    if electors is not None:
+        condition += f" AND {elector_condition(electors)}"
+        values.append(json.dumps(list(electors)))
+    return of_all_questions(book, lambda: lines(book, condition, *values))
+
+
+def of_all_questions(book: Book, ballots: Callable[[], Iterable[bytes]]) -> dict[str, str]:
+    """By name the answers to all questions, of the ballots of one that is seen alone."""
+    found: dict[str, dict[str, str]] = collections.defaultdict(dict)
+    for label in by_question(book):
+        its = dict(line.decode("ascii").split(" ", 1) for line in ballots())
+        if not label:
+            return its
+        for name, ranks in its.items():
+            found[name][label] = ranks
+    return {name: answers_text(answers) for name, answers in found.items()}
+
+
+class Numbers(NamedTuple):
+    """What a sheet says of the lines in time that are not struck."""
+
+    lines: int
+    valid: int
+    refused: int
+    # the electors with a valid ballot
+    voters: int
+
+
+def numbers(book: Book) -> Numbers:
+    """The numbers by the verdicts that the book keeps."""
+    voters = "count(DISTINCT CASE WHEN answer IS NULL THEN elector END)"
+    words = f"SELECT count(*), count(*) - count(answer), count(answer), {voters} FROM ballot"
+    return Numbers(*book.rows(words)[0])
+
+
+def refused_lines(book: Book) -> list[tuple[int, bytes, str]]:
+    """The lines in time that debvote refuses: the number of the envelope, the line, and why."""
+    words = "SELECT envelope, line, answer FROM ballot WHERE answer IS NOT NULL ORDER BY envelope"
+    return book.rows(words)
 
 
 def lines_that_came(book: Book) -> collections.Counter[bytes]:
@@ -266,27 +411,23 @@ def came_in_files(book: Book) -> dict[bytes, list[Envelope]]:
     """The envelopes that came in files and that no `undo` took back, by their line; those that are
     struck or late come last.
     """
-    by_line: dict[bytes, list[Envelope]] = {}
-    found = envelopes(book, IN_FILES)
-    for envelope in sorted(found, key=lambda one: one.is_late or one.is_struck):
-        by_line.setdefault(envelope.line, []).append(envelope)
-    return by_line
+    found = sorted(envelopes(book, IN_FILES), key=lambda one: one.is_late or one.is_struck)
+    return grouped((envelope.line, envelope) for envelope in found)
 
 
-def last_numbers(book: Book) -> dict[int, tuple[int, bytes]]:
-    """Number and line of the last envelope of each elector that is in time and not struck, also if
-    debvote refuses the line.
-    """
-    words = (
-        "SELECT elector, max(envelope), line FROM ballot WHERE elector IS NOT NULL GROUP BY elector"
-    )
-    return {elector: (number, line) for elector, number, line in book.rows(words)}
+def counting(book: Book) -> dict[tuple[int, str], tuple[int, bytes]]:
+    """Number and line of the envelope that counts, of each elector who has one, by question."""
+    words = "SELECT elector, envelope, line FROM counting"
+    return {
+        (elector, label): (number, line)
+        for label in by_question(book)
+        for elector, number, line in book.rows(words)
+    }
 
 
-def size_in_time(book: Book) -> tuple[int, int]:
+def size_to_count(book: Book) -> tuple[int, int]:
     """How many lines and bytes debvote counts from."""
-    words = "SELECT count(*), coalesce(sum(length(line) + 1), 0) FROM ballot"
-    [(count, size)] = book.rows(words)
+    [(count, size)] = book.rows("SELECT count(*), coalesce(sum(length(line) + 1), 0) FROM ballot")
     return int(count), int(size)
 
 
@@ -323,8 +464,10 @@ class KeptLetter(NamedTuple):
     state: str
 
     @property
-    def may_wait(self) -> bool:
-        """Whether it waits, or may go in by itself if no act ever decided of it."""
+    def is_unsettled(self) -> bool:
+        """Whether no act has settled what becomes of it: by the rules it waits, goes in or is passed
+        over; after a decision that was taken back, or put back, it waits.
+        """
         return self.state in (NEVER_DECIDED, PUT_BACK, TAKEN_BACK)
 
 
@@ -341,24 +484,27 @@ def kept_digests(book: Book) -> set[tuple[str, bool]]:
     return {(str(digest), bool(is_parted_off)) for digest, is_parted_off in book.rows(words)}
 
 
-def source_of(book: Book, source: int) -> bytes:
-    return bytes(book.rows("SELECT data FROM source WHERE source = ?", source)[0][0])
-
-
-def returned_letters(book: Book) -> list[tuple[int, str, list[str]]]:
-    """The letters with which mail servers sent letters of ours back: the act that kept each, its
-    sender, and the own marks in it.
+def letter_clocks(book: Book) -> dict[int, int]:
+    """Of each letter of which it is known when it arrived: by how many seconds the clock was behind
+    that says so, if it is that of the box.
     """
-    words = (
-        "SELECT act, json_extract(known, '$.sender'), json_extract(known, '$.returned') FROM letter "
-        "WHERE json_array_length(known, '$.returned') > 0 ORDER BY letter"
-    )
-    return [(act, sender, json.loads(marks)) for act, sender, marks in book.rows(words)]
+    words = "SELECT letter, json_extract(known, '$.behind') FROM letter WHERE known ->> 'arrived' IS NOT NULL"
+    return dict(book.rows(words))
 
 
-def those_that_may_wait(kept: list[KeptLetter]) -> list[KeptLetter]:
-    """The letters that may wait, and their copies."""
-    identities = {letter.identity for letter in kept if letter.may_wait}
+def records_since(book: Book, act: int) -> dict[int, str]:
+    """The records of the box that came since an act: the numbers of their letters, and digests."""
+    words = "SELECT letter, json_extract(known, '$.digest') FROM letter WHERE json_extract(known, '$.link') <> '' AND act > ?"
+    return dict(book.rows(words, act))
+
+
+def source_of(book: Book, source: int) -> bytes:
+    return bytes(book.value("SELECT data FROM source WHERE source = ?", source))
+
+
+def unsettled(kept: list[KeptLetter]) -> list[KeptLetter]:
+    """The unsettled letters, and their copies."""
+    identities = {letter.identity for letter in kept if letter.is_unsettled}
     return [letter for letter in kept if letter.identity in identities]
 
 
@@ -373,9 +519,14 @@ def decide(act: NewAct, letter: int, state: str) -> None:
     act.insert("letter_state", letter=letter, state=state)
 
 
+def ids_that_ask(book: Book) -> set[str]:
+    """The Message-IDs of the letters that ask to vote."""
+    words = (
+        "SELECT json_extract(detail, '$.message_id') FROM sent WHERE kind IN ('call', 'reminders')"
+    )
+    return {message_id for message_id, in book.rows(words)} - {""}
+
+
 def our_message_ids(book: Book) -> dict[int, list[str]]:
-    found: dict[int, list[str]] = {}
     words = "SELECT elector, json_extract(detail, '$.message_id') AS id FROM sent WHERE state = 'written' AND id <> ''"
-    for elector, message_id in book.rows(words):
-        found.setdefault(elector, []).append(message_id)
-    return found
+    return grouped(book.rows(words))

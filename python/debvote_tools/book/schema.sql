@@ -71,9 +71,10 @@ CREATE TABLE envelope (
   line BLOB NOT NULL,                   -- without a line feed
   source INTEGER REFERENCES source,     -- NULL for a line of a desk
   letter INTEGER REFERENCES letter,
-  place TEXT NOT NULL,                  -- where in the source, as :3 or : row 3
+  place TEXT NOT NULL,                  -- where in the source, as :3
   time TEXT NOT NULL,                   -- the time of the ballot
-  late INTEGER NOT NULL                 -- 1 if it was entered while the vote was closed
+  late INTEGER NOT NULL,                -- 1 if it is late
+  answer TEXT                           -- why debvote refuses the line by the sealed poll; NULL of a ballot
 ) STRICT;
 
 -- By a `strike`, or by the `undo` of the act that entered it.

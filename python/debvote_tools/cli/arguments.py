@@ -8,17 +8,16 @@ which the parser is made.
 
     def run(election: Election, arguments: Arguments) -> None: ...
 
-The option of `take_back` is `--take-back`; `name="--from"` gives it another name. Flags with one
-word for `group` exclude each other. All other words are those of `argparse`. What a class inherits
-comes last in the help.
+The option of `take_back` is `--take-back`; `name="--from"` gives it another name. All other words
+are those of `argparse`. What a class inherits comes last in the help.
 """
 
 import argparse
 import re
-from typing import Any, NoReturn, TypeVar
+from typing import Any, NoReturn
 
 from debvote_tools import VERSION
-from debvote_tools.cli.faults import Fault, Status
+from debvote_tools.cli.faults import bad_words
 from debvote_tools.cli.console import LINE_ENDS, number_of, odd_sign
 
 # in characters; a reason is a sentence or some
@@ -30,9 +29,6 @@ class Options:
 
     def __init__(self, **values: Any) -> None:
         self.__dict__.update(values)
-
-
-Arguments = TypeVar("Arguments", bound=Options)
 
 
 def positional(metavar: str, help: str, **how: Any) -> Any:
@@ -90,19 +86,14 @@ def add_version(parser: argparse.ArgumentParser) -> None:
 
 
 def add_arguments(parser: argparse.ArgumentParser, kind: type[Options]) -> None:
-    groups: dict[str | None, Any] = {None: parser}
     for owner in kind.__mro__:
         for field in owner.__dict__.get("__annotations__", {}):
             how = dict(owner.__dict__[field])
-            group = how.pop("group", None)
-            if group not in groups:
-                groups[group] = parser.add_mutually_exclusive_group()
             if how.pop("is_positional", False):
-                groups[group].add_argument(field, **how)
+                parser.add_argument(field, **how)
             else:
-                groups[group].add_argument(
-                    how.pop("name", f"--{field.replace('_', '-')}"), dest=field, **how
-                )
+                name = how.pop("name", f"--{field.replace('_', '-')}")
+                parser.add_argument(name, dest=field, **how)
 
 
 def given(arguments: Options, *names: str) -> list[str]:
@@ -111,10 +102,6 @@ def given(arguments: Options, *names: str) -> list[str]:
         for name in names
         if getattr(arguments, name) not in (None, False)
     ]
-
-
-def arguments_of(kind: type[Arguments], namespace: argparse.Namespace) -> Arguments:
-    return kind(**vars(namespace))
 
 
 def has_reason(because: str | None) -> bool:
@@ -126,12 +113,12 @@ def demand_reason(because: str | None, option: str, *, has_paragraphs: bool = Fa
     text = (because or "").strip()
     if not text:
         words, cure = "it needs a reason, which the log keeps", 'write it: --because "TEXT"'
-        raise Fault(option, words, cure, Status.BAD_WORDS)
+        raise bad_words(option, words, cure)
     odd = odd_sign(text, allowed="\t\n") if has_paragraphs else odd_sign(text, refused=LINE_ENDS)
     if odd is not None:
         words = f"the text has the character {number_of(odd)}, which no plain text has"
-        raise Fault("--because", words, "take it out", Status.BAD_WORDS)
+        raise bad_words("--because", words, "take it out")
     if len(text) > LONGEST_REASON:
         words = f"the text has {len(text)} characters; at most {LONGEST_REASON} are allowed"
-        raise Fault("--because", words, "shorten it", Status.BAD_WORDS)
+        raise bad_words("--because", words, "shorten it")
     return text

@@ -22,8 +22,11 @@ COMMANDS = (
     "close reopen count publish log export backup"
 ).split()
 
-SHARED = {"begin": "new roll check codes", "correct": "undo strike reopen"}
-SHARED["look"] = "status log export backup"
+SHARED = {
+    "begin": "new roll check codes",
+    "correct": "undo strike reopen",
+    "look": "status show log export backup",
+}
 SHARING = {name: module for module, names in SHARED.items() for name in names.split()}
 
 # the commands that change nothing
@@ -58,12 +61,10 @@ def parser(words: Sequence[str] = ()) -> argparse.ArgumentParser:
 
 def main(program_folder: pathlib.Path, words: Sequence[str] | None = None) -> int:
     """Runs a command, and returns the exit status. `program_folder` is that of the program."""
-    for number in (signal.SIGHUP, signal.SIGTERM):
-        signal.signal(number, lambda number, _: sys.exit(128 + number))
+    console.prepare(signal.SIGHUP, signal.SIGTERM)
     if not console.has_output():
         closed = "standard output is closed; nothing was changed"
         return console.failed(PROGRAM, closed, Status.BAD_OUTPUT)
-    console.prepare()
     # lines and letters have no cycles: to look for some again and again takes a seventh of the time
     # of `add`
     gc.disable()
@@ -99,7 +100,7 @@ def main(program_folder: pathlib.Path, words: Sequence[str] | None = None) -> in
 
 def run(election: Election, namespace: argparse.Namespace) -> int:
     """Runs a command. What it can't work with is the fault of the book if that is damaged."""
-    options = arguments.arguments_of(namespace.arguments, namespace)
+    options = namespace.arguments(**vars(namespace))
     try:
         return int(namespace.run(election, options) or Status.DONE)
     except (Fault, OSError):

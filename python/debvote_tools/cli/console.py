@@ -11,6 +11,7 @@ import io
 import itertools
 import os
 import re
+import signal
 import sys
 import textwrap
 import unicodedata
@@ -33,8 +34,12 @@ class OutputFailed(Fault):
         self.is_closed_pipe = is_closed_pipe
 
 
-def prepare() -> None:
-    """Runs first. A character that the terminal can't show must not stop the program."""
+def prepare(*ending: signal.Signals) -> None:
+    """Runs first. These signals end the program as an exit does, and a character that the terminal
+    can't show must not.
+    """
+    for number in ending:
+        signal.signal(number, lambda number, _: sys.exit(128 + number))
     if isinstance(sys.stdout, io.TextIOWrapper):
         sys.stdout.reconfigure(errors="backslashreplace")
 
@@ -114,15 +119,13 @@ def typed(question: str) -> bytes | None:
     return line or None
 
 
-def is_yes(question: str, how: str = "Type y for yes, or n for no.") -> bool | None:
-    """Whether the answer is yes; None at the end of the input. After another answer it says `how`,
-    and asks again.
-    """
+def is_yes(question: str) -> bool | None:
+    """Whether the answer is yes; None at the end of the input. After another answer it asks again."""
     while (answer := typed(f"{question} [y/n] ")) is not None:
         word = answer.strip().lower()
         if word in (b"y", b"yes", b"n", b"no"):
             return word.startswith(b"y")
-        tell(how)
+        tell("Type y for yes, or n for no.")
     return None
 
 
@@ -217,8 +220,7 @@ def act_time(time: datetime.datetime) -> str:
 
 def wrapped(names: Iterable[str]) -> str:
     """Names in lines that a terminal shows whole."""
-    wrapper = textwrap.TextWrapper(WIDTH, "  ", "  ", break_on_hyphens=False)
-    return wrapper.fill(" ".join(names))
+    return textwrap.TextWrapper(WIDTH, "  ", "  ", break_on_hyphens=False).fill(" ".join(names))
 
 
 def quorum_words(multiple: int, votes: int) -> str:

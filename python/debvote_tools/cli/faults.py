@@ -1,6 +1,7 @@
 """How a run ends: the exit statuses, and the fault that ends one."""
 
 import contextlib
+import dataclasses
 import enum
 from collections.abc import Iterator, Sequence
 
@@ -27,23 +28,18 @@ NOTHING = "nothing was "
 NOTHING_CHANGED = f"{NOTHING}changed"
 
 
+@dataclasses.dataclass(eq=False)
 class Fault(Exception):
     """Ends a run: the file, if the fault is in one, the reason, the cure, the exit status, and what
     was done or was not, None if the reason says it. `others` stop the same act.
     """
 
+    file: object
+    reason: object
+    cure: str
+    status: int = Status.DOUBT
+    done: str | None = NOTHING_CHANGED
     others: tuple["Fault", ...] = ()
-
-    def __init__(
-        self,
-        file: object,
-        reason: object,
-        cure: str,
-        status: int = Status.DOUBT,
-        done: str | None = NOTHING_CHANGED,
-    ) -> None:
-        super().__init__(file, reason, cure, status, done)
-        self.file, self.reason, self.cure, self.status, self.done = file, reason, cure, status, done
 
     @property
     def words(self) -> str:
@@ -57,8 +53,9 @@ class Fault(Exception):
     def after(self, acts: Sequence[str]) -> "Fault":
         """The same fault, of a run that did these acts before."""
         if acts and self.done is not None and self.done.startswith(NOTHING):
-            self.done = self.done.removeprefix(NOTHING_CHANGED).removeprefix("; ")
-            self.done = "; ".join(filter(None, [acts_in_words(acts), self.done]))
+            rest = self.done.removeprefix(NOTHING_CHANGED).removeprefix("; ")
+            self.done = acts_in_words(acts)
+            return self.with_done(rest)
         return self
 
     def with_done(self, done: str) -> "Fault":

@@ -6,11 +6,21 @@ import os
 import pathlib
 import re
 import shlex
-from collections.abc import Iterator, Sequence
+from collections.abc import Iterator, Mapping, Sequence
 
-from debvote_tools.book import book, queries
+from debvote_tools.book import book, outgoing, queries
 from debvote_tools.book.book import Book, Detail
-from debvote_tools.book.election import Election, History, MEMBERS_FILE, POLL_FILE, PRIVATE
+from debvote_tools.book.election import (
+    BOX_SCRIPT,
+    CALL,
+    Election,
+    History,
+    MEMBERS_FILE,
+    POLLS,
+    PRIVATE,
+    Sealed,
+)
+from debvote_tools.book.queries import Elector
 from debvote_tools.cli.arguments import Acting, flag, option, Options, positional
 from debvote_tools.cli.console import (
     count_of,
@@ -22,17 +32,30 @@ from debvote_tools.cli.console import (
     tell,
     wrapped,
 )
-from debvote_tools.cli.faults import Fault, Status, stop_at
-from debvote_tools.files import OWN, uninterrupted, whole_folder, write_made, write_whole
+from debvote_tools.cli.faults import Fault, bad_words
+from debvote_tools.files import (
+    OWN,
+    PUBLIC,
+    TABLE_LIMIT,
+    read_whole,
+    uninterrupted,
+    whole_folder,
+    write_made,
+    write_whole,
+)
+from debvote_tools.grouping import several
 from debvote_tools.inbox.mime import address_key
 from debvote_tools.poll.announced import address_in
-from debvote_tools.poll.call import CallData, current_call
+from debvote_tools.poll.box import SCRIPT, box_files
+from debvote_tools.poll.call import current_call
 from debvote_tools.poll.draft import checked, lacks_codes, NEW_POLL, tell_checked
-from debvote_tools.poll.members import Member, members_in, NEW_MEMBERS, Roll, roll_of, several
+from debvote_tools.poll.members import AGAIN, Member, NEW_MEMBERS, Roll, roll_of
 from debvote_tools.poll.plain_names import alike, ELECTOR_LIMIT, similar_names
-from debvote_tools.poll.sealed import new_own_mark, SealedPoll
+from debvote_tools.poll.questions import LABELS, POLL_FILE, TITLE_FILE, Questions
+from debvote_tools.poll.sealed import new_own_mark
 from debvote_tools.poll.secret import alias_of, codes_csv, new_code, slips
-from debvote_tools.text.language import ENGLISH, LANGUAGES
+from debvote_tools.text.language import ENGLISH, LANGUAGES, Language
+from debvote_tools.text.motions import with_ranks
 
 
 # ---- new
@@ -43,6 +66,13 @@ class NewArguments(Options):
         choices=sorted(LANGUAGES),
         default=ENGLISH.code,
     )
+    questions: int = option(
+        "N",
+        f"How many questions are voted on, 1 to {len(LABELS)}, each with a poll of its own (default: 1)",
+        type=int,
+        choices=range(1, len(LABELS) + 1),
+        default=1,
+    )
     target: str = positional("FOLDER", "The folder to make; an existing folder must be empty")
 
 
@@ -50,7 +80,7 @@ def new(election: Election, arguments: NewArguments) -> None:
     """Make the folder of an election, with a poll and a list of members to fill in."""
     if election.is_named:
         words = "new makes the folder that follows it"
-        raise Fault("--folder", words, "leave --folder out", Status.BAD_WORDS, None)
+        raise bad_words("--folder", words, "leave --folder out", None)
     folder, language = pathlib.Path(arguments.target), arguments.language
     # an empty folder is replaced
     is_folder = folder.is_dir() and not folder.is_symlink()
@@ -58,18 +88,33 @@ def new(election: Election, arguments: NewArguments) -> None:
         what = "not empty" if folder.is_dir() else "not a folder"
         if (folder / book.NAME).exists():
             what = "an election already"
-        raise Fault(folder, f"it exists, and is {what}", "choose another name", Status.BAD_WORDS)
+        raise bad_words(folder, f"it exists, and is {what}", "choose another name")
+    polls = new_polls(arguments.questions)
+    first, *others = polls
+    files = f"{first} and {others[0]} to {pathlib.Path(others[-1]).name}" if others else first
     with uninterrupted():
-        make(folder, language)
+        make(folder, language, polls)
         disk = "Keep it on a disk of this computer, not in a shared or synced folder."
-        tell(f"Made the folder {folder} with {POLL_FILE} and {MEMBERS_FILE}. {disk}")
+        tell(f"Made the folder {folder} with {files} and {MEMBERS_FILE}. {disk}")
         if language != ENGLISH.code:
             tell(f"Pages and letters for electors will be in {LANGUAGES[language]}.")
-        steps = f"write the members into {MEMBERS_FILE} with a spreadsheet, fill in {POLL_FILE} with an editor"
+        steps = f"write the members into {MEMBERS_FILE} with a spreadsheet, fill in {files} with an editor"
         tell(f"Next: cd {shlex.quote(str(folder))}, {steps}, then run: debvote-election roll")
 
 
-def make(folder: pathlib.Path, language: str) -> None:
+def new_polls(count: int) -> dict[str, bytes]:
+    """What is to be filled in: the poll of the one question, or of each, and their title."""
+    draft = NEW_POLL.read_bytes()
+    if count == 1:
+        return {POLL_FILE: draft}
+    files = {f"{POLLS}/{TITLE_FILE}": b""}
+    for label in LABELS[:count]:
+        text = draft.replace(b"texts/", f"texts/{label}/".encode())
+        files[f"{POLLS}/{label}.toml"] = text.replace(b"`ada ", f"`ada {label} ".encode())
+    return files
+
+
+def make(folder: pathlib.Path, language: str, polls: Mapping[str, bytes]) -> None:
     """Makes the folder whole, with the book, which notes where it will lie."""
     place = folder.absolute()
     with contextlib.ExitStack() as stack:
@@ -77,9 +122,10 @@ def make(folder: pathlib.Path, language: str) -> None:
             made = stack.enter_context(whole_folder(place))
         except OSError as error:
             cure = "choose an existing place where you can write"
-            raise Fault(folder, error.strerror, cure, Status.BAD_WORDS) from None
-        write_whole(made / POLL_FILE, NEW_POLL.read_bytes(), 0o600)
-        write_whole(made / MEMBERS_FILE, NEW_MEMBERS.encode(), 0o600)
+            raise bad_words(folder, error.strerror, cure) from None
+        for name, data in (*polls.items(), (MEMBERS_FILE, NEW_MEMBERS.encode())):
+            (made / name).parent.mkdir(exist_ok=True)
+            write_whole(made / name, data, 0o600)
         final_path = place.parent.resolve() / place.name / book.NAME
         book.create(made / book.NAME, {"language": language}, final_path)
 
@@ -107,10 +153,15 @@ def roll(election: Election, arguments: RollArguments) -> None:
     roll, after = read_roll(election, history), election.command("check")
     if history.call is None:
         keep_electors(book, roll, history.last.number)
-        report_of_roll(roll, has_all=arguments.all)
+        tell(*roll_in_words(roll, has_all=arguments.all))
     else:
-        changed = [one for one in roll.electors if one.changes and (arguments.yes or agreed(one))]
-        change_addresses(book, changed, history.last.number)
+        is_secret = election.sealed().counted.is_secret
+        went = outgoing.call_addresses(book, history.call.number) if is_secret else {}
+        changes = {one: changes_in_words(one, went) for one in roll.electors if one.changes}
+        changed = {
+            one: words for one, words in changes.items() if arguments.yes or agreed(one, words)
+        }
+        change_addresses(election, history, changed)
         after = election.command("status")
         if changed and not history.closes:
             after = f"{election.command('letters', 'call')}, for the new addresses"
@@ -118,10 +169,11 @@ def roll(election: Election, arguments: RollArguments) -> None:
 
 
 def read_roll(election: Election, history: History) -> Roll:
-    members, known = members_in(election.path(MEMBERS_FILE)), queries.all_electors(election.book)
-    roll = roll_of(members, known, election.language.code, is_called=history.call is not None)
-    stop_at(roll.faults)
-    return roll
+    file = election.path(MEMBERS_FILE)
+    unread = "the list of members is a CSV file, as a spreadsheet saves it: put it there"
+    data = read_whole(file, TABLE_LIMIT, unread, f", {AGAIN}")
+    known, is_called = queries.all_electors(election.book), history.call is not None
+    return roll_of(data, file, known, election.language.code, is_called=is_called)
 
 
 def demand_read(election: Election, history: History) -> None:
@@ -156,9 +208,9 @@ def keep_electors(book: Book, roll: Roll, seen: int) -> None:
         queries.put_electors(act, (now for name, now in after.items() if before.get(name) != now))
 
 
-def change_addresses(book: Book, changed: Sequence[Member], seen: int) -> None:
-    """The act after the call. A new address makes a new own mark: who reads the old one knows the
-    mark.
+def change_addresses(election: Election, history: History, changed: Mapping[Member, str]) -> None:
+    """The act after the call. A new address makes a new own mark, and a new link to the box: who reads
+    the old one knows both.
     """
     if not changed:
         tell("Nothing was changed.")
@@ -167,60 +219,75 @@ def change_addresses(book: Book, changed: Sequence[Member], seen: int) -> None:
     for member, known in ((member, member.known) for member in changed if member.known):
         mark = new_own_mark() if "address" in member.changes else known.mark
         now.append(known._replace(addresses=member.addresses, key=member.key, mark=mark))
-    with book.act("addresses", {"electors": len(changed)}, seen=seen) as act:
+    book, files = election.book, dict[str, bytes]()
+    if history.announced("box") and not history.closes:
+        owns = {one.name: one.mark for one in (*queries.electors(book), *now)}
+        files = box_files(book, election.sealed().public.mark, owns)
+    with book.act("addresses", {"electors": len(changed)}, seen=history.last.number) as act:
         queries.put_electors(act, now)
-    tell(*(f"{member.name}: {changes_in_words(member)}" for member in changed))
+        act.insert_all("sealed", "name, data", files.items())
+    tell(*(f"{member.name}: {words}" for member, words in changed.items()))
     tell(f"{count_of(len(changed), 'elector')} changed; the result page says how many.")
+    if files:
+        write_made(election.path(CALL), {SCRIPT: files[BOX_SCRIPT]}, PUBLIC)
+        upload = f"Upload {election.path(CALL) / SCRIPT} again, since these electors have new links"
+        tell(f"{upload}; then run {election.command('add', '--box')}.")
 
 
-def agreed(member: Member) -> bool:
-    question = f"{member.label}: {changes_in_words(member)}. Is that right?"
+def agreed(member: Member, words: str) -> bool:
+    question = f"{member.label}: {words}. Is that right?"
     if not is_terminal():
         raise Fault(None, question, "run it at a terminal, or with --yes")
     return bool(is_yes(question))
 
 
-def changes_in_words(member: Member) -> str:
-    return "; ".join(
+def changes_in_words(member: Member, went: Mapping[str, Sequence[str]]) -> str:
+    """What changes of an elector. `went` are the addresses to which the call with their code went."""
+    words = [
         f"{what} {before or '(none)'} becomes {now or '(none)'}"
         for what, (before, now) in member.changes.items()
-    )
+    ]
+    before, _ = member.changes.get("address", ("", ""))
+    going = {*before.split(", ")}.difference(member.addresses)
+    if gone := [one for one in went.get(member.name, ()) if one in going]:
+        cure = "as long as nothing has come, call --take-back makes new codes"
+        words.append(
+            f"the secret code went to {', '.join(gone)}, and whoever reads it there will see this vote ({cure})"
+        )
+    return "; ".join(words)
 
 
 # ---- what is told
-def report_of_roll(roll: Roll, *, has_all: bool) -> None:
+def roll_in_words(roll: Roll, *, has_all: bool) -> Iterator[str]:
     electors = roll.electors
     shown = electors if has_all else electors[:MAX_SHOWN]
-    lines = [f"{count_of(len(electors), 'elector')}, each with the name on the roll:"]
+    yield f"{count_of(len(electors), 'elector')}, each with the name on the roll:"
     for one in shown:
-        who = f"  {one.name}: {shown_text(one.who)} {', '.join(one.addresses)}"
-        lines.append(who.rstrip())
+        yield f"  {one.name}: {shown_text(one.who)} {', '.join(one.addresses)}".rstrip()
     if len(shown) < len(electors):
-        lines.append(f"  and {len(electors) - len(shown)} more (--all prints them)")
+        yield f"  and {len(electors) - len(shown)} more (--all prints them)"
     if proposed := sum(bool(one.proposal) for one in electors):
         how = f"To change a name, write it into a column `name` of {MEMBERS_FILE}, and run this again."
-        lines.append(f"{count_of(proposed, 'name was', 'names were')} proposed. {how}")
+        yield f"{count_of(proposed, 'name was', 'names were')} proposed. {how}"
     for words, names, after in notes_on(electors):
         if names:
-            lines.append(f"{words}: {listed(names, MAX_SHOWN)}{after}")
-    lines += [f"No longer on the list: {one.name} ({shown_text(one.who)})" for one in roll.gone]
-    tell(*lines)
+            yield f"{words}: {listed(names, MAX_SHOWN)}{after}"
+    for gone in roll.gone:
+        yield f"No longer on the list: {gone.name} ({shown_text(gone.who)})"
 
 
 def notes_on(electors: Sequence[Member]) -> Iterator[tuple[str, list[str], str]]:
     """What may be wrong with the list: words, the names that they are about, and words after."""
-    with_address = [one for one in electors if one.addresses]
-    by_address = [
+    by_address = (
         (key, one.name)
-        for one in with_address
+        for one in electors
         for key in dict.fromkeys(map(address_key, one.addresses))
-    ]
+    )
     is_one = ". Is that one person?"
-    for sharing in several(by_address, operator.itemgetter(0)):
-        words = f"Note: several electors have the address {sharing[0][0]}"
-        yield words, [name for _, name in sharing], is_one
-    for group in several(electors, lambda elector: alike(elector.who)):
-        yield "Note: these real names look alike", [one.name for one in group], is_one
+    for address, names in several(by_address).items():
+        yield f"Note: several electors have the address {address}", names, is_one
+    for names in several((alike(one.who), one.name) for one in electors).values():
+        yield "Note: these real names look alike", names, is_one
     cut = [one for one in electors if one.proposal and not one.name.startswith(one.proposal)]
     words = f"Note: a name has at most {ELECTOR_LIMIT} characters, so these were cut"
     yield words, [one.label for one in cut], ""
@@ -232,10 +299,15 @@ def notes_on(electors: Sequence[Member]) -> Iterator[tuple[str, list[str], str]]
     words = "Without an address (letters in their names wait, letters to them are printed)"
     yield words, [one.name for one in electors if not one.addresses], ""
     words = "Without an address that every mail server takes (letters to them are printed)"
-    yield words, [one.name for one in with_address if not address_in(one.addresses)], ""
+    unsent = [one for one in electors if one.addresses and not address_in(one.addresses)]
+    yield words, [one.name for one in unsent], ""
 
 
 # ---- check
+# a real name that ends in a letter, or is one, which may be read as a label
+LIKE_LABEL = re.compile(r"(?<!\w)[^\W\d_]\W*$")
+
+
 class CheckArguments(Options):
     all: bool = flag("Print all names on the roll, however many there are")
 
@@ -244,25 +316,47 @@ def check(election: Election, arguments: CheckArguments) -> None:
     """Check the poll: list everything that is wrong with it, or show what is voted on."""
     history = election.history()
     if history.call is not None:
-        tell(
-            f"The call has sealed the poll, and poll.toml is no longer read. Next: {election.command('status')}"
-        )
+        sealed = "poll, and poll.toml is"
+        if election.sealed().counted.is_several:
+            sealed = "polls, and polls/ is"
+        tell(f"The call has sealed the {sealed} no longer read. Next: {election.command('status')}")
         return
     found = checked(election)
-    poll, roll = found.poll, found.poll.roll
-    tell(f"The poll is in order: {len(poll.names)} options, {len(roll)} electors.")
+    questions, roll = found.questions, found.questions.roll
+    counts = f"The polls are in order: {len(questions)} questions"
+    if not questions.is_several:
+        counts = f"The poll is in order: {len(questions[''].names)} options"
+    tell(f"{counts}, {len(roll)} electors.")
     tell_checked(found)
-    tell(quorum_words(poll.quorum, found.sheet.quorum))
+    tell(*names_like_answers(questions, queries.electors(election.book), election.language))
+    for label, poll in questions.items():
+        quorum = quorum_words(poll.quorum, found.quorums[label])
+        tell(f"{label}: {quorum}" if label else quorum)
     if not history.has_codes_on_roll:
         names = roll if arguments.all else roll[:MAX_SHOWN]
         tell(f"Electors: {len(roll)}", wrapped(names))
         if len(names) < len(roll):
             tell(f"  and {len(roll) - len(names)} more (--all prints them)")
-    tell(f"Next: {what_next(election, history, poll)}")
+    tell(f"Next: {what_next(election, history, questions)}")
 
 
-def what_next(election: Election, history: History, poll: SealedPoll) -> str:
-    if lacks_codes(election, history, poll):
+def names_like_answers(
+    questions: Questions, electors: Sequence[Elector], language: Language
+) -> Iterator[str]:
+    """Notes on people whose names may be read as a part of an answer."""
+    words = questions.words(language)
+    if named := [one.who for one in electors if with_ranks(one.who, words) != one.who]:
+        note = "Note: these real names end in a word of the motion, and a name is no ballot"
+        yield f"{note}: {listed(named, MAX_SHOWN)}"
+    like = [one for one in electors if LIKE_LABEL.search(one.who) or len(one.name) == 1]
+    if like and questions.is_several:
+        note = "Note: these names end in a letter that may be read as the label of a question"
+        labels = [f"{one.name} ({shown_text(one.who)})" for one in like]
+        yield f"{note}: {listed(labels, MAX_SHOWN)}"
+
+
+def what_next(election: Election, history: History, questions: Questions) -> str:
+    if lacks_codes(election, history, questions):
         return (
             f"{election.command('codes')}, since the vote is secret and electors have no codes yet"
         )
@@ -285,72 +379,72 @@ def codes(election: Election, arguments: CodesArguments) -> None:
     """Make a secret code for each elector of a secret vote, before the call."""
     election.demand_right_book(arguments)
     if election.history().call is None:
-        poll, number = make_codes(election, arguments)
+        questions, number = make_codes(election, arguments)
+        sealed = Sealed(questions, questions)
         tell(f"Made {count_of(number, 'code')}.")
     else:
-        poll = election.sealed().counted
-        if not poll.secret:
+        sealed = election.sealed()
+        if not sealed.counted.is_secret:
             raise Fault(None, NOT_SECRET, f"see {election.command('status')}")
     history, private = election.history(), election.path(PRIVATE)
-    write_slips(election, history, poll)
+    write_slips(election, sealed)
     when = "Print them after the call, which adds the end of the vote and the address for ballots."
-    lines = [f"The slips: {private / SLIPS}. {when}"]
+    tell(f"The slips: {private / SLIPS}. {when}")
     without = [one.name for one in queries.electors(election.book) if not one.code]
     if history.has_codes_on_roll:
         words = "Destroy the slips that are left over, and their file."
-        lines.append(f"Nobody may keep a list of who gets which code. {words}")
+        tell(f"Nobody may keep a list of who gets which code. {words}")
     else:
-        lines.append(f"The table of codes: {private / CODES}. Let nobody else see it.")
+        tell(f"The table of codes: {private / CODES}. Let nobody else see it.")
         if without:
-            lines.append(f"Without a code: {', '.join(without)}")
-    tell(*lines, f"Next: {what_next(election, history, poll)}")
+            tell(f"Without a code: {', '.join(without)}")
+    tell(f"Next: {what_next(election, history, sealed.counted)}")
 
 
-def make_codes(election: Election, arguments: CodesArguments) -> tuple[SealedPoll, int]:
+def make_codes(election: Election, arguments: CodesArguments) -> tuple[Questions, int]:
     """The act that makes a code for each elector who has none, beside the name or in its place:
-    then nothing ties it to a person. Returns the poll as it would be sealed, and how many codes
-    were made.
+    then nothing ties it to a person. Returns the questions as they would be sealed, and how many
+    codes were made.
     """
     book, history = election.book, election.history()
     demand_read(election, history)
-    poll = checked(election).poll
-    if not poll.secret:
-        cure = "for a secret vote write into it: secret = true"
-        raise Fault(election.path(POLL_FILE), NOT_SECRET, cure)
+    questions = checked(election).questions
+    if not questions.is_secret:
+        place, into = (POLLS, "each poll") if questions.is_several else (POLL_FILE, "it")
+        cure = f"for a secret vote write into {into}: secret = true"
+        raise Fault(election.path(place), NOT_SECRET, cure)
     electors = queries.electors(book)
     without = [elector for elector in electors if not elector.code]
+    if arguments.on_roll and questions.is_several:
+        reason = "with several questions the row of all votes under one code would be a mark"
+        raise Fault("--on-roll", reason, "leave it out, or hold an election for each question")
     if arguments.on_roll and len(without) < len(electors):
         reason = "electors have names with codes already"
         raise Fault("--on-roll", reason, "begin anew in another folder")
     if history.has_codes_on_roll or not without:
-        return poll, 0
+        return questions, 0
     detail: Detail = {"codes": len(without)}
     if arguments.on_roll:
         detail["on_roll"] = True
     with book.act("codes", detail, seen=history.last.number) as act:
         if arguments.on_roll:
             queries.put_electors(act, (elector._replace(position=None) for elector in electors))
-            on_roll = [
-                queries.new_elector(act, name) for name in sorted(new_code() for _ in electors)
+            names = sorted(new_code() for _ in electors)
+            coded = [
+                queries.new_elector(act, name)._replace(position=at)
+                for at, name in enumerate(names, start=1)
             ]
-            coded = [one._replace(position=at) for at, one in enumerate(on_roll, start=1)]
         else:
             codes = [(one, new_code(one.name)) for one in without]
             coded = [one._replace(code=code, alias=alias_of(code, one.name)) for one, code in codes]
         queries.put_electors(act, coded)
-    return poll, len(without)
+    return questions, len(without)
 
 
-def write_slips(election: Election, history: History, poll: SealedPoll) -> None:
+def write_slips(election: Election, sealed: Sealed) -> None:
     """Makes the folder `private`, with what the call says if there is one."""
-    is_on_roll, lapsed = history.has_codes_on_roll, history.has_lapsed_codes
-    call = CallData(
-        election.language, poll, 0, has_codes_on_roll=is_on_roll, has_lapsed_codes=lapsed
-    )
-    if history.call is not None:
-        call = current_call(election, history)
-    electors = queries.electors(election.book)
+    electors, call = queries.electors(election.book), current_call(election, sealed=sealed)
     files = {SLIPS: slips(call, electors)}
-    if not is_on_roll:
-        files[CODES] = codes_csv(electors)
+    if not call.has_codes_on_roll:
+        files[CODES] = codes_csv(electors, is_several=call.questions.is_several)
     write_made(election.path(PRIVATE), files, OWN)

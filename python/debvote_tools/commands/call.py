@@ -1,23 +1,25 @@
 """Make the call for votes, a page and a letter; from then on the poll cannot change."""
 
 import dataclasses
+import os
+import pathlib
+import shlex
 import shutil
+from collections.abc import Iterator
 
 from debvote_tools.cli.arguments import Acting, flag, given, option
 from debvote_tools.text import times
 from debvote_tools.book import queries
 from debvote_tools.book.book import ActName, Detail
-from debvote_tools.poll.call import call_files, CallData, current_call, extension_letter, until_of
+from debvote_tools.poll.call import call_files, call_letter, CallData, current_call, until_of
 from debvote_tools.cli.console import act_time, tell
-from debvote_tools.result.publication import agreed_texts, texts_of_poll
+from debvote_tools.result.publication import agreed_texts, texts_of
 from debvote_tools.commands.begin import CODES, SLIPS, demand_read, write_slips
 from debvote_tools.book.election import (
     CALL,
     KEYRING,
     LETTER_TEXT,
     LETTERS,
-    POLL,
-    POLL_WITH_NAMES,
     PRIVATE,
     Election,
     History,
@@ -32,14 +34,16 @@ from debvote_tools.poll.announced import (
     parse_until,
 )
 from debvote_tools.cli.faults import NOTHING_CHANGED, Fault, bad_words, kept_in, stop_at
+from debvote_tools.inbox.asked import unasked
 from debvote_tools.inbox.signature import read_keyring
-from debvote_tools.poll.secret import aliased_poll, demand_no_code
+from debvote_tools.poll.box import SCRIPT, box_files, script_address
+from debvote_tools.poll.secret import aliased, demand_no_code
+from debvote_tools.poll.questions import quorums_said
 from debvote_tools.poll.sealed import new_own_mark
 
 EXTENSION = "extension.txt"
 
-# all names that the folder of a call can have
-FILES = ("index.html", "call.txt", "poll.toml", "SHA256SUMS")
+LEAVE_OUT = "leave it out"
 
 # in bytes; the keys of ten thousand members are shorter
 KEYRING_LIMIT = 134_217_728
@@ -61,12 +65,12 @@ class Arguments(Acting):
     at: str | None = option(
         "URL", "The web address of the page for the call, and later for the result"
     )
-    form: bool = flag(
-        "Say in the call that an empty cell of a web form counts as a hyphen; add --blank-is-unranked reads it so"
-    )
     names: bool = flag("Say in the call that real names will be published with the result")
     marked: bool = flag(
         "Let a letter go in by itself only with the own mark of its elector, which letters to electors have"
+    )
+    box: bool = flag(
+        "Let electors vote by a click on the page: call/vote.php keeps the ballots on the web host until add --box"
     )
     keyring: str | None = option(
         "FILE",
@@ -88,47 +92,45 @@ def run(election: Election, arguments: Arguments) -> None:
     else:
         call_again(election, arguments)
     make_folders(election)
-    report_of_call(election, current_call(election))
+    tell(*call_in_words(election, current_call(election)))
 
 
 # ---- the acts
 def call(election: Election, arguments: Arguments) -> None:
     history, faults = election.history(), list[Fault]()
-    said, is_on_roll = announced(arguments, None, faults), history.has_codes_on_roll
+    said, is_on_roll = announced(arguments, history, faults), history.has_codes_on_roll
     if is_on_roll and arguments.marked:
         reason = "codes are on the roll, so no elector can be given an own mark"
-        faults.append(bad_words("--marked", reason, "leave it out"))
+        faults.append(bad_words("--marked", reason, LEAVE_OUT))
     with kept_in(faults):
         demand_read(election, history)
     with kept_in(faults):
         found = checked(election, deadline=said.get("until"), address=said.get("to"))
-        poll = found.poll
-        if poll.secret and arguments.names:
-            cure = "leave it out: in a secret vote no names are published"
-            faults.append(bad_words("--names", "the vote is secret", cure))
-        if lacks_codes(election, history, poll):
+        questions = found.questions
+        faults += faults_in_secret(arguments) if questions.is_secret else ()
+        if lacks_codes(election, history, questions):
             cure = f"run {election.command('codes')} first"
             raise Fault(None, "the vote is secret, and electors have no codes", cure)
     stop_at(faults)
-    electors, public = queries.electors(election.book), poll
-    if poll.secret and not is_on_roll:
-        public = aliased_poll(poll, queries.public_names(electors))
-    said |= {"form": arguments.form, "names": arguments.names, "marked": arguments.marked}
-    said |= {"codes_on_roll": is_on_roll, "quorum_votes": found.sheet.quorum}
-    said["signed"] = arguments.keyring is not None
-    keyring = keyring_in(election, arguments.keyring)
-    files = sealed_by(election, said, found.letter_text, keyring, Sealed(public, poll))
-    files[POLL] = public.as_bytes()
-    if public != poll:
-        files[POLL_WITH_NAMES] = poll.as_bytes()
-    if poll.secret:
-        # letter.txt begins the letter to all
-        texts = texts_of_poll(poll) | {LETTER_TEXT: found.letter_text}
-        said["agreed"] = agreed_texts(history, texts, is_agreed=arguments.yes, done=NOTHING_CHANGED)
+    electors = queries.electors(election.book)
+    said |= {
+        "names": arguments.names,
+        "marked": arguments.marked,
+        "box": arguments.box,
+        "codes_on_roll": is_on_roll,
+        "quorum_votes": quorums_said(found.quorums),
+        "signed": arguments.keyring is not None,
+    }
+    public = aliased(questions, electors) if questions.is_secret else questions
+    sealed = Sealed(public, questions)
+    files = sealed_by(election, arguments, said, found.letter_text, sealed) | sealed.files()
+    # nobody knows whose a code on the roll is
+    marked = [] if is_on_roll else [one._replace(mark=new_own_mark()) for one in electors]
+    if arguments.box:
+        files |= box_files(election.book, questions.mark, {one.name: one.mark for one in marked})
     with election.book.act("call", said, seen=history.last.number) as act:
-        act.insert_all("sealed", ["name", "data"], files.items())
-        if not is_on_roll:
-            queries.put_electors(act, (one._replace(mark=new_own_mark()) for one in electors))
+        act.insert_all("sealed", "name, data", files.items())
+        queries.put_electors(act, marked)
     tell_checked(found)
 
 
@@ -137,7 +139,9 @@ def call_again(election: Election, arguments: Arguments) -> None:
     and if it is not later than the one that electors know.
     """
     history, faults = election.history(), list[Fault]()
-    said = announced(arguments, history.announced("zone"), faults)
+    said = announced(arguments, history, faults)
+    if said.get("at") not in (None, history.announced("at")):
+        faults += filter(None, [unasked(election, history, "at")])
     stop_at(faults)
     demand_no_change(election, history, arguments, said)
     before = current_call(election, history).letter_text
@@ -155,16 +159,12 @@ def call_again(election: Election, arguments: Arguments) -> None:
     if until is not None and history.until is not None and until <= history.until:
         words = f"electors rely on {times.time_in_words(history.until)}, and {times.time_in_words(until)} is not later"
         raise bad_words("--until", words, "name a later time")
-    keyring = keyring_in(election, arguments.keyring)
-    files = sealed_by(election, said, letter_text, keyring)
-    if election.sealed().counted.secret and LETTER_TEXT in files:
-        new = {LETTER_TEXT: letter_text}
-        said["agreed"] = agreed_texts(history, new, is_agreed=arguments.yes, done=NOTHING_CHANGED)
-    if keyring is not None:
+    files = sealed_by(election, arguments, said, letter_text)
+    if arguments.keyring is not None:
         said["keyring"] = True
     name: ActName = "announce" if until is None else "extend"
     with election.book.act(name, said, seen=history.last.number) as act:
-        act.insert_all("sealed", ["name", "data"], files.items())
+        act.insert_all("sealed", "name, data", files.items())
 
 
 def take_back(election: Election) -> None:
@@ -177,7 +177,7 @@ def take_back(election: Election) -> None:
         words = "ballots or letters have come, and electors rely on the call"
         raise Fault(None, words, "finish this vote, or hold it anew in another folder")
     electors, is_on_roll = queries.electors(book), history.has_codes_on_roll
-    coded = len(electors) if election.sealed().counted.secret else 0
+    coded = len(electors) if election.sealed().counted.is_secret else 0
     detail: Detail = {"call": call_act.number, "codes": coded}
     with book.act("take back", detail, seen=history.last.number) as act:
         # own marks lapse, and codes: whoever compares the roll of this call with that of the next
@@ -187,12 +187,14 @@ def take_back(election: Election) -> None:
             for one in electors
         )
         queries.put_electors(act, lapsed)
-    write_made(election.path(CALL), {}, PUBLIC, FILES)
+    write_made(election.path(CALL), {}, PUBLIC, queries.files_sealed(book, CALL))
     (election.path(LETTERS) / EXTENSION).unlink(missing_ok=True)
     # letters that nobody has sent yet have the mark and the codes that are void
     for kind in ("call", "reminders"):
         shutil.rmtree(election.path(LETTERS) / kind, ignore_errors=True)
     tell("Took the call back. If anybody has seen it, tell them that it is void.")
+    if history.announced("box"):
+        tell(f"Remove {SCRIPT} from the web host, until the next call.")
     first = "call"
     if coded:
         write_made(election.path(PRIVATE), {}, OWN, (SLIPS, CODES))
@@ -204,14 +206,16 @@ def take_back(election: Election) -> None:
 
 def sealed_by(
     election: Election,
+    arguments: Arguments,
     said: Detail,
     letter_text: str,
-    keyring: bytes | None,
     sealed: Sealed | None = None,
 ) -> dict[str, bytes]:
     """What an act seals: the files of the call, so that they can be made again with the same bytes,
-    the text of the letters if it is new, and the keyring.
+    the text of the letters if it is new, and the keyring. In a secret vote the act says, too, which
+    texts everybody may read.
     """
+    keyring = keyring_in(election, arguments.keyring)
     data = dataclasses.replace(
         current_call(election, said=said, sealed=sealed), letter_text=letter_text
     )
@@ -220,19 +224,26 @@ def sealed_by(
         files[LETTER_TEXT] = letter_text.encode()
     files |= {f"{CALL}/{name}": content for name, content in call_files(data).items()}
     if sealed is None and "until" in said:
-        files[f"{LETTERS}/{EXTENSION}"] = extension_letter(data).encode()
-    if data.poll.secret:
+        files[f"{LETTERS}/{EXTENSION}"] = call_letter(data, is_extension=True).encode()
+    if data.questions.is_secret:
         codes = {elector.code or elector.name for elector in queries.electors(election.book)}
         for name, content in files.items():
             demand_no_code(name, content, codes, NOTHING_CHANGED)
+        if sealed or LETTER_TEXT in files:
+            # letter.txt begins the letter to all
+            texts = {**(texts_of(sealed.counted) if sealed else {}), LETTER_TEXT: letter_text}
+            said["agreed"] = agreed_texts(
+                election.history(), texts, is_agreed=arguments.yes, done=NOTHING_CHANGED
+            )
     return files if keyring is None else {**files, KEYRING: keyring}
 
 
 # ---- the words of the command line
-def announced(arguments: Arguments, earlier_zone: str | None, faults: list[Fault]) -> Detail:
+def announced(arguments: Arguments, history: History, faults: list[Fault]) -> Detail:
     """What the act keeps of these options. An extension is in the zone of the end before, unless it
     names another.
     """
+    earlier_zone = history.announced("zone")
     said: Detail = {}
     with kept_in(faults):
         if arguments.until is not None:
@@ -248,13 +259,28 @@ def announced(arguments: Arguments, earlier_zone: str | None, faults: list[Fault
         if arguments.at is not None:
             demand_web_address(arguments.at)
             said["at"] = arguments.at
+    if history.announced("box") or (arguments.box and history.call is None):
+        with kept_in(faults):
+            script_address(said.get("at") or history.announced("at"))
+        if arguments.keyring is not None:
+            words = "letters have to be signed, and no click is"
+            faults.append(bad_words("--box", words, LEAVE_OUT))
     return said
+
+
+def faults_in_secret(arguments: Arguments) -> Iterator[Fault]:
+    if arguments.names:
+        cure = "leave it out: in a secret vote no names are published"
+        yield bad_words("--names", "the vote is secret", cure)
+    if arguments.box:
+        words = "the vote is secret, and whoever keeps the web host would see it"
+        yield bad_words("--box", words, LEAVE_OUT)
 
 
 def demand_no_change(
     election: Election, history: History, arguments: Arguments, said: Detail
 ) -> None:
-    flags = given(arguments, "form", "names", "marked")
+    flags = given(arguments, "names", "marked", "box")
     changed = [flag for flag in flags if not history.announced(flag.removeprefix("--"))]
     if said.get("to") not in (None, history.announced("to")):
         changed.append("--to")
@@ -286,45 +312,63 @@ def keyring_in(election: Election, file: str | None) -> bytes | None:
 # ---- the folders
 def make_folders(election: Election) -> None:
     book, history = election.book, election.history()
-    files = {name: queries.sealed(book, f"{CALL}/{name}") for name in FILES}
-    there = {name: data for name, data in files.items() if data is not None}
-    write_made(election.path(CALL), there, PUBLIC, FILES)
+    call_act, sealed = election.called(history), queries.files_sealed(book, CALL)
+    # not what a call that was taken back had alone
+    there = {
+        name: queries.sealed(book, f"{CALL}/{name}") or b""
+        for name, act in sealed.items()
+        if act >= call_act.number
+    }
+    write_made(election.path(CALL), there, PUBLIC, sealed)
     extension = queries.sealed(book, f"{LETTERS}/{EXTENSION}")
     if extension is not None and history.since_call("extend"):
         write_made(election.path(LETTERS), {EXTENSION: extension}, OWN)
-    if election.sealed().counted.secret:
-        write_slips(election, history, election.sealed().counted)
+    if election.sealed().counted.is_secret:
+        write_slips(election, election.sealed())
 
 
-def report_of_call(election: Election, data: CallData) -> None:
-    folder, slips = election.path(CALL), election.path(PRIVATE) / SLIPS
-    lines = [f"Made the folder {folder} with the page index.html and the letter call.txt."]
-    if data.has_aliases:
-        lines += [
-            "The vote is secret: the poll of the call has aliases, and the folder has no names of electors.",
-            f"Print {slips}, cut the slips out, and give each elector their own.",
-        ]
+def secrecy_in_words(data: CallData, slips: pathlib.Path) -> Iterator[str]:
     if data.has_codes_on_roll:
-        lines += [
-            "Codes are on the roll: the call has the checksum of the poll, but no poll.toml.",
-            f"Print {slips}, cut the slips out, and let each elector draw one.",
-        ]
-    lines += [
-        f"Checksum of the poll: {data.poll.checksum}",
-        f"Mark of the poll, at the end of each subject: {data.mark}",
-    ]
+        yield "Codes are on the roll: the call has the checksum of the poll, but no poll.toml."
+        yield f"Print {slips}, cut the slips out, and let each elector draw one."
+    elif data.has_aliases:
+        yield "The vote is secret: the poll of the call has aliases, and the folder has no names of electors."
+        yield f"Print {slips}, cut the slips out, and give each elector their own."
+
+
+def call_in_words(election: Election, data: CallData) -> Iterator[str]:
+    folder, polls, sealed = election.path(CALL), "poll", "The poll is sealed: poll.toml"
+    if data.questions.is_several:
+        polls, sealed = "polls", "The polls are sealed: polls/"
+    yield f"Made the folder {folder} with the page index.html and the letter call.txt."
+    yield from secrecy_in_words(data, election.path(PRIVATE) / SLIPS)
+    yield f"Checksum of the {polls}: {data.questions.checksum}"
+    yield f"Mark of the poll, at the end of each subject: {data.mark}"
     if data.is_marked:
-        lines.append("A letter goes in by itself only with the own mark of its elector.")
+        yield "A letter goes in by itself only with the own mark of its elector."
     if data.until is not None:
-        lines.append(f"End of the vote: {times.time_in_words(data.until)}")
+        yield f"End of the vote: {times.time_in_words(data.until)}"
     if data.is_extended:
-        lines.append(f"Made {election.path(LETTERS) / EXTENSION}: send it to all electors.")
+        yield f"Made {election.path(LETTERS) / EXTENSION}: send it to all electors."
     unsaid = {"when the vote ends (--until)": data.until, "where ballots go (--to)": data.to}
     if missing := [words for words, value in unsaid.items() if value is None]:
-        lines.append(f"The call does not say {' nor '.join(missing)}.")
+        yield f"The call does not say {' nor '.join(missing)}."
+    put = f"put {folder} on the web site"
+    if data.has_box:
+        ask = election.command("add", "--box")
+        put = f"upload the files of {folder} to {data.at}, {SCRIPT} too, then run {ask}, which tries whether it works"
+        yield f"To ask for the ballots of the page each hour, by cron: {cron_line(election)}"
+    yield f"{sealed} and texts/ of this folder are no longer read; roll still reads addresses and keys."
+    send = election.to_all("call", folder / "call.txt")
     enter = f"{election.command('add', 'FILE')} or {election.command('desk')}"
-    lines += [
-        "The poll is sealed: poll.toml and texts/ of this folder are no longer read; roll still reads addresses and keys.",
-        f"Next: put {folder} on the web site, and write to the electors: {election.to_all('call', folder / 'call.txt')}; enter the ballots that come: {enter}",
-    ]
-    tell(*lines)
+    yield f"Next: {put}, and write to the electors: {send}; enter the ballots that come: {enter}"
+
+
+def cron_line(election: Election) -> str:
+    """The line that asks the box each hour. It finds this computer's note, and cron reads a % as the
+    end of a line.
+    """
+    state = os.environ.get("XDG_STATE_HOME")
+    noted = [f"XDG_STATE_HOME={shlex.quote(state)}"] if state else []
+    ask = ("debvote-election", "add", "--folder", str(election.folder.absolute()), "--box", "--yes")
+    return " ".join(["0 * * * *", *noted, shlex.join(ask)]).replace("%", r"\%")

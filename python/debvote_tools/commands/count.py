@@ -1,64 +1,132 @@
-"""Print the result sheet."""
+"""Print the result sheet; of several questions all, each with its label above it."""
+
+from collections.abc import Mapping
 
 from debvote_tools.cli.arguments import Acting, flag, option
 from debvote_tools.book import queries
 from debvote_tools.cli.console import tell_as_it_is, tell_aside
+from debvote_tools.cli.faults import bad_words
 from debvote_tools.debvote import casting_words
 from debvote_tools.book.election import Election, History
-from debvote_tools.inbox.waiting import how_to_go_on, stopping, waiting_letters, why_they_stop
-from debvote_tools.cli.faults import Fault
+from debvote_tools.inbox.asked import asked_words, unasked
+from debvote_tools.inbox.pending import Pending, pending_letters
 from debvote_tools.text.ballots import ballot_file
+from debvote_tools.poll.questions import Questions
+from debvote_tools.poll.sealed import SealedPoll
+from debvote_tools.result.publication import (
+    demand_as_closed,
+    demand_kept,
+    demand_own_lines,
+    public_ballots,
+)
 from debvote_tools.result.sheet import (
     CASTING,
     NOTHING_COUNTED,
+    Castings,
+    castings_in,
     demand_countable,
-    demand_option,
     in_shell,
+    named,
+    publishing,
     Sheet,
     sheet_in,
 )
 
 
 class Arguments(Acting, writes=False, checks=True):
-    casting: str | None = option(*CASTING)
-    force: bool = flag("Count although letters wait that arrived in time")
+    casting: list[str] | None = option(*CASTING, action="append")
+    question: str | None = option("LABEL", "Of several questions count this one alone")
+    force: bool = flag(
+        "Count although letters wait that arrived in time, or the box of the web host was not asked since an early close"
+    )
 
 
 def run(election: Election, arguments: Arguments) -> int:
-    book = election.book_for(arguments)
+    election.demand_right_book(arguments)
     sealed, history = election.sealed(), election.history()
     demand_countable(election, history, sealed)
-    demand_option(sealed.counted, arguments.casting)
-    stops = stopping(waiting_letters(election, history), history) if history.is_closed else []
-    if stops and not arguments.force:
-        cure = f"{how_to_go_on(election)}; or count without them with --force"
-        raise Fault(None, why_they_stop(stops), cure, done=NOTHING_COUNTED)
-    poll, ballots = sealed.counted.as_bytes(), ballot_file(queries.lines_in_time(book))
-    answer = election.debvote.answer("count", poll, ballots, *casting_words(arguments.casting))
-    # the sheet alone, so that it can go into a file
-    tell_as_it_is(answer.text)
-    if stops:
-        tell_aside(f"Note: {why_they_stop(stops)}; they are in no count.")
-    tell_aside(f"Next: {what_next(election, history, sheet_in(answer.text), arguments.casting)}")
-    return answer.status
+    castings = castings_in(arguments.casting, sealed.counted)
+    polls = polls_asked_for(sealed.counted, arguments.question)
+    pending = pending_letters(election, history) if history.is_closed else Pending()
+    if not history.is_closed:
+        tell_aside(*asked_words(history))
+    elif (
+        not_asked := unasked(election, history, "closed", NOTHING_COUNTED)
+    ) and not arguments.force:
+        raise not_asked
+    if not arguments.force:
+        force = "or count without them with --force"
+        pending.demand_none(election, force, done=NOTHING_COUNTED)
+    demand_own_lines(election)
+    sheets = {
+        label: counted_again(election, history, label, poll, castings.get(label))
+        for label, poll in polls.items()
+    }
+    for label, sheet in sheets.items():
+        # the sheet alone, so that it can go into a file
+        above = "" if arguments.question or not label else f"Question {label}\n"
+        tell_as_it_is(above + sheet.text)
+    if pending.stopping:
+        tell_aside(f"Note: {pending.why_they_stop}; they are in no count.")
+    tell_aside(f"Next: {what_next(election, history, sheets, castings)}")
+    return max(sheet.status for sheet in sheets.values())
 
 
-def what_next(election: Election, history: History, sheet: Sheet, casting: str | None) -> str:
-    """What the secretary does with this sheet. Before the close it is no result yet."""
+def polls_asked_for(questions: Questions, label: str | None) -> Mapping[str, SealedPoll]:
+    """The polls of all questions, or of that which is asked for. Stops if there is none."""
+    if label is None:
+        return questions
+    label = label.upper()
+    if not label or label not in questions:
+        cure = f"name one of {', '.join(questions)}" if any(questions) else "leave it out"
+        raise bad_words("--question", f"there is no question {label}", cure, NOTHING_COUNTED)
+    return {label: questions[label]}
 
-    def publish(name: str) -> str:
-        cast = ("--cast-by", "WHO", "--cast-on", "DATE")
-        return election.command("publish", *casting_words(name), *cast)
 
-    if sheet.winner is None:
-        names, outside = [sheet.names[option] for option in sheet.left], sheet.casting_outside
-        why = f"; {in_shell([sheet.names[outside]])} is not among them" if outside else ""
-        chosen = f"the holder of the casting vote chooses one of them: {' or '.join(map(publish, names))}"
-        then, said = "now", f"it is a tie between {in_shell(names)}{why}; {chosen}"
+def counted_again(
+    election: Election, history: History, label: str, poll: SealedPoll, casting: str | None
+) -> Sheet:
+    """What debvote counts of one question. Stops if it is not what the book keeps."""
+    book = election.book
+    with book.question(label), book.snapshot():
+        ballots, kept = ballot_file(queries.lines_to_count(book)), queries.numbers(book)
+        demand_as_closed(history, label, public_ballots(book, label, poll, ballots))
+    words = casting_words(casting)
+    sheet = sheet_in(election.debvote.answer("count", poll.as_bytes(), ballots, *words).text)
+    said = queries.Numbers(sheet.lines, sheet.valid, sheet.refused, sheet.voters)
+    demand_kept(election, said, kept)
+    return sheet
+
+
+def what_next(
+    election: Election, history: History, sheets: Mapping[str, Sheet], castings: Castings
+) -> str:
+    """What the secretary does with these sheets. Before the close they are no result yet."""
+    tied = {label: sheet for label, sheet in sheets.items() if sheet.winner is None}
+    cast = {label: castings[label] for label, sheet in sheets.items() if sheet.is_by_casting}
+    if tied:
+        ties = "; ".join(tie_in_words(label, sheet) for label, sheet in tied.items())
+        # what several ties need together has no names
+        [label, *more], names = tied, [name for one in tied.values() for name in names_left(one)]
+        ways = (
+            [cast | dict.fromkeys(tied, "NAME")] if more else [cast | {label: one} for one in names]
+        )
+        chosen = " or ".join(publishing(election, way) for way in ways)
+        then = "now"
+        said = f"{ties}; the holder of the casting vote chooses one of them: {chosen}"
     else:
-        by_casting = sheet.is_by_casting and casting
-        then, said = "then", publish(by_casting) if by_casting else election.command("publish")
+        then, said = "then", publishing(election, cast)
     if history.is_closed:
         return said
     over = f"when the vote is over, run {election.command('close')}"
     return f"this is not the result yet: {over}{';' if then == 'now' else ','} {then} {said}"
+
+
+def names_left(sheet: Sheet) -> list[str]:
+    return [sheet.names[option] for option in sheet.left]
+
+
+def tie_in_words(label: str, sheet: Sheet) -> str:
+    outside = sheet.casting_outside
+    why = f"; {in_shell([sheet.names[outside]])} is not among them" if outside else ""
+    return f"{named(label)} is a tie between {in_shell(names_left(sheet))}{why}"

@@ -2,27 +2,36 @@
 own terminal.
 """
 
+import dataclasses
 import functools
 import os
 import re
 import sys
-from collections.abc import Callable, Iterator, Sequence
+from collections.abc import Iterator, Sequence
 
 from debvote_tools.book import queries
-from debvote_tools.book.book import Detail
+from debvote_tools.book.book import Detail, DoneAct
+from debvote_tools.book.change import carried_out
 from debvote_tools.book.election import Election, History
-from debvote_tools.book.queries import Elector, Envelope, NewEnvelope
-from debvote_tools.cli.console import is_yes, shown_line, shown_text, tell, typed
-from debvote_tools.cli.faults import Fault, Status
+from debvote_tools.book.queries import Elector, NewEnvelope
+from debvote_tools.cli.console import shown_line, shown_text, tell, typed
+from debvote_tools.cli.arguments import option
+from debvote_tools.cli.faults import Fault, Status, bad_words
 from debvote_tools.files import BALLOTS_LIMIT
+from debvote_tools.debvote import TABLE
 from debvote_tools.inbox import entering
-from debvote_tools.inbox.lines import Line, lines_in
-from debvote_tools.inbox.vote import CheckedLine, Vote, change_words, summary
+from debvote_tools.inbox.entering import Entry
+from debvote_tools.inbox.lines import Line, Names, lines_in
+from debvote_tools.inbox.vote import IN_ORDER, CheckedLine, Vote, change_words, summary
 from debvote_tools.poll.plain_names import alike
+from debvote_tools.text.ballots import answers_in, answers_text
 
 QUIT = b"q"
-NOTHING_CAST = "nothing was entered"
+NOTHING_CAST, NOT_ENTERED = "nothing was entered", "It was not entered."
 REPORTED = "the ballots reported so far were entered, and nothing else"
+
+# in place of a line that is no ballot here
+NO_LINE = b"-"
 
 # in bytes; what one read of a pipe brings at most
 READ = 65_536
@@ -31,22 +40,27 @@ TYPED = re.compile(r"(.+?)\s+([\d-].*)")
 # how many names are listed to choose from
 MAX_NAMES = 9
 
-Arguments = entering.Arguments
 
-# when the vote is open, and what came of the elector whose ballot is shown
-Seen = tuple[History, list[Envelope]]
+class Arguments(entering.Arguments):
+    question: str | None = option(
+        "LABEL", "Of several questions the one that is answered: type the ballot without its label"
+    )
 
 
+@dataclasses.dataclass(eq=False)
 class Desk:
     """A desk, and the replies to what was cast there."""
 
-    def __init__(self, election: Election, answer: str | None) -> None:
-        self.vote = Vote(election, election.history())
-        # what --came-before-close says, and what was said of the ballots of this desk
-        self.answer = answer
-        self.came_before_close: bool | None = None
-        self.replies: list[str] = []
-        self.next_line = 1
+    vote: Vote
+    # what --came-before-close says, and what was said of the ballots of this desk
+    answer: str | None
+    came_before_close: bool | None = None
+    replies: list[str] = dataclasses.field(default_factory=list)
+    next_line: int = 1
+    # whether the input has ended
+    is_over: bool = False
+    # the lines that came at a pipe, until one of them is a ballot
+    above: list[Line] | None = dataclasses.field(default_factory=list[Line])
 
     @functools.cached_property
     def texts(self) -> list[tuple[Elector, str]]:
@@ -54,57 +68,107 @@ class Desk:
         electors = queries.electors(self.vote.book)
         return [(one, f"{alike(one.name)}\n{alike(one.who)}") for one in electors]
 
+    def history(self) -> History:
+        """The acts until now. Stops after another call."""
+        history = self.vote.election.history()
+        self.vote.demand_same_call(history, NOTHING_CAST, "start the desk again")
+        return history
+
     def ask_if_reopened(self, history: History, done: str = REPORTED) -> None:
         """If the vote was opened again, asks once whether what is cast came before the first close."""
         if self.came_before_close is None:
             self.came_before_close = entering.came_before_close(history, self.answer, done)
 
+    @functools.cached_property
+    def names(self) -> Names:
+        """The names, for lines without a label."""
+        names = self.vote.names
+        words = names.words if self.vote.label in names.motions else {}
+        return dataclasses.replace(names, labels=(), words=words)
+
     def lines_of(self, data: bytes) -> list[Line]:
-        lines = lines_in(data, "desk", self.next_line)
+        lines = lines_in(data, "desk", self.vote.questions.longest_line, self.next_line)
         self.next_line += len(lines)
-        return lines
+        return [self.with_label(line) for line in lines] if self.vote.label else lines
 
-    def enter(
-        self,
-        lines: list[CheckedLine],
-        show: Callable[[History], bool] = lambda _: True,
-        elector: int | None = None,
-    ) -> None:
-        """Casts lines if `show` says so; it is asked anew if another act changed what it saw."""
-        vote = self.vote
+    def with_label(self, line: Line) -> Line:
+        """A line that answers one question without its label, with it."""
+        text, names = line.repaired.decode("utf-8", "replace"), self.vote.names
+        if names.taken_apart(names.with_ranks(text)):
+            # with labels it may be meant for another desk
+            return line._replace(unframed=NO_LINE)
+        if (found := self.names.taken_apart(self.names.with_ranks(text))) is None:
+            return line._replace(as_it_came=line.unframed, repaired=line.unframed)
+        name, ranks = found
+        right = name.lower() if name.lower() in names.roll else name
+        full = f"{right} {self.vote.label} {ranks}".encode()
+        return line._replace(as_it_came=full, unframed=full, repaired=full)
 
-        def plan() -> Seen:
-            history = History(vote.book.acts())
-            vote.demand_same_call(history, NOTHING_CAST, "start the desk again")
-            return history.acts_that_open_or_close(), queries.envelopes(
-                vote.book, "elector = ?", elector
-            )
+    def demand_no_table(self, lines: list[CheckedLine]) -> None:
+        """Stops at the head of a table: below a ballot no line is one."""
+        if self.above is None:
+            return
+        self.above += [line.original for line in lines]
+        if self.vote.are_table(self.above):
+            raise Fault("desk", TABLE, IN_ORDER, Status.BAD_BALLOTS, REPORTED)
+        if any(line.is_ballot for line in lines):
+            self.above = None
 
-        def show_all(now: Seen) -> bool:
-            self.ask_if_reopened(now[0])
-            return show(now[0])
+    def enter(self, lines: list[CheckedLine], elector: int | None = None, *, asks: bool) -> None:
+        carried_out(self.vote.book, lambda: what_is_cast(self, lines, elector, asks))
 
-        def report_on(numbers: range, replies: Sequence[str]) -> Iterator[str]:
-            self.replies += replies
-            return vote.report_of_lines(lines, numbers, replies)
 
-        def act(now: Seen, seen: int) -> None:
-            detail: Detail = {"lines": len(lines)}
-            if now[0].is_reopened:
-                detail["came_before_close"] = self.came_before_close
-            entering.enter_lines(
-                vote,
-                "desk",
-                detail,
-                lambda _: [NewEnvelope(one.as_entered, one.original.place) for one in lines],
-                report_on,
-                seen,
-                is_late=now[0].is_late(self.came_before_close),
-                is_same=lambda: plan() == now,
-                what="ballots to be reported",
-            )
+@dataclasses.dataclass(frozen=True, kw_only=True)
+class Casting(Entry):
+    """Lines that are cast, by the timing of the vote, and what came of the elector of whom it is
+    asked.
+    """
 
-        entering.agreed_act(vote, plan, show_all, act)
+    desk: Desk
+    lines: list[CheckedLine]
+    timing: list[DoneAct]
+    elector: int | None
+    there: list[tuple[int, int | None]]
+    what: str = "ballots to be reported"
+
+    def is_same_now(self) -> bool:
+        """Whether nothing came of the elector of whom it is asked: else eight desks would ask without end."""
+        there = queries.envelope_states(self.vote.book, self.elector)
+        return (self.desk.history().timing, there) == (self.timing, self.there)
+
+    def refused(self, answer: bool | None) -> None:
+        self.desk.is_over = answer is None
+        tell(*([] if answer is None else [NOT_ENTERED]))
+
+    def words(self, numbers: range, replies: Sequence[str]) -> Iterator[str]:
+        self.desk.replies += replies
+        return self.vote.report_of_lines(self.lines, numbers, replies)
+
+
+def what_is_cast(desk: Desk, lines: list[CheckedLine], elector: int | None, asks: bool) -> Casting:
+    """Lines that are cast. If it asks, it is about one, whose refused answers are lines of their own."""
+    history, book = desk.history(), desk.vote.book
+    desk.ask_if_reopened(history)
+    detail: Detail = {"lines": len(lines)}
+    if history.is_reopened:
+        detail["came_before_close"] = desk.came_before_close
+    shown, asked = question(desk, lines, history, elector) if asks else ([], "")
+    return Casting(
+        "desk",
+        detail,
+        shown=shown,
+        question=asked,
+        vote=desk.vote,
+        envelopes=[
+            NewEnvelope(one.as_entered, one.original.place, answer=one.answer) for one in lines
+        ],
+        is_late=history.is_late(desk.came_before_close),
+        desk=desk,
+        lines=lines,
+        timing=history.timing,
+        elector=elector,
+        there=queries.envelope_states(book, elector),
+    )
 
 
 def run(election: Election, arguments: Arguments) -> None:
@@ -112,8 +176,12 @@ def run(election: Election, arguments: Arguments) -> None:
         cure = "run it at a terminal"
         raise Fault("standard input", "it is closed", cure, Status.BAD_BALLOTS, NOTHING_CAST)
     election.demand_right_book(arguments)
-    desk = Desk(election, arguments.came_before_close)
-    history = election.history()
+    label = (arguments.question or "").upper()
+    vote = Vote(election, label)
+    if label and vote.poll is None:
+        labels = ", ".join(vote.names.labels) or "none: this vote has one question"
+        raise bad_words("--question", f"the labels are {labels}", "give one of them", NOTHING_CAST)
+    desk, history = Desk(vote, arguments.came_before_close), election.history()
     tell(*entering.late_notes(election, history, "what is entered"))
     if desk.vote.is_signed:
         words = "in this vote letters must be signed, and a desk checks no signature"
@@ -135,13 +203,18 @@ def from_pipe(desk: Desk) -> None:
         for line in desk.lines_of(data):
             if line.is_empty:
                 tell(f"{line.where}: it is empty, and was left out")
-            elif why := line.why_too_long:
+            elif why := desk.vote.why_too_long(line):
                 add = desk.vote.election.command("add", "--force", "FILE")
                 tell(f"{line.where}: {why}; it was not entered.", f"  To add it from a file: {add}")
             else:
                 lines.append(line)
-        if lines:
-            desk.enter(desk.vote.checked_lines(lines))
+        checked = desk.vote.checked_lines(lines)
+        desk.demand_no_table(checked)
+        for one in checked:
+            if why := desk.vote.why_not_entered(one):
+                tell(f"{one.original.where}: {why}; it was not entered.")
+        if clear := [one for one in checked if not desk.vote.why_not_entered(one)]:
+            desk.enter(clear, asks=False)
 
 
 def whole_lines() -> Iterator[bytes]:
@@ -163,83 +236,113 @@ def whole_lines() -> Iterator[bytes]:
 
 # ---- at a terminal
 def at_terminal(desk: Desk) -> None:
-    tell(*(f"  {number} {name}" for number, name in enumerate(desk.vote.option_names, start=1)))
-    who = "the code" if desk.vote.has_codes else "the elector"
-    tell(
-        f"Type a ballot as {desk.vote.right_line} ({who}, then a rank for each option in this order); q ends."
-    )
-    while (answer := typed("Ballot: ")) is not None:
+    vote, who = desk.vote, "the code" if desk.vote.has_codes else "the elector"
+    for label, poll in vote.questions.items():
+        if vote.poll is None or vote.poll is poll:
+            tell(*([f"{label} {poll.name}"] if label else []))
+            tell(*(f"  {number} {name}" for number, name in enumerate(poll.names, start=1)))
+    order = "then a rank for each option in this order"
+    if vote.poll is None:
+        order = "then for each question that is answered its label, and a rank for each option in this order"
+    tell(f"Type a ballot as {vote.right_line} ({who}, {order}); q ends.")
+    while not desk.is_over and (answer := typed("Ballot: ")) is not None:
         line = next(iter(desk.lines_of(answer)), None)
         if line is None or line.is_empty:
             tell("Type a ballot, or q to end.")
-        elif line.repaired.lower() == QUIT or not ask_and_cast(desk, line):
+        elif line.repaired.lower() == QUIT:
             return
+        else:
+            ask_and_cast(desk, line)
 
 
-def ask_and_cast(desk: Desk, line: Line) -> bool:
-    """Shows a ballot, and casts it on a yes. Returns False at the end of the input."""
+def ask_and_cast(desk: Desk, line: Line) -> None:
+    """Shows a ballot, and casts it on a yes."""
     if (meant := completed(desk, line)) is None:
-        tell("It was not entered.")
-        return True
-    [checked] = desk.vote.checked_lines([meant])
-    [elector] = desk.vote.electors_of([checked.as_entered])
-    answer: bool | None = None
-
-    def show(history: History) -> bool:
-        nonlocal answer
-        asked = question(desk, checked, history, elector)
-        answer = is_yes(asked, "Type y to enter it, or n to drop it.")
-        if answer is False:
-            tell("It was not entered.")
-        return bool(answer)
-
-    desk.enter([checked], show, elector)
-    return answer is not None
+        tell(NOT_ENTERED)
+        return
+    checked = desk.vote.checked_lines([meant])
+    if no_form := [one for one in checked if not one.has_form]:
+        tell(desk.vote.why_not_entered(no_form[0]), NOT_ENTERED)
+        return
+    [elector] = desk.vote.electors_of([checked[0].as_entered])
+    desk.enter(checked, elector, asks=True)
 
 
 def completed(desk: Desk, line: Line) -> Line | None:
-    """A line with the name on the roll that was meant, if the typed words are parts of it or of the
-    real name; of several electors one is chosen by a number, or none. Codes are never looked for.
+    """A line with the name on the roll that was meant, if the typed words are that name or the real
+    one, or else parts of one; of several electors one is chosen by a number, or none. Codes are never
+    looked for.
     """
-    typed_line = TYPED.fullmatch(line.repaired.decode("utf-8", "replace"))
-    if desk.vote.has_codes or typed_line is None or typed_line[1] in desk.vote.names_on_roll:
+    line, meant = desk.vote.as_meant(line)
+    name, answers = typed_parts(desk, line)
+    if desk.vote.has_codes or not name or (name in desk.vote.names_on_roll and not meant):
         return line
-    name, ranks = typed_line.groups()
     words = [alike(word) for word in name.split()]
-    found = [elector for elector, text in desk.texts if all(word in text for word in words)]
+    found = [
+        elector
+        for elector, text in desk.texts
+        if (elector.name in meant if meant else all(word in text for word in words))
+    ]
     if not found:
         return line
-    chosen = found[:MAX_NAMES]
+    if (chosen := chosen_of(found, shown_text(name))) is None:
+        return None
+    full = f"{chosen.name} {answers}".encode()
+    return Line(line.file_name, line.number, full, full, full)
+
+
+def chosen_of(found: Sequence[Elector], name: str) -> Elector | None:
+    """The one elector who is meant by a part of a name, or the one of several who is chosen."""
     if len(found) == 1:
-        tell(f"`{shown_text(name)}` was completed to `{found[0].name}`")
-    else:
-        tell(f"`{shown_text(name)}` is part of {len(found)} names:")
-        for place, elector in enumerate(chosen, start=1):
-            tell(f"  {place} {elector.name} ({shown_text(elector.who)})")
-        answer = typed("Type the number of one, or n for none: ") or b""
-        number = int(answer) if answer.strip().isdigit() else 0
-        chosen = chosen[number - 1 : number]
-        if not chosen:
-            return None
-    full = f"{chosen[0].name} {ranks}".encode()
-    return Line(line.file_name, line.place, full, full, full)
+        tell(f"`{name}` was completed to `{found[0].name}`")
+        return found[0]
+    tell(f"`{name}` is part of {len(found)} names:")
+    for place, elector in enumerate(found[:MAX_NAMES], start=1):
+        tell(f"  {place} {elector.name} ({shown_text(elector.who)})")
+    answer = (typed("Type the number of one, or n for none: ") or b"").strip()
+    number = int(answer) if answer.isdigit() else 0
+    return found[number - 1] if 0 < number <= len(found[:MAX_NAMES]) else None
 
 
-def question(desk: Desk, line: CheckedLine, history: History, elector: int | None) -> str:
-    """Shows what a ballot would be, or why it would be refused. Returns what is asked."""
-    tell(*change_words(line))
-    if not line.is_ballot:
-        # the one reason that stays after the changes that are allowed
-        finding = line.finding_of_repaired
-        why = "" if finding is None else f": {finding.word}: {finding.hint}"
-        tell(f"It would be refused: {shown_line(line.as_entered)}{why}", desk.vote.right_words())
-        return "It would not count. Enter it anyway?"
-    tell(desk.vote.in_words(line))
+def typed_parts(desk: Desk, line: Line) -> tuple[str, str]:
+    """The words that were typed in the place of a name, and what is behind them; empty of no ballot."""
+    text, names = line.repaired.decode("utf-8", "replace"), desk.vote.names
+    if names.labels:
+        return names.taken_apart(text) or ("", "")
+    found = TYPED.fullmatch(text)
+    return (found[1], found[2]) if found else ("", "")
+
+
+def question(
+    desk: Desk, lines: Sequence[CheckedLine], history: History, elector: int | None
+) -> tuple[list[str], str]:
+    """What a ballot would be, or why it or one of its answers would be refused; and what is asked."""
+    shown = [*change_words(lines[0])]
+    for line in lines:
+        if finding := line.lasting:
+            refused = f"{shown_line(line.as_entered)}: {finding.word}: {finding.hint}"
+            shown += [f"It would be refused: {refused}", desk.vote.right_words()]
+        else:
+            shown.append(desk.vote.in_words(line))
+    if not (ballots := [line for line in lines if line.is_ballot]):
+        return shown, "It would not count. Enter it anyway?"
     if history.is_late(desk.came_before_close):
-        tell("It is late, and will not count.")
+        shown.append("It is late, and will not count.")
     elif elector is not None:
-        lines = queries.lines_of_electors(desk.vote.book, {elector})
-        if (earlier := desk.vote.standing(lines).get(line.voter)) is not None:
-            words = desk.vote.ranks_in_words(earlier)
-            tell(f"{line.voter} has a ballot: {words}. It will be replaced.")
-    return "Enter it?"
+        shown += earlier_words(desk.vote, ballots[0], elector)
+    return shown, "Enter it?"
+
+
+def earlier_words(vote: Vote, ballot: CheckedLine, elector: int) -> Iterator[str]:
+    """What a ballot would replace, and which answers to other questions stay."""
+    counting = queries.what_counts(vote.book, {elector})
+    earlier, new = answers_in(counting.get(ballot.voter, "")), answers_in(ballot.ranks)
+    goes, stays = (
+        answers_text({label: earlier[label] for label in earlier if (label in new) == is_new})
+        for is_new in (True, False)
+    )
+    if goes:
+        words = vote.answers_in_words(goes)
+        yield f"{ballot.voter} has a ballot: {words}. It will be replaced."
+    if stays:
+        yield f"These earlier answers of {ballot.voter} stay: {vote.answers_in_words(stays)}."

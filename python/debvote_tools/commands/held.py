@@ -1,22 +1,33 @@
 """List the letters that wait; show one, enter its ballot, or set letters aside."""
 
 import collections
-from collections.abc import Iterator, Sequence
+import itertools
+from collections.abc import Collection, Iterator, Sequence
+from typing import NamedTuple
 
 from debvote_tools.cli.arguments import Acting, flag, given, option, positional
 from debvote_tools.book import queries
-from debvote_tools.book.book import ActName, Detail
+from debvote_tools.book.book import ActName, Book, Detail
+from debvote_tools.book.change import Change, asked, carried_out
 from debvote_tools.book.election import Election, History
-from debvote_tools.cli.console import count_of, is_terminal, is_yes, shown_line, shown_text, tell
-from debvote_tools.cli.faults import Fault, Status, stop_at
+from debvote_tools.book.queries import Envelope
+from debvote_tools.cli.console import count_of, shown_line, shown_text, tell
+from debvote_tools.cli.faults import Fault, bad_words, kept_in, stop_at
+from debvote_tools.grouping import grouped
 from debvote_tools.inbox import letter_words
-from debvote_tools.inbox.letter_words import name_of
-from debvote_tools.inbox.judging import ballots_in, judged
+from debvote_tools.inbox.letter_words import name_of, who_and_when, why
+from debvote_tools.inbox.judging import Box, answered_by, ballots_in, judged
+from debvote_tools.inbox.reasons import Reason
 from debvote_tools.inbox.rules import BallotLine, LetterCase, Outcome
-from debvote_tools.inbox.taking import NewBallots, enter_ballots, envelope_of
-from debvote_tools.inbox.lines import lines_in, name_in
-from debvote_tools.inbox.entering import agreed_act
-from debvote_tools.inbox.vote import Vote
+from debvote_tools.inbox.taking import LetterEntry, envelope_of
+from debvote_tools.inbox.lines import Line, lines_in, name_in
+from debvote_tools.inbox.vote import Vote, said_of
+from debvote_tools.inbox.pending import other_votes_words
+from debvote_tools.text.ballots import answers_of, differ, without
+from debvote_tools.text.language import ENGLISH
+
+# the later ballots because of which answers are left out: a late one counts for nothing
+IN_TIME = f"{queries.A_BALLOT} AND {queries.TO_COUNT}"
 
 # what --enter has without lines
 THE_ONE = "one"
@@ -24,20 +35,25 @@ THE_ONE = "one"
 
 class Arguments(Acting):
     numbers: list[int] = positional("NUMBER", "The numbers of letters", type=int, nargs="*")
-    enter: str | None = option(
+    enter: list[str] | None = option(
         "LINE,..",
         "Enter these lines of a letter, by the numbers that held NUMBER shows; without LINE the one ballot of each letter, "
         "and without NUMBER too those of the letters that were taken back",
         nargs="?",
         const=THE_ONE,
+        action="append",
     )
-    typed: str | None = option(
-        "LINE", "Enter this line as the ballot of the letter, with the letter's time", name="--as"
+    typed: list[str] | None = option(
+        "LINE",
+        "Enter this line as a ballot of the letter, with the letter's time; once for each of its electors",
+        name="--as",
+        action="append",
     )
     set_aside: bool = flag("Set the letters aside: they are dealt with, and wait no longer")
     wait: bool = flag("Have the letters wait again")
     force: bool = flag(
-        "Enter the ballot although its elector has voted since or, with --as, did not send the letter"
+        "Enter the ballot although its elector has voted since, the letter has the mark of another vote or, with --as, nothing ties "
+        "the elector to the letter"
     )
     yes: bool = flag("Enter the ballots without asking")
 
@@ -47,29 +63,31 @@ def run(election: Election, arguments: Arguments) -> None:
     if is_act:
         election.demand_right_book(arguments)
     # stops before the call
-    vote = Vote(election, election.history())
+    vote = Vote(election)
     if arguments.set_aside or arguments.wait:
-        decide(vote, arguments)
+        carried_out(vote.book, lambda: what_is_decided(vote, arguments))
     elif is_act:
-        enter(vote, arguments)
+        typed = [BallotLine((), ballot) for ballot in typed_ballots(vote, arguments.typed or ())]
+        carried_out(vote.book, lambda: what_is_entered(vote, arguments, typed))
     found = all_letters(vote)
-    waiting = [letter for letter in found if letter.needs_secretary]
-    if arguments.numbers and not is_act:
-        for letter in chosen_letters(found, arguments.numbers):
-            tell(*letter_words.whole(letter))
-    elif not is_act:
-        tell(*letter_words.table(waiting))
+    pending = [letter for letter in found if letter.is_pending]
+    shown = [] if is_act else chosen_letters(found, arguments.numbers)
+    for letter in shown:
+        tell(*letter_words.whole(letter))
+    if not (is_act or shown):
+        tell(*letter_words.table(pending))
         if aside := [str(letter.number) for letter in found if letter.outcome is Outcome.SET_ASIDE]:
             tell(f"Set aside: {', '.join(aside)}")
-    if not waiting:
+    others = (letter.other_vote for letter in found if letter.outcome is Outcome.OTHER_VOTE)
+    tell(*other_votes_words(others))
+    if not pending:
         tell("No letter waits.", f"Next: {election.command('status')}")
         return
-    numbers = [letter.number for letter in waiting]
-    shown = [] if is_act else [number for number in arguments.numbers if number in numbers]
-    command = election.command("held", str((shown or numbers)[0]))
+    waiting = [letter for letter in shown if letter.is_pending]
+    command = election.command("held", str((waiting or pending)[0].number))
     how = "--enter LINE enters a line of it, --as LINE the ballot that you type, --set-aside sets it aside"
-    tell(f"{letter_words.wait_words(len(waiting))}.")
-    tell(f"Next: {command} {'with' if shown else 'shows one;'} {how}")
+    tell(f"{letter_words.wait_words(len(pending))}.")
+    tell(f"Next: {command} {'with' if waiting else 'shows one;'} {how}")
 
 
 def demand_words(arguments: Arguments) -> bool:
@@ -77,222 +95,335 @@ def demand_words(arguments: Arguments) -> bool:
     chosen = given(arguments, "enter", "typed", "set_aside", "wait")
     if len(chosen) > 1:
         cure = "give only one of --enter, --as, --set-aside and --wait"
-        raise Fault("held", "it does one thing at a time", cure, Status.BAD_WORDS, None)
-    takes_one = arguments.typed is not None or arguments.enter not in (None, THE_ONE)
+        raise bad_words("held", "it does one thing at a time", cure, None)
+    takes_one = arguments.typed is not None or arguments.enter not in (None, [THE_ONE])
     if takes_one and len(arguments.numbers) != 1:
         name = "--enter" if arguments.typed is None else "--as"
         cure = f"name one number before {name}"
-        raise Fault(name, "a line is of one letter", cure, Status.BAD_WORDS)
+        raise bad_words(name, "a line is of one letter", cure)
     if chosen and not arguments.numbers and arguments.enter is None:
-        raise Fault("held", "no letter is named", "name its number", Status.BAD_WORDS)
+        raise bad_words("held", "no letter is named", "name its number")
     return bool(chosen)
 
 
 def all_letters(vote: Vote) -> list[LetterCase]:
-    kept, history = queries.kept_letters(vote.book), vote.election.history()
-    return judged(vote, history, kept)
+    return judged(vote, vote.election.history(), queries.kept_letters(vote.book))
 
 
 def chosen_letters(found: Sequence[LetterCase], numbers: Sequence[int]) -> list[LetterCase]:
     by_number = {letter.number: letter for letter in found}
     if unknown := [str(number) for number in numbers if number not in by_number]:
         words, cure = "there is no such letter", "held lists the letters that wait"
-        raise Fault(f"letter {', '.join(unknown)}", words, cure, Status.BAD_WORDS)
+        raise bad_words(f"letter {', '.join(unknown)}", words, cure)
     return [by_number[number] for number in dict.fromkeys(numbers)]
 
 
-def decide(vote: Vote, arguments: Arguments) -> None:
+def what_is_decided(vote: Vote, arguments: Arguments) -> Change:
     """The act that sets letters aside, or has them wait again."""
+    chosen = chosen_letters(all_letters(vote), arguments.numbers)
+    if entered := [letter for letter in chosen if letter.outcome is Outcome.ENTERED]:
+        cure = "strike takes out one envelope, undo takes back the last act"
+        raise Fault(name_of(entered[0]), "its ballot was entered", cure)
     state: ActName = queries.SET_ASIDE if arguments.set_aside else queries.PUT_BACK
-
-    def plan() -> list[int]:
-        chosen = chosen_letters(all_letters(vote), arguments.numbers)
-        if entered := [letter for letter in chosen if letter.outcome is Outcome.ENTERED]:
-            cure = "strike takes out one envelope, undo takes back the last act"
-            raise Fault(name_of(entered[0]), "its ballot was entered", cure)
-        return [letter.number for letter in chosen]
-
-    def act(numbers: list[int], seen: int) -> None:
-        with vote.book.act(state, {"letters": numbers}, seen=seen) as act:
-            for number in numbers:
-                queries.decide(act, number, state)
-
-    agreed_act(vote, plan, lambda _: True, act)
+    numbers = [letter.number for letter in chosen]
+    return Change(
+        state,
+        {"letters": numbers},
+        letters=dict.fromkeys(numbers, state),
+    )
 
 
 # ---- entering
-# a ballot of a letter; its line is 0 if it was typed
-Chosen = tuple[LetterCase, BallotLine]
+class Chosen(NamedTuple):
+    """Ballots of a letter that are entered; and its envelopes that no `undo` took back."""
+
+    letter: LetterCase
+    # the line of one is 0 if it was typed
+    lines: Sequence[BallotLine]
+    before: Sequence[Envelope]
+
+    @property
+    def entered(self) -> dict[tuple[str, str], Envelope]:
+        """The envelopes that are not struck, by the electors and the labels of the answers."""
+        return {
+            (elector_of(one), label): one
+            for one in self.before
+            if not one.is_struck
+            for label in answers_of(one.line.decode("ascii"))
+        }
+
+    @property
+    def again(self) -> list[Envelope]:
+        """The envelopes in which answers of these ballots were entered already."""
+        there = self.entered
+        answered = ((line.elector, one) for line in self.lines for one in answers_of(line.ballot))
+        return [there[answer] for answer in answered if answer in there]
+
+    def waits_for(self, history: History) -> list[str]:
+        """For whose ballots the letter waits on when these are entered: of those who have one in it; and,
+        once the secretary has typed one, of those who share the sender's address. One that was struck
+        since was one.
+        """
+        typed = [line for line in self.lines if not line.number]
+        is_typed = typed or any(history.act(one.act).is_typed for one in self.before)
+        sharing = self.letter.sharing if is_typed and len(self.letter.sharing) > 1 else []
+        having = {*(line.elector for line in self.lines), *map(elector_of, self.before)}
+        names = dict.fromkeys([*(line.elector for line in self.letter.ballots), *sharing])
+        return [name for name in names if name not in having]
+
+    def left_of(self, line: BallotLine, box: Box) -> tuple[str, dict[str, set[str]]]:
+        """A ballot without the answers to which its elector has later ones, and without those that were
+        entered; and the labels of both, by why.
+        """
+        there = queries.later(box.get(line.elector, []), self.letter.time)
+        later, entered = answered_by(line.ballot, there), self.entered
+        done = {one for one in answers_of(line.ballot) if (line.elector, one) in entered} - later
+        left = without(line.ballot, later | done)
+        return left, {f"{line.elector} has a later answer": later, "it was entered": done}
 
 
-def enter(vote: Vote, arguments: Arguments) -> None:
-    """The act that enters ballots of letters, of all that were taken back if none is named. A
-    letter waits no longer once each elector who has a ballot in it has one entered.
+def what_is_entered(vote: Vote, arguments: Arguments, typed: Sequence[BallotLine]) -> LetterEntry:
+    """The act that enters ballots of letters, of all that were taken back if none is named."""
+    history, found, entered = vote.election.history(), all_letters(vote), entered_in(vote.book)
+    wanted = chosen_letters(found, arguments.numbers)
+    last = {}
+    if not arguments.numbers:
+        wanted = [one for one in found if one.decision == queries.TAKEN_BACK]
+        taken_back = queries.envelopes(vote.book, "letter IS NOT NULL AND struck IS NOT NULL")
+        last = {one.letter: history.act(one.act) for one in taken_back}
+    chosen, faults = list[Chosen](), list[Fault]()
+    for letter in sorted(wanted, key=lambda one: (one.time is None, one.time or one.number)):
+        with kept_in(faults):
+            if letter.number in last and last[letter.number].is_typed:
+                # its own lines may say something else
+                cure = f"type it again with {vote.election.command('held', str(letter.number), '--as')} LINE"
+                raise Fault(name_of(letter), "its ballot was typed, and taken back", cure)
+            is_one = len(arguments.numbers) == 1
+            lines = typed or named_lines(letter, arguments.enter or [], is_one=is_one)
+            chosen.append(Chosen(letter, lines, entered.get(letter.number, ())))
+    electors = {line.elector for one in chosen for line in one.lines}
+    chosen, left_out = without_answered(chosen, ballots_in(vote, electors, IN_TIME))
+    against = [*why_not_now(vote, history, chosen)]
+    if not arguments.force:
+        # of what was entered nothing more is said: no --force enters it again
+        not_entered = [one for one in chosen if not one.again]
+        against += why_not_unforced(not_entered, ballots_in(vote, electors))
+    faults += (fault for _, fault in against)
+    stopped = {letter.number for letter, _ in against}
+    chosen = [one for one in chosen if one.letter.number not in stopped]
+    if arguments.numbers or not chosen:
+        stop_at(faults)
+    if not chosen:
+        words = "no letter was taken back"
+        raise Fault("--enter", words, "name letters by their numbers, as held lists them")
+    if len({would_be_late(history, one.letter) for one in chosen}) > 1:
+        words = "some of these letters arrived before the first close, and some after it"
+        raise Fault("--enter", words, "enter those that arrived before it apart")
+    demand_one_order(chosen)
+    left = left_out + [f"Waits on: {fault.file}: {fault.reason}" for fault in faults]
+    return entry_of(vote, history, chosen, left, is_agreed=arguments.yes)
+
+
+def entry_of(
+    vote: Vote, history: History, chosen: Sequence[Chosen], left: Sequence[str], *, is_agreed: bool
+) -> LetterEntry:
+    """The act that enters these ballots. A letter waits on until each of its electors has one: it is
+    put back, or `add` would enter its own line once more, and it would wait for nobody.
     """
-    typed = None if arguments.typed is None else ballot_of(vote, arguments.typed)
-    chosen: list[Chosen] = []
-    faults: dict[int, Fault] = {}
-
-    def plan() -> NewBallots:
-        nonlocal chosen
-        history, found = vote.election.history(), all_letters(vote)
-        wanted = chosen_letters(found, arguments.numbers)
-        if not arguments.numbers:
-            wanted = [one for one in found if one.decision == queries.TAKEN_BACK]
-        chosen = []
-        faults.clear()
-        for letter in sorted(wanted, key=lambda one: (one.time is None, one.time or one.number)):
-            try:
-                demand_not_entered(vote, history, letter)
-                lines = chosen_lines(letter, arguments.enter, typed, is_forced=arguments.force)
-                chosen += [(letter, line) for line in lines]
-                if letter.outcome is Outcome.COPY:
-                    cure = "to enter its ballot once more, have the letter wait first with --wait"
-                    raise Fault(name_of(letter), "it is a copy of another letter", cure)
-            except Fault as fault:
-                faults[letter.number] = fault
-        if not arguments.force:
-            faults.update(voted_since(vote, chosen))
-        if arguments.numbers:
-            stop_at(list(faults.values()))
-        chosen = [one for one in chosen if one[0].number not in faults]
-        if not chosen:
-            words = "no letter was taken back that has one ballot"
-            raise Fault("--enter", words, "name letters by their numbers, as held lists them")
-        demand_one_order(chosen)
-        late = {is_late(history, letter) for letter, _ in chosen}
-        if len(late) > 1:
-            words = "some of these letters arrived before the first close, and some after it"
-            raise Fault("--enter", words, "enter those that arrived before it apart")
-        new = [envelope_of(letter, line.ballot) for letter, line in chosen]
-        return NewBallots(new, done_with(vote, chosen), late.pop())
-
-    def show(_: NewBallots) -> bool:
-        for letter, line in chosen:
-            tell(f"{letter_words.who_and_when(letter)}: {vote.ballot_in_words(line.ballot)}")
-        tell(*(f"Waits on: {fault.file}: {fault.reason}" for fault in faults.values()))
-        question = f"Enter {count_of(len(chosen), 'ballot')}?"
-        if is_terminal() and not arguments.yes and not is_yes(question):
-            raise Fault("held", "you did not say yes", "run the command again when you agree")
-        return True
-
-    def act(new: NewBallots, seen: int) -> None:
-        numbers = list(dict.fromkeys(letter.number for letter, _ in chosen))
-        detail: Detail = {"lines": [line.number for _, line in chosen if line.number]}
-        if len(numbers) == 1:
-            detail["letter"] = numbers[0]
-        else:
-            detail["letters"] = numbers
-        enter_ballots(vote, "enter", detail, new, seen)
-
-    agreed_act(vote, plan, show, act)
+    lines = [(one.letter, line) for one in chosen for line in one.lines]
+    numbers = [one.letter.number for one in chosen]
+    detail: Detail = {"letter": numbers[0]} if len(numbers) == 1 else {"letters": numbers}
+    waits = {one.letter: names for one in chosen if (names := one.waits_for(history))}
+    return LetterEntry(
+        "enter",
+        detail | {"lines": [line.number for _, line in lines if line.number]},
+        shown=[
+            *(
+                f"{who_and_when(letter)}: {vote.ballot_in_words(line.ballot)}\n  {why(letter)}"
+                for letter, line in lines
+            ),
+            *left,
+        ],
+        question=asked(f"Enter {count_of(len(lines), 'ballot')}?", is_agreed),
+        letters={
+            one.letter.number: queries.PUT_BACK if one.letter in waits else queries.ENTERED
+            for one in chosen
+        },
+        vote=vote,
+        envelopes=[envelope_of(letter, line.ballot) for letter, line in lines],
+        is_late=would_be_late(history, chosen[0].letter),
+        end=[
+            f"{name_of(letter)} waits on, for a ballot of {ENGLISH.joined(names)}"
+            for letter, names in waits.items()
+        ],
+    )
 
 
-def is_late(history: History, letter: LetterCase) -> bool:
+def without_answered(chosen: Sequence[Chosen], box: Box) -> tuple[list[Chosen], list[str]]:
+    """The ballots without the answers that are left out, unless none is left; and what is said of these."""
+    found, said = list[Chosen](), list[str]()
+    for one in chosen:
+        kept = list[BallotLine]()
+        for line in one.lines:
+            left, left_out = one.left_of(line, box)
+            said += (
+                f"Left out of {name_of(one.letter)}: {ENGLISH.joined(sorted(labels))}, since {why}"
+                for why, labels in left_out.items()
+                if labels and left
+            )
+            kept.append(BallotLine(line.numbers, left or line.ballot))
+        found.append(one._replace(lines=kept))
+    return found, said
+
+
+def left_out(vote: Vote, electors: Collection[str]) -> Iterator[str]:
+    """The answers of electors that were left out when the rest of a letter was entered, and to which
+    they have no later one now, since that was struck.
+    """
+    if not vote.names.labels:
+        return
+    entered, box = entered_in(vote.book), ballots_in(vote, electors, IN_TIME)
+    for letter in all_letters(vote):
+        one = Chosen(letter, (*letter.ballots, *letter.offered), entered.get(letter.number, ()))
+        partly = (
+            {elector for elector, _ in one.entered} if letter.outcome is Outcome.ENTERED else ()
+        )
+        for line in one.lines:
+            left, _ = one.left_of(line, box)
+            if left and line.elector in electors and line.elector in partly:
+                enter = vote.election.command("held", str(letter.number), "--enter")
+                yield f"{name_of(letter)} has an answer that was left out, `{left}`: {enter}"
+
+
+def entered_in(book: Book) -> dict[int, list[Envelope]]:
+    """The envelopes of letters that no `undo` took back, by the numbers of the letters."""
+    found = queries.envelopes(book, f"letter IS NOT NULL AND {queries.NOT_UNDONE}")
+    return grouped((envelope.letter or 0, envelope) for envelope in found)
+
+
+def elector_of(envelope: Envelope) -> str:
+    return name_in(envelope.line).decode("ascii")
+
+
+def would_be_late(history: History, letter: LetterCase) -> bool:
     """Whether what is entered of a letter now is late: the vote is closed; or it is open again, and
-    the letter is not known to have arrived before the first close.
+    the letter is known to have arrived after the first close.
     """
     arrived, closes = letter.read.arrived, history.closes
-    return history.is_late(arrived is not None and bool(closes) and arrived <= closes[0].time)
+    return history.is_late(arrived is None or not closes or arrived <= closes[0].time)
 
 
-def ballot_of(vote: Vote, text: str) -> str:
-    """The ballot that was typed. Debvote is asked about it and all lines of its elector at once."""
-    lines = lines_in(text.encode("utf-8", "surrogateescape"), "--as")
-    line = lines[0].repaired if len(lines) == 1 else b""
-    numbers = queries.elector_numbers(vote.book, [name_in(line).decode("ascii")])
-    others = (one.line for one in queries.envelopes_of(vote.book, [*numbers.values()]))
-    answer = vote.answers([line, *others])[line] if line else "it is not one line"
-    if answer is not None:
-        shown = shown_line(text.encode("utf-8", "backslashreplace"))
-        raise Fault("--as", f"`{shown}` is no ballot of this poll: {answer}", vote.right_words())
-    return line.decode("ascii")
+# ---- which lines
+def typed_ballots(vote: Vote, texts: Sequence[str]) -> list[str]:
+    """The ballots that were typed. debvote is asked about all of them together."""
+    given, longest = (
+        text.encode("utf-8", "surrogateescape") for text in texts
+    ), vote.questions.longest_line
+    lists = [lines_in(data, "--as", longest) for data in given]
+    vote.checked_lines([line for lines in lists for line in lines if not line.is_empty])
+    return [ballot_of(vote, text, lines) for text, lines in zip(texts, lists)]
 
 
-def demand_not_entered(vote: Vote, history: History, letter: LetterCase) -> None:
-    if letter.outcome is not Outcome.ENTERED:
-        return
-    late = queries.envelopes(vote.book, f"letter = ? AND {queries.LATE}", letter.number)
-    anew = queries.entered_anew(vote.book)
-    numbers = [str(envelope.number) for envelope in late if envelope.number not in anew]
-    if not numbers:
-        raise Fault(name_of(letter), "it was entered", "there is nothing to do")
-    reopen = vote.election.command("reopen", "--in-time", *numbers, "--because", "TEXT")
-    cure = f"if it came in time, {'' if history.is_closed else 'close again and '}run {reopen}"
-    raise Fault(name_of(letter), "it was entered, and is late", cure)
+def ballot_of(vote: Vote, text: str, lines: Sequence[Line]) -> str:
+    """The ballot in what was typed, by its lines."""
+    answer = "it is not one line"
+    if len(lines) == 1 and not lines[0].is_empty:
+        # of several answers the last line is one that is refused
+        *_, line = vote.checked_lines(lines)
+        if (finding := line.lasting) is None:
+            return line.as_entered.decode("ascii")
+        answer = line.why_unclear or said_of(finding)
+    shown = shown_line(text.encode("utf-8", "backslashreplace"))
+    raise Fault("--as", f"`{shown}` is no ballot of this poll: {answer}", vote.right_words())
 
 
-def chosen_lines(
-    letter: LetterCase, lines: str | None, typed: str | None, *, is_forced: bool
-) -> list[BallotLine]:
-    """The ballots of a letter to enter: what was typed, the lines that were named, or its only one."""
+def named_lines(letter: LetterCase, enter: Sequence[str], *, is_one: bool) -> list[BallotLine]:
+    """The ballots of a letter to enter, which is one alone or one of several: the lines that were
+    named, or its only one.
+    """
     name = name_of(letter)
-    if typed is not None:
-        possible = {*letter.electors, *letter.sharing, *filter(None, [letter.marked_elector])}
-        line = BallotLine(0, typed)
-        if possible and line.elector not in possible and not is_forced:
-            words = f"neither its sender nor a line of {name} is of {line.elector}"
-            cure = "check the name; if this ballot is theirs, repeat the command with --force"
-            raise Fault("--as", words, cure)
-        return [line]
     there = {str(line.number): line for line in (*letter.offered, *letter.ballots)}
-    if lines == THE_ONE:
+    if [*enter] == [THE_ONE]:
         if len({line.ballot for line in there.values()}) != 1:
             words = f"it has {count_of(len(there), 'line')} that can be entered"
             cure = "name its lines with --enter LINE, or type the ballot with --as LINE"
             raise Fault(name, words, cure)
-        return [*there.values()][:1]
-    texts = [text.strip() for text in (lines or "").split(",")]
+        [line, *_] = there.values()
+        if not is_one and letter.offered.get(line) is Reason.WORD_ALONE:
+            raise Fault(name, "it has a word without a name", "enter it by a command of its own")
+        return [line]
+    texts = [text.strip() for text in ",".join(enter).split(",")]
     if wrong := [text for text in texts if text not in there]:
         can = f"these lines are: {', '.join(sorted(there, key=int))}" if there else ""
         words = f"line {shown_text(wrong[0])} of {name} is not a ballot of this poll"
         cure = "if you know which ballot is meant, type it with --as LINE"
         raise Fault("--enter", words, can or cure)
-    found = [there[text] for text in texts]
-    twice, count = collections.Counter(line.elector for line in found).most_common(1)[0]
-    if count > 1:
-        words = f"{count} of these lines are ballots of {twice}"
-        raise Fault("--enter", words, "name the one that counts")
-    return found
+    return [there[text] for text in texts]
 
 
-def voted_since(vote: Vote, chosen: Sequence[Chosen]) -> Iterator[tuple[int, Fault]]:
-    """A fault for each ballot whose elector has a later one, or another one of its time."""
-    ballots = ballots_in(vote, {line.elector for _, line in chosen})
+# ---- what stands against it
+Against = Iterator[tuple[LetterCase, Fault]]
+
+
+def why_not_now(vote: Vote, history: History, chosen: Sequence[Chosen]) -> Against:
+    """What can't be forced."""
+    for one in chosen:
+        letter, name = one.letter, name_of(one.letter)
+        [(twice, count)] = collections.Counter(line.elector for line in one.lines).most_common(1)
+        if again := one.again:
+            electors = dict.fromkeys(map(elector_of, again))
+            words = f"its ballot of {ENGLISH.joined([*electors])} was entered"
+            cure = "there is nothing to do"
+            # who reads that there is nothing to do takes it for one that counts
+            if late := {str(envelope.number): None for envelope in again if envelope.is_late}:
+                reopen = vote.election.command("reopen", "--in-time", *late, "--because", "TEXT")
+                words = f"{words}, and is late"
+                cure = f"if it came before the first close, have the vote closed, then run {reopen}"
+            yield letter, Fault(name, words, cure)
+        elif letter.outcome is Outcome.COPY:
+            cure = "to enter its ballot once more, have the letter wait first with --wait"
+            yield letter, Fault(name, "it is a copy of another letter", cure)
+        elif history.is_closed and letter.arrived_in_time:
+            reopen = vote.election.command("reopen", "--because", "TEXT")
+            words = "it arrived in time, and the vote is closed"
+            yield letter, Fault(name, words, f"if it has a ballot, run {reopen} first")
+        elif count > 1:
+            words = f"{count} of these lines are ballots of {twice}"
+            yield letter, Fault(name, words, "name the one that counts")
+
+
+def why_not_unforced(chosen: Sequence[Chosen], box: Box) -> Against:
+    """The letter is of another vote; nothing ties the elector of a typed ballot to it; or the
+    elector has a later ballot, or another one of its time.
+    """
     cure = "if this ballot must count, repeat it with --force"
-    for letter, line in chosen:
-        time, there = letter.time, ballots.get(line.elector, [])
-        if any(time is None or one.time > time for one in there):
-            yield letter.number, Fault(name_of(letter), "its elector has voted since", cure)
-        elif any(one.time == time and one.line != line.ballot for one in there):
-            words = "another ballot of its elector with the same time was entered"
-            yield letter.number, Fault(name_of(letter), words, cure)
+    for letter, lines, _ in chosen:
+        name, time = name_of(letter), letter.time
+        if mark := letter.other_vote:
+            words = f"it has the mark of another vote, [{mark}]"
+            yield letter, Fault(name, words, f"add it to that vote; {cure}")
+        tied = {*letter.electors, *letter.sharing, letter.marked_elector}
+        for line in lines:
+            there = box.get(line.elector, [])
+            if not line.number and line.elector not in tied:
+                words = f"neither its sender nor a line of {name} is of {line.elector}"
+                yield letter, Fault("--as", words, f"check the name; {cure}")
+            if answered_by(line.ballot, queries.later(there, time)):
+                yield letter, Fault(name, "its elector has voted since", cure)
+            elif any(one.time == time and differ(one.line, line.ballot) for one in there):
+                words = "another ballot of its elector with the same time was entered"
+                yield letter, Fault(name, words, cure)
 
 
 def demand_one_order(chosen: Sequence[Chosen]) -> None:
     """Stops at two ballots of an elector of one time: nobody knows which is the later one."""
-    last: dict[str, Chosen] = {}
-    for letter, line in chosen:
-        other, other_line = last.get(line.elector, (letter, line))
-        if other.time == letter.time and other_line.ballot != line.ballot:
-            name = f"letters {other.number} and {letter.number}"
+    lines = [(one.letter, line) for one in chosen for line in one.lines]
+    at_once = grouped(((line.elector, letter.time), (letter, line)) for letter, line in lines)
+    pairs = itertools.chain.from_iterable(
+        itertools.combinations(one, 2) for one in at_once.values()
+    )
+    for (letter, line), (other, other_line) in pairs:
+        if differ(line.ballot, other_line.ballot):
+            name = f"letters {letter.number} and {other.number}"
             words = f"they have different ballots of {line.elector}, and the same time"
             raise Fault(name, words, "enter the one that counts")
-        last[line.elector] = letter, line
-
-
-def done_with(vote: Vote, chosen: Sequence[Chosen]) -> list[int]:
-    """The letters in which each elector who has a ballot then has one entered, perhaps struck."""
-    electors: dict[int, set[str]] = collections.defaultdict(set)
-    for letter, line in chosen:
-        electors[letter.number].add(line.elector)
-    done = []
-    for letter in {letter.number: letter for letter, _ in chosen}.values():
-        names, entered = {line.elector for line in letter.ballots}, electors[letter.number]
-        if not names <= entered:
-            condition = f"letter = ? AND {queries.NOT_UNDONE}"
-            for envelope in queries.envelopes(vote.book, condition, letter.number):
-                entered.add(name_in(envelope.line).decode("ascii"))
-        if names <= entered:
-            done.append(letter.number)
-    return done

@@ -3,22 +3,25 @@ result.
 """
 
 import dataclasses
+import datetime
+import functools
 import getpass
 import itertools
 import pathlib
-from collections.abc import Mapping, Sequence
+from collections.abc import Iterator, Mapping, Sequence
 
 from debvote_tools.cli.arguments import Acting, flag, given, option, positional
 from debvote_tools.book import outgoing
-from debvote_tools.book.book import Book, Detail
+from debvote_tools.book.book import Detail
 from debvote_tools.book.election import LETTERS, Election, History
 from debvote_tools.cli.console import act_time, count_of, listed, shown_text, tell
-from debvote_tools.book.outgoing import TAKEN, OutgoingLetter
-from debvote_tools.cli import console
+from debvote_tools.book.outgoing import TAKEN, WRITTEN, OutgoingLetter
+from debvote_tools.cli import console, faults
 from debvote_tools.cli.faults import Fault, Status
 from debvote_tools.files import locked, uninterrupted
 from debvote_tools.outbox import letter_folder, smtp
-from debvote_tools.outbox.due import LettersDue
+from debvote_tools.inbox.pending import pending_letters
+from debvote_tools.outbox.due import NOTHING_WRITTEN, LettersDue, is_present, letters_due
 from debvote_tools.outbox.reached import WAS_REFUSED, reached_by_call
 from debvote_tools.outbox.smtp import Server
 from debvote_tools.outbox.words import SUBJECTS
@@ -52,18 +55,25 @@ class Arguments(Acting):
     at: str | None = option(
         "URL", "With result: the web address of the result, if the call does not name it"
     )
+    force: bool = flag(
+        "With --because: write the call or reminders although nobody has seen whether the box of the web host works, and say in them "
+        "that the page takes no ballots; or the letters of the close although it was not asked since"
+    )
     yes: bool = flag("With reminders: answer yes when asked whether to remind again within a day")
 
 
 def run(election: Election, arguments: Arguments) -> int:
     demand_words(arguments)
     named = None if arguments.server is None else smtp.server_of(arguments.server)
-    book = election.book_for(arguments)
-    election.demand_called(election.history())
+    election.demand_right_book(arguments)
+    election.called(election.history())
     server = server_of(election.history(), named, arguments) if arguments.send else None
     history = election.history()
+    if arguments.kind == "result" and history.is_closed:
+        force = "or publish without them, with --force --because TEXT"
+        pending_letters(election, history).demand_none(election, force, done=NOTHING_WRITTEN)
     if arguments.at not in (None, history.announced("at")):
-        with book.act("announce", {"at": arguments.at}, seen=history.last.number):
+        with election.book.act("announce", {"at": arguments.at}, seen=history.last.number):
             pass
     sender = arguments.sender or history.announced("to")
     if sender is None:
@@ -72,84 +82,91 @@ def run(election: Election, arguments: Arguments) -> int:
     letter_folder.make_own(election.path(LETTERS) / arguments.kind)
     # two runs at once would send each letter twice
     with locked(election.path(LETTERS) / ".lock"):
-        due = LettersDue(election, arguments.kind, sender, is_sending=arguments.send)
-        due.find()
-        if due.reminded and console.is_terminal() and not arguments.yes:
-            question = f"Reminders were written at {act_time(due.reminded)}. Remind again?"
-            if not console.is_yes(question):
-                tell("Nobody was reminded.")
-                return Status.DONE
-        place = election.path(LETTERS) / due.kind / str(due.for_act)
-        written = write(book, due, place)
-        lost = write_lost(due, place.parent)
-        tried = [] if server is None else send_letters(book, due, server)
-    for folder, letters in {place: [*due.going_again, *due.new], **lost}.items():
-        if names := [due.electors[one.elector].name for one in letters if not one.address]:
-            tell(
-                f"Without an address: {listed(names, MOST)}. Print {folder}/{letter_folder.TO_PRINT}."
-            )
-            if due.kind == "call" and not due.composer.call_data.letter_text:
-                tell(
-                    "Note: these letters do not say where a ballot on paper goes. Say it in letter.txt, "
-                    f"run {election.command('call')}, and write them again."
-                )
-    if due.in_no_receipt:
-        numbers = listed([str(number) for number in due.in_no_receipt], MOST)
-        tell(
-            f"No receipt is about these letters that wait, since no elector alone has the sender's address: {numbers}"
+        because = arguments.because if arguments.force else None
+        due = letters_due(
+            election, arguments.kind, sender, is_sending=arguments.send, because=because
         )
-    if due.letters_waiting:
-        wait = count_of(due.letters_waiting, "letter waits", "letters wait")
-        tell(f"{wait} until you have looked at them: {election.command('held')}")
-    if server is None:
-        tell_files(due, place, written, lost)
-    else:
-        tell_sent(due, tried)
-    tell_unreached(election)
+        if due.reminded and not arguments.yes and not reminds_again(due.reminded):
+            tell("Nobody was reminded.")
+            return Status.DONE
+        place = election.path(LETTERS) / due.kind / str(due.for_act)
+        written = write(due, place)
+        lost = write_lost(due, place.parent)
+        tried = [] if server is None else send_letters(due, server)
+    tell(*notes_on(due, {place: [*due.going_again, *due.new], **lost}))
+    is_sent = server is not None
+    tell(*(sent_words(due, tried) if is_sent else written_words(due, place, written, lost)))
+    tell(*unreached_words(election))
     # that an address that an elector had before refuses a letter is no fault
-    is_refused = any(letter.state != TAKEN and due.is_present(letter) for letter in tried)
+    is_refused = any(one.state != TAKEN and is_present(one, due.electors) for one in tried)
     return Status.DOUBT if is_refused else Status.DONE
 
 
+def reminds_again(before: datetime.datetime) -> bool:
+    """Whether electors are to be reminded again within a day. Stops where nobody can be asked."""
+    said = f"Reminders were written at {act_time(before)}"
+    if not console.is_terminal():
+        raise Fault(None, said, "if it is right, remind again with --yes", done=NOTHING_SENT)
+    return bool(console.is_yes(f"{said}. Remind again?"))
+
+
 # ---- what is told
-def tell_files(
-    due: LettersDue,
-    place: pathlib.Path,
-    written: int,
-    lost: Mapping[pathlib.Path, Sequence[OutgoingLetter]],
-) -> None:
+# letters by the folder in which their files are
+ByPlace = Mapping[pathlib.Path, Sequence[OutgoingLetter]]
+
+
+def notes_on(due: LettersDue, by_place: ByPlace) -> Iterator[str]:
+    """Who gets a letter on paper, and what waits."""
+    for folder, letters in by_place.items():
+        if names := [due.electors[one.elector].name for one in letters if not one.address]:
+            yield f"Without an address: {listed(names, MOST)}. Print {folder}/{letter_folder.TO_PRINT}."
+            if due.kind == "call" and not due.composer.call_data.letter_text:
+                where = (
+                    "these letters do not say where a ballot on paper goes. Say it in letter.txt"
+                )
+                yield f"Note: {where}, run {due.election.command('call')}, and write them again."
+    if due.in_no_receipt:
+        why = "since no elector alone has the sender's address"
+        numbers = listed([str(number) for number in due.in_no_receipt], MOST)
+        yield f"No receipt is about these letters that wait, {why}: {numbers}"
+    if due.letters_pending:
+        wait = count_of(due.letters_pending, "letter waits", "letters wait")
+        yield f"{wait} until you have looked at them: {due.election.command('held')}"
+
+
+def written_words(
+    due: LettersDue, place: pathlib.Path, written: int, lost: ByPlace
+) -> Iterator[str]:
     for folder, letters in lost.items():
         if number := sum(bool(letter.address) for letter in letters):
             earlier = count_of(number, "earlier letter")
-            tell(f"Wrote {earlier}, since the folder was not there: {folder}")
+            yield f"Wrote {earlier}, since the folder was not there: {folder}"
     if written:
         host = [] if remembered(due.history) else ["--server", "HOST"]
         command = due.election.command("letters", due.kind, "--send", *host)
         new = sum(bool(letter.address) for letter in due.new)
         of_them = "" if new == written else f", {new or 'none'} of them new"
-        tell(
-            f"Wrote {count_of(written, 'letter')}{of_them}: {place}",
-            f"Next: send them with your mail program, or by {command}",
-        )
+        yield f"Wrote {count_of(written, 'letter')}{of_them}: {place}"
+        yield f"Next: send them with your mail program, or by {command}"
     else:
-        tell("No other letter is to be sent." if lost else "There is no letter to send.")
+        yield "No other letter is to be sent." if lost else "There is no letter to send."
 
 
-def tell_sent(due: LettersDue, tried: Sequence[OutgoingLetter]) -> None:
+def sent_words(due: LettersDue, tried: Sequence[OutgoingLetter]) -> Iterator[str]:
     refused = [letter for letter in tried if letter.state != TAKEN]
     if tried:
-        tell(f"Sent {len(tried) - len(refused)} of {count_of(len(tried), 'letter')}.")
+        yield f"Sent {len(tried) - len(refused)} of {count_of(len(tried), 'letter')}."
     else:
-        tell("There is no letter to send: the server has taken all that are due.")
+        yield "There is no letter to send: the server has taken all that are due."
     for letter in refused:
         name = due.electors[letter.elector].name
-        tell(f"Refused: {name}, {letter.address}: {shown_text(letter.reply)}")
+        yield f"Refused: {name}, {letter.address}: {shown_text(letter.reply)}"
     if any(map(due.can_be_sent, refused)):
         command = due.election.command("letters", due.kind, "--send")
-        tell(f"Next: in a quarter of an hour, or with corrected addresses, try again: {command}")
+        yield f"Next: in a quarter of an hour, or with corrected addresses, try again: {command}"
 
 
-def tell_unreached(election: Election) -> None:
+def unreached_words(election: Election) -> Iterator[str]:
     """Names those whom the call has not reached, until a letter to them is taken."""
     unreached, _ = reached_by_call(election, election.history())
     found = [
@@ -157,12 +174,12 @@ def tell_unreached(election: Election) -> None:
         for elector, why, reply in unreached
     ]
     if found:
-        tell(f"Not reached by the call: {listed(found, MOST)}")
+        yield f"Not reached by the call: {listed(found, MOST)}"
 
 
 # ---- the words of the command line
-def bad_words(option: object, words: object, cure: str) -> Fault:
-    return Fault(option, words, cure, Status.BAD_WORDS, "nothing was written or sent")
+NOTHING_SENT = "nothing was written or sent"
+bad_words = functools.partial(faults.bad_words, done=NOTHING_SENT)
 
 
 def demand_words(arguments: Arguments) -> None:
@@ -215,14 +232,22 @@ def server_of(history: History, server: Server | None, arguments: Arguments) -> 
 
 
 # ---- the acts
-def write(book: Book, due: LettersDue, place: pathlib.Path) -> int:
+def write(due: LettersDue, place: pathlib.Path) -> int:
     """Writes and notes the letters that are due; returns how many a mail program can send."""
     made = letter_folder.letter_files(due, [*due.going_again, *due.new])
+    # what was written for a mail program is for a server now, or the other way round
+    changed = [
+        letter
+        for letter in due.going_again
+        if letter.address and letter.state == WRITTEN and letter.by_server != due.is_sending
+    ]
     with letter_folder.in_place(made, place):
-        if due.new:
-            detail: Detail = {"kind": due.kind, "letters": len(due.new)}
-            with book.act("letters out", detail, seen=due.history.last.number) as act:
-                outgoing.note(act, due.new)
+        if due.new or changed:
+            detail: Detail = {"kind": due.kind, "letters": len(due.new)} | due.forced
+            seen = due.history.last.number
+            with due.election.book.act("letters out", detail, seen=seen) as act:
+                letters = (*changed, *due.new)
+                outgoing.note(act, (one._replace(by_server=due.is_sending) for one in letters))
     return len(made.keys() - {letter_folder.TO_PRINT})
 
 
@@ -242,7 +267,7 @@ def write_lost(
     return lost
 
 
-def send_letters(book: Book, due: LettersDue, server: Server) -> list[OutgoingLetter]:
+def send_letters(due: LettersDue, server: Server) -> list[OutgoingLetter]:
     """Sends the letters that no server has taken, and returns them with what the server said."""
     letters, tried = due.to_send, list[OutgoingLetter]()
     if not letters:
@@ -252,7 +277,7 @@ def send_letters(book: Book, due: LettersDue, server: Server) -> list[OutgoingLe
         detail["user"] = server.user
 
     def note(letter: OutgoingLetter) -> None:
-        with uninterrupted(), book.act("letter sent", detail) as act:
+        with uninterrupted(), due.election.book.act("letter sent", detail) as act:
             outgoing.note(act, [letter])
 
     messages = ((letter, letter_folder.message(due, letter, is_draft=False)) for letter in letters)

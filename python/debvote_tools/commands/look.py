@@ -1,14 +1,14 @@
-"""The commands that read the book: `status`, `log`, `export` and `backup`."""
+"""The commands that read the book: `status`, `show`, `log`, `export` and `backup`."""
 
 import itertools
 import json
 import os
 import pathlib
 import re
-from collections.abc import Iterator, Sequence
+from collections.abc import Collection, Iterator, Sequence
 from typing import Any
 
-from debvote_tools.book import queries
+from debvote_tools.book import outgoing, queries
 from debvote_tools.book.book import Book, DoneAct
 from debvote_tools.book.election import (
     CALL,
@@ -26,17 +26,24 @@ from debvote_tools.cli.console import (
     count_of,
     quorum_words,
     shown_line,
+    shown_text,
     shows,
     tell,
     wrapped,
 )
-from debvote_tools.cli.faults import Fault, Status
-from debvote_tools.debvote import Finding, Findings
+from debvote_tools.cli.faults import Fault, bad_words
 from debvote_tools.files import whole_folder, write_whole
-from debvote_tools.inbox.waiting import Arrived, stopping, waiting_letters
+from debvote_tools.grouping import grouped
+from debvote_tools.inbox import letter_words
+from debvote_tools.inbox.asked import asked_last, asked_words
+from debvote_tools.inbox.fates import Fate, fates_of
+from debvote_tools.inbox.lines import has_code
+from debvote_tools.inbox.pending import Pending, pending_letters
+from debvote_tools.inbox.vote import IS_CODE, Vote
 from debvote_tools.outbox.reached import reached_by_call
+from debvote_tools.poll.questions import Questions, place_of, quorums_in
 from debvote_tools.text import times
-from debvote_tools.text.ballots import ballot_file
+from debvote_tools.text.ballots import answers_in, ballot_file, part_of
 
 # ---- status
 # how many characters the bar of those who have voted has
@@ -50,7 +57,7 @@ FIRST_WORD = re.compile(rb"(?:\xef\xbb\xbf)?[\s\"']*([A-Za-z0-9.-]{1,32})(?=[\s\
 State = dict[str, Any]
 
 # a line that debvote refuses, with the number of its envelope, and why
-Refused = tuple[int, bytes, Finding]
+Refused = tuple[int, bytes, str]
 
 
 class StatusArguments(Options):
@@ -65,47 +72,61 @@ def status(election: Election, arguments: StatusArguments) -> None:
     if arguments.json:
         tell(json.dumps(state, ensure_ascii=False))
     else:
-        tell(*stage_words(election, history), *words_of(election, history, state, refused))
+        tell(*stage_words(election, history, state), *words_of(election, history, state, refused))
 
 
 def state_of(election: Election, history: History) -> tuple[State, list[Refused]]:
     """The numbers of an election, and the lines that debvote refuses, but for those of electors who
     have a ballot; with codes on the roll all.
     """
-    book, has_codes, found = election.book, history.has_codes_on_roll, Findings([])
-    lines, waiting = list[tuple[int, bytes]](), dict[int, Arrived]()
-    if history.call is None:
-        roll = tuple(elector.name for elector in queries.electors(book))
-    else:
-        poll, lines = election.sealed().counted, queries.numbered_lines_in_time(book)
-        ballots, roll = ballot_file(line for _, line in lines), poll.roll
-        found = election.debvote.findings(poll.as_bytes(), ballots)
-        waiting = waiting_letters(election, history)
-    refused = [(*lines[finding.line - 1], finding) for finding in found.refused]
-    refused_numbers = {number for number, _, _ in refused}
-    # who has a line that debvote does not refuse has a ballot
-    names = {line.partition(b" ")[0] for number, line in lines if number not in refused_numbers}
-    voters = {name.decode("ascii") for name in names}
+    book, has_codes = election.book, history.has_codes_on_roll
+    roll = [elector.name for elector in queries.electors(book)]
+    pending = Pending() if history.call is None else pending_letters(election, history)
+    numbers, voters = queries.numbers(book), queries.what_counts(book)
+    answered = {name: {*answers_in(answers)} for name, answers in voters.items()}
     unreached, printed = reached_by_call(election, history)
     state = {
         "stage": history.stage,
         "electors": len(roll),
-        "lines": found.lines,
-        "valid": found.valid,
-        "refused": len(refused),
-        "voters": found.voters,
+        **numbers._asdict(),
         "late": len(queries.late_lines(book)),
-        "waiting": len(waiting),
-        "stopping": stopping(waiting, history),
+        "waiting": pending.count,
+        "stopping": pending.stopping,
         "without_ballot": None if has_codes else [name for name in roll if name not in voters],
+        "box": asked_last(election, history),
         "not_reached": {elector.name: why for elector, why, _ in unreached},
         "printed": printed,
         "act": history.last.number,
         "digest": history.last.digest,
     }
-    return state, refused if has_codes else [
-        (number, line, finding) for number, line, finding in refused if name_in(line) not in voters
+    if history.call is not None and election.sealed().counted.is_several:
+        state["questions"] = questions_in(election, history, has_late=bool(state["late"]))
+    labels = queries.labels_of(book)
+    refused = [
+        (number, line, answer)
+        for number, line, answer in queries.refused_lines(book)
+        if has_codes or not labels_in(line, labels) <= answered.get(name_in(line) or "", set())
     ]
+    return state, refused
+
+
+def questions_in(election: Election, history: History, *, has_late: bool) -> State:
+    """The numbers of each of several questions."""
+    book, titles = election.book, election.sealed().counted
+    return {
+        label: {
+            "title": titles[label].name,
+            "stage": history.stage,
+            **queries.numbers(book)._asdict(),
+            "late": len(queries.late_lines(book)) if has_late else 0,
+        }
+        for label in queries.by_question(book)
+    }
+
+
+def labels_in(line: bytes, labels: Sequence[str]) -> set[str]:
+    """Which of these questions a line answers, or would."""
+    return {label for label in labels if part_of(line, label) is not None}
 
 
 def name_in(line: bytes) -> str | None:
@@ -114,13 +135,13 @@ def name_in(line: bytes) -> str | None:
     return word[1].decode("ascii").lower() if word else None
 
 
-def stage_words(election: Election, history: History) -> Iterator[str]:
+def stage_words(election: Election, history: History, state: State) -> Iterator[str]:
     if history.call is None:
         yield from ("Call for votes: not made yet", "Closed: not yet")
         return
-    poll = election.sealed().counted
-    yield f"Title: {poll.name}"
-    if poll.secret:
+    questions = election.sealed().counted
+    yield f"Title: {questions.name}"
+    if questions.is_secret:
         under = "codes" if history.has_codes_on_roll else "aliases"
         yield f"The vote is secret: ballots are published under {under}. Keep the output of this command to yourself."
     if history.until is not None:
@@ -131,7 +152,12 @@ def stage_words(election: Election, history: History) -> Iterator[str]:
     yield f"Closed: {closed}"
     if history.is_reopened:
         yield f"Reopened: at {act_time(history.named('reopen')[-1].time)}"
-    yield quorum_words(poll.quorum, history.call.detail["quorum_votes"])
+    quorums = quorums_in(history.call.detail["quorum_votes"])
+    for label, poll in questions.items():
+        if label:
+            voters = count_of(state["questions"][label]["voters"], "elector")
+            yield f"Question {label}: {poll.name}: {voters} answered"
+        yield f"{'  ' if label else ''}{quorum_words(poll.quorum, quorums[label])}"
 
 
 def words_of(
@@ -144,8 +170,10 @@ def words_of(
     if shows() and state["electors"]:
         voters, electors = state["voters"], state["electors"]
         yield f"  {bar(voters, electors, BAR)} {voters * 100 // electors} %"
+    yield from asked_words(history)
     yield from named("Electors without a ballot", state["without_ballot"])
-    yield from refused_words(refused, state["without_ballot"])
+    roll = {elector.name for elector in queries.electors(election.book)}
+    yield from refused_words(refused, state["without_ballot"], roll)
     if state["waiting"]:
         wait = count_of(state["waiting"], "letter waits", "letters wait")
         yield f"{wait} until you have looked at them: {election.command('held')}"
@@ -166,20 +194,28 @@ def named(what: str, names: list[str] | None) -> Iterator[str]:
         yield from (f"{what} ({len(names)}):", wrapped(names))
 
 
-def refused_words(refused: list[Refused], without_ballot: list[str] | None) -> Iterator[str]:
+def refused_words(
+    refused: list[Refused], without_ballot: list[str] | None, roll: Collection[str]
+) -> Iterator[str]:
     """Lines, each with what debvote says of it. With codes on the roll they would tell codes."""
     if without_ballot is None:
         if refused:
             yield f"Refused: envelopes {', '.join(str(number) for number, *_ in refused)}"
         return
-    known, whose = set(without_ballot), ("with no known elector", "of electors without a ballot")
-    for is_known in (True, False):
-        found = [one for one in refused if (name_in(one[1]) in known) == is_known]
-        if found:
-            yield f"Refused lines {whose[is_known]} ({len(found)}):"
-        for envelope, line, finding in found:
+    # who has answered another question has a ballot
+    groups = (
+        no_ballot := "of electors without a ballot",
+        no_answer := "of electors without another answer to the question",
+        nobody := "with no known elector",
+    )
+    whose = dict.fromkeys(roll, no_answer) | dict.fromkeys(without_ballot, no_ballot)
+    found = grouped((whose.get(name_in(one[1]) or "", nobody), one) for one in refused)
+    for who in groups:
+        if who in found:
+            yield f"Refused lines {who} ({len(found[who])}):"
+        for envelope, line, answer in found.get(who, ()):
             yield f"  envelope {envelope}: {shown_line(line) or '(empty)'}"
-            yield f"    {finding.word}: {finding.hint}"
+            yield f"    {answer}"
 
 
 def what_next(election: Election, state: State) -> str:
@@ -194,7 +230,80 @@ def what_next(election: Election, state: State) -> str:
     return f"{election.command('count')}, then {election.command('publish')}"
 
 
+# ---- show
+class ShowArguments(Options):
+    name: str = positional("NAME", "The elector's name on the roll, or the real name")
+
+
+def show(election: Election, arguments: ShowArguments) -> None:
+    """Show one elector: the ballots and letters that came, the current ballot, and what was sent."""
+    history = election.history()
+    vote = Vote(election)
+    elector = elector_named(election, vote, arguments.name)
+    who = f": {shown_text(elector.who)} {', '.join(map(shown_text, elector.addresses))}"
+    # nobody knows whose code it is
+    tell(elector.name if vote.has_codes else f"{elector.name}{who.rstrip(': ')}")
+    fates = fates_of(election, history, elector)[elector.name]
+    tell(*(f"  {line}" for one in fates for line in fate_words(vote, history, one)))
+    current = queries.what_counts(election.book, {elector.number}).get(elector.name)
+    line = f"{elector.name} {current}: " if current and vote.questions.is_several else ""
+    said = vote.answers_in_words(current) if current else "none"
+    tell(f"The current ballot: {line}{said}")
+    out = outgoing.outgoing_letters(election.book, elector=elector.number)
+    for letter in sorted(out, key=lambda letter: letter.time):
+        where = f"to {letter.address}" if letter.address else "to be printed"
+        reply = f" ({shown_text(letter.reply)})" if letter.reply else ""
+        kind = letter.kind.removesuffix("s")
+        tell(f"  {kind}, {act_time(letter.time)}, {where}: {letter.state}{reply}")
+
+
+def elector_named(election: Election, vote: Vote, name: str) -> queries.Elector:
+    on_roll = name.strip().lower()
+    meant = [on_roll] if on_roll in vote.names_on_roll else vote.names.meant_by(name)
+    found = [one for one in queries.electors(election.book) if one.name in meant]
+    if len(found) == 1:
+        return found[0]
+    if found:
+        words = f"several electors have the real name {shown_text(name)}"
+        cure = f"name one of {', '.join(elector.name for elector in found)}"
+        raise Fault("show", words, cure, done=None)
+    what, cure = "elector", f"{election.command('status')} and roll show the names"
+    if vote.has_codes:
+        what, cure = "code", "type the code as it was handed out"
+    raise Fault("show", f"no {what} on the roll is `{shown_text(name)}`", cure, done=None)
+
+
+def fate_words(vote: Vote, history: History, fate: Fate) -> Iterator[str]:
+    envelope, letter = fate.envelope, fate.letter
+    if letter is not None:
+        if letter.is_pending:
+            yield from letter_words.why_it_waits(letter)
+        else:
+            yield f"{letter_words.who_and_when(letter)}: {letter_words.why(letter)}"
+    if envelope is not None:
+        said = vote.answers_in_words(fate.answers) if fate.answers else refused_line(vote, fate)
+        marks = ["late"] if envelope.is_late else []
+        marks += [f"{label} replaced" for label in fate.replaced]
+        if envelope.struck is not None:
+            act = history.act(envelope.struck)
+            because = shown_text(str(act.detail.get("because", "")))
+            struck = f"struck by {act.name} at {act_time(act.time)}"
+            marks.append(f"{struck}: {because}" if because else struck)
+        marked = f" ({'; '.join(marks)})" if marks else ""
+        yield f"envelope {envelope.number}, {act_time(envelope.time)}: {said}{marked}"
+
+
+def refused_line(vote: Vote, fate: Fate) -> str:
+    line = b"" if fate.envelope is None else fate.envelope.line
+    is_code = has_code(line.decode("utf-8", "replace")) and not vote.has_codes
+    return f"{shown_line(line)}: {fate.answer}{IS_CODE if is_code else ''}"
+
+
 # ---- log, export and backup
+# the random line of a close, which stays in the book: with it few ballots can be guessed from the
+# checksum
+SEAL = re.compile(r', "seal": "\w*"')
+
 # what a file name keeps of the name under which something came
 UNSAFE = re.compile(r"[^A-Za-z0-9._-]+")
 LONGEST_FILE_NAME = 100
@@ -224,10 +333,7 @@ def log(election: Election, arguments: LogArguments) -> None:
 
 def acts_in_words(acts: Sequence[DoneAct]) -> Iterator[str]:
     for before, act in itertools.pairwise([acts[0], *acts]):
-        # the random line of a close stays in the book: with it few ballots can be guessed from the
-        # checksum
-        detail = {key: value for key, value in act.detail.items() if key != "seal"}
-        said = json.dumps(detail, ensure_ascii=False)
+        said = SEAL.sub("", act.detail_as_json)
         yield f"{act.number} {act_time(act.time)} {act.name} {said}"
         yield f"  {act.digest} on {act.machine}"
         if act.went_back(before):
@@ -238,19 +344,28 @@ def export(election: Election, arguments: ExportArguments) -> None:
     """Write the poll, the ballots and everything that came into a new folder that only you can read."""
     book, target_folder = election.whole_book(), pathlib.Path(arguments.target_folder)
     demand_new(election, target_folder, "folder")
+    questions = election.sealed().counted
     with whole_folder(target_folder) as folder:
         (folder / "came").mkdir(mode=0o700)
-        for name, data in exported(election, book).items():
+        for name, data in exported(book, questions).items():
+            (folder / name).parent.mkdir(mode=0o700, exist_ok=True)
             write_whole(folder / name, data, 0o600)
+    several = "for each question poll.toml and ballots.txt, for all"
+    polls = several if questions.is_several else "poll.toml,"
     tell(
-        f"Made the folder {target_folder}: poll.toml, ballots.txt, late.txt, and in came/ all that came. Only you can read it."
+        f"Made the folder {target_folder}: {polls} ballots.txt, late.txt, and in came/ all that came. Only you can read it."
     )
 
 
-def exported(election: Election, book: Book) -> dict[str, bytes]:
+def exported(book: Book, questions: Questions) -> dict[str, bytes]:
+    files = dict[str, bytes]()
     with book.snapshot():
-        files = {"poll.toml": election.sealed().counted.as_bytes()}
-        files["ballots.txt"] = ballot_file(queries.lines_in_time(book))
+        for label, poll in questions.items():
+            files[place_of(label, "poll.toml")] = poll.as_bytes()
+            with book.question(label):
+                ballots = ballot_file(queries.lines_to_count(book))
+            files[place_of(label, "ballots.txt")] = ballots
+        files["ballots.txt"] = ballot_file(queries.lines_to_count(book))
         files["late.txt"] = ballot_file(queries.late_lines(book))
         # what came has its number before its name, which is no path and has no characters that a
         # shell reads
@@ -282,4 +397,4 @@ def demand_new(election: Election, target: pathlib.Path, what: str) -> None:
     else:
         if not os.path.lexists(target):
             return
-    raise Fault(target, words, cure, Status.BAD_WORDS, "nothing was written")
+    raise bad_words(target, words, cure, "nothing was written")

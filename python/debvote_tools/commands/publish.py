@@ -3,26 +3,45 @@
 import contextlib
 import dataclasses
 import datetime
+import functools
 import itertools
 import os
 import pathlib
-from collections.abc import Iterator
+from collections.abc import Collection, Iterator, Mapping
 
 from debvote_tools.cli.arguments import Acting, demand_reason, flag, option, positional
 from debvote_tools.text import times
-from debvote_tools.book.book import DoneAct, Overtaken
+from debvote_tools.book.book import Detail, DoneAct, Overtaken
 from debvote_tools.cli.console import act_time, odd_sign, tell
-from debvote_tools.debvote import casting_words
-from debvote_tools.book.election import LETTERS, RESULT, RESULT_LETTER, Election, History
+from debvote_tools.book import queries
+from debvote_tools.book.election import (
+    BOX_KEY,
+    LETTERS,
+    RESULT,
+    RESULT_LETTER,
+    Election,
+    History,
+)
+from debvote_tools.poll.box import SCRIPT, records_file
+from debvote_tools.poll.questions import Questions, place_of
 from debvote_tools.files import OWN, locked, read_text, uninterrupted, write_made
-from debvote_tools.inbox.waiting import in_time, waiting_letters
+from debvote_tools.inbox.pending import Pending, pending_letters
+from debvote_tools.cli import faults
 from debvote_tools.cli.faults import Fault, Status
 from debvote_tools.text.language import LANGUAGES
 from debvote_tools.result import folder, publication
-from debvote_tools.result.sheet import CASTING, demand_countable, demand_option
-from debvote_tools.result.facts import Facts, Words
-from debvote_tools.result.file_names import CHECKSUMS
+from debvote_tools.result.sheet import (
+    CASTING,
+    castings_in,
+    castings_said,
+    demand_countable,
+    publishing,
+)
+from debvote_tools.result.facts import Facts, Outcome, Words
+from debvote_tools.result.file_names import BALLOTS, CHECKSUMS, PAGE, POLL
 from debvote_tools.result.folder import NOTHING_DONE
+
+bad_words = functools.partial(faults.bad_words, done=NOTHING_DONE)
 
 # of the text for the page in bytes, and of the name of who gave the casting vote in characters
 TEXT_LIMIT, NAME_LIMIT = 65_536, 200
@@ -32,7 +51,7 @@ REFUSED_IN_NAME = '"\u201c\u201d\u201e\u201f\u2033\uff02\u00ab\u00bb'
 
 
 class Arguments(Acting, checks=True):
-    casting: str | None = option(*CASTING)
+    casting: list[str] | None = option(*CASTING, action="append")
     cast_by: str | None = option("NAME", "Who had the casting vote; the page says so in your name")
     cast_on: str | None = option("DATE", "The day of the casting vote, as 2026-12-05")
     about: str | None = option(
@@ -60,59 +79,106 @@ class Arguments(Acting, checks=True):
 def run(election: Election, arguments: Arguments) -> int:
     """The folder is whole and counted before the act, and takes its place after the act. So a kill
     leaves no folder that the book does not know.
-
-    `given` are the words of the command line, and `before` is the act of the last publication since
-    the last close. It is made `again`, with its own words, if the command line has none, or --force
-    alone.
     """
-    book = election.book_for(arguments)
+    election.demand_right_book(arguments)
     history, sealed = election.history(), election.sealed()
     demand_countable(election, history, sealed)
     target = pathlib.Path(arguments.target) if arguments.target else election.path(RESULT)
-    before, given = publication.last_publication(history), words_of(arguments)
+    given = words_of(arguments, sealed.public)
     demand_place(target, history)
+    before = publication.last_publication(history)
     again = before if given == Words(is_forced=arguments.force) else None
     words = given if again is None else Words(**again.detail["words"])
-    demand_option(sealed.public, words.casting)
-    waiting = in_time(waiting_letters(election, history)) if history.is_closed else []
-    facts = publication.facts_of(election, words, waiting)
-    if again is not None and any(
-        doubt.stops and doubt.as_data() not in again.detail["doubts"] for doubt in facts.doubts
-    ):
-        # the reason of then is not one for what came since
-        facts = dataclasses.replace(facts, words=dataclasses.replace(words, is_forced=False))
-    agreed = agreed_in_secret(history, facts, is_agreed=arguments.yes) if facts.secret else []
-    with folder.made(facts, target, election.program_folder) as made:
-        sheet = made.answers.sheet
-        detail = publication.detail_of(
-            words, made.checksums, made.facts, decides=sheet.is_by_casting
-        )
-        if waiting:
-            detail["left"] = waiting
+    pending = pending_letters(election, history) if history.is_closed else Pending()
+    facts = facts_again(publication.facts_of(election, words, pending), again)
+    agreed = agreed_in_secret(history, sealed.public, facts.values(), is_agreed=arguments.yes)
+    with folder.beside(target) as new:
+        filled = folder.filled(new.folder, facts, election.program_folder)
+        detail = detail_of(words, filled)
+        if pending.arrived_in_time:
+            detail["left"] = pending.arrived_in_time
         is_new = before is None or dict(before.detail, agreed=agreed) != dict(detail, agreed=agreed)
         if again is not None and is_new and not arguments.force:
             raise would_differ(again)
         if agreed:
             detail["agreed"] = agreed
-        with alone(election), uninterrupted():
-            if is_new:
-                with book.act("publish", detail, seen=history.last.number) as act:
-                    act.insert("sealed", name=f"{LETTERS}/{RESULT_LETTER}", data=made.letter)
-            elif book.last_number() != history.last.number:
-                raise Overtaken
-            made.is_in_book = True
-            made.take_place(target)
-            write_made(election.path(LETTERS), {RESULT_LETTER: made.letter}, OWN)
+        put_in_place(election, history, new, filled.letter, target, detail if is_new else None)
+    tell_published(election, filled.outcomes, target, is_new=is_new)
+    return max(one.sheet.status for one in filled.outcomes.values())
+
+
+def detail_of(words: Words, filled: folder.Filled) -> Detail:
+    """The detail of the act, with the checksums that the letter of the result names; and the casting
+    votes that decide.
+    """
+    outcomes = filled.outcomes
+    by_casting = [label for label, one in outcomes.items() if one.sheet.is_by_casting]
+    named = [
+        place_of(label, name) for label in outcomes for name in (POLL, BALLOTS, PAGE, CHECKSUMS)
+    ]
+    return {
+        "words": dataclasses.asdict(words),
+        "casting": castings_said({label: words.castings[label] for label in by_casting}),
+        "checksums": {
+            name: filled.checksums[name] for name in dict.fromkeys([*named, PAGE, CHECKSUMS])
+        },
+        "doubts": [
+            doubt for one in outcomes.values() for doubt in one.facts.doubts_as_data(one.doubts)
+        ],
+    }
+
+
+def facts_again(facts: dict[str, Facts], again: DoneAct | None) -> dict[str, Facts]:
+    """The facts of a result that is made again, with its own words, if the command line has none, or
+    --force alone: the reason of then is not one for what came since.
+    """
+    stopping = (
+        doubt
+        for its in facts.values()
+        for doubt in its.doubts_as_data(one for one in its.doubts if one.stops)
+    )
+    if again is None or all(doubt in again.detail["doubts"] for doubt in stopping):
+        return facts
+    words = Words(**(again.detail["words"] | {"is_forced": False}))
+    return {label: dataclasses.replace(its, words=words) for label, its in facts.items()}
+
+
+def put_in_place(
+    election: Election,
+    history: History,
+    new: folder.NewFolder,
+    letter: bytes,
+    target: pathlib.Path,
+    detail: Detail | None,
+) -> None:
+    """The act, if this is a publication of its own, and the folder in its place."""
+    with alone(election), uninterrupted():
+        if detail is not None:
+            with election.book.act("publish", detail, seen=history.last.number) as act:
+                act.insert("sealed", name=f"{LETTERS}/{RESULT_LETTER}", data=letter)
+        elif election.book.last_number() != history.last.number:
+            raise Overtaken
+        new.is_in_book = True
+        new.take_place(target)
+        write_made(election.path(LETTERS), {RESULT_LETTER: letter}, OWN)
+
+
+def tell_published(
+    election: Election, outcomes: Mapping[str, Outcome], target: pathlib.Path, *, is_new: bool
+) -> None:
     as_before = "" if is_new else ", as it was published before; nothing was changed in the book"
-    tell(sheet.last_line, made.answers.verified, f"Made the folder {target}{as_before}.")
-    if sheet.winner is None:
-        cast = (*casting_words("NAME"), "--cast-by", "WHO", "--cast-on", "DATE")
+    for label, one in outcomes.items():
+        tell(f"{label and f'{label}: '}{one.sheet.last_line}", one.verified)
+    tell(f"Made the folder {target}{as_before}.")
+    if tied := [label for label, one in outcomes.items() if one.sheet.winner is None]:
         ask = "it is a tie: ask for the casting vote, and then give its option, its holder and its day"
-        tell(f"Next: {ask}: {election.command('publish', *cast)}")
+        tell(f"Next: {ask}: {publishing(election, dict.fromkeys(tied, 'NAME'))}")
     else:
         send = election.to_all("result", election.path(LETTERS) / RESULT_LETTER)
         tell(f"Next: put the folder {target} on the web site as it is, then {send}")
-    return made.answers.status
+    if election.history().announced("box"):
+        key = queries.sealed(election.book, BOX_KEY) or b""
+        tell(f"Where it takes the place of the page, remove {SCRIPT} and {records_file(key)}.")
 
 
 def demand_place(target_folder: pathlib.Path, history: History) -> None:
@@ -165,7 +231,7 @@ def alone(election: Election) -> Iterator[None]:
 
 
 # ---- words of those who publish
-def words_of(arguments: Arguments) -> Words:
+def words_of(arguments: Arguments, questions: Questions) -> Words:
     """What the command line says, checked."""
     reason, about = arguments.because if arguments.force else None, None
     by, on = arguments.cast_by, arguments.cast_on
@@ -183,7 +249,7 @@ def words_of(arguments: Arguments) -> Words:
         )
         about = read_text(arguments.about, TEXT_LIMIT, unread, empty, may_wait=True)
     return Words(
-        casting=arguments.casting,
+        casting=castings_said(castings_in(arguments.casting, questions)),
         cast_by=by,
         cast_on=on,
         about=about,
@@ -213,26 +279,27 @@ def holder_and_day(by: str | None, on: str | None) -> tuple[str, str]:
     return by.strip(), day.isoformat()
 
 
-def bad_words(option: str, reason: str, cure: str) -> Fault:
-    return Fault(option, reason, cure, Status.BAD_WORDS, NOTHING_DONE)
-
-
-def agreed_in_secret(history: History, facts: Facts, *, is_agreed: bool) -> list[str]:
-    """Asks before a secret vote is published: about texts that are new, by where they are from, and
-    about what two results would show.
+def agreed_in_secret(
+    history: History, questions: Questions, facts: Collection[Facts], *, is_agreed: bool
+) -> list[str]:
+    """Asks before a secret vote is published, once for all questions: about texts that are new, by
+    where they are from, and about what two results would show.
     """
-    acts = facts.acts or ()
-    words = facts.words
+    if not questions.is_secret:
+        return []
+    # these are the same for each
+    words, acts = next((of_one.words, of_one.acts or ()) for of_one in facts)
     texts = {"--about": words.about, "--because": words.because, "--cast-by": words.cast_by}
     texts |= {f"the reason for the act of {act_time(act.time)}": act.because for act in acts}
     given = {where: text for where, text in texts.items() if text is not None}
     agreed = publication.agreed_texts(
         history,
-        publication.texts_of_poll(facts.poll) | given,
+        publication.texts_of(questions) | given,
         is_agreed=is_agreed,
         done=NOTHING_DONE,
     )
-    if facts.secret and facts.secret.compared and not is_agreed:
-        why = f"a comparison with the earlier result shows how these voted: {', '.join(facts.secret.compared)}"
+    compared = [name for of_one in facts for name in of_one.compared]
+    if compared and not is_agreed:
+        why = f"a comparison with the earlier result shows how these voted: {', '.join(dict.fromkeys(compared))}"
         publication.demand_yes(f"Publish it, although {why}?", why, NOTHING_DONE)
     return agreed

@@ -1,1 +1,1 @@
-"""What comes: lines, tables and letters, and what becomes of each."""
+"""What comes: lines and letters, and what becomes of each."""

@@ -7,16 +7,15 @@ import os
 import pathlib
 import re
 import sys
-from collections.abc import Mapping, Sequence
+from collections.abc import Sequence
 from typing import BinaryIO, NamedTuple
 
 from debvote_tools.book.election import Election
 from debvote_tools.cli.console import tell
-from debvote_tools.cli.faults import Fault, stop_at
-from debvote_tools.files import BALLOTS_LIMIT
+from debvote_tools.cli.faults import Fault, bad_words, kept_in, stop_at
+from debvote_tools.files import BALLOTS_LIMIT, PACKED, PDF, kind_of
 from debvote_tools.inbox.mailbox import NotRead, are_letters, kind_not_read
-from debvote_tools.inbox.entering import bad_ballots, bad_words, doubtful
-from debvote_tools.inbox.tables import PACKED, PDF, kind_of
+from debvote_tools.inbox.entering import NOTHING_ADDED, bad_ballots, doubtful
 from debvote_tools.poll.sealed import REQUIRED
 
 # what names standard input on the command line, and how messages name it
@@ -44,12 +43,6 @@ class GivenFile(NamedTuple):
         return safe(pathlib.Path(self.name).name or self.name)
 
 
-class GivenFolder(NamedTuple):
-    """A folder, of which nothing was read yet. All that is in a folder are letters."""
-
-    path: pathlib.Path
-
-
 def safe(text: str) -> str:
     """A text from the command line, in which bytes that are no UTF-8 are written as \\xff."""
     return os.fsencode(text).decode("utf-8", "backslashreplace")
@@ -60,37 +53,34 @@ def has_letters(file: GivenFile) -> bool:
     return are_letters(file.data) or kind_not_read(file.data) in of_outlook
 
 
-def are_all_letters(given: Mapping[str, GivenFile | GivenFolder]) -> bool:
-    """Whether all that is given are letters. Stops if some are letters and some are not."""
-    with_letters = [
-        path for path, one in given.items() if isinstance(one, GivenFolder) or has_letters(one)
-    ]
-    if 0 < len(with_letters) < len(given):
-        names = ", ".join(STANDARD_INPUT if path == HYPHEN else path for path in with_letters)
-        words = "it has letters, and the other files have none"
-        cure = "add letters and other files with separate commands"
-        raise bad_words(names, words, cure)
-    return bool(with_letters)
+# letters, by their paths; of a folder nothing was read yet, and all that is in it are letters
+GivenLetters = dict[str, GivenFile | pathlib.Path]
 
 
-def read_files(
-    election: Election, paths: Sequence[str], *, is_table: bool
-) -> dict[str, GivenFile | GivenFolder]:
-    """What these paths name. Stops at a file that has neither ballots nor letters."""
-    given: dict[str, GivenFile | GivenFolder] = {}
-    faults = []
+def read_files(election: Election, paths: Sequence[str]) -> tuple[GivenLetters, list[GivenFile]]:
+    """The letters that these paths name, or the files of lines. Stops at a file that has neither ballots
+    nor letters, and at letters beside files of lines.
+    """
+    letters: GivenLetters = {}
+    files = dict[str, GivenFile]()
+    faults = list[Fault]()
     for path in paths or [HYPHEN]:
         if path != HYPHEN and os.path.isdir(path):
-            given[path] = GivenFolder(pathlib.Path(path))
+            letters[path] = pathlib.Path(path)
             continue
-        try:
-            given[path] = file = read_file(election, path)
-            if not has_letters(file):
-                demand_lines(file, is_table=is_table)
-        except Fault as fault:
-            faults.append(fault)
+        with kept_in(faults):
+            if has_letters(file := read_file(election, path)):
+                letters[path] = file
+            else:
+                demand_lines(file)
+                files[path] = file
     stop_at(faults)
-    return given
+    if letters and files:
+        names = ", ".join(STANDARD_INPUT if path == HYPHEN else path for path in letters)
+        words = "it has letters, and the other files have none"
+        cure = "add letters and other files with separate commands"
+        raise bad_words(names, words, cure, NOTHING_ADDED)
+    return letters, [*files.values()]
 
 
 def read_file(election: Election, path: str) -> GivenFile:
@@ -118,7 +108,7 @@ def bytes_in(file: BinaryIO) -> bytes:
     return data + file.read() if are_letters(data) else data
 
 
-def demand_lines(file: GivenFile, *, is_table: bool) -> None:
+def demand_lines(file: GivenFile) -> None:
     """Stops at a file that can't have ballots: it is empty, too long, of another kind, or a poll."""
     if not file.data:
         words, cure = "it is empty", "write one ballot on each line"
@@ -127,11 +117,10 @@ def demand_lines(file: GivenFile, *, is_table: bool) -> None:
         words = f"it is longer than {BALLOTS_LIMIT} bytes, the most that debvote takes"
         raise bad_ballots(file.name, words, "add it in parts")
     what = kind_of(file.data)
-    if not is_table and file.data.startswith((codecs.BOM_UTF16_LE, codecs.BOM_UTF16_BE)):
+    if file.data.startswith((codecs.BOM_UTF16_LE, codecs.BOM_UTF16_BE)):
         what = "a text in UTF-16"
     if what is not None:
-        cure = "save it as CSV" if is_table else CURES.get(what, AS_TEXT)
-        raise bad_ballots(file.name, f"it is {what}", cure)
+        raise bad_ballots(file.name, f"it is {what}", CURES.get(what, AS_TEXT))
     if len({key[1] for key in POLL_KEY.finditer(file.data)}) > 1:
         words = "it looks like a poll, not like ballots"
         raise doubtful(file.name, words, "name the file of the ballots")

@@ -6,6 +6,7 @@ letter. Here one expression splits the tags, and reads each character once.
 """
 
 import collections
+import functools
 import html
 import re
 import unicodedata
@@ -31,14 +32,18 @@ PLAIN = frozenset(
     "html head meta title body div p br pre span font b strong i em u center blockquote".split()
 )
 PLAIN_ATTRIBUTES = frozenset("class id lang dir style wrap".split())
-META_ATTRIBUTES = frozenset("charset content http-equiv name".split())
+# those of some elements: Thunderbird says of a quotation which letter it is of
+MORE_ATTRIBUTES = {
+    "meta": frozenset("charset content http-equiv name".split()),
+    "blockquote": PLAIN_ATTRIBUTES | {"type", "cite"},
+}
 # from right to left numbers are in another order
 DIRECTIONS = ("ltr", "auto")
 RIGHT_TO_LEFT = "R AL RLE RLO RLI LRE LRO LRI FSI PDF PDI".split()
 LENGTH = r"(?:0|auto|(?:\d{1,2}(?:\.\d+)?|\.\d+)(?:px|pt|em|ex|rem|cm|mm|%))"
 PLAIN_STYLES = {
     "font-family": r"[\w\s,'\"-]+",
-    "font-size": r"(?:[89]|[12]\d|30)(?:\.\d+)?(?:px|pt)",
+    "font-size": r"(?:(?:[89]|[12]\d)(?:\.\d+)?|30(?:\.0+)?)(?:px|pt)",
     "line-height": r"normal|1(?:\.\d+)?|2(?:\.0+)?|1\d\d(?:\.\d+)?%|[1-4]\d(?:\.\d+)?(?:px|pt)",
     "text-align": r"left|right|center|justify|start|end",
 } | {
@@ -68,7 +73,7 @@ BELOW_STYLES = (
 )
 
 # the text in these is no text of the letter
-HOLDING = frozenset(("title", "style", "script"))
+HOLDING = ("title", "style", "script")
 # a line begins with each of these, and after it
 BLOCKS = frozenset(
     "address article aside blockquote center dd div dl dt fieldset figure footer form h1 h2 h3 h4 h5 h6 header li main nav ol p pre "
@@ -76,7 +81,7 @@ BLOCKS = frozenset(
 )
 CELLS = ("td", "th")
 # text in a table but in none of its cells is shown above the table
-TABLE = ("table", "thead", "tbody", "tfoot", "tr")
+TABLE = "table thead tbody tfoot tr".split()
 # the number of a character: leading zeros, up to eight digits, and further digits, which make it
 # too great
 NUMBER = re.compile("&#0*([0-9]{1,8})[0-9]*+")
@@ -116,8 +121,6 @@ class HtmlText:
         self.lines: list[str] = []
         self.pieces: list[str] = []
         self.first_other, self.plain_lines = "", 0
-        # whether each tag that came is plain: most letters have few, again and again
-        self.plain_tags: dict[tuple[str, str], bool] = {}
         # the first tag that may be nowhere in a letter
         self.odd = ""
         # the text of the line that has not ended yet
@@ -138,10 +141,7 @@ class HtmlText:
             self.odd = self.odd or name
 
     def begin(self, tag: str, given: str) -> None:
-        if (tag, given) not in self.plain_tags:
-            names = META_ATTRIBUTES if tag == "meta" else PLAIN_ATTRIBUTES
-            self.plain_tags[tag, given] = tag in PLAIN and are_plain(given, names, PLAIN_STYLES)
-        if not self.plain_tags[tag, given]:
+        if not is_plain_tag(tag, given):
             may_be_below = tag in BELOW and are_plain(given, BELOW_ATTRIBUTES, BELOW_STYLES)
             self.found_other(f"{tag}{given}", may_be_below=may_be_below)
         if tag == "title" and (self.lines or self.parts):
@@ -237,6 +237,13 @@ class HtmlText:
 def unescaped(text: str) -> str:
     """A text with its character references replaced. Python reads no number of 5,000 digits."""
     return html.unescape(NUMBER.sub(r"&#\1", text)) if "&" in text else text
+
+
+# most letters have few tags, again and again
+@functools.lru_cache(100)
+def is_plain_tag(tag: str, given: str) -> bool:
+    names = MORE_ATTRIBUTES.get(tag, PLAIN_ATTRIBUTES)
+    return tag in PLAIN and are_plain(given, names, PLAIN_STYLES)
 
 
 def are_plain(given: str, names: Collection[str], styles: Mapping[str, str]) -> bool:

@@ -4,23 +4,22 @@ and the book as they are now. Letters are judged anew whenever they are looked a
 
 import bisect
 import collections
-import datetime
-import itertools
 import operator
-from collections.abc import Callable, Collection, Mapping, Sequence
-from typing import NamedTuple
+from collections.abc import Callable, Collection, Iterable, Mapping, Sequence
 
 from debvote_tools.book import queries
-from debvote_tools.book.election import KEYRING, History
-from debvote_tools.book.queries import KeptLetter
+from debvote_tools.book.election import BOX_KEY, KEYRING, History
+from debvote_tools.book.queries import Ballot, KeptLetter
+from debvote_tools.grouping import grouped
 from debvote_tools.inbox.letter import Body
-from debvote_tools.inbox.letter_lines import ReadLetter, answers_in, from_json, read_letters
+from debvote_tools.inbox.letter_lines import ReadLetter, from_json, read_letters
 from debvote_tools.inbox.mailbox import RawLetter
 from debvote_tools.inbox.reasons import Reason, ReasonWithValues
-from debvote_tools.inbox.rules import Circumstances, LetterCase, Outcome
+from debvote_tools.inbox.rules import WENT_IN, Circumstances, LetterCase, Outcome
 from debvote_tools.inbox.vote import Vote
-from debvote_tools.poll.call import SUBJECT
+from debvote_tools.poll.call import SUBJECT, call_letter, current_call
 from debvote_tools.text import times
+from debvote_tools.text.ballots import answers_of, differ, without
 
 # what an act decided holds, whatever the rules say
 DECIDED = {
@@ -31,19 +30,11 @@ DECIDED = {
     queries.PUT_BACK: (Outcome.WAITS, Reason.PUT_BACK()),
 }
 
-
-class Ballot(NamedTuple):
-    """A ballot that was entered, late or not, and is not struck: its time, in whole seconds, and its
-    line.
-    """
-
-    time: datetime.datetime
-    line: str
-
-
-# the ballots that were entered, of each elector in the order of their times
+# what becomes of a letter, and why it waits or was set aside
+Judgement = tuple[Outcome, ReasonWithValues | None]
+# the ballots of each elector, in the order `queries.by_time`
 Box = dict[str, list[Ballot]]
-TIME = operator.attrgetter("time")
+TIME, IS_BY_LETTER = operator.attrgetter("time"), operator.attrgetter("is_by_letter")
 
 
 def judged(
@@ -63,7 +54,7 @@ def judged(
     for letter in letters_now:
         if (kept_letter := by_key.get(letter.read.key)) is not None:
             letter.number, letter.source = kept_letter.number, kept_letter.source
-        if vote.poll.secret and not vote.has_codes:
+        if vote.questions.is_secret and not vote.has_codes:
             letter.code_lines = letter.read.code_lines
     return letters_now
 
@@ -75,41 +66,43 @@ def read_kept(vote: Vote, kept: Sequence[KeptLetter]) -> list[ReadLetter]:
     those that were decided without a good signature, since only then a copy is known as one.
     """
     found = [from_json(letter.read_json) for letter in kept]
-    # what debvote has said of their lines it is not asked again
-    vote.answered |= answers_in(found, vote.roll)
-    sealed = queries.last_act_that_sealed(vote.book, KEYRING)
-
-    def check_again(of_waiting: bool) -> None:
-        """Reads letters again, for their signatures: those that may wait, or the others if they have
-        no good one.
-        """
-        raws = {}
-        for index, (one, letter) in enumerate(zip(kept, found)):
-            is_old = one.act < sealed and not letter.is_never_signed
-            is_meant = one.may_wait if of_waiting else not one.may_wait and letter.signature is None
-            if is_meant and (is_old or letter.is_slow):
-                data = queries.source_of(vote.book, one.source)
-                raws[index] = RawLetter(letter.where, data, letter.is_parted_off)
-        for index, read in zip(raws, read_letters(vote, [*raws.values()])):
-            found[index] = read
-
-    check_again(True)
-    if any(letter.signature is not None and one.may_wait for letter, one in zip(found, kept)):
-        check_again(False)
+    waiting = [index for index, one in enumerate(kept) if one.is_unsettled]
+    check_again(vote, kept, found, waiting)
+    if any(found[index].signature for index in waiting):
+        unsigned = {index for index, letter in enumerate(found) if letter.signature is None}
+        check_again(vote, kept, found, sorted(unsigned.difference(waiting)))
     return found
 
 
-def ballots_in(vote: Vote, names: Collection[str]) -> Box:
-    """The ballots of some electors that were entered and are not struck, also late ones."""
+def check_again(
+    vote: Vote, kept: Sequence[KeptLetter], found: list[ReadLetter], which: Sequence[int]
+) -> None:
+    """Reads those letters again of which a signature may be good now."""
+    sealed, raws = queries.last_act_that_sealed(vote.book, KEYRING), dict[int, RawLetter]()
+    for index in which:
+        one, letter = kept[index], found[index]
+        if letter.is_slow or (one.act < sealed and not letter.is_never_signed):
+            data = queries.source_of(vote.book, one.source)
+            raws[index] = RawLetter(letter.where, data, letter.is_parted_off)
+    for index, read in zip(raws, read_letters(vote, [*raws.values()])):
+        found[index] = read
+
+
+def ballots_in(vote: Vote, names: Collection[str], condition: str = queries.A_BALLOT) -> Box:
+    """The ballots of some electors that were entered and are not struck, also late ones, unless a
+    condition says otherwise.
+    """
     numbers = queries.elector_numbers(vote.book, names)
     by_number = {number: name for name, number in numbers.items()}
-    envelopes = queries.envelopes_of(vote.book, by_number)
-    answers = vote.answers([envelope.line for envelope in envelopes])
     box: Box = collections.defaultdict(list)
-    for envelope in envelopes:
-        if answers[envelope.line] is None and envelope.elector is not None:
-            ballot = Ballot(envelope.time, envelope.line.decode("ascii"))
-            box[by_number[envelope.elector]].append(ballot)
+    clocks = queries.letter_clocks(vote.book)
+    there = queries.envelopes_of(vote.book, by_number, condition)
+    for envelope in sorted(there, key=queries.by_time):
+        # None of what came by no letter, or at a time that is not known
+        behind, line = clocks.get(envelope.letter or 0), envelope.line.decode("ascii")
+        is_by_letter = behind is not None and not envelope.is_late
+        ballot = Ballot(envelope.time, line, is_by_letter, behind or 0, envelope.number)
+        box[by_number[envelope.elector or 0]].append(ballot)
     return box
 
 
@@ -122,8 +115,14 @@ def circumstances_now(
     public, electors = election.sealed().public, queries.electors(election.book)
     ids = queries.our_message_ids(election.book)
     states = ((key, kept.state) for key, kept in by_key.items())
+    no_answers = {elector.who for elector in electors}
+    if vote.names.words or vote.names.labels:
+        letter = call_letter(current_call(election, history))
+        no_answers.update(map(str.strip, letter.splitlines()))
     return Circumstances(
         mark=public.mark,
+        marks={election.sealed(act).public.mark for act in history.named("call")},
+        own_marks=queries.own_marks(election.book),
         subject=election.language.say(SUBJECT, title=public.name),
         electors={elector.name: elector for elector in electors},
         is_marked=bool(history.announced("marked")),
@@ -131,9 +130,14 @@ def circumstances_now(
         called=call.time,
         end=history.until,
         first_close=history.closes[0].time if history.closes else None,
+        is_closed=history.is_closed,
         now=times.now(),
         our_letters={elector.name: ids.get(elector.number, []) for elector in electors},
         decisions={key: state for key, state in states if state != queries.NEVER_DECIDED},
+        box_key=queries.sealed(election.book, BOX_KEY) or b"",
+        words=vote.names.words,
+        no_answers=no_answers,
+        asking=queries.ids_that_ask(election.book),
     )
 
 
@@ -143,98 +147,161 @@ def judge_all(
     circumstances: Circumstances,
     ballots_of: Callable[[Collection[str]], Mapping[str, Sequence[Ballot]]],
 ) -> list[LetterCase]:
-    """Judges letters, and returns them by their times; those without a time come last."""
+    """Judges letters, and returns them by their times; those without a time come last. What an act
+    decided holds; a letter that breaks a rule waits. Of the letters of one identity, mostly one alone,
+    the first that breaks none is the original, whose time is its own; the others may be its copies.
+    """
     cases = [LetterCase(letter, circumstances) for letter in letters]
     cases.sort(key=lambda case: (case.time is None, case.time or circumstances.now))
     electors = {elector for case in cases for elector in case.electors}
     box: Box = collections.defaultdict(list)
     for elector, ballots in ballots_of(electors).items():
-        box[elector] = sorted(ballots, key=TIME)
-    set_outcomes(cases, box)
+        box[elector] = sorted(ballots, key=queries.by_time)
     for case in cases:
-        last = (box[elector][-1] for elector in case.electors if box[elector])
-        case.has_voted_since = any(case.time is None or one.time > case.time for one in last)
+        case.outcome, case.reason = (
+            (Outcome.WAITS, case.first_broken_rule)
+            if case.decision is None
+            else DECIDED[case.decision]
+        )
+    groups = grouped((case.read.identity, case) for case in cases).values()
+    originals = set(filter(None, map(original_of, groups)))
+    judge_originals(cases, originals, box)
+    for group in groups:
+        judge_copies(group, originals, box)
+    # of each elector the last ballot that answers a question
+    last = {
+        elector: {label: one for one in its for label in one.labels} for elector, its in box.items()
+    }
+    for case in cases:
+        if case.decision is None and case.outcome is Outcome.WAITS and case.other_vote:
+            case.outcome, case.reason = Outcome.OTHER_VOTE, Reason.OTHER_MARK(mark=case.other_vote)
+        case.has_voted_since = any(has_voted_since(case, one, last) for one in case.electors)
     return cases
 
 
-def set_outcomes(cases: Sequence[LetterCase], box: Box) -> None:
-    """Sets what becomes of letters, by their times. What an act decided holds; a letter that breaks
-    a rule waits. Of the letters of one identity, mostly one alone, the first that breaks none goes
-    in, and into the box, unless its elector has a later ballot. `set_copies` does the others.
+def has_voted_since(
+    case: LetterCase, elector: str, last: Mapping[str, Mapping[str, Ballot]]
+) -> bool:
+    """Whether an elector of a letter has a later ballot; if answers of theirs stand in the letter, one
+    that answers one of the same questions.
     """
-    by_identity: dict[str, list[LetterCase]] = collections.defaultdict(list)
-    for case in cases:
-        by_identity[case.read.identity].append(case)
-        if case.decision is None:
-            case.reason = case.first_broken_rule
-        else:
-            case.outcome, case.reason = DECIDED[case.decision]
-    firsts: set[LetterCase] = set()
-    at_its_time: dict[tuple[str, datetime.datetime | None], set[str]] = collections.defaultdict(set)
-    undecided = [
-        group for group in by_identity.values() if any(case.decision is None for case in group)
-    ]
-    for group in undecided:
-        # an act decided of one that hides the others
-        is_settled = any(case.decision is not None and case.hides for case in group)
-        may_go_in = (one for one in group if one.decision is None and one.first_broken_rule is None)
-        for case in () if is_settled else itertools.islice(may_go_in, 1):
-            firsts.add(case)
-            at_its_time[case.elector, case.time].add(case.ballots[0].ballot)
+    its = last.get(elector, {})
+    lines = (line.ballot for line in (*case.ballots, *case.offered) if line.elector == elector)
+    labels = {label for ballot in lines for label in answers_of(ballot)} or its.keys()
+    return any(queries.later([its[label]], case.time) for label in labels & its.keys())
+
+
+def original_of(group: Sequence[LetterCase]) -> LetterCase | None:
+    """Of the letters of one identity the first that may go in, unless an act decided of one that hides
+    the others.
+    """
+    may_go_in = (one for one in group if one.decision is None and one.first_broken_rule is None)
+    original = next(may_go_in, None)
+    is_settled = original and any(one.decision is not None and one.hides for one in group)
+    return None if is_settled else original
+
+
+def judge_originals(
+    cases: Sequence[LetterCase], originals: Collection[LetterCase], box: Box
+) -> None:
+    """Judges the letters that break no rule, by their times, and puts into the box the ballots of those
+    that do not wait.
+    """
+    in_order = [case for case in cases if case in originals]
+    ballots = (((case.elector, case.time), case.ballots[0].ballot) for case in in_order)
+    # each once: of a thousand letters of one time each is compared with all
+    at_its_time = grouped(dict.fromkeys(ballots))
     # copies of these are not known as such, while gpgv does not answer
     unchecked = [case for case in cases if case.decision is not None and case.read.is_slow]
     unchecked_ballots = {line.ballot for case in unchecked for line in case.ballots}
-    for case in filter(firsts.__contains__, cases):
-        case.reason = why_not_latest(case, box, at_its_time[case.elector, case.time])
-        if case.ballots[0].ballot in unchecked_ballots:
-            case.reason = Reason.PERHAPS_COPY()
-        if case.reason is None and case.time is not None:
-            case.outcome = Outcome.GOES_IN
-            box[case.elector].append(Ballot(case.time, case.ballots[0].ballot))
-    for group in undecided:
-        set_copies(group, firsts, box)
+    for case in in_order:
+        assert case.time is not None
+        own = Ballot(case.time, case.ballots[0].ballot, True, case.read.behind)
+        at_once = at_its_time[case.elector, case.time]
+        case.outcome, case.reason = outcome_of_original(
+            case, own, box[case.elector], at_once, unchecked_ballots
+        )
+        if case.outcome is not Outcome.WAITS:
+            bisect.insort(box[case.elector], own, key=queries.by_time)
 
 
-def why_not_latest(case: LetterCase, box: Box, at_once: set[str]) -> ReasonWithValues | None:
-    """Its time is later than that of each other ballot of its elector, but for the same one."""
-    assert case.time is not None
-    elector, time, ballots = case.elector, case.time, box[case.elector]
-    if ballots and ballots[-1].time > time:
-        return Reason.LATER_BALLOT(elector=elector, time=ballots[-1].time)
-    same_time = ballots[bisect.bisect_left(ballots, time, key=TIME) :]
-    others = {one.line for one in same_time} | at_once
-    is_alone = others == {case.ballots[0].ballot}
-    return None if is_alone else Reason.SAME_TIME(elector=elector, time=time)
+def outcome_of_original(
+    case: LetterCase,
+    own: Ballot,
+    its_box: Sequence[Ballot],
+    at_once: Sequence[str],
+    unchecked_ballots: Collection[str],
+) -> Judgement:
+    """What becomes of a letter that breaks no rule, beside the ballots of its elector: they have to be
+    older, but for the same one; and the vote may not be closed. `at_once` are the ballots of letters
+    of its time.
+    """
+    elector, time = case.elector, own.time
+    # those that answer one of its questions
+    there = [one for one in its_box if not own.labels.isdisjoint(one.labels)]
+    if turned := next(filter(own.may_turn, there), None):
+        return Outcome.WAITS, Reason.CLOCKS(elector=elector, time=turned.time)
+    if later := queries.later(there, time):
+        case.answered_since = answered_by(own.line, later)
+        # this one can count in no case; the time of a line is only when somebody entered it
+        is_older = not without(own.line, answered_by(own.line, filter(IS_BY_LETTER, later)))
+        reason = Reason.LATER_BALLOT(elector=elector, time=later[-1].time)
+        return Outcome.OLDER if is_older else Outcome.WAITS, reason
+    since = (one.line for one in there[bisect.bisect_left(there, time, key=TIME) :])
+    if any(differ(own.line, one) for one in (*at_once, *since)):
+        return Outcome.WAITS, Reason.SAME_TIME(elector=elector, time=time)
+    if own.line in unchecked_ballots:
+        return Outcome.WAITS, Reason.PERHAPS_COPY()
+    if case.circumstances.is_closed:
+        # it would become late, and the plainer a ballot is, the less would that be noticed
+        return Outcome.WAITS, Reason.CLOSED()
+    return Outcome.GOES_IN, None
 
 
-def set_copies(group: Sequence[LetterCase], firsts: Collection[LetterCase], box: Box) -> None:
-    """Sets which letters of one identity are ignored as copies: of one that went in, though it was
+def answered_by(ballot: str, later: Iterable[Ballot]) -> set[str]:
+    """The labels of the answers in a ballot to which there are later ones, of its elector."""
+    return answers_of(ballot).keys() & {label for one in later for label in one.labels}
+
+
+def judge_copies(group: Sequence[LetterCase], originals: Collection[LetterCase], box: Box) -> None:
+    """Which letters of one identity are ignored as copies: of one that went in, though it was
     taken back or struck since, or that breaks no rule. One that breaks a rule, and never went in,
     hides only those with the same reason and body.
     """
+    others = {case for case in group if case.decision is None and case not in originals}
+    if not others:
+        return
     hiding = [case for case in group if case.hides]
-    is_hidden = any(case.decision is not None or case.outcome is Outcome.GOES_IN for case in hiding)
-    hiding.sort(key=lambda case: (case.read.arrived is None, case.read.arrived))
-    first = next(iter(hiding), None)
-    waiting: dict[tuple[ReasonWithValues | None, Body], LetterCase] = {}
+    # the one that went in, else the one that an act decided of, else the one that arrived first
+    hiding.sort(key=lambda case: (case.decision not in WENT_IN, case.decision is None))
+    original = next(iter(hiding), None)
+    is_done = original is not None and (
+        original.decision is not None or original.outcome is not Outcome.WAITS
+    )
+    waiting: dict[tuple[ReasonWithValues | None, Body, bool], LetterCase] = {}
     for case in sorted(group, key=lambda case: case.decision is None):
-        before = waiting.setdefault((case.first_broken_rule, case.read.body), case)
-        if case.decision is not None or case in firsts:
-            continue
-        if first is not None and (is_hidden or case.first_broken_rule is None):
-            set_copy(case, first, box)
-        elif before is not case:
-            set_copy(case, before, box)
+        same = case.first_broken_rule, case.read.body, case.arrived_in_time
+        before = waiting.setdefault(same, case)
+        if original is not None and (is_done or case.first_broken_rule is None):
+            before = original
+        if case in others and before is not case:
+            case.outcome, case.reason = outcome_of_copy(case, before, box)
 
 
-def set_copy(case: LetterCase, first: LetterCase, box: Box) -> None:
-    """Ignores a copy of a letter that arrived before, unless another ballot came between."""
-    arrived, before = case.read.arrived, first.read.arrived
-    case.outcome, case.reason = Outcome.COPY, None
-    if first.time is not None and before is not None and arrived is not None and arrived > before:
-        for line in (*case.ballots, *case.offered):
-            ballots = box[line.elector]
-            after = bisect.bisect_right(ballots, first.time, key=TIME)
-            if after < bisect.bisect_left(ballots, arrived, key=TIME):
-                case.outcome, case.reason = Outcome.WAITS, Reason.CAME_BEFORE(elector=line.elector)
-                return
+def outcome_of_copy(case: LetterCase, original: LetterCase, box: Box) -> Judgement:
+    """A copy of a letter is ignored, unless another ballot lies between: which of the two copies was
+    read first depends on the order of the mailboxes, and may not decide which ballot is the last.
+    """
+    if original.time is None or case.time is None:
+        return Outcome.COPY, None
+    begin, end = sorted((original.time, case.time))
+    for line in (*case.ballots, *case.offered):
+        there = box[line.elector]
+        places = (bisect.bisect_left(there, time, key=TIME) for time in (begin, end))
+        others = (one.time for one in there[slice(*places)] if differ(one.line, line.ballot))
+        if between := next(others, None):
+            reason = Reason.CAME_BEFORE(
+                elector=line.elector, time=case.time, first=original.time, between=between
+            )
+            return Outcome.WAITS, reason
+    return Outcome.COPY, None

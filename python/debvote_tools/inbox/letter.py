@@ -9,6 +9,7 @@ import email.utils
 import hashlib
 import itertools
 import re
+import urllib.parse
 from collections.abc import Sequence
 
 from debvote_tools.inbox.html import read_html
@@ -19,14 +20,13 @@ from debvote_tools.poll.sealed import OWN_LENGTH, OWN_SIGNS, marks_in
 
 # in bytes: a text, and all texts of a letter
 MAX_TEXT, MAX_TEXTS = 262_144, 1_048_576
-# in characters: what is read of a field of the head, and a line that may be a ballot
-MAX_FIELD, MAX_LINE = 2_000, 500
-# lines and HTML tags in all texts, and how many lines are shown of a letter with more
-MAX_LINES, SHOWN_LINES = 10_000, 200
+# in characters: what is read of a field of the head
+MAX_FIELD = 2_000
+# lines and HTML tags in all texts, and how many lines and bytes are shown of a letter with more
+MAX_LINES, SHOWN_LINES, SHOWN_BYTES = 10_000, 200, 100_000
 LINE_OR_MARK = b"\n\r\v\f\x1c\x1d\x1e<"
-# a ballot has a digit or a hyphen
-RANK = re.compile("[\\d\u2010-\u2014\u2212-]")
 
+# as IANA names them, and as programs do
 CHARSETS = re.compile(
     r"utf-?8|us-ascii|ascii|iso-?8859-\d{1,2}|(?:windows-|cp)125\d", re.IGNORECASE
 )
@@ -45,43 +45,50 @@ AS_WINDOWS = {
 CONTROL = re.compile("[\0-\x08\v\f\x0e-\x1f\x7f\x85\u2028\u2029]|\r(?!\n)")
 # mail servers write this field into the head of each letter
 RECEIVED = re.compile(r"received[ \t]*:", re.IGNORECASE)
-# the line that ends a letter
+# the line above a signature, which ends a letter (RFC 3676, 4.3)
 END = "-- "
 
-# the sender: an address in ASCII, perhaps with a name before it or a comment after it, in any bytes
+# the sender: an address in ASCII, perhaps with a name before it, or in a comment after it as old
+# programs wrote it, in any bytes (RFC 5322, 3.2.2 to 3.2.4 and 3.4)
 ATOM = r"[\w!#$%&'*+/=?^`{|}~-]+"
 ADDRESS = rf"{ATOM}(?:\.{ATOM})*@[\w-]+(?:\.[\w-]+)*"
 NAME = r"""(?:"(?:[ !#-\[\]-~\udc80-\udcff]|\\[ -~])*"|[\w!#$%&'*+/=?^`{|}~. \udc80-\udcff-])*"""
 COMMENT = r" *\([ !-'*-\[\]-~\udc80-\udcff]*\)"
 SENDER = re.compile(rf"{NAME}<({ADDRESS})>|({ADDRESS})(?:{COMMENT})?", re.ASCII)
+# in angle brackets (RFC 5322, 3.6.4), whatever its program writes there
 MESSAGE_ID = re.compile(r"<[!-;=?-~]{1,250}>")
-# a time as mail servers write it, and its place in a field Received
+# a time as mail servers write it (RFC 5322, 3.3 and 4.3), and its place in a field Received, at the
+# end (3.6.7), perhaps with the name of its zone in brackets
 TIME = r"(?:[A-Z][a-z]{2}, *)?\d{1,2} +[A-Z][a-z]{2} +20\d\d +\d{1,2}:\d\d(?::\d\d)? +(?:[+-]\d{4}|UTC?|GMT|[ECMP][SD]T)"
 CLOCK = r"(?<![:\d])\d{1,2}:\d\d:\d\d(?![:\d])"
 ARRIVED = re.compile(rf"; *({TIME})(?: *\([^();]*\))? *\Z")
-# fields by which a program says that it answers by itself, or that a letter came back
+# fields by which a program says that it answers by itself (RFC 3834, and programs from before it),
+# or that a letter came back: in such parts (RFC 6522), or with no address to answer (RFC 5321, 4.5.5)
 AUTOMATIC = re.compile(
     r"auto-submitted:(?!\s*(?:no)?\s*(?:;|\Z))|precedence:\s*auto[_-]reply|content-type:\s*multipart/report|return-path:\s*<\s*>"
-    r"|x-auto(?:reply|respond|responder):|from:.*(?:mailer-daemon|postmaster)@",
+    r"|x-auto(?:reply|respond|responder):",
     re.IGNORECASE,
 )
 
-# a letter of ours that did not reach its elector comes back in such parts, or from such a sender;
-# and an own mark in it, in a subject and in a personal link
+# a letter of ours that did not reach its elector comes back in such parts (RFC 3464, 2.3.3), or from
+# such a sender (RFC 5321, 4.5.1); and the own marks in it, in a subject and in a personal link, and
+# what begins a Message-ID of ours
 REPORT, FAILED = "message/delivery-status", re.compile(rb"(?im)^action:[ \t]*failed")
 SERVERS = ("mailer-daemon", "postmaster")
 OWN = re.compile(
-    rf"[0-9a-f]{{16}}-([{OWN_SIGNS}]{{{OWN_LENGTH}}})\]|/([{OWN_SIGNS}]{{{OWN_LENGTH}}})"
+    rf"[0-9a-f]{{16}}-([{OWN_SIGNS}]{{{OWN_LENGTH}}})\]|/([{OWN_SIGNS}]{{{OWN_LENGTH}}})|\b([0-9a-f]{{32}})@"
 )
-# in bytes, how much of it is looked through; its parts; and the most own marks that are kept
+# the name of a file in the head of a part, perhaps with its character set before it
+FILE_NAME = re.compile(r"name\*?\d*\*?=(?:[\w-]+'[\w-]*')?(\"[^\"]*\"|[^\s;]+)", re.IGNORECASE)
+# in bytes, how much of it is looked through; its parts; and the most of these that are kept
 MAX_RETURNED, RETURNED_PARTS, MAX_OWN = 131_072, 20, 20
 
 
 @dataclasses.dataclass(frozen=True)
 class Body:
     """The text of a letter: its lines; the indices of those that are joined to others by
-    format=flowed; the other lines in all its parts that may be ballots; and why it can't be read
-    with certainty. Of HTML the first `plain_lines` have plain tags alone, and `first_other` is the
+    format=flowed; the other lines in all its parts, of which those are kept that may be ballots or
+    answers; and why it can't be read with certainty. Of HTML the first `plain_lines` have plain tags alone, and `first_other` is the
     first other tag.
     """
 
@@ -107,7 +114,7 @@ class ParsedLetter:
     """What the bytes of a letter say and, if letters have to be signed, what gpgv says of it."""
 
     where: str
-    # SHA-256 of its bytes
+    # SHA-256 of its bytes, and of the link of a record: see `RawLetter`
     digest: str
     # the same for all copies: a digest of its Message-ID, sender and text; or of its good signature
     # and what that signs, since anybody can change the rest
@@ -124,13 +131,20 @@ class ParsedLetter:
     is_new: bool
     # by the mail server that received it last
     arrived: datetime.datetime | None
+    # whether its head says that a program wrote it
     is_automatic: bool
-    # the own marks in it, if a mail server sends it back
+    # the own marks and Message-IDs in it, if a mail server sends it back
     returned: tuple[str, ...]
     body: Body
     # if letters have to be signed: the good signature, or why there is none
     signature: Signature | None = None
     why_unsigned: ReasonWithValues | None = None
+    # the names of the files that came with it
+    attachments: tuple[str, ...] = ()
+    # of a record of the box, as `RawLetter` has them
+    link: str = ""
+    asked_before: datetime.datetime | None = None
+    behind: int = 0
 
     @property
     def key(self) -> str:
@@ -162,8 +176,7 @@ def parse(raw: RawLetter) -> ParsedLetter:
     """
     letter = Part(raw.data)
     senders, subjects = letter.values("from"), letter.values("subject")
-    longest = max(map(len, subjects), default=0)
-    letter.note_too_long(longest, "characters in its subject", MAX_FIELD)
+    letter.note_too_long(max(map(len, subjects), default=0), "characters in its subject", MAX_FIELD)
     sender = sender_of(senders)
     if sender and not senders[0].isascii():
         letter.note_trouble(Reason.RAW_NAME())
@@ -182,25 +195,36 @@ def parse(raw: RawLetter) -> ParsedLetter:
         sender=sender,
         shown_sender=", ".join(map(decoded, senders)),
         subject="; ".join(map(decoded, subjects)),
-        marks=tuple(dict.fromkeys(itertools.chain.from_iterable(map(marks_in, texts)))),
+        marks=tuple(dict.fromkeys(mark for text in texts for mark in marks_in(text))),
         is_new=not (answered or letter.values("references")),
         arrived=arrival_of(letter.value("received")),
         is_automatic=is_automatic,
-        returned=returned_in(raw.data[:MAX_RETURNED], sender) if is_automatic else (),
+        returned=returned_in(raw.data[:MAX_RETURNED], sender)
+        if is_automatic or is_server(sender)
+        else (),
         body=body,
+        attachments=attachments_of(letter),
+        link=raw.link,
+        asked_before=raw.asked_before,
+        behind=raw.behind,
     )
 
 
+def is_server(address: str) -> bool:
+    """Whether an address is that of a mail server, unless somebody has it: clubs write so, too."""
+    return address.partition("@")[0] in SERVERS
+
+
 def returned_in(data: bytes, sender: str) -> tuple[str, ...]:
-    """The own marks in a letter with which a mail server sends a letter of ours back: it has a
-    report that the delivery failed, or no report, and is from the server itself. An answer of
-    somebody who is away, and a delivery that is only late, are none.
+    """The own marks, and what begins Message-IDs, in a letter with which a mail server sends a
+    letter of ours back: it has a report that the delivery failed, or no report, and is from the
+    server itself. An answer of somebody who is away, and a delivery that is only late, are none.
     """
-    parts = [part for part, _ in itertools.islice(Part(data).walk(), RETURNED_PARTS)]
+    parts = list(itertools.islice(Part(data).walk(), RETURNED_PARTS))
     if reports := [part.body_bytes for part in parts if part.kind == REPORT]:
         if not any(map(FAILED.search, reports)):
             return ()
-    elif sender.partition("@")[0] not in SERVERS:
+    elif not is_server(sender):
         return ()
     texts = [data.decode("latin-1")]
     for part in parts:
@@ -280,49 +304,61 @@ def body_of(letter: Part) -> Body:
     parts = list(itertools.islice(letter.walk(), MAX_PARTS))
     if len(parts) == MAX_PARTS:
         letter.note_trouble(Reason.TOO_MANY_PARTS())
-    texts = [(part, is_shown) for part, is_shown in parts if part.kind.startswith("text/")]
-    lengths = [len(part.body_bytes) for part, _ in texts] + [len(part.around) for part, _ in parts]
+    texts = [part for part in parts if part.kind.startswith("text/")]
+    lengths = [len(part.body_bytes) for part in texts] + [len(part.around) for part in parts]
     is_long = letter.note_too_long(max(lengths, default=0), "bytes in a text", MAX_TEXT)
     if is_long or letter.note_too_long(sum(lengths), "bytes in all its texts", MAX_TEXTS):
         return Body(trouble=letter.trouble)
-    payloads = [part.payload for part, _ in texts]
+    payloads = [part.payload for part in texts]
     count = sum(len(data) - len(data.translate(None, LINE_OR_MARK)) for data in payloads)
     if letter.note_too_long(count, "lines and marks", MAX_LINES):
-        shown = lines_of(payloads[0][: SHOWN_LINES * MAX_LINE])
-        return Body(tuple(shown[:SHOWN_LINES]), trouble=letter.trouble)
-    first, is_shown = texts[0] if texts else (letter, False)
+        shown = lines_of(payloads[0][:SHOWN_BYTES])[:SHOWN_LINES]
+        return Body(tuple(shown), trouble=letter.trouble)
+    first = texts[0] if texts else letter
     is_html_alone = first.kind == "text/html" and len(texts) == 1
-    if not is_shown or not (first.kind == "text/plain" or is_html_alone):
+    if not first.is_shown or not (first.kind == "text/plain" or is_html_alone):
         first.note_trouble(Reason.NO_PLAIN_TEXT())
-    read = [text_of(part, is_first=part is first) for part, _ in texts]
+    read = [text_of(part, is_first=part is first) for part in texts]
     text, pieces = read[0] if read else (Body(), [])
     # no program shows text around the parts, but it may be a letter that the mailbox did not
     # separate; so may text below an encoded one
-    around = [line for part, _ in parts for line in lines_of(part.around)]
+    around = [line for part in parts for line in lines_of(part.around)]
     below = lines_of(first.body_bytes)
-    trouble = next(filter(None, (part.trouble for part, _ in parts)), None)
+    trouble = next(filter(None, (part.trouble for part in parts)), None)
     if letter.fields and any(map(RECEIVED.match, (*text.lines, *pieces, *around, *below))):
         trouble = Reason.PARTED_OFF()
     lines = [line for other, _ in read[1:] for line in other.lines]
     lines += [line for _, pieces in read for line in pieces] + around
     own = {" ".join(line.split()) for line in text.lines}
     others = dict.fromkeys(" ".join(line.split()) for line in lines)
-    other_lines = tuple(line for line in others if line not in own and may_be_ballot(line))
+    other_lines = tuple(line for line in others if line not in own)
     return dataclasses.replace(text, other_lines=other_lines, trouble=trouble)
+
+
+def attachments_of(letter: Part) -> tuple[str, ...]:
+    """The names of the files in a letter, or of what kind they are."""
+    names = []
+    for part in itertools.islice(letter.walk(), MAX_PARTS):
+        if not part.kind.startswith("multipart/") and not (
+            part.kind.startswith("text/") and part.is_shown
+        ):
+            head = f"{part.value('content-disposition')}; {part.value('content-type')}"
+            name = FILE_NAME.search(head[:MAX_FIELD])
+            names.append(urllib.parse.unquote(decoded(name[1].strip('"'))) if name else part.kind)
+    return tuple(names)
 
 
 def lines_of(data: bytes) -> list[str]:
     return decoded_bytes(data, "utf-8").splitlines()
 
 
-def may_be_ballot(line: str) -> bool:
-    """Whether a line may be a ballot. Its blanks do not count, since repairs remove them."""
-    is_short = len(line) <= MAX_LINE or len(" ".join(line.split())) <= MAX_LINE
-    return is_short and RANK.search(line) is not None
-
-
 def is_quoted(line: str) -> bool:
     return line.lstrip().startswith(">")
+
+
+def without_marks(line: str) -> str:
+    """A line without the marks of a quotation before it."""
+    return line.lstrip("> \t\u00a0")
 
 
 def text_of(part: Part, *, is_first: bool) -> tuple[Body, list[str]]:

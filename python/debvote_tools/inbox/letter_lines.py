@@ -7,7 +7,6 @@ The addresses on the list and the time decide nothing here. So a letter is judge
 the book keeps, and is read again only if its signature has to be checked anew (`judging.py`).
 """
 
-import collections
 import dataclasses
 import datetime
 import functools
@@ -16,28 +15,39 @@ import json
 import re
 import typing
 import unicodedata
-from collections.abc import Callable, Collection, Iterable, Mapping, Sequence
+from collections.abc import Callable, Collection, Mapping, Sequence
 from typing import Any
 
 from debvote_tools.book import queries
 from debvote_tools.book.election import KEYRING
-from debvote_tools.inbox.letter import ParsedLetter, is_quoted, may_be_ballot, parse
-from debvote_tools.inbox.lines import DASHES, LONGEST_REPAIRED, has_code, name_in, repaired_line
+from debvote_tools.inbox.letter import ParsedLetter, is_quoted, parse, without_marks
+from debvote_tools.inbox.lines import (
+    DASHES,
+    ONE_RANK,
+    RANKS,
+    Names,
+    has_code,
+    name_in,
+    repaired_line,
+)
 from debvote_tools.inbox.mailbox import RawLetter
 from debvote_tools.inbox.reasons import Reason
 from debvote_tools.inbox.signature import find_gpgv, verified
 from debvote_tools.inbox.vote import Vote
-from debvote_tools.poll.plain_names import without_accents
+from debvote_tools.inbox.written import (
+    GAP,
+    MAX_NAME,
+    Written,
+    ballots_written,
+    begins_with_answer,
+    may_answer_question,
+)
+from debvote_tools.text.ballots import answers_text
+from debvote_tools.text.motions import may_answer, with_ranks
 
-# what parts the words of a name, and what each name on a roll has
-NO_NAME, LATIN = re.compile(r"(?:[^\w.-]|[_\u02b0-\u02ff])+"), re.compile("[a-z0-9]")
 # the grammar of a ballot line, and ranks alone
-ONE_RANK = "(?:-|[1-9][0-9]?)"
-RANKS = rf"{ONE_RANK}(?:,{ONE_RANK})*"
 BALLOT = re.compile(rf"[a-z0-9.-]{{1,32}} {RANKS}")
 RANKS_ALONE, RANK_ALONE = re.compile(RANKS), re.compile(ONE_RANK)
-# a name as people write it, with letters of any script, and ranks
-NAMED = re.compile(rf"([^\W_](?:[\w .'\u2019-]*[^\W_])?)(?:\s*:\s*|\s+)({RANKS})")
 # a name and at least two ranks, within other words
 RANK = rf"(?:\d{{1,2}}|[{DASHES}-])"
 WITHIN = re.compile(
@@ -45,10 +55,9 @@ WITHIN = re.compile(
 )
 # in characters: a ballot within other words is searched for up to here
 MAX_LOOKED_THROUGH = 200
-# every poll has at least two options, so a ballot has one of these
+# a ballot has a digit or a hyphen; and one of these, since every poll has at least two options
+HAS_RANK = re.compile(rf"[\d{DASHES}-]")
 SEPARATOR = re.compile("[,;]")
-# in place of each rank in the line of our letters, as `ada _,_,_,_`
-GAP = "_"
 # the most lines that may be ballots, else the letter waits; the most other lines with a number that
 # are read; and the most near or quoted lines
 MAX_BALLOTS, MAX_OTHERS, MAX_NEAR = 200, 50, 5
@@ -75,6 +84,8 @@ class ReadLine:
     """What a line of a letter may be, by its number, from 1."""
 
     number: int
+    # of several answers the other lines that they are on
+    more: tuple[int, ...] = ()
     # whose ballot: a name on the roll; or those whose name on the roll, or real name, may be meant
     elector: str = ""
     on_roll: tuple[str, ...] = ()
@@ -86,56 +97,51 @@ class ReadLine:
     offered_for: Reason | None = None
     near: Near | None = None
 
+    @property
+    def numbers(self) -> tuple[int, ...]:
+        return (self.number, *self.more)
+
+    @property
+    def is_ballot(self) -> bool:
+        """Whether it is a ballot by itself, valid or not, if somebody is known by its name."""
+        return bool(self.ranks) and self.offered_for is None
+
+    @property
+    def has_labels(self) -> bool:
+        return self.ranks[:1].isupper()
+
 
 @dataclasses.dataclass(frozen=True)
 class ReadLetter(ParsedLetter):
     """A letter with what its lines may be, or how many may be ballots if they are more than are
-    read; and the lines with what looks like a code of a secret vote or an alias.
+    read; the lines with what looks like a code of a secret vote or an alias; and of several questions
+    those that may be answers, and belong to no ballot.
     """
 
     read_lines: tuple[ReadLine, ...] = ()
     crowd: int = 0
     code_lines: tuple[int, ...] = ()
+    strays: tuple[int, ...] = ()
+
+    @property
+    def refused_answers(self) -> set[int]:
+        """The lines with answers to several questions of which debvote refuses one."""
+        refused = (line for line in self.read_lines if line.has_labels and line.answer is not None)
+        return {number for line in refused for number in line.numbers}
 
 
-@dataclasses.dataclass(frozen=True)
-class Names:
-    """The names of the electors, which never change after the call: on the roll, and real ones."""
-
-    roll: frozenset[str]
-    language: str
-    real_names: Mapping[str, str]
-
-    @functools.cached_property
-    def electors_by_real_name(self) -> dict[str, list[str]]:
-        """All electors by folded real name. Few letters need it, and it takes a while."""
-        found: dict[str, list[str]] = collections.defaultdict(list)
-        for elector, who in self.real_names.items():
-            for fold in self.folds(who):
-                found[fold].append(elector)
-        return dict(found)
-
-    def folds(self, name: str) -> set[str]:
-        """A name as `roll` makes one from it, but whole: `roll` cuts a long name, and omits letters of
-        other scripts, where other words may have been. Signs in place of an apostrophe are no letters.
-        """
-        plain = (without_accents(name, language).lower() for language in (self.language, ""))
-        folds = {NO_NAME.sub("-", one).strip("-") for one in plain}
-        return {fold for fold in folds if LATIN.search(fold)}
+# what the book keeps only of several questions
+OF_SEVERAL = ("more", "strays")
 
 
 # ---- letters
 def read_letters(vote: Vote, raws: Sequence[RawLetter]) -> list[ReadLetter]:
     """What letters say, with their signatures if they need one, and what their lines may be."""
-    found, election = [parse(raw) for raw in raws], vote.election
-    if not found:
-        return []
-    if vote.is_signed:
+    found = list(map(parse, raws))
+    if found and vote.is_signed:
         keyring = queries.sealed(vote.book, KEYRING) or b""
         found = verified(raws, found, keyring, find_gpgv())
-    real_names = {elector.name: elector.who for elector in queries.electors(vote.book)}
-    names = Names(vote.names_on_roll, election.language.code, real_names)
-    return with_lines(found, names, vote.answers)
+    return with_lines(found, vote.names, vote.answers)
 
 
 def with_lines(letters: Sequence[ParsedLetter], names: Names, ask: Ask) -> list[ReadLetter]:
@@ -158,64 +164,160 @@ def with_lines(letters: Sequence[ParsedLetter], names: Names, ask: Ask) -> list[
 
 def find_lines(letter: ParsedLetter, names: Names) -> ReadLetter:
     """A letter with what its lines may be, before debvote has answered."""
+    others = (
+        line
+        for line in letter.body.other_lines
+        if may_be_ballot(line, names.longest_line)
+        or may_answer(line, names.words)
+        or (names.labels and may_answer_question(line, names))
+    )
+    body = dataclasses.replace(letter.body, other_lines=tuple(others))
+    letter = dataclasses.replace(letter, body=body)
     lines = list(enumerate(letter.shown_lines, start=1))
     code_lines = tuple(number for number, line in lines if has_code(line))
-    lines = [(number, line) for number, line in lines if may_be_ballot(line)]
-    own = [(number, line) for number, line in lines if not is_quoted(line)]
-    several = [SEPARATOR.search(line) is not None for _, line in own]
-    if (count := sum(several)) > MAX_BALLOTS:
-        return ReadLetter(**vars(letter), crowd=count, code_lines=code_lines)
-    others = (one for one, has_several in zip(own, several) if not has_several)
-    chosen = sorted([*itertools.compress(own, several), *itertools.islice(others, MAX_OTHERS)])
-    quoted = (read_quoted(number, line, names) for number, line in lines if is_quoted(line))
-    found = [read_line(number, line, names) for number, line in chosen]
-    found += itertools.islice(filter(None, quoted), MAX_NEAR)
-    read_lines = tuple(filter(None, found))
-    return ReadLetter(**vars(letter), read_lines=read_lines, code_lines=code_lines)
+    lines = [
+        (number, line)
+        for number, line in lines
+        if may_be_ballot(line, names.longest_line) or with_ranks(line, names.words) != line
+    ]
+    own = [one for one in lines if not is_quoted(one[1])]
+    several = [one for one in own if SEPARATOR.search(one[1])]
+    if len(several) > MAX_BALLOTS:
+        return ReadLetter(**vars(letter), crowd=len(several), code_lines=code_lines)
+    if names.labels:
+        found, strays = read_answers(letter, names)
+    else:
+        rest = (one for one in own if not SEPARATOR.search(one[1]))
+        chosen = sorted([*several, *itertools.islice(rest, MAX_OTHERS)])
+        quoted = (read_quoted(number, line, names) for number, line in lines if is_quoted(line))
+        its = (read_line(number, line, names) for number, line in chosen)
+        found, strays = list(filter(None, its)), ()
+        found += itertools.islice(filter(None, quoted), MAX_NEAR)
+    return ReadLetter(**vars(letter), read_lines=tuple(found), code_lines=code_lines, strays=strays)
 
 
 def read_line(number: int, line: str, names: Names) -> ReadLine | None:
-    text = repaired_text(line)
-    found = read_text(number, text, names)
-    if found is not None and found.elector:
+    text = repaired_text(line, names)
+    ranked = names.with_ranks(text)
+    ways = {
+        None: text,
+        Reason.FILLED_IN: filled_in(text),
+        Reason.NO_COMMAS: with_commas(text),
+        Reason.WORD: ranked,
+    }
+    readings = (
+        read_text(number, way, why, names)
+        for why, way in ways.items()
+        if why is None or way != text
+    )
+    found = next(filter(None, readings), None)
+    if found is not None and found.elector and found.is_ballot:
         return found
-    for other, why in ((filled_in(text), Reason.FILLED_IN), (with_commas(text), Reason.NO_COMMAS)):
-        if found is None and other != text:
-            found = read_text(number, other, names)
-            found = found and dataclasses.replace(found, offered_for=why)
-    near = near_in(number, line, text, names.roll)
+    near = near_in(number, line, text, names) if ranked == text else None
     if found is None and near is None:
         return None
     return dataclasses.replace(found or ReadLine(number), near=near)
 
 
-def read_text(number: int, text: str, names: Names) -> ReadLine | None:
-    """Whether a repaired line is a ballot, ranks with a name as people write it, or ranks alone."""
+def read_text(number: int, text: str, why: Reason | None, names: Names) -> ReadLine | None:
+    """Whether a repaired line is a ballot, ranks with a name as people write it, or ranks alone; and
+    why it is none by itself.
+    """
     name, _, ranks = text.partition(" ")
     if BALLOT.fullmatch(text) and name in names.roll:
-        return ReadLine(number, elector=name, ranks=ranks)
-    named = NAMED.fullmatch(unicodedata.normalize("NFC", text))
-    if named is not None:
-        folds = sorted(names.folds(named[1]))
-        on_roll = tuple(fold for fold in folds if fold in names.roll)
-        by_name = names.electors_by_real_name
-        real = tuple(elector for fold in folds for elector in by_name.get(fold, ()))
-        if on_roll or real:
-            return ReadLine(number, on_roll=on_roll, real=real, ranks=named[2])
-    elif "," in text and RANKS_ALONE.fullmatch(text):
-        return ReadLine(number, ranks=text, offered_for=Reason.NO_NAME)
+        return ReadLine(number, elector=name, ranks=ranks, offered_for=why)
+    named = names.taken_apart(text)
+    if named is not None and len(unicodedata.normalize("NFKC", named[0])) <= MAX_NAME:
+        return with_electors(ReadLine(number, ranks=named[1], offered_for=why), named[0], names)
+    if "," in text and RANKS_ALONE.fullmatch(text):
+        return ReadLine(number, ranks=text, offered_for=why_alone(why))
     return None
+
+
+def with_electors(line: ReadLine, name: str, names: Names) -> ReadLine | None:
+    """A line with those who are known by its name, as people write it; None if nobody is."""
+    folds, by_name = sorted(names.folds(name)), names.electors_by_real_name
+    on_roll = tuple(fold for fold in folds if fold in names.roll)
+    real = tuple(elector for fold in folds for elector in by_name.get(fold, ()))
+    return dataclasses.replace(line, on_roll=on_roll, real=real) if on_roll or real else None
+
+
+def why_alone(why: Reason | None) -> Reason:
+    """Why ranks without a name are no ballot, if with one this were the reason."""
+    return Reason.WORD_ALONE if why is Reason.WORD else why or Reason.NO_NAME
+
+
+# ---- of several questions
+def read_answers(letter: ParsedLetter, names: Names) -> tuple[list[ReadLine], tuple[int, ...]]:
+    """What the lines may be, and the numbers of those that may be answers, also quoted ones, and belong
+    to no ballot with a name; a quoted line or one of another part that repeats its answers does.
+    """
+    body = list(enumerate(letter.body.lines, start=1))
+    rest = enumerate(letter.body.other_lines, start=len(body) + 1)
+    others = [(number, line) for number, line in rest if not is_quoted(line)]
+    own = [(number, "-" if is_quoted(line) else line) for number, line in body]
+    bare = [(number, without_marks(line)) for number, line in body if is_quoted(line)]
+    apart = [one for line in others for one in ballots_written([line], names)]
+    quoted = [one for line in bare for one in ballots_written([line], names)]
+    found = [(one, read_written(one, names)) for one in (*ballots_written(own, names), *apart)]
+    named = [one for one, line in found if line and line.is_ballot]
+    answers = {answer for one in named for answer in one.answers.items()}
+    repeated = (one for one in (*apart, *quoted) if one.answers.items() <= answers)
+    belonging = {number for one in (*named, *repeated) for number in one.numbers}
+    strays = [
+        (number, line)
+        for number, line in (*own, *others)
+        if number not in belonging and may_answer_question(line, names)
+    ]
+    filled = {one.numbers[0] for one in quoted}
+    filled |= {number for number, line in bare if begins_with_answer(line, names)}
+    read = [line for _, line in found if line]
+    read += read_filled(body, names)
+    for number, line in strays[:MAX_NEAR]:
+        text = " ".join(line.split())[:MAX_LOOKED_THROUGH]
+        read.append(ReadLine(number, near=Near(number, text, False)))
+    return read, (*(number for number, _ in strays), *sorted(filled - belonging))
+
+
+def read_written(one: Written, names: Names) -> ReadLine | None:
+    """What a ballot is as it is written; None if nobody is known by the name, or it may be a longer one
+    without a label.
+    """
+    number, *more = one.numbers
+    why = one.why if one.name else why_alone(one.why)
+    read = ReadLine(number, tuple(more), ranks=answers_text(one.answers), offered_for=why)
+    if not one.name or one.may_be_longer:
+        return None if one.name else read
+    if (name := one.name.lower()) in names.roll:
+        return dataclasses.replace(read, elector=name)
+    return with_electors(read, one.name, names)
+
+
+def read_filled(lines: Sequence[tuple[int, str]], names: Names) -> list[ReadLine]:
+    """The ballot of our letter that was filled in where it is quoted, if nothing in it is in doubt."""
+    bare = [(number, without_marks(line) if is_quoted(line) else "-") for number, line in lines]
+    found = ballots_written(bare, names)
+    filled = {number for one in found for number in one.numbers}
+    in_doubt = any(begins_with_answer(line, names) for one, line in bare if one not in filled)
+    if in_doubt or len(found) != 1:
+        return []
+    whole = read_written(found[0]._replace(why=Reason.FILLED_IN), names)
+    return [whole] if whole is not None and whole.elector else []
 
 
 def read_quoted(number: int, line: str, names: Names) -> ReadLine | None:
     """The line of our letter, as `ada _,_,_,_`, that was filled in where it is quoted."""
-    bare = filled_in(line).strip().lstrip("> \t\u00a0")
+    bare = without_marks(filled_in(line).strip())
     if re.split(r"[\s:]", bare, maxsplit=1)[0].lower() not in names.roll:
         return None
-    found = read_text(number, repaired_text(bare), names)
-    if found is None or not found.elector:
-        return None
-    return dataclasses.replace(found, offered_for=Reason.FILLED_IN)
+    found = read_text(number, repaired_text(bare, names), Reason.FILLED_IN, names)
+    return found if found is not None and found.elector else None
+
+
+def may_be_ballot(line: str, longest: int) -> bool:
+    """Whether a line may be a ballot. Its blanks do not count, since repairs remove them."""
+    is_short = len(line) <= longest or len(" ".join(line.split())) <= longest
+    return is_short and HAS_RANK.search(line) is not None
 
 
 def filled_in(text: str) -> str:
@@ -231,24 +333,26 @@ def with_commas(text: str) -> str:
     return " ".join([*words[:place], ",".join(words[place:])])
 
 
-def near_in(number: int, line: str, text: str, roll: Collection[str]) -> Near | None:
+def near_in(number: int, line: str, text: str, names: Names) -> Near | None:
     """A line shaped as a ballot, with a name of the roll at its start, or with a ballot in it."""
     for found in WITHIN.finditer(line[:MAX_LOOKED_THROUGH]):
-        ballot = repaired_text(f"{found[1]} {found[2]}")
+        ballot = repaired_text(f"{found[1]} {found[2]}", names)
         has_words = re.search(r"\w", line[: found.start()] + line[found.end() :]) is not None
-        if has_words and ballot.partition(" ")[0] in roll:
+        if has_words and ballot.partition(" ")[0] in names.roll:
             return Near(number, ballot, True)
     first_word = re.split(r"[\s:,;*\"']+", text.lstrip("*\"' "), maxsplit=1)[0].lower()
-    is_near = BALLOT.fullmatch(text) or (first_word in roll and len(text) <= MAX_LOOKED_THROUGH)
+    is_near = BALLOT.fullmatch(text) or (
+        first_word in names.roll and len(text) <= MAX_LOOKED_THROUGH
+    )
     return Near(number, text, False) if is_near else None
 
 
-def repaired_text(line: str) -> str:
+def repaired_text(line: str, names: Names) -> str:
     """A line with the repairs that are allowed; in one that is too long blanks are joined."""
     data = line.encode("utf-8", "replace")
-    if len(data) > LONGEST_REPAIRED:
+    if len(data) > 2 * names.longest_line:
         data = " ".join(line.split()).encode("utf-8", "replace")
-    return repaired_line(data).decode("utf-8", "replace").replace("\n", " ")
+    return repaired_line(data, names.longest_line).decode("utf-8", "replace").replace("\n", " ")
 
 
 # ---- debvote's answers
@@ -277,26 +381,17 @@ def answers_to(texts: Sequence[bytes], roll: Collection[str], ask: Ask) -> dict[
     return answers
 
 
-def answers_in(letters: Iterable[ReadLetter], roll: Collection[str]) -> dict[bytes, str | None]:
-    """debvote's answers to the lines of letters that were read."""
-    stand_in, found = min(roll), dict[bytes, str | None]()
-    for letter in letters:
-        for line in letter.read_lines:
-            own, near = texts_of(line, stand_in)
-            found |= {own: line.answer, near: line.near.answer if line.near else None}
-    found.pop(b"", None)
-    return found
-
-
 # ---- as the book keeps it
 def to_json(letter: ReadLetter) -> str:
-    return json.dumps(vars(letter), default=as_plain)
+    return json.dumps(letter, default=as_plain)
 
 
 def as_plain(value: object) -> object:
     if isinstance(value, datetime.datetime):
         return value.isoformat()
-    return value.name if isinstance(value, Reason) else vars(value)
+    if isinstance(value, Reason):
+        return value.name
+    return {name: one for name, one in vars(value).items() if one or name not in OF_SEVERAL}
 
 
 def from_json(text: str) -> ReadLetter:
@@ -309,15 +404,14 @@ def reader_of(kind: Any) -> Callable[[Any], Any]:
     """Makes a value of this type from what JSON has of it."""
     if dataclasses.is_dataclass(kind):
         of_fields = {name: reader_of(one) for name, one in typing.get_type_hints(kind).items()}
-        return lambda kept: kind(**{name: of_fields[name](kept[name]) for name in kept})
-    first, *others = *typing.get_args(kind), None
-    if type(None) in others or Ellipsis in others:
-        of_one = reader_of(first)
-        if Ellipsis in others:
-            return lambda kept: tuple(map(of_one, kept))
-        return lambda kept: kept if kept is None else of_one(kept)
+        return lambda kept: kind(**{name: of_fields[name](one) for name, one in kept.items()})
+    of = typing.get_args(kind)
+    if Ellipsis in of:
+        return lambda kept: tuple(map(reader_of(of[0]), kept))
+    if type(None) in of:
+        return lambda kept: kept if kept is None else reader_of(of[0])(kept)
     if isinstance(kind, type) and issubclass(kind, datetime.date):
         return datetime.datetime.fromisoformat
     if kind is Reason:
-        return lambda kept: Reason[kept]
+        return Reason.__getitem__
     return lambda kept: tuple(kept) if isinstance(kept, list) else kept

@@ -2,16 +2,26 @@
 line.
 """
 
+import itertools
 import re
 from collections.abc import Iterator, Sequence
 
-from debvote_tools.cli.console import act_time, count_of, shown_line, shown_text
+from debvote_tools.cli.console import act_time, count_of, listed, shown_line, shown_text
 from debvote_tools.inbox.letter import is_quoted
 from debvote_tools.inbox.letter_lines import Near
 from debvote_tools.inbox.rules import LetterCase, Outcome, above_end
 from debvote_tools.inbox.reasons import for_secretary
 from debvote_tools.inbox.vote import IS_CODE, Vote
+from debvote_tools.text.ballots import without
+from debvote_tools.poll.sealed import OWN_LENGTH, OWN_SIGNS
 
+# in the place of the third part of a personal link, with which somebody could vote
+LINK, LEFT_OUT = (
+    re.compile(rf"(/[{OWN_SIGNS}]{{{OWN_LENGTH}}}/)\w+", re.IGNORECASE),
+    r"\1..",
+)
+# how many attachments are named
+MAX_ATTACHMENTS = 5
 READ_THESE = "Read these: they have other words, or more to look at."
 
 # the head of a letter that Outlook quotes below an answer: a line, or the fields of its head
@@ -52,7 +62,8 @@ def name_of(letter: LetterCase) -> str:
 
 
 def sender_of(letter: LetterCase) -> str:
-    return shown_text(letter.read.shown_sender) or "nobody"
+    sender = "the page of the vote" if letter.read.link else letter.read.shown_sender
+    return shown_text(sender) or "nobody"
 
 
 def arrival_of(letter: LetterCase) -> str:
@@ -72,10 +83,10 @@ def going_in_words(letters: Sequence[LetterCase], vote: Vote) -> Iterator[str]:
 
 def ballot_words(letter: LetterCase, vote: Vote) -> str:
     line = letter.ballots[0]
-    written = letter.read.shown_lines[line.number - 1].strip()
+    written = " ".join(letter.read.shown_lines[number - 1].strip() for number in line.numbers)
     as_written = "" if written == line.ballot else f", written `{shown_line(written.encode())}`"
-    ranks = vote.ranks_in_words(line.ballot.partition(" ")[2])
-    return f"{line.elector} ({name_of(letter)}{as_written}): {ranks}"
+    answers = vote.answers_in_words(line.ballot.partition(" ")[2])
+    return f"{line.elector} ({name_of(letter)}{as_written}): {answers}"
 
 
 def more_words(letter: LetterCase) -> list[str]:
@@ -99,7 +110,7 @@ def table(letters: Sequence[LetterCase]) -> Iterator[str]:
         yield from (f"        {line}" for line in why_words(letter))
 
 
-def waiting(letter: LetterCase) -> Iterator[str]:
+def why_it_waits(letter: LetterCase) -> Iterator[str]:
     why, *others = why_words(letter)
     yield f"{who_and_when(letter)}: {why}"
     yield from (f"  {line}" for line in others)
@@ -107,16 +118,26 @@ def waiting(letter: LetterCase) -> Iterator[str]:
 
 def why_words(letter: LetterCase) -> list[str]:
     """Why a letter waits, lines that may be ballots, and what else there is to look at."""
-    reason = letter.reason
-    # without a reason it breaks no rule, and nobody has agreed to it yet
-    why = "it goes in with the next add of letters" if reason is None else for_secretary(reason)
-    since = "; has voted since" if letter.has_voted_since else ""
-    return [f"{why}{since}", *near_words(letter), *more_words(letter)]
+    return [why(letter), *near_words(letter), *more_words(letter), *attachment_words(letter)]
+
+
+def attachment_words(letter: LetterCase) -> Iterator[str]:
+    if names := letter.read.attachments:
+        yield f"attachments: {listed(list(map(shown_text, names)), MAX_ATTACHMENTS)}"
+
+
+def why(letter: LetterCase) -> str:
+    """Why a letter waits, or what became of it."""
+    said = letter.outcome.value if letter.reason is None else for_secretary(letter.reason)
+    if letter.outcome is Outcome.GOES_IN:
+        # nobody has agreed to it yet
+        said = "it goes in with the next add of letters"
+    return said + ("; has voted since" if letter.is_pending and letter.has_voted_since else "")
 
 
 def near_words(letter: LetterCase) -> Iterator[str]:
     for line in (*letter.ballots, *letter.offered):
-        yield f"line {line.number}: {line.ballot}"
+        yield f"line {line.number}: {without(line.ballot, letter.answered_since) or line.ballot}"
     for near in letter.near:
         within = ", within other words" if near.is_within else ""
         why = near.answer or "a ballot, but not alone on its line"
@@ -141,22 +162,22 @@ def whole(letter: LetterCase) -> Iterator[str]:
     """
     yield who_and_when(letter)
     yield f"  subject: {shown_text(letter.read.subject)}"
-    lines, hidden, count = letter.read.shown_lines, quoted_of_ours(letter), 0
-    for index, line in enumerate((*lines, "")):
-        if index in hidden:
-            count += 1
+    lines = letter.read.shown_lines
+    hidden = {index + 1 for index in quoted_of_ours(letter)} - letter.strays
+    for is_hidden, its in itertools.groupby(range(1, len(lines) + 1), hidden.__contains__):
+        numbers = list(its)
+        if is_hidden:
+            count = count_of(len(numbers), "line")
+            yield f"      .. {count} of a letter of ours, which it quotes"
             continue
-        if count:
-            yield f"      .. {count_of(count, 'line')} of a letter of ours, which it quotes"
-            count = 0
-        if index < len(lines):
-            yield f"{index + 1:4}  {shown_line(line.encode())}"
+        for number in numbers:
+            yield f"{number:4}  {shown_line(LINK.sub(LEFT_OUT, lines[number - 1]).encode())}"
     if letter.outcome is Outcome.ENTERED:
         yield "It was entered."
     elif letter.reason is not None:
-        waits = "waits" if letter.needs_secretary else "does not wait"
+        waits = "waits" if letter.is_pending else "does not wait"
         yield f"It {waits}: {for_secretary(letter.reason)}"
-    yield from near_words(letter)
+    yield from (*near_words(letter), *attachment_words(letter))
     yield from (f"  line {number}{IS_CODE}" for number in letter.code_lines)
 
 
@@ -211,8 +232,8 @@ def quoted_of_ours(letter: LetterCase) -> set[int]:
 
 def indices_of_ballots(letter: LetterCase, near: Sequence[Near]) -> set[int]:
     """The indices of the lines that can be entered, and of those near to a ballot."""
-    lines = {line.number - 1 for line in (*letter.ballots, *letter.offered)}
-    return lines | {one.number - 1 for one in near}
+    numbers = {one for line in (*letter.ballots, *letter.offered) for one in line.numbers}
+    return {number - 1 for number in (*numbers, *(one.number for one in near))}
 
 
 def other_words(letter: LetterCase) -> str:
@@ -232,4 +253,4 @@ def other_words(letter: LetterCase) -> str:
         return words != [""] and not is_usual and not TELEPHONE.fullmatch(line)
 
     own = (line for index, line in enumerate(lines[: above_end(lines)]) if index not in left_out)
-    return shown_text(" ".join(filter(says_something, map(str.strip, own))))
+    return shown_text(LINK.sub(LEFT_OUT, " ".join(filter(says_something, map(str.strip, own)))))

@@ -4,24 +4,41 @@ A change is made only if the line can mean one thing. These are changed: the byt
 start, carriage returns at line ends, blanks at either end, around commas and between name and
 ranks, capital letters of the name; and what mail programs and word processors write: quotation
 marks around the line, asterisks for bold letters, a full stop at its end, semicolons between all
-ranks in place of commas, a colon after the name, no-break spaces, a dash in place of a hyphen. Of
-the cells of a table `tables.py` changes less. Nothing is guessed: no rank, no name, no order.
+ranks in place of commas, a colon after the name, no-break spaces, a dash in place of a hyphen. A
+name that is that of one elector alone, on the roll or really, becomes the one on the roll, and in a
+motion a word becomes ranks (`Vote.as_meant`). Of a ballot of several answers each is changed so, and
+labels become capital letters in their order. Nothing is guessed: no rank, no name, no order.
 """
 
 import codecs
+import dataclasses
+import functools
+import itertools
 import re
+import unicodedata
+from collections.abc import Iterable, Mapping
 from typing import NamedTuple
+
+from debvote_tools.grouping import grouped
+from debvote_tools.poll.plain_names import without_accents
+from debvote_tools.text.ballots import answers_text
+from debvote_tools.text.motions import WORDS, Words, with_ranks
 
 MARK, BLANKS = codecs.BOM_UTF8, b" \t"
 
-# in bytes; a longer line is no ballot, and nothing of it is repaired
-LONGEST_REPAIRED = 1_000
-# in bytes; no ballot has half as many
-LONGEST_LINE = 500
-NOTHING_TO_REPAIR = re.compile(rb"[a-z0-9.-]+ [0-9-][0-9,-]*")
+NOTHING_TO_REPAIR = re.compile(rb"[a-z0-9.-]+(?: [0-9-][0-9,-]*|(?: [A-Z] [0-9-][0-9,-]*)+)")
 
 # what can be a name on a roll, at the start of a line
 NAME = re.compile(rb"[a-z0-9.-]+")
+
+# what parts the words of a name, and what each name on a roll has
+NO_NAME, LATIN = re.compile(r"(?:[^\w.-]|[_\u02b0-\u02ff])+"), re.compile("[a-z0-9]")
+# the ranks of a ballot; and a name as people write it, with letters of any script, and ranks
+ONE_RANK = "(?:-|[1-9][0-9]?)"
+RANKS = rf"{ONE_RANK}(?:,{ONE_RANK})*"
+WRITTEN_NAME = r"[^\W_](?:[\w .'\u2019-]*[^\W_])?"
+RIGHT_ANSWERS = re.compile(rf"([a-z0-9.-]+)((?: [A-Z] {RANKS})+)")
+NAMED = re.compile(rf"({WRITTEN_NAME})(?:\s*:\s*|\s+)({RANKS})")
 
 # the code or the alias of a secret vote, within other text
 CODE_WITHIN = re.compile(rb"(?<![0-9a-f])[0-9a-f]{32}(?![0-9a-f])")
@@ -41,36 +58,62 @@ BOLD = re.compile(r"(?:^|(?<=[ ,;:]))(\*{1,3})(?=[^ *])([^*]*)(?<=[^ *])\1(?=[ ,
 COLON = re.compile(r"([A-Za-z0-9.-]+) *: *(?=[\d%s-])" % DASHES)
 FULL_STOP = re.compile(r"(?<=[\d%s-]) *\.$" % (DASHES + "".join(pair[1] for pair in QUOTES)))
 
+# the label of a question, as people write it before a rank; right before one, it is none if no other
+# rank follows: `a1` may be a name
+LABEL = re.compile(
+    rf"(?:^|(?<=[\s:]))([A-Za-z])(?:(?:\s*[:).]\s*|\s+)(?=[\d{DASHES}-])|(?=(?:\d{{1,2}}|[{DASHES}-])\s*[,;]))"
+)
+
+# a label and one of the words in place of ranks
+LABELLED = re.compile(
+    rf"((?:^|(?<=[\s:]))[A-Za-z](?:\s+|\s*[:).]\s*))(?:{'|'.join({*itertools.chain(*WORDS.values())})})\b",
+    re.IGNORECASE,
+)
+
+# a word behind a label, which is a capital letter or has a sign behind it
+WORD = re.compile(
+    r"(?:^|(?<=[\s:]))(?:([A-Z])\s+|([A-Za-z])\s*[:).]\s*)([^\W\d_][\w\u0300-\u036f]*) ?[.!]?(?=\s|$)"
+)
+
+# a name whose last word is one letter
+LETTER_LAST = re.compile(r"[^\w.]\w\W*$")
+
+# a word in place of ranks
+IN_A_WORD = re.compile(r"[^\W\d_]+ *[.!]?\s*$")
+
 # the characters that are removed or replaced, by their names
 REPAIRED = {
-    "byte-order mark": (MARK,),
-    "carriage return": (b"\r",),
-    "line feeds": (b"\n",),
-    "tabs": (b"\t",),
-    "spaces": (b" ",),
-    "no-break spaces": tuple(character.encode() for character in NO_BREAK),
-    "quotation marks": tuple(character.encode() for character in sorted(set("".join(QUOTES)))),
-    "asterisks": (b"*",),
-    "full stop": (b".",),
-    "semicolons": (b";",),
-    "colon": (b":",),
-    "dashes": tuple(character.encode() for character in DASHES),
+    "byte-order mark": "\ufeff",
+    "carriage return": "\r",
+    "tabs": "\t",
+    "spaces": " ",
+    "no-break spaces": NO_BREAK,
+    "quotation marks": "".join(QUOTES),
+    "asterisks": "*",
+    "full stop": ".",
+    "brackets": ")",
+    "semicolons": ";",
+    "colon": ":",
+    "dashes": DASHES,
 }
 
 
 class Line(NamedTuple):
-    """A line that came. `file_name` names the file, as `more.txt`, and `place` the line in it, as
-    `:3`, or of a table as `: row 3`. If debvote refuses the repaired line, `unframed` is entered.
+    """A line that came. `file_name` names the file, as `more.txt`, and `number` is that of the line
+    in it, from 1. If debvote refuses the repaired line, `unframed` is entered.
     """
 
     file_name: str
-    place: str
-    # with its byte-order mark and carriage return; of a row of a table the cells of the named
-    # columns, joined as a ballot line, with their line feeds
+    number: int
+    # with its byte-order mark and carriage return
     as_it_came: bytes
     # without them
     unframed: bytes
     repaired: bytes
+
+    @property
+    def place(self) -> str:
+        return f":{self.number}"
 
     @property
     def where(self) -> str:
@@ -81,38 +124,120 @@ class Line(NamedTuple):
         return not self.repaired
 
     @property
-    def why_too_long(self) -> str | None:
-        words = f"the line has {len(self.as_it_came)} bytes, and a ballot has a few dozen"
-        return words if len(self.as_it_came) > LONGEST_LINE else None
-
-    @property
     def had_mark(self) -> bool:
-        """Whether it lost only a byte-order mark, and perhaps a carriage return."""
-        is_first = not self.unframed.startswith(MARK)
-        return is_first and self.as_it_came.removesuffix(b"\r") == MARK + self.unframed
+        return self.as_it_came.startswith(MARK) and not self.unframed.startswith(MARK)
 
     @property
     def had_return(self) -> bool:
-        """Whether it lost only a carriage return, and perhaps a byte-order mark."""
-        return self.as_it_came == self.unframed + b"\r" or (
-            self.had_mark and self.as_it_came.endswith(b"\r")
-        )
+        return self.as_it_came.endswith(b"\r")
 
     @property
     def as_reported(self) -> bytes:
         """With what a report of changes begins: the line as it came, but without a mark and a carriage
         return, which are told once for a file.
         """
-        return self.unframed if self.had_mark or self.had_return else self.as_it_came
+        return self.as_it_came.removesuffix(b"\r").removeprefix(MARK if self.had_mark else b"")
 
 
-def lines_in(data: bytes, name: str, first: int = 1) -> list[Line]:
-    """The lines of a file, numbered from `first`; a carriage return alone ends one, too."""
+@dataclasses.dataclass(frozen=True)
+class Names:
+    """What lines are read by, which never changes after the call: the names of the electors, on the
+    roll and real ones, how long a ballot may be, and the words that may be in place of ranks.
+    """
+
+    roll: frozenset[str]
+    language: str
+    real_names: Mapping[str, str]
+    longest_line: int
+    # those of motions
+    words: Words
+    # of several questions, and of those of them that are motions; none if there is one
+    labels: tuple[str, ...] = ()
+    motions: tuple[str, ...] = ()
+
+    @functools.cached_property
+    def electors_by_real_name(self) -> dict[str, list[str]]:
+        """All electors by folded real name. Few letters need it, and it takes a while."""
+        names = self.real_names.items()
+        return grouped((fold, elector) for elector, who in names for fold in self.folds(who))
+
+    @functools.cached_property
+    def by_all_but_letter(self) -> dict[str, list[tuple[str, str]]]:
+        """The electors whose name, on the roll or really, ends in a word of one letter, which may be
+        taken for a label: that letter and the elector, by what is folded before it.
+        """
+        names = [*((name, name) for name in self.roll), *self.real_names.items()]
+        ending = ((elector, who) for elector, who in names if LETTER_LAST.search(who))
+        folds = ((elector, fold) for elector, who in ending for fold in self.folds(who))
+        return grouped((fold[:-2], (fold[-1].upper(), elector)) for elector, fold in folds)
+
+    def longer_than(self, name: str, line: str) -> list[str]:
+        """The electors whose name this is with the first label of a line behind it: `Ben B 1,2` may be of
+        Ben or of Ben B. A line as it is entered, or with a colon behind the name, is of one alone.
+        """
+        before, *rest = LABEL.split(bare_text(line)) if self.labels else [line]
+        if not rest or RIGHT_ANSWERS.fullmatch(line.strip()) or before.rstrip().endswith(":"):
+            return []
+        folds = {name.lower()} if name.lower() in self.roll else self.folds(name)
+        found = (one for fold in folds for one in self.by_all_but_letter.get(fold, ()))
+        return [elector for letter, elector in found if letter == rest[0].upper()]
+
+    def meant_by(self, name: str) -> list[str]:
+        """The electors whose name on the roll or real name this is, as people write it."""
+        folds = self.folds(name)
+        real = (elector for fold in folds for elector in self.electors_by_real_name.get(fold, ()))
+        return sorted({*folds & self.roll, *real})
+
+    def whose(self, name: str) -> list[str]:
+        """The same; of several questions a name as it is on the roll is of this elector alone, as it is
+        where nothing has to be changed.
+        """
+        is_on_roll = self.labels and name.lower() in self.roll
+        return [name.lower()] if is_on_roll else self.meant_by(name)
+
+    def taken_apart(self, line: str) -> tuple[str, str] | None:
+        """The name in a line, as people write it, or nothing, and the answers behind it, as they are
+        entered; None if it has not this form.
+        """
+        if self.labels:
+            written = written_answers(line, self.labels, self.longest_line)
+            return (written[0], answers_text(written[1])) if written else None
+        found = NAMED.fullmatch(unicodedata.normalize("NFC", line))
+        return (found[1], found[2]) if found else None
+
+    def with_ranks(self, line: str) -> str:
+        """A line with ranks in place of words: of the one at its end, or of several questions of those
+        behind the labels of motions, as in `ada A no B 1,2,3`. But the name of an elector is no ballot.
+        """
+        if not self.words or len(line) > self.longest_line or RIGHT_ANSWERS.fullmatch(line):
+            return line
+        bare = bare_text(line) if self.labels else line
+        ranked = WORD.sub(self.with_rank, bare) if self.labels else with_ranks(line, self.words)
+        return line if ranked == bare or self.meant_by(bare.rstrip(" .!")) else ranked
+
+    def with_rank(self, found: re.Match[str]) -> str:
+        label, word = found[1] or found[2], unicodedata.normalize("NFC", found[3]).lower()
+        is_answer = label.upper() in self.motions and word in self.words
+        return f"{label} {self.words[word]}" if is_answer else found[0]
+
+    def folds(self, name: str) -> set[str]:
+        """A name as `roll` makes one from it, but whole: `roll` cuts a long name, and omits letters of
+        other scripts, where other words may have been. Signs in place of an apostrophe are no letters.
+        """
+        plain = (without_accents(name, language).lower() for language in (self.language, ""))
+        folds = {NO_NAME.sub("-", one).strip("-") for one in plain}
+        return {fold for fold in folds if LATIN.search(fold)}
+
+
+def lines_in(data: bytes, name: str, longest: int, first: int = 1) -> list[Line]:
+    """The lines of a file, numbered from `first`; a carriage return alone ends one, too. Ballots have
+    at most the `longest` number of bytes.
+    """
     lines = []
     for number, line in enumerate(data.splitlines(keepends=True), start=first):
         as_it_came = line.removesuffix(b"\n")
         unframed = as_it_came.removesuffix(b"\r").removeprefix(MARK if number == 1 else b"")
-        lines.append(Line(name, f":{number}", as_it_came, unframed, repaired_line(unframed)))
+        lines.append(Line(name, number, as_it_came, unframed, repaired_line(unframed, longest)))
     return lines
 
 
@@ -127,16 +252,40 @@ def has_code(text: str) -> bool:
     return TYPED_CODE.search(text) is not None
 
 
-def repaired_line(line: bytes) -> bytes:
+def repaired_line(line: bytes, longest: int) -> bytes:
+    """A line with the repairs that are allowed; of one with twice the bytes of the longest ballot
+    only blanks are.
+    """
     if NOTHING_TO_REPAIR.fullmatch(line):
         return line
-    if len(line) > LONGEST_REPAIRED or b"\r" in line or b"\n" in line:
+    if len(line) > 2 * longest or b"\r" in line or b"\n" in line:
         return spaced(line)
     try:
         text = line.decode("utf-8")
     except UnicodeDecodeError:
         return spaced(line)
     return spaced(without_typography(text).encode("utf-8"))
+
+
+def written_answers(
+    text: str, labels: Iterable[str], longest: int
+) -> tuple[str, dict[str, str]] | None:
+    """What is written before the answers to several questions, such as a name or nothing, and their
+    ranks by label, in the order of the labels. None if a line has no such answers, and no other words
+    between them or behind, or has two to one question.
+    """
+    before, *parts = LABEL.split(bare_text(text))
+    answers = dict[str, str]()
+    for label, rest in zip(parts[::2], parts[1::2]):
+        line = f"{label.lower()} {rest.strip()}".encode("utf-8", "replace")
+        ranks = repaired_line(line, longest).decode()[len(label) + 1 :]
+        if label.upper() in answers or not re.fullmatch(RANKS, ranks):
+            return None
+        answers[label.upper()] = ranks
+    in_order = {label: answers[label] for label in labels if label in answers}
+    if not parts or len(in_order) < len(answers):
+        return None
+    return unicodedata.normalize("NFC", before).strip().removesuffix(":").rstrip(), in_order
 
 
 def spaced(line: bytes) -> bytes:
@@ -148,10 +297,7 @@ def spaced(line: bytes) -> bytes:
 
 def without_typography(text: str) -> str:
     """A line without what mail programs and word processors put there."""
-    bare = text.translate({ord(character): " " for character in NO_BREAK}).strip(" \t")
-    # quotation marks may enclose a full stop, or precede it
-    for _ in range(2):
-        bare = FULL_STOP.sub("", unquoted(BOLD.sub(r"\2", bare)))
+    bare = bare_text(text)
     bare = COLON.sub(r"\1 ", bare, count=1) if COLON.match(bare) else bare
     name, blank, ranks = bare.partition(" ")
     # with both a comma may be that of a decimal
@@ -160,6 +306,15 @@ def without_typography(text: str) -> str:
     if delimiter == "," and not any(cell in DASHES for cell in cells if cell):
         return bare
     return name + blank + ",".join("-" if cell and cell in DASHES else cell for cell in cells)
+
+
+def bare_text(text: str) -> str:
+    """A line without no-break spaces, bold letters, and what is around it."""
+    bare = text.translate({ord(character): " " for character in NO_BREAK}).strip(" \t")
+    # quotation marks may enclose a full stop, or precede it
+    for _ in range(2):
+        bare = FULL_STOP.sub("", unquoted(BOLD.sub(r"\2", bare)))
+    return bare
 
 
 def unquoted(text: str) -> str:
@@ -171,13 +326,21 @@ def unquoted(text: str) -> str:
 
 def differences(before: bytes, after: bytes) -> list[str]:
     """What was removed or replaced, in words."""
+    then, now = (line.decode("utf-8", "replace") for line in (before, after))
     names = [
         name
-        for name, parts in REPAIRED.items()
-        if any(before.count(part) > after.count(part) for part in parts)
+        for name, signs in REPAIRED.items()
+        if any(then.count(sign) > now.count(sign) for sign in signs)
     ]
-    if before.count(b"-") < after.count(b"-") and "dashes" not in names:
-        names.append("empty cells")
+    has_labels = RIGHT_ANSWERS.fullmatch(now) is not None
+    words = LABELLED.sub(r"\1", then) if has_labels else IN_A_WORD.sub("", then)
+    if words != then:
+        names.append("word")
+        before = words.encode()
+    letters, after_letters = (re.sub(rb"[^a-z]", b"", text.lower()) for text in (before, after))
+    # labels may have been put in order
+    if letters != after_letters and not (has_labels and sorted(letters) == sorted(after_letters)):
+        names.append("real name")
     if len(re.findall(rb"[A-Z]", before)) > len(re.findall(rb"[A-Z]", after)):
         names.append("capital letters")
     return names

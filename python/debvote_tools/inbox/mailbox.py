@@ -6,6 +6,7 @@ letter, the letter, and the empty line below. Each letter is kept, or named as n
 """
 
 import dataclasses
+import datetime
 import enum
 import functools
 import itertools
@@ -29,8 +30,9 @@ USUAL = re.compile(
 )
 MIN_USUAL = 2
 
-# what editors put before the first line of a file, and the line that begins an mbox
-START = re.compile(rb"(?:%b)?[\r\n]*(From [^\r\n]*\r?\n[\r\n]*)?" % MARK)
+# what editors and the box of a vote put before the first line of a file, and the line that begins an
+# mbox
+START = re.compile(rb"(?:%b)?(?:<\?php exit; \?>\r?\n)?[\r\n]*(From [^\r\n]*\r?\n[\r\n]*)?" % MARK)
 # lines that may begin a letter; in an mbox such a line does if it has the name of a day and after
 # it a time, or is bare as Thunderbird writes it
 FROM_LINE = re.compile(rb"(?im)^>?From [^\r\n]*(?:\r?\n|\Z)")
@@ -90,10 +92,16 @@ class RawLetter:
     data: bytes = b""
     is_parted_off: bool = False
     why_not_read: NotRead | None = None
+    # of a record of the box: the link by which it came, when the box was asked before by its clock,
+    # and by how many seconds that clock is behind, if by more than a minute
+    link: str = ""
+    asked_before: datetime.datetime | None = None
+    behind: int = 0
 
     @functools.cached_property
     def digest(self) -> str:
-        return sha256_of(self.data)
+        """That of its bytes; the same bytes in a file are another letter than a record."""
+        return sha256_of(self.link.encode() + self.data)
 
 
 # ---- files

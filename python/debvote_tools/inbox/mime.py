@@ -21,21 +21,27 @@ from debvote_tools.inbox.reasons import Reason, ReasonWithValues
 MAX_LETTER, MAX_HEAD = 10_485_760, 262_144
 MAX_PARTS, MAX_DEPTH, MAX_OF_PART = 100, 12, 4_096
 
+# an empty line ends the head (RFC 5322, 2.1), with the line end of mail or that of a mailbox
 END_OF_HEAD = re.compile(rb"(?:\A|\n)\r?\n")
+# CR stands only before LF (RFC 5322, 2.3); some programs end a line at one
 LONE_RETURN = re.compile(rb"\r(?!\n)")
+# a name of printable characters without the colon, and lines that begin with a blank go on (RFC 5322,
+# 2.2 and 2.2.3); old programs wrote blanks before the colon (4.5)
 FIELD = re.compile(rb"(?m)^([!-9;-~]+)[ \t]*:([^\n]*(?:\n[ \t][^\n]*)*)")
-# fields alone, without control characters; no field is continued by a line of blanks, which ends
-# the head in some programs
+# fields alone, without control characters, perhaps in UTF-8 (RFC 6532); no field is continued by a
+# line of blanks (RFC 5322, 3.2.2), which ends the head in some programs
 PLAIN_HEAD = re.compile(
     rb"(?:[!-9;-~]++:[\t -~\x80-\xff]*+(?:\r?\n[ \t]++[!-~\x80-\xff][\t -~\x80-\xff]*+)*\r?(?:\n|\Z))*"
 )
 
-# a part has each of these fields at most once. Only the parameter `name` may be encoded or in
-# pieces. No text matches in two ways: else a mismatch would take twice as long with each parameter
+# a part has each of these fields at most once. A value is a token or is in quotation marks (RFC 2045,
+# 5.1); only that of `name` may be encoded or in pieces (RFC 2231). No text matches in two ways: else
+# a mismatch would take twice as long with each parameter
 DESCRIPTION = ("content-type", "content-transfer-encoding", "content-disposition")
 PARAMETER = re.compile(
     r"""[ \t]*;[ \t]*([\w-]+|name\*\d*\*?)[ \t]*=[ \t]*("[^"\\]*"|[^\s";()<>@,\\]+)"""
 )
+# the kinds that are read; some programs end the parameters with a semicolon
 READ = re.compile(
     rf"(text/[\w.+-]+|multipart/[\w-]+|message/rfc822)((?:{PARAMETER.pattern})*)[ \t]*;?",
     re.IGNORECASE,
@@ -48,14 +54,20 @@ CONTAINERS = [f"multipart/{kind}" for kind in "alternative mixed related signed 
 PACKED = ["multipart/encrypted"] + [
     f"application/{kind}" for kind in "pgp-encrypted pkcs7-mime x-pkcs7-mime".split()
 ]
+# at most 70 of these characters, the last no blank (RFC 2046, 5.1.1)
 BOUNDARY = re.compile(r"[\w'()+,./:=? -]{0,69}[\w'()+,./:=?-]", re.ASCII)
 
+# the codings are those of RFC 2045, 6.2. In quoted-printable (6.7) = codes a character, also in small
+# letters as some programs write it, or the line goes on in the next one
 AS_IT_STANDS = ("", "7bit", "8bit", "binary")
 QUOTED_PRINTABLE = re.compile(rb"[^=]*+(?:=(?:[0-9A-Fa-f]{2}|\r?(?:\n|\Z))[^=]*+)*")
 SOFT_END = re.compile(rb"=(?:\r?\n)?\Z")
+# groups of four, the last one filled up (6.8); line ends do not count, nor blanks before them, which
+# some servers add
 LINE_END = re.compile(rb"(?<![ \t])[ \t]*+(?:\r?\n|\Z)")
 BASE64 = re.compile(rb"(?:[A-Za-z0-9+/]{4})*(?:[A-Za-z0-9+/]{2}==|[A-Za-z0-9+/]{3}=)?")
 
+# without comments and quotation marks, in any script (RFC 5322, 3.4.1, and RFC 6531)
 ADDRESS = re.compile(r'[^\s<>@,;:"()\[\]\\]+@[^\s<>@,;:"()\[\]\\]+')
 SMALL = str.maketrans(string.ascii_uppercase, string.ascii_lowercase)
 
@@ -68,7 +80,7 @@ def address_key(address: str) -> str:
 class Part:
     """A letter, or a part of one. Its `trouble` is the first form in it that is not accepted."""
 
-    def __init__(self, data: bytes) -> None:
+    def __init__(self, data: bytes, *, is_shown: bool = True) -> None:
         self.trouble: ReasonWithValues | None = None
         end = END_OF_HEAD.search(data, 0, MAX_HEAD)
         head = data[: MAX_HEAD if end is None else end.start()]
@@ -87,6 +99,10 @@ class Part:
                 self.note_ambiguous(name)
         self.coding = self.value("content-transfer-encoding").lower()
         self.kind, self.parameters = self.described()
+        has_name = any(name.startswith("name") for name in self.parameters)
+        is_inline = self.value("content-disposition").lower() in ("", "inline")
+        # whether programs show it as the text, if they show so what it is in
+        self.is_shown = is_shown and is_inline and not has_name
         # whether text after it may be in one of its parts
         self.is_open = any("boundary" in value.lower() for value in self.values("content-type"))
         # its parts, byte for byte, and what is around them
@@ -166,16 +182,14 @@ class Part:
     def begins_line(self, found: re.Match[bytes]) -> bool:
         return found.start() == 0 or self.body_bytes[found.start() - 1 : found.start()] == b"\n"
 
-    def walk(self, depth: int = 0, *, is_shown: bool = True) -> Iterator[tuple["Part", bool]]:
-        """Yields it and all parts in it, each with whether programs show it as the text."""
-        has_name = any(name.startswith("name") for name in self.parameters)
-        is_inline = self.value("content-disposition").lower() in ("", "inline")
-        is_shown = is_shown and is_inline and not has_name
+    def walk(self, depth: int = 0) -> Iterator["Part"]:
+        """Yields it and all parts in it."""
         if self.inner and depth == MAX_DEPTH:
             self.note_trouble(Reason.TOO_MANY_PARTS())
-        yield self, is_shown
+        yield self
+        is_shown = self.is_shown and self.kind in CONTAINERS
         for part in self.inner if depth < MAX_DEPTH else ():
-            yield from Part(part).walk(depth + 1, is_shown=is_shown and self.kind in CONTAINERS)
+            yield from Part(part, is_shown=is_shown).walk(depth + 1)
 
     @property
     def is_cut(self) -> bool:
@@ -201,5 +215,4 @@ class Part:
 
 def on_one_line(value: bytes) -> str:
     """A field of a head; each byte that is not ASCII is a character of its own."""
-    joined = value.replace(b"\r", b"").replace(b"\n", b"").strip(b" \t")
-    return joined.decode("ascii", "surrogateescape")
+    return value.translate(None, b"\r\n").strip(b" \t").decode("ascii", "surrogateescape")

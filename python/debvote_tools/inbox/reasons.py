@@ -28,6 +28,15 @@ OTHER_ADDRESS = marked(
     "The reason: the list of members has another address for the name on the ballot."
 )
 
+NO_BALLOT_IN_IT = marked("The reason: no line of it is a ballot of this vote.")
+NO_MARK_IN_IT = marked(
+    "The reason: its subject has no mark of this vote. Answer a letter of this vote: its subject has the mark."
+)
+LATER_ONE = marked("The reason: a later ballot of this elector is in already.")
+ANOTHER_KEY = marked(
+    "The reason: it is signed with another key than the list of members has for the name on the ballot."
+)
+
 
 @dataclasses.dataclass(frozen=True)
 class ReasonWithValues:
@@ -55,41 +64,26 @@ class Reason(enum.Enum):
     # it can't be read with certainty
     PARTED_OFF = (
         "it may be part of the letter above it in the mailbox, or have other letters in it: look at the file, and save its letters as .eml",
-        marked("The reason: it may be part of the letter before it."),
+        LOOKED_AT,
     )
-    TOO_LONG = "it has {length} {what}; at most {limit} are read", marked(
-        "The reason: it is too long. Send plain text alone."
-    )
+    TOO_LONG = "it has {length} {what}; at most {limit} are read", UNCERTAIN
     TOO_MANY_PARTS = "it has too many parts or lines, or its parts are nested too deep", UNCERTAIN
     AMBIGUOUS = "mail programs may read it in different ways, because of {what}", UNCERTAIN
     RAW_NAME = "the name of its sender is not encoded, so programs may read it in different ways", marked(
         "The reason: the name of its sender is not encoded. Send it with a name without accents, or by another program."
     )
-    ENCRYPTED = "it is encrypted", marked(
-        "The reason: it is encrypted, or packed so that it is not read."
-    )
-    NO_PLAIN_TEXT = "it does not begin with plain text, and is not HTML alone", marked(
-        "The reason: it does not begin with plain text, and attachments are not read."
-    )
-    CHARSET = "its text is not plain text in the character set that it names: {charset}", marked(
-        "The reason: its charset is unknown. Send plain text in UTF-8."
-    )
-    CUT = "its text ends in the middle of a line, so it may have been cut off", marked(
-        "The reason: the end of its text is missing. Send it again."
-    )
-    CONTROL = "it has a character that mail programs show in different ways: {character}", marked(
-        "The reason: nobody can tell where its lines end. Send plain text alone."
-    )
-    HTML = "it is HTML that may look different from its text: {element}", marked(
-        "The reason: it has formats (HTML) with which it may look different than it reads. Send plain text alone."
-    )
-    AUTOMATIC = "a program wrote it, as an out-of-office reply or a letter that came back", marked(
-        "The reason: a program wrote it."
+    ENCRYPTED = "it is encrypted", UNCERTAIN
+    NO_PLAIN_TEXT = "it does not begin with plain text, and is not HTML alone", UNCERTAIN
+    CHARSET = "its text is not plain text in the character set that it names: {charset}", UNCERTAIN
+    CUT = "its text ends in the middle of a line, so it may have been cut off", UNCERTAIN
+    CONTROL = "it has a character that mail programs show in different ways: {character}", UNCERTAIN
+    HTML = "it is HTML that may look different from its text: {element}", UNCERTAIN
+    AUTOMATIC = (
+        "a program wrote it, as an out-of-office reply or a letter that came back",
+        LOOKED_AT,
     )
     # when it arrived
-    NO_ARRIVAL = "no Received line at its top says when it arrived", marked(
-        "The reason: nothing says when it arrived."
-    )
+    NO_ARRIVAL = "no Received line at its top says when it arrived", LOOKED_AT
     BEFORE_THE_CALL = "it arrived before the call for votes, which was at {called}", marked(
         "The reason: it arrived before the call for votes."
     )
@@ -99,16 +93,13 @@ class Reason(enum.Enum):
     AFTER_THE_CLOSE = "it arrived after the vote was closed, {close}", marked(
         "The reason: it arrived after the vote was closed."
     )
-    IN_THE_FUTURE = "it arrived later than the clock of this computer says", marked(
-        "The reason: the time of its arrival is in the future."
+    IN_THE_FUTURE = "it arrived later than the clock of this computer says", LOOKED_AT
+    CLOSED = "the vote is closed: to enter it, reopen", marked(
+        "The reason: it arrived in time, but was read only after the vote was closed."
     )
     # who sent it
-    NO_SENDER = "it does not come from one address alone: {sender}", marked(
-        "The reason: it does not come from one address alone."
-    )
-    NO_ADDRESS = "the list of members has no address for {elector}", marked(
-        "The reason: the list of members has no address for the name on the ballot."
-    )
+    NO_SENDER = "it does not come from one address alone: {sender}", OTHER_ADDRESS
+    NO_ADDRESS = "the list of members has no address for {elector}", OTHER_ADDRESS
     OTHER_SENDER = (
         "it came from {sender}, but the list of members has {listed} for {elector}",
         OTHER_ADDRESS,
@@ -120,16 +111,38 @@ class Reason(enum.Enum):
     NO_OWN_MARK = "its subject lacks the own mark of {elector}, so anybody may have sent it", marked(
         "The reason: its subject does not end with your own mark. Answer a letter of this vote to you, or use the link in it."
     )
+    # it came by the page of the vote
+    OTHER_LINK = (
+        "it came by the page of the vote with a link that is not that of {elector} now: a new address makes a new one, and a book that was put back lacks some",
+        LOOKED_AT,
+    )
+    NOT_THERE_BEFORE = (
+        "it is older than {asked}, when the box of the web host was asked and did not have it",
+        LOOKED_AT,
+    )
+    CLOCK_AT_THE_END = (
+        "it came near the end or the close, and the clock of the web host was off by {seconds} seconds",
+        LOOKED_AT,
+    )
+    CLOCKS = (
+        "the clock of the web host was off, so it may be earlier or later than another ballot of {elector}, of {time}",
+        LOOKED_AT,
+    )
     # where the ballot is
-    NO_BALLOT = "no ballot found", marked("The reason: no line of it is a ballot of this vote.")
-    NO_NAME = "the ranks have no name before them", marked(
-        "The reason: the ranks have no name before them."
+    NO_BALLOT = "no ballot found", NO_BALLOT_IN_IT
+    NO_NAME = "the ranks have no name before them", NO_BALLOT_IN_IT
+    REAL_NAME = (
+        "the name is not written as on the roll, and whose it is does not have the sender's address alone",
+        marked(
+            "The reason: the name is not written as in this vote. Write it as in a letter of this vote to you."
+        ),
     )
-    NO_COMMAS = "the ranks have blanks between them, and no commas", marked(
-        "The reason: there are no commas between the ranks."
-    )
-    FILLED_IN = "the line of our letter is filled in where it is quoted, or strokes are left in it", marked(
-        "The reason: the ballot is in the quotation of our letter, or has strokes in it. Send the ballot alone, in a letter of its own."
+    NO_COMMAS = "the ranks have blanks between them, and no commas", NO_BALLOT_IN_IT
+    WORD = "a word is in place of the ranks", LOOKED_AT
+    WORD_ALONE = "a word is in place of the ballot, without a name", LOOKED_AT
+    FILLED_IN = (
+        "the line of our letter is filled in where it is quoted, or strokes are left in it",
+        ALONE,
     )
     ELSEWHERE = (
         "line {number} is a ballot, but is below the end of the text, or in another part",
@@ -145,43 +158,37 @@ class Reason(enum.Enum):
         "there is more above the quotation than its head: two lines, the last with a colon at its end",
         ALONE,
     )
-    HIGH_RANK = "line {number} has a rank above {options}, the number of options", marked(
-        "The reason: a rank is higher than the number of options."
-    )
+    HIGH_RANK = "line {number} has a rank above {options}, the number of options", NO_BALLOT_IN_IT
     JOINED = (
         "its lines are marked as belonging together, and joined they make another ballot or none",
         ALONE,
     )
     # other ballots
     TWO_BALLOTS = "two different ballots", marked("The reason: it has two ballots that differ.")
+    ANOTHER_ANSWER = "line {number} may be an answer, too", LOOKED_AT
     SEVERAL_ELECTORS = "ballots of several electors: {electors}", marked(
         "The reason: it has ballots of several electors."
     )
     # which vote it is about
     NO_SUBJECT_MARK = (
         "its subject has no mark of this vote, [{mark}]; if it is about this vote, enter it",
-        marked(
-            "The reason: its subject has no mark of this vote. Answer a letter of this vote: its subject has the mark."
-        ),
+        NO_MARK_IN_IT,
     )
     CHANGED_MARK = (
         "the mark of this vote in its subject, [{mark}], is cut off or changed; if it is about this vote, enter it",
-        marked(
-            "The reason: the mark of this vote in its subject is cut off or changed. Answer a letter of this vote: its subject has the whole mark."
-        ),
+        NO_MARK_IN_IT,
     )
     OTHER_MARK = "it has the mark of another vote, [{mark}]; add it to that vote", marked(
         "The reason: it has the mark of another vote. To vote here, answer a letter of this vote."
     )
     # the ballots of the elector that are in
-    LATER_BALLOT = "a later ballot of {elector}, of {time}, was entered already", marked(
-        "The reason: a later ballot of this elector is in already."
-    )
+    LATER_BALLOT = "a later ballot of {elector}, of {time}, was entered already", LATER_ONE
     SAME_TIME = "another ballot of {elector} has the same time, {time}", marked(
         "The reason: another ballot of this elector has the same time."
     )
-    CAME_BEFORE = "came before; {elector} has voted since", marked(
-        "The reason: it came before, and another ballot of this elector has come since."
+    CAME_BEFORE = (
+        "it is a copy, of {time}, of a letter of {first} that was read before, and {elector} has a ballot of {between}, between the two",
+        marked("The reason: it came twice, and another ballot of this elector came between."),
     )
     # its signature
     NOT_SIGNED = "not signed", marked("The reason: not signed.")
@@ -192,36 +199,25 @@ class Reason(enum.Enum):
         "the signed text has a control character, or a line of more than 998 bytes",
         SIGNATURE_UNREAD,
     )
-    BAD_SIGNATURE = "its signature does not fit this text", marked(
-        "The reason: its signature is not that of this text."
-    )
+    BAD_SIGNATURE = "its signature does not fit this text", SIGNATURE_UNREAD
     UNREAD_SIGNATURE = "gpgv can't check its signature", SIGNATURE_UNREAD
-    SLOW_SIGNATURE = "gpgv did not answer about its signature in time", SIGNATURE_UNREAD
+    SLOW_SIGNATURE = "gpgv did not answer about its signature in time", LOOKED_AT
     PERHAPS_COPY = (
         "it may be a copy of a letter that was dealt with, about which gpgv did not answer in time",
         LOOKED_AT,
     )
-    EXPIRED_SIGNATURE = "its signature has expired", marked(
-        "The reason: its signature has expired."
-    )
-    EXPIRED_KEY = "signed with a key that has expired: {key}", marked(
-        "The reason: it is signed with a key that has expired."
-    )
-    REVOKED_KEY = "signed with a key that was revoked: {key}", marked(
-        "The reason: it is signed with a key that was revoked."
-    )
-    UNKNOWN_KEY = "signed with a key that is not in the keyring: {key}", marked(
-        "The reason: it is signed with a key that the secretary does not have."
-    )
+    EXPIRED_SIGNATURE = "its signature has expired", SIGNATURE_UNREAD
+    EXPIRED_KEY = "signed with a key that has expired: {key}", ANOTHER_KEY
+    REVOKED_KEY = "signed with a key that was revoked: {key}", ANOTHER_KEY
+    UNKNOWN_KEY = "signed with a key that is not in the keyring: {key}", ANOTHER_KEY
     WEAK_DIGEST = (
         "its signature uses a digest that is too weak, number {digest} of OpenPGP",
-        marked("The reason: its signature uses a digest that is too weak."),
+        SIGNATURE_UNREAD,
     )
-    NO_KEY = "the list of members has no key for {elector}", marked(
-        "The reason: the list of members has no key for the name on the ballot."
-    )
-    OTHER_KEY = "signed with the key {key}, but the list of members has {listed} for {elector}", marked(
-        "The reason: it is signed with another key than the list of members has for the name on the ballot."
+    NO_KEY = "the list of members has no key for {elector}", ANOTHER_KEY
+    OTHER_KEY = (
+        "signed with the key {key}, but the list of members has {listed} for {elector}",
+        ANOTHER_KEY,
     )
     SIGNED_BEFORE_THE_CALL = "signed at {time}, before the call for votes", marked(
         "The reason: signed before the call for votes."

@@ -6,7 +6,6 @@ They say what a letter has to be. No list of what may be wrong with a letter, or
 looks like, can be complete, so there is none.
 """
 
-import collections
 import dataclasses
 import datetime
 import enum
@@ -19,16 +18,23 @@ from typing import NamedTuple
 
 from debvote_tools.book import queries
 from debvote_tools.book.queries import Elector
-from debvote_tools.inbox.letter import END, is_quoted
+from debvote_tools.grouping import grouped
+from debvote_tools.inbox.letter import END, is_quoted, is_server, without_marks
 from debvote_tools.inbox.letter_lines import MAX_BALLOTS, MAX_NEAR, Near, ReadLetter, ReadLine
 from debvote_tools.inbox.mime import address_key
 from debvote_tools.inbox.reasons import Reason, ReasonWithValues
+from debvote_tools.inbox.written import GAP, UNFILLED
+from debvote_tools.poll.box import link_of
 from debvote_tools.poll.sealed import MARKS, marks_in
+from debvote_tools.text.ballots import answers_of
+from debvote_tools.text.motions import Words, may_answer, words_in
 
 # how far the clock of a mail server or of an elector may be ahead
 AHEAD = datetime.timedelta(minutes=10)
 # in digits: a subject with this much of the poll's mark has a mark that was cut off or changed
 PIECE = 6
+# the most digits in which a mark differs from one that was copied by hand
+MISCOPIED = 2
 
 # this line parts paragraphs as an empty one does
 STROKE = "--"
@@ -50,17 +56,29 @@ class Outcome(enum.Enum):
     WAITS = "waits"
     # it is a duplicate of another letter, and is ignored
     COPY = "copy"
+    # its elector has a later ballot by letter, so it can count in no case
+    OLDER = "older"
     # an act decided; a letter whose envelope was struck is set aside, too
     ENTERED = "entered"
     SET_ASIDE = "set aside"
+    # it waits for nobody here, and nobody is told of it
+    OTHER_VOTE = "of another vote"
+
+
+# what acts decided of a letter whose ballot was entered, though it may be struck since
+WENT_IN = (queries.ENTERED, queries.TAKEN_BACK, queries.STRUCK)
 
 
 @dataclasses.dataclass(frozen=True)
 class Circumstances:
     """All that a letter is judged by, beside itself, as it is now. Times have a zone."""
 
-    # the mark of the poll, and the subject that the page of the call makes, without a mark
+    # the mark of the poll; those that polls of this book ever had, also of a call that was taken
+    # back; and the own marks that its electors have or had
     mark: str
+    marks: Collection[str]
+    own_marks: Collection[str]
+    # the subject that the page of the call makes, without a mark
     subject: str
     # the electors on the list, by name
     electors: Mapping[str, Elector]
@@ -71,11 +89,25 @@ class Circumstances:
     called: datetime.datetime
     end: datetime.datetime | None
     first_close: datetime.datetime | None
+    # no letter goes in now
+    is_closed: bool
     now: datetime.datetime
     # the Message-IDs of the letters that were written to each elector
     our_letters: Mapping[str, Collection[str]]
     # what acts decided, by the keys of the letters: states of the book
     decisions: Mapping[str, str]
+    # the key of the box of the web host
+    box_key: bytes = b""
+    # of motions: their words; of these and of several questions the lines that are no answers although
+    # they look like one; and the Message-IDs of the letters that ask to vote
+    words: Words = dataclasses.field(default_factory=dict)
+    no_answers: Collection[str] = ()
+    asking: Collection[str] = ()
+
+    @property
+    def ends(self) -> list[datetime.datetime]:
+        """What is in time arrived before all of these."""
+        return [end for end in (self.end, self.first_close) if end is not None]
 
     def is_mark(self, line: str) -> bool:
         """Whether a line is the mark of the poll, alone or with an own one."""
@@ -92,86 +124,53 @@ class Circumstances:
 
     @functools.cached_property
     def electors_by_address(self) -> dict[str, list[str]]:
-        found: dict[str, list[str]] = collections.defaultdict(list)
-        for name, elector in self.electors.items():
-            for key in dict.fromkeys(filter(None, map(address_key, elector.addresses))):
-                found[key].append(name)
-        return dict(found)
+        return grouped(
+            (key, name)
+            for name, elector in self.electors.items()
+            for key in dict.fromkeys(filter(None, map(address_key, elector.addresses)))
+        )
 
 
 # ---- what the lines are
 @dataclasses.dataclass(frozen=True)
 class BallotLine:
-    """A line that reads as a ballot: its number, from 1, and the ballot as it would be entered."""
+    """What reads as a ballot: the numbers of its lines, from 1, none if it was typed; and the ballot
+    as it would be entered.
+    """
 
-    number: int
+    numbers: tuple[int, ...]
     ballot: str
+
+    @property
+    def number(self) -> int:
+        """That of its first line, by which it is entered; 0 if it was typed."""
+        return next(iter(self.numbers), 0)
 
     @property
     def elector(self) -> str:
         return self.ballot.partition(" ")[0]
 
     @property
-    def ranks(self) -> list[str]:
-        return self.ballot.partition(" ")[2].split(",")
+    def high_rank(self) -> int:
+        """The number of options of the first answer with a rank above it, else 0: `Lars Winter 12,50`
+        may be money.
+        """
+        for ranks in (text.split(",") for text in answers_of(self.ballot).values()):
+            if any(rank != "-" and int(rank) > len(ranks) for rank in ranks):
+                return len(ranks)
+        return 0
+
+
+class SentLine(NamedTuple):
+    """A line of a letter, and whose ballot it is by who sent it; None if that is not known."""
+
+    read: ReadLine
+    elector: str | None
 
     @property
-    def has_high_rank(self) -> bool:
-        """Whether a rank is above the number of options: `Lars Winter 12,50` may be money."""
-        return any(rank != "-" and int(rank) > len(self.ranks) for rank in self.ranks)
-
-
-class LinesBySender(NamedTuple):
-    """What the lines of a letter are, by who sent it: the ballots with a name on the roll, whosever
-    they are; those with the real name of somebody else, as in the letter of a family; what is offered to the secretary, with the reason
-    why it is no ballot by itself; and what is near to a ballot.
-    """
-
-    ballots: Sequence[BallotLine]
-    others: Sequence[BallotLine]
-    offered: Mapping[BallotLine, Reason]
-    near: Sequence[Near]
-
-
-def lines_by_sender(
-    lines: Sequence[ReadLine], sharing: Sequence[str], marked: str | None
-) -> LinesBySender:
-    """What the lines are if it was sent by one of the electors who have the sender's address, or by
-    the one whose own mark is in the subject.
-
-    If only one has the address, they may have written their own name with accents, or their real
-    name. Ranks without a name are offered for the marked elector, or for the only one with the
-    address; if these differ, for none. A filled line of ours is offered for any of them.
-    """
-    sender = sharing[0] if len(sharing) == 1 else None
-    likely = sender if marked is None else marked if marked in (sharing or [marked]) else None
-    ballots, others, refused = list[BallotLine](), list[BallotLine](), dict[str, Near]()
-    offered = dict[BallotLine, Reason]()
-    for line in lines:
-        name = line.elector or (sender if sender is not None and is_name_of(sender, line) else None)
-        if not (line.elector or line.on_roll or line.real):
-            name = likely
-        ballot = BallotLine(line.number, f"{name or next(iter(line.real), None)} {line.ranks}")
-        if line.offered_for is not None:
-            is_money = line.offered_for is not Reason.NO_NAME and ballot.has_high_rank
-            is_other = line.offered_for is Reason.FILLED_IN and name not in (*sharing, marked)
-            if line.answer is None and name is not None and not is_money and not is_other:
-                offered[ballot] = line.offered_for
-        elif line.answer is not None and name is not None:
-            refused.setdefault(ballot.ballot, Near(line.number, ballot.ballot, False, line.answer))
-        elif line.answer is None and line.ranks and name is not None:
-            ballots.append(ballot)
-        elif line.answer is None and line.real:
-            others.append(ballot)
-    if ballots or refused:
-        return LinesBySender(ballots, others, {}, list(refused.values())[:MAX_NEAR])
-    near = [line.near for line in lines if line.near is not None]
-    return LinesBySender((), (), offered, near[:MAX_NEAR])
-
-
-def is_name_of(elector: str, line: ReadLine) -> bool:
-    """Whether the name in a line is that of this elector, and of no other on the roll."""
-    return elector in (*line.on_roll, *line.real) and set(line.on_roll) <= {elector}
+    def as_ballot(self) -> BallotLine:
+        name = self.elector or next(iter((*self.read.real, *self.read.on_roll)), None)
+        return BallotLine(self.read.numbers, f"{name} {self.read.ranks}")
 
 
 # ---- a letter
@@ -183,6 +182,8 @@ class LetterCase:
     outcome = Outcome.WAITS
     reason: ReasonWithValues | None = None
     has_voted_since = False
+    # the labels of the questions to which its elector has a later answer, if not to all
+    answered_since: Collection[str] = ()
     # its number and its source in the book; 0 if it is only looked at
     number = source = 0
     # in a secret vote with names on the roll: the lines with what looks like a code or an alias
@@ -195,28 +196,128 @@ class LetterCase:
         self.sharing = circumstances.electors_by_address.get(letter.sender, [])
         owns = {own for mark, own in letter.marks if own and mark == circumstances.mark}
         self.marked_elector = circumstances.electors_by_mark.get(*owns) if len(owns) == 1 else None
-        self.lines_by_sender = lines_by_sender(letter.read_lines, self.sharing, self.marked_elector)
+        self.is_automatic = letter.is_automatic or (is_server(letter.sender) and not self.sharing)
         # that of its ballot: if letters have to be signed, that of the signature
         signature = letter.signature if circumstances.is_signed else None
         self.time = letter.arrived if signature is None else signature.time
         self.decision = circumstances.decisions.get(letter.key)
-        # the ballot that may go in, and its index among the lines
-        end, ballots = above_end(letter.body.lines), self.lines_by_sender.ballots
-        self.ballot = next((line for line in ballots if line.number <= end), None)
-        self.index = -1 if self.ballot is None else self.ballot.number - 1
+        asked_for = filter(self.is_asked_for, letter.read_lines)
+        self.sent = [SentLine(line, self.elector_of(line)) for line in asked_for]
+        # the ballots of an elector who is known, also those that debvote refuses
+        self.named = [one for one in self.sent if one.elector and one.read.is_ballot]
+        valid = [one.as_ballot for one in self.named if one.read.answer is None]
+        # beside these those with the real name of somebody else, as in the letter of a family
+        unknown = [
+            one for one in self.sent if self.named and one.read.is_ballot and not one.elector
+        ]
+        others = [one.as_ballot for one in unknown if one.read.real and one.read.answer is None]
+        # the ballot that may go in, and the indices of its lines
+        end = above_end(letter.body.lines)
+        self.ballot = next((line for line in valid if max(line.numbers) <= end), None)
+        self.lines = tuple(number - 1 for number in self.ballot.numbers) if self.ballot else ()
         self.elector = "" if self.ballot is None else self.ballot.elector
-        # all lines that read as ballots, first that one; and lines that are no ballots by
-        # themselves. Each can be entered by its number
-        own = [self.ballot] if self.ballot else []
-        self.ballots = tuple(dict.fromkeys((*own, *ballots, *self.lines_by_sender.others)))
-        self.offered = tuple(self.lines_by_sender.offered)
-        # a letter that a program wrote quotes others, so nothing is said of its lines
-        self.near = () if self.ballots or letter.is_automatic else tuple(self.lines_by_sender.near)
+        # all lines that read as ballots, first that one. Each can be entered by its number
+        self.ballots = tuple(dict.fromkeys([*filter(None, [self.ballot]), *valid, *others]))
+
+    @functools.cached_property
+    def strays(self) -> set[int]:
+        """The lines that may be answers and are in no valid ballot, unless they stand so in our letter.
+        What is quoted is none, since the elector may have written it before, but in our letter.
+        """
+        shown, ours = self.read.shown_lines, self.circumstances.no_answers
+        bare = {number: without_marks(shown[number - 1]).strip() for number in self.read.strays}
+        strays = {number for number, line in bare.items() if line not in ours}
+        quoted = {number for number in strays if is_quoted(shown[number - 1])}
+        kept = strays if quoted and self.fills_in_our_letter else strays - quoted
+        return kept | self.read.refused_answers
+
+    @property
+    def fills_in_our_letter(self) -> bool:
+        """Whether it quotes our letter, and lacks a line of the form of a ballot there."""
+        quoted = {without_marks(one).strip() for one in self.read.body.lines if is_quoted(one)}
+        gaps = {line for line in self.circumstances.no_answers if GAP in line}
+        form = filter(UNFILLED.fullmatch, gaps)
+        return not quoted.isdisjoint(gaps) and not quoted.issuperset(form)
+
+    def is_asked_for(self, line: ReadLine) -> bool:
+        """Whether a line has more than a word; or it is the first of a letter that answers one which asks
+        to vote, or has the subject of the page.
+        """
+        if line.offered_for is not Reason.WORD_ALONE or line.has_labels:
+            return True
+        is_first = not any(map(str.strip, self.read.shown_lines[: line.number - 1]))
+        is_answer = self.read.in_reply_to in self.circumstances.asking
+        return is_first and (is_answer or is_subject_of_page(self))
+
+    def elector_of(self, line: ReadLine) -> str | None:
+        """Whose ballot a line is. If only one elector has the sender's address, they may have written
+        their own name with accents, or their real name. Ranks without a name are of the one whose own
+        mark is in the subject, or of the only one with the address; if these differ, of nobody.
+        """
+        sender, marked = self.sending_elector, self.marked_elector
+        if line.elector or line.on_roll or line.real:
+            is_own = sender in (*line.on_roll, *line.real) and {sender}.issuperset(line.on_roll)
+            return line.elector or (sender if is_own else None)
+        is_marked = marked is not None and marked in (self.sharing or [marked])
+        return marked if is_marked else sender if marked is None else None
+
+    def why_offered(self, line: SentLine) -> Reason | None:
+        """Why a valid line is no ballot by itself, and is offered; None if it is not."""
+        read, why = line.read, line.read.offered_for
+        if read.answer is not None:
+            return None
+        if line.elector is None:
+            return Reason.REAL_NAME if len({*read.on_roll, *read.real}) == 1 else None
+        is_money = why is not Reason.NO_NAME and line.as_ballot.high_rank
+        # a line of our letter that is filled in is offered for whoever may have sent it
+        senders = (*self.sharing, self.marked_elector)
+        is_others = why is Reason.FILLED_IN and line.elector not in senders
+        return None if is_money or is_others else why
+
+    @functools.cached_property
+    def offered(self) -> Mapping[BallotLine, Reason]:
+        """The lines that are no ballots by themselves, with the reasons why, if there is no ballot. Each
+        can be entered by its number. Of several answers all are offered, or none.
+        """
+        lines = () if self.named else self.sent
+        found = {one.as_ballot: why for one in lines if (why := self.why_offered(one))}
+        has_labels = any(one.read.has_labels for one in lines)
+        is_all = len(found) == 1 and self.strays.issubset(*(line.numbers for line in found))
+        return found if is_all or not has_labels else {}
+
+    @functools.cached_property
+    def every_near(self) -> list[Near]:
+        """What is near to a ballot; beside ballots that is what debvote refuses."""
+        refused = grouped((one.as_ballot.ballot, one.read) for one in self.named if one.read.answer)
+        near = [Near(its[0].number, of, False, its[0].answer) for of, its in refused.items()]
+        if not self.named:
+            near = [one.read.near for one in self.sent if one.read.near]
+        return near[:MAX_NEAR]
+
+    @property
+    def near(self) -> tuple[Near, ...]:
+        """What is told of it. A letter that a program wrote quotes others, so nothing is."""
+        is_told = not self.ballots and not self.is_automatic
+        told = {number for line in self.offered for number in line.numbers} & {*self.read.strays}
+        near = (one for one in self.every_near if is_told and one.number not in told)
+        return tuple(near)
 
     @property
     def has_own_mark(self) -> bool:
         """Whether its subject has the own mark of the elector on its ballot."""
         return self.ballot is not None and self.marked_elector == self.elector
+
+    @property
+    def other_vote(self) -> str:
+        """The mark of the other vote that it is of; empty if it is of this one, or has no mark. With
+        a mark of this book beside it, or an own one, or one that somebody may have miscopied, it is.
+        """
+        marks, now = self.read.marks, self.circumstances
+        is_ours = any(
+            own in now.own_marks or any(are_alike(mark, one) for one in now.marks)
+            for mark, own in marks
+        )
+        return "" if is_ours or not marks else marks[0][0]
 
     @functools.cached_property
     def first_broken_rule(self) -> ReasonWithValues | None:
@@ -228,14 +329,15 @@ class LetterCase:
     @property
     def hides(self) -> bool:
         """Whether it can hide copies: it went in once, or breaks no rule. Which of them it hides,
-        `set_copies` says.
+        `judge_copies` says.
         """
-        went_in = (queries.ENTERED, queries.TAKEN_BACK, queries.STRUCK)
-        return self.decision in went_in or self.first_broken_rule is None
+        return self.decision in WENT_IN or self.first_broken_rule is None
 
     @property
-    def needs_secretary(self) -> bool:
-        """Whether it waits for the secretary: to look at it, or to agree in `add` that it goes in."""
+    def is_pending(self) -> bool:
+        """Whether the secretary still has to look at it, since it waits, or to agree in `add` that it
+        goes in.
+        """
         return self.outcome in (Outcome.GOES_IN, Outcome.WAITS)
 
     @property
@@ -243,9 +345,32 @@ class LetterCase:
         return self.read.arrived is not None and self.read.arrived <= self.circumstances.called
 
     @property
+    def arrivals(self) -> list[datetime.datetime]:
+        """When it arrived, at the earliest and at the latest: the clock of a web host may be off."""
+        arrived, off = self.read.arrived, datetime.timedelta(seconds=self.read.behind)
+        return sorted((arrived, arrived + off)) if arrived else []
+
+    @property
     def arrived_after_end(self) -> bool:
-        arrived, ends = self.read.arrived, (self.circumstances.end, self.circumstances.first_close)
-        return arrived is not None and any(arrived > end for end in filter(None, ends))
+        """Whether it is known to have arrived after the end or the first close."""
+        return any(first > end for first in self.arrivals[:1] for end in self.circumstances.ends)
+
+    def is_from(self, name: str) -> bool:
+        """Whether it came from an address of an elector, or by their link."""
+        now, link = self.circumstances, self.read.link
+        if (elector := now.electors.get(name)) is None:
+            return False
+        if link:
+            return link == link_of(now.box_key, name, elector.mark)
+        return self.read.sender in map(address_key, elector.addresses)
+
+    @property
+    def arrived_in_time(self) -> bool:
+        """Whether nobody knows that it came too late; nor before the call, unless it has the mark of
+        the poll, which nobody had before: then the clock of its server was wrong.
+        """
+        is_of_poll = any(mark == self.circumstances.mark for mark, _ in self.read.marks)
+        return not self.arrived_after_end and (is_of_poll or not self.arrived_before_call)
 
     @property
     def sending_elector(self) -> str | None:
@@ -256,7 +381,7 @@ class LetterCase:
     def electors(self) -> tuple[str, ...]:
         """The electors on its ballots, or near to one; else the one who has the sender's address."""
         named = [line.elector for line in (*self.ballots, *self.offered)]
-        near = (near.ballot.partition(" ")[0] for near in self.lines_by_sender.near)
+        near = (near.ballot.partition(" ")[0] for near in self.every_near)
         named += [name for name in near if name in self.circumstances.electors]
         return tuple(dict.fromkeys(named or filter(None, [self.sending_elector])))
 
@@ -268,47 +393,60 @@ class LetterCase:
 
 # ---- the rules: each says why it does not hold, and None if it holds
 def why_not_readable(case: LetterCase) -> ReasonWithValues | None:
+    """A person wrote it, and all programs read it in one way, also where its HTML is plain."""
     letter, body = case.read, case.read.body
     if letter.is_parted_off:
         return Reason.PARTED_OFF()
-    if letter.is_automatic:
+    if case.is_automatic:
         return Reason.AUTOMATIC()
     if body.trouble is not None:
         return body.trouble
     if letter.crowd:
         what = "lines that may be ballots"
         return Reason.TOO_LONG(length=letter.crowd, what=what, limit=MAX_BALLOTS)
-    is_odd = body.is_html and case.ballot is not None and case.index >= body.plain_lines
+    is_odd = body.is_html and any(index >= body.plain_lines for index in case.lines)
     return Reason.HTML(element=body.first_other) if is_odd else None
 
 
 def why_not_in_time(case: LetterCase) -> ReasonWithValues | None:
-    arrived, circumstances = case.read.arrived, case.circumstances
+    """It arrived after the call, and not after the end or the first close; and if the box had it when
+    it was asked before, that asking brought it.
+    """
+    arrived, circumstances, asked = case.read.arrived, case.circumstances, case.read.asked_before
     if arrived is None:
         return Reason.NO_ARRIVAL()
     if case.arrived_before_call:
         return Reason.BEFORE_THE_CALL(called=circumstances.called)
-    if circumstances.end is not None and arrived > circumstances.end:
+    first, last = case.arrivals
+    if circumstances.end is not None and first > circumstances.end:
         return Reason.AFTER_THE_END(end=circumstances.end)
-    if circumstances.first_close is not None and arrived > circumstances.first_close:
+    if circumstances.first_close is not None and first > circumstances.first_close:
         return Reason.AFTER_THE_CLOSE(close=circumstances.first_close)
+    if any(last > end for end in circumstances.ends):
+        return Reason.CLOCK_AT_THE_END(seconds=abs(case.read.behind))
+    if asked is not None and arrived < asked:
+        return Reason.NOT_THERE_BEFORE(asked=asked)
     return Reason.IN_THE_FUTURE(arrived=arrived) if arrived > circumstances.now + AHEAD else None
 
 
 def why_not_from_its_elector(case: LetterCase) -> ReasonWithValues | None:
-    """It comes from an address of its elector, after `call --marked` with the own mark, too."""
+    """It comes by the link of its elector; or from an address of theirs, after `call --marked` with the
+    own mark, too.
+    """
     sender, elector, circumstances = case.read.sender, case.elector, case.circumstances
-    listed = circumstances.electors[elector].addresses if elector in circumstances.electors else ()
-    if not sender:
+    if not (sender or case.read.link):
         return Reason.NO_SENDER(sender=case.read.shown_sender)
     if case.ballot is None:
         return None
-    if sender in map(address_key, listed):
-        if case.has_own_mark or not circumstances.is_marked:
+    if case.is_from(elector):
+        if case.read.link or case.has_own_mark or not circumstances.is_marked:
             return None
         return why_not_of_this_vote(case) or Reason.NO_OWN_MARK(elector=elector)
+    if case.read.link:
+        return Reason.OTHER_LINK(elector=elector)
     if case.has_own_mark:
         return Reason.OWN_MARK_ELSEWHERE(sender=sender, elector=elector)
+    listed = circumstances.electors[elector].addresses if elector in circumstances.electors else ()
     if not listed:
         return Reason.NO_ADDRESS(elector=elector)
     return Reason.OTHER_SENDER(sender=sender, listed=" and ".join(listed), elector=elector)
@@ -345,19 +483,29 @@ def why_several_ballots(case: LetterCase) -> ReasonWithValues | None:
     return Reason.SEVERAL_ELECTORS(electors=", ".join(electors))
 
 
+def why_another_answer(case: LetterCase) -> ReasonWithValues | None:
+    """No other line that is not quoted may be an answer in a word, or one of several answers."""
+    now = case.circumstances
+    for number, line in enumerate(case.read.shown_lines if case.ballot else (), start=1):
+        is_own = is_quoted(line) or line.strip() in now.no_answers or number - 1 in case.lines
+        if number in case.strays or (not is_own and may_answer(line, now.words)):
+            return Reason.ANOTHER_ANSWER(number=number)
+    return None
+
+
 def why_not_first(case: LetterCase) -> ReasonWithValues | None:
     """There is a ballot, and it is the first line, but for a greeting. In an answer to a letter that only this
     elector has, a quotation of it may be above the ballot.
     """
     flowing, ballot = case.read.body.flowing, case.ballot
     if ballot is None and not case.ballots:
-        return next(iter(case.lines_by_sender.offered.values()), Reason.NO_BALLOT)()
+        return next(iter(case.offered.values()), Reason.NO_BALLOT)()
     if ballot is None and not flowing:
         return Reason.ELSEWHERE(number=case.ballots[0].number)
-    if ballot is None or case.index in flowing:
+    if ballot is None or not {*flowing}.isdisjoint(case.lines):
         return Reason.JOINED()
-    if ballot.has_high_rank:
-        return Reason.HIGH_RANK(number=ballot.number, options=len(ballot.ranks))
+    if ballot.high_rank:
+        return Reason.HIGH_RANK(number=ballot.number, options=ballot.high_rank)
     # lines that flow are judged as they stand, and joined
     views = dict.fromkeys((frozenset(flowing), frozenset[int]()))
     return next(filter(None, (why_not_first_in(case, joined) for joined in views)), None)
@@ -365,18 +513,21 @@ def why_not_first(case: LetterCase) -> ReasonWithValues | None:
 
 def why_not_of_this_vote(case: LetterCase) -> ReasonWithValues | None:
     """Its subject has the mark of the poll, and no other; nor has a text that must be signed."""
-    own = case.circumstances.mark
+    own, marks = case.circumstances.mark, [mark for mark, _ in case.read.marks]
     signed = case.read.shown_lines if case.circumstances.is_signed else ()
-    marks = [mark for mark, _ in case.read.marks]
-    for mark in (*marks, *(mark for line in signed for mark, _ in marks_in(line))):
-        if mark != own:
-            return Reason.OTHER_MARK(mark=mark)
-    if marks:
+    there = {*marks, *(mark for line in signed for mark, _ in marks_in(line))}
+    if others := sorted(mark for mark in there if not are_alike(mark, own)):
+        return Reason.OTHER_MARK(mark=others[0])
+    if marks and there == {own}:
         return None
     subject = "".join(case.read.subject.split()).lower()
     pieces = (own[place : place + PIECE] for place in range(len(own) - PIECE + 1))
-    is_changed = any(piece in subject for piece in pieces)
+    is_changed = there > {own} or any(piece in subject for piece in pieces)
     return (Reason.CHANGED_MARK if is_changed else Reason.NO_SUBJECT_MARK)(mark=own)
+
+
+def are_alike(mark: str, other: str) -> bool:
+    return sum(one != its for one, its in zip(mark, other)) <= MISCOPIED
 
 
 RULES = (
@@ -385,6 +536,7 @@ RULES = (
     why_not_from_its_elector,
     why_not_signed_by_its_elector,
     why_several_ballots,
+    why_another_answer,
     why_not_first,
     why_not_of_this_vote,
 )
@@ -413,41 +565,39 @@ def paragraphs_of(case: LetterCase, joined: Collection[int]) -> list[list[int]]:
 
 def is_subject_of_page(case: LetterCase) -> bool:
     """Whether the subject is the one that the page of the call makes, but for marks and blanks."""
-
-    def as_compared(subject: str) -> str:
-        return "".join(subject.split()).casefold()
-
-    subject = MARKS.sub("", as_compared(case.read.subject))
-    return as_compared(subject) == as_compared(case.circumstances.subject)
+    subjects = (case.read.subject, case.circumstances.subject)
+    subject, of_page = ("".join(subject.split()).casefold() for subject in subjects)
+    return MARKS.sub("", subject) == of_page
 
 
 def why_not_first_in(case: LetterCase, joined: Collection[int]) -> ReasonWithValues | None:
     """Why the ballot is not the first line, with these lines joined to others; None if it is."""
-    letter, lines, ballot = case.read, case.read.body.lines, case.index
+    letter, lines, ballot = case.read, case.read.body.lines, case.lines
     ours = case.circumstances.our_letters.get(case.elector, ())
     is_answer = case.has_own_mark and letter.in_reply_to in ours
     is_by_page = case.has_own_mark and letter.is_new and is_subject_of_page(case)
     paragraphs = paragraphs_of(case, joined)
-    place = next(place for place, own in enumerate(paragraphs) if ballot in own)
+    places = [at for at, own in enumerate(paragraphs) if not {*own}.isdisjoint(ballot)]
+    place, last = places[0], places[-1]
     quoted = [any(is_quoted(lines[index]) for index in one) for one in paragraphs]
     first = quoted.index(True) if True in quoted[:place] else -1
-    if quoted[place] or (first >= 0 and not is_answer):
+    if any(quoted[place : last + 1]) or (first >= 0 and not is_answer):
         return Reason.QUOTED()
     if first >= 0 and not has_only_a_head(lines, paragraphs[: first + 1]):
         return Reason.MUCH_QUOTED()
-    between = [one for one in range(first + 1, place) if not quoted[one]]
-    others = [index for one in (*between, place) for index in paragraphs[one] if index != ballot]
+    between = [one for one in range(first + 1, last + 1) if not quoted[one]]
+    others = [index for one in between for index in paragraphs[one] if index not in ballot]
     # in an answer, what is beside the ballot below it is free, unless it may be the head of a
     # quotation
-    if is_answer and True not in quoted[place + 1 : place + 2]:
-        others = [index for index in others if index < ballot]
+    if is_answer and True not in quoted[last + 1 : last + 2]:
+        others = [index for index in others if index < ballot[0]]
     for index in others:
         line = lines[index] if index in joined else lines[index].rstrip()
-        if (is_answer or is_by_page) and index < ballot and line.endswith(COLONS):
+        if (is_answer or is_by_page) and index < ballot[0] and line.endswith(COLONS):
             line = line[:-1]
-        if not is_greeting(line):
+        if not is_greeting(line) or case.circumstances.words.keys() & words_in(line):
             return Reason.NOT_FIRST(number=index + 1)
-    above = [lines[index].strip() for index in others if index < ballot]
+    above = [lines[index].strip() for index in others if index < ballot[0]]
     most = 0 if letter.body.is_html and not case.has_own_mark else MAX_ABOVE
     is_much = len(above) > most or len("".join(above)) > MAX_CHARACTERS
     return Reason.MUCH_ABOVE() if is_much else None

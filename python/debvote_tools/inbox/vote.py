@@ -3,51 +3,91 @@
 import collections
 import functools
 import itertools
-import operator
 import re
-from collections.abc import Collection, Iterable, Iterator, Sequence
+from collections.abc import Collection, Iterable, Iterator, Mapping, Sequence
 from typing import NamedTuple
 
 from debvote_tools.book import queries
 from debvote_tools.book.election import Election, History
-from debvote_tools.book.queries import Envelope
 from debvote_tools.cli.console import count_of, shown_line
-from debvote_tools.cli.faults import Fault, other_format
-from debvote_tools.debvote import Finding
+from debvote_tools.cli.faults import Fault
+from debvote_tools.debvote import Finding, Findings
 from debvote_tools.files import BALLOTS_LIMIT, LINES_LIMIT
-from debvote_tools.inbox.lines import Line, differences, has_code, name_in
-from debvote_tools.text.ballots import ballot_file, ballots_in_words
+from debvote_tools.grouping import grouped
+from debvote_tools.inbox.lines import (
+    RIGHT_ANSWERS,
+    Line,
+    Names,
+    differences,
+    has_code,
+    name_in,
+)
+from debvote_tools.text.ballots import answers_in, ballot_file, line_of, part_of
 from debvote_tools.text.language import ENGLISH
 
+# the cure where lines look like a table
+IN_ORDER = "write each line as a name and its ranks in the order of the options"
 IS_CODE = " (32 digits, as in a code or an alias: a ballot has only the elector's name, and nobody may see a code)"
 
-# the reply to a line that came after the close; debvote is not asked for it
-LATE_REPLY = "late"
+# what is said of a line that is no ballot of several answers; debvote is not asked about it
+NO_FORM = Finding(
+    0,
+    "bad shape",
+    "a ballot is a name, and for each question that is answered its label and its ranks",
+)
 
-# the order of the times of ballots: a letter's own, else that of the act. Which of two ballots counts
-# the number of the envelope alone decides
-BY_TIME = operator.attrgetter("time", "number")
+# the same where one of them is answered without its label
+WITHOUT_LABEL = "a ballot here is a name and its ranks, without a label"
+
+# the reply to a line that came after the close
+LATE_REPLY = "late"
 
 # the number that makes a name different from others
 NUMBER = re.compile(r"-\d+\Z")
 
 
 class CheckedLine(NamedTuple):
-    """A line that came, how it is entered, and what debvote says of it, whenever it comes."""
+    """A line that came, how it is entered, and what debvote says of it, whenever it comes. Of a ballot of
+    several answers those that are refused are a line of their own.
+    """
 
     original: Line
     # with the changes that are allowed if debvote takes it so, and otherwise without them
     as_entered: bytes
-    # why debvote refuses the line as it is entered, and why it refuses the repaired one; None if it
-    # is a ballot
+    # why debvote refuses it; None if it is a ballot
     finding: Finding | None = None
-    finding_of_repaired: Finding | None = None
+    # why it would refuse the line with the changes, if it would for another reason
+    finding_if_changed: Finding | None = None
     # names on the roll that fit as well as the one that debvote offers
     other_names: tuple[str, ...] = ()
+    # whose name it has, if these are several
+    why_unclear: str = ""
 
     @property
     def is_ballot(self) -> bool:
         return self.finding is None
+
+    @property
+    def has_form(self) -> bool:
+        """Whether it can be entered, valid or not."""
+        return self.finding is not NO_FORM
+
+    @property
+    def lasting(self) -> Finding | None:
+        """The reason that stays after the changes that are allowed."""
+        return self.finding_if_changed or self.finding
+
+    @property
+    def changed(self) -> bytes:
+        """The whole line with what was changed of it."""
+        return (
+            self.as_entered if self.as_entered == self.original.unframed else self.original.repaired
+        )
+
+    @property
+    def answer(self) -> str | None:
+        """What the book keeps of what debvote says, without its remark on other lines."""
+        return None if self.finding is None else said_of(self.finding)
 
     @property
     def voter(self) -> str:
@@ -59,39 +99,83 @@ class CheckedLine(NamedTuple):
 
 
 class Vote:
-    """An election as it was called, and what debvote says of its lines. Stops before the call."""
+    """An election as it was called, and what debvote says of its lines. Stops before the call. Lines have
+    the labels of several questions, or answer the one of the given label without it.
+    """
 
-    def __init__(self, election: Election, history: History) -> None:
+    def __init__(self, election: Election, label: str = "") -> None:
         self.election, self.book, self.debvote = election, election.book, election.debvote
+        history = election.history()
         self.call = election.called(history)
-        # the poll as ballots are counted
-        self.poll = poll = election.sealed().counted
-        self.poll_bytes, self.option_names, self.roll = poll.as_bytes(), poll.names, poll.roll
+        # as ballots are counted
+        self.questions = questions = election.sealed().counted
+        # the one question that is answered without a label, if there is one
+        self.label, self.poll = label, questions.get(label)
+        self.roll = questions.roll
         # the roll has codes: none is printed that was not typed
         self.has_codes = bool(history.announced("codes_on_roll"))
         self.is_signed = bool(history.announced("signed"))
-        # the call says that an empty cell of a web form is a hyphen
-        self.has_form = bool(history.announced("form"))
-        self.answered: dict[bytes, str | None] = {}
+        # what debvote has said of lines
+        self.known = dict[bytes, Mapping[str, Finding]]()
         # most ballots have one of a few orders
-        self.ranks_in_words = functools.lru_cache(4096)(ballots_in_words(self.option_names))
+        self.answers_in_words = functools.lru_cache(4096)(questions.in_words())
 
     @functools.cached_property
     def names_on_roll(self) -> frozenset[str]:
         return frozenset(self.roll)
-
-    @property
-    def right_line(self) -> str:
-        ranks = ",".join(str(rank + 1) for rank in range(len(self.option_names)))
-        return f"{'CODE' if self.has_codes else self.roll[0]} {ranks}"
 
     def demand_same_call(
         self, history: History, not_done: str, cure: str = "run the command again"
     ) -> None:
         """Stops if lines were read by the poll of another call."""
         if history.call != self.call:
-            words = "the call for votes was made anew meanwhile"
-            raise Fault(None, words, cure, done=not_done)
+            raise Fault(None, "the call for votes was made anew meanwhile", cure, done=not_done)
+
+    @functools.cached_property
+    def names(self) -> Names:
+        """Codes of the roll are nobody's names."""
+        electors = () if self.has_codes else queries.electors(self.book)
+        real_names = {elector.name: elector.who for elector in electors}
+        questions, language = self.questions, self.election.language
+        labels = tuple(filter(None, questions))
+        motions = tuple(label for label in labels if questions[label].motion)
+        longest, words = questions.longest_line, questions.words(language)
+        return Names(self.names_on_roll, language.code, real_names, longest, words, labels, motions)
+
+    def as_meant(self, line: Line) -> tuple[Line, list[str]]:
+        """A line with the name on the roll of the elector who is meant by its name, and with ranks in place
+        of words; and those who may be meant, if they are several.
+        """
+        names, labels = self.names, self.names.labels
+        # of several answers each is repaired by itself: the first label may be part of the name
+        given = line.unframed if labels else line.repaired
+        text = names.with_ranks(given.decode("utf-8", "surrogateescape"))
+        name, _, answers = text.partition(" ")
+        is_right = name in names.roll and (self.has_form(given) if labels else " " not in answers)
+        if is_right and not names.words:
+            return line, []
+        is_read = not (is_right or self.has_codes or self.why_too_long(line))
+        found, unclear = names.taken_apart(text) if is_read else None, list[str]()
+        if found and found[0]:
+            name, answers = found
+            meant, longer = names.whose(name), names.longer_than(name, text)
+            unclear = sorted({*meant, *longer}) if longer or len(meant) > 1 else []
+            if labels or len(meant) == 1:
+                text = f"{meant[0] if len(meant) == 1 else name.lower()} {answers}"
+        return line._replace(repaired=text.encode("utf-8", "surrogateescape")), unclear
+
+    def why_too_long(self, line: Line) -> str | None:
+        """Why a line is no ballot, if it is longer than any."""
+        words = f"the line has {len(line.as_it_came)} bytes, and a ballot has a few dozen"
+        return words if len(line.as_it_came) > self.questions.longest_line else None
+
+    def why_not_entered(self, line: CheckedLine) -> str:
+        """Why a line is not entered, neither as a ballot nor as refused; empty if it is."""
+        if line.has_form:
+            return line.why_unclear
+        is_none = f"`{shown_line(line.original.as_reported)}` is no ballot"
+        hint = NO_FORM.hint if self.poll is None else WITHOUT_LABEL
+        return line.why_unclear or self.why_too_long(line.original) or f"{is_none}: {hint}"
 
     def electors_of(self, lines: Sequence[bytes]) -> list[int | None]:
         """Of each line the elector whose name it begins with."""
@@ -99,96 +183,104 @@ class Vote:
         numbers = queries.elector_numbers(self.book, self.names_on_roll.intersection(names))
         return list(map(numbers.get, names))
 
-    def later_ballots(self, late: Sequence[Envelope]) -> dict[int, Envelope]:
-        """By the number of a late envelope the ballot of its elector with the latest time of those
-        that are not late, if it is later. A line that debvote refuses is no ballot.
-        """
-        in_time = {
-            one.number: queries.envelopes(
-                self.book, "elector = ?", one.elector, view=queries.IN_TIME
-            )
-            for one in late
-        }
-        answers = self.answers([line.line for lines in in_time.values() for line in lines])
-        found = {}
-        for one in late:
-            ballots = [line for line in in_time[one.number] if answers[line.line] is None]
-            last = max(ballots, key=BY_TIME, default=one)
-            if BY_TIME(last) > BY_TIME(one):
-                found[one.number] = last
-        return found
-
     # ---- what debvote says
     def checked_lines(self, lines: Sequence[Line]) -> list[CheckedLine]:
-        """Lines with what debvote says of them, none of them empty. It is started twice at most.
+        """Lines with what debvote says of them, none of them empty. It is started at most once, unless
+        there are more than it takes.
 
-        If the repaired line is refused, the line goes in as it came, but without a byte-order mark
-        and carriage return. It is refused too, since repairs leave a right line as it is; the
+        A name that is that of one elector alone, on the roll or really, counts as the one on the
+        roll. If the repaired line is refused, the line goes in as it came, but without a byte-order
+        mark and carriage return. It is refused too, since repairs leave a right line as it is; the
         reason may be another one.
         """
-        refused = self.findings([line.repaired for line in lines])
-        unrepaired = [
-            line.unframed
-            for line in lines
-            if line.repaired in refused and line.unframed != line.repaired
-        ]
-        refused_unrepaired = self.findings(unrepaired)
-        found = []
-        for line in lines:
-            finding = refused.get(line.repaired)
-            if finding is None:
-                found.append(CheckedLine(line, line.repaired))
-            else:
-                now = refused_unrepaired.get(line.unframed, finding)
-                others = self.other_names(now)
-                found.append(CheckedLine(line, line.unframed, now, finding, others))
-        return found
+        meant = [self.as_meant(line) for line in lines]
+        texts = [line.repaired for line, _ in meant]
+        texts += [line.unframed for line, _ in meant if line.unframed != line.repaired]
+        refused = self.refusals(texts)
+        return [one for line, unclear in meant for one in self.checked(line, unclear, refused)]
+
+    def checked(
+        self, line: Line, unclear: Sequence[str], refused: Mapping[bytes, Mapping[str, Finding]]
+    ) -> Iterator[CheckedLine]:
+        """A line, or of several answers the valid ones, and those that are refused for one reason. One
+        that has not their form, or whose elector is not known, is never entered.
+        """
+        why = f"it has the name of {ENGLISH.joined(list(unclear))}" if unclear else ""
+        its = {"": NO_FORM} if why and self.names.labels else refused[line.repaired]
+        if not its:
+            yield CheckedLine(line, line.repaired)
+        elif changed := its.get(""):
+            now = refused[line.unframed].get("", changed)
+            is_same = (now.word, now.hint) == (changed.word, changed.hint)
+            others = self.other_names(now)
+            yield CheckedLine(line, line.unframed, now, None if is_same else changed, others, why)
+        else:
+            name, _, answers = line.repaired.decode("ascii").partition(" ")
+            by_finding = grouped(
+                (its.get(label), (label, one)) for label, one in answers_in(answers).items()
+            )
+            for finding in sorted(by_finding, key=lambda finding: finding is not None):
+                text = line_of(name, dict(by_finding[finding])).encode()
+                yield CheckedLine(line, text, finding, None, self.other_names(finding))
 
     def answers(self, lines: Sequence[bytes]) -> dict[bytes, str | None]:
-        """What debvote says of each line, such as `bad rank count: ..`; None for a valid ballot. It
-        gets as many lines at once as it takes, and none twice. What it remarks on other lines is
-        left out.
+        """What debvote says of each line, such as `bad rank count: ..`; None for a valid ballot. What
+        it remarks on other lines is left out.
         """
-        for part in in_parts([line for line in dict.fromkeys(lines) if line not in self.answered]):
-            self.answered.update(dict.fromkeys(part))
-            for line, finding in self.findings(part).items():
-                self.answered[line] = f"{finding.word}: {finding._replace(remark='').hint}"
-        return {line: self.answered[line] for line in lines}
+        refused = self.refusals(list(dict.fromkeys(lines)))
+        return {line: next(map(said_of, refused[line].values()), None) for line in lines}
 
-    def findings(self, lines: Sequence[bytes]) -> dict[bytes, Finding]:
-        """Why debvote refuses some of these lines. If the roll has codes, none is offered."""
-        if not lines:
-            return {}
-        refused = self.debvote.findings(self.poll_bytes, ballot_file(lines)).refused
-        if self.has_codes:
-            refused = [finding._replace(near=(), remark="") for finding in refused]
-        return {lines[finding.line - 1]: finding for finding in refused}
+    def refusals(self, lines: Sequence[bytes]) -> Mapping[bytes, Mapping[str, Finding]]:
+        """Why debvote refuses answers in lines, by the labels of their questions; nothing of a ballot. It
+        gets as many at once as it takes, and none of which it was asked before, since the sealed polls
+        never change. If the roll has codes, none is offered.
+        """
+        for part in in_parts([line for line in lines if line not in self.known]):
+            new: dict[bytes, dict[str, Finding]] = {
+                line: {} if self.has_form(line) else {"": NO_FORM} for line in part
+            }
+            for label, its, found in self.asked(part):
+                for finding in found.refused:
+                    bare = finding._replace(line=0)
+                    if self.has_codes:
+                        bare = bare._replace(near=(), remark="")
+                    new[its[finding.line - 1]][label] = bare
+            self.known |= new
+        return self.known
 
-    def other_names(self, finding: Finding) -> tuple[str, ...]:
+    def has_form(self, line: bytes) -> bool:
+        """Whether a line can be a ballot of this vote, written as it is entered."""
+        if not self.names.labels:
+            return True
+        found = RIGHT_ANSWERS.fullmatch(line.decode("ascii", "replace"))
+        labels = found[2].split(" ")[1::2] if found else []
+        return labels != [] and labels == [label for label in self.questions if label in labels]
+
+    def are_table(self, lines: Sequence[Line]) -> bool:
+        """Whether lines look like a table to debvote, as they came; one line alone is none."""
+        given = [line.unframed for line in lines]
+        return len(lines) > 1 and any(found.are_table for *_, found in self.asked(given))
+
+    def asked(self, lines: Sequence[bytes]) -> Iterator[tuple[str, Sequence[bytes], Findings]]:
+        """What debvote says of the answers to each question: its label, and the lines with one."""
+        right = [line for line in lines if self.has_form(line)]
+        for label, poll in self.questions.items():
+            parts = [(line, part) for line in right if (part := part_of(line, label)) is not None]
+            if parts:
+                ballots = ballot_file(part for _, part in parts)
+                found = self.debvote.findings(poll.as_bytes(), ballots)
+                yield label, [line for line, _ in parts], found
+
+    def other_names(self, finding: Finding | None) -> tuple[str, ...]:
         """All names that fit as well as those that debvote offers: `ada-2` beside `ada`."""
-        bare_names = dict.fromkeys(NUMBER.sub("", near) for near in finding.near)
+        offered = finding.near if finding else ()
+        bare_names = dict.fromkeys(NUMBER.sub("", near) for near in offered)
         alike = (name for bare in bare_names for name in self.names_by_bare_name[bare])
-        return tuple(name for name in alike if name not in finding.near)
+        return tuple(name for name in alike if name not in offered)
 
     @functools.cached_property
     def names_by_bare_name(self) -> dict[str, list[str]]:
-        by_bare_name: dict[str, list[str]] = collections.defaultdict(list)
-        for name in self.roll:
-            by_bare_name[NUMBER.sub("", name)].append(name)
-        return by_bare_name
-
-    def replies(self, before: Sequence[bytes], new: Sequence[bytes]) -> list[str]:
-        """The reply to each new line, after the lines before."""
-        if not new:
-            return []
-        replies = self.debvote.replies(self.poll_bytes, ballot_file([*before, *new]))
-        if len(replies) != len(before) + len(new):
-            raise other_format("the list of replies of this debvote")
-        return replies[len(before) :]
-
-    def standing(self, lines: Sequence[bytes]) -> dict[str, str]:
-        """The ranks of the ballots that stand if these lines are all, by elector."""
-        return self.debvote.standing(self.poll_bytes, ballot_file(lines)) if lines else {}
+        return grouped((NUMBER.sub("", name), name) for name in self.roll)
 
     # ---- words
     def report_of_lines(
@@ -197,11 +289,10 @@ class Vote:
         """Each line that went in, or would, by the number of its envelope and the reply to it."""
         yield from frame_words(line.original for line in lines)
         for number, reply, line in zip(numbers, replies, lines):
-            if line.original.as_it_came != line.as_entered:
+            if line.original.as_it_came != line.changed:
                 yield from change_words(line)
             yield f"{number} {reply}  {self.in_words(line, reply)}"
-            finding, other = line.finding, line.finding_of_repaired
-            if finding and other and (other.word, other.hint) != (finding.word, finding.hint):
+            if other := line.finding_if_changed:
                 written = f"written as `{shown_line(line.original.repaired)}` it is refused too"
                 yield f"  it goes in as it came; {written}: {other.word}: {other.hint}"
         if not all(line.is_ballot for line in lines):
@@ -222,13 +313,54 @@ class Vote:
         return said + (IS_CODE if is_code else "")
 
     def ballot_in_words(self, ballot: str) -> str:
-        voter, _, ranks = ballot.partition(" ")
-        return f"{voter}: {self.ranks_in_words(ranks)}"
+        voter, _, answers = ballot.partition(" ")
+        return f"{voter}: {self.answers_in_words(answers)}"
+
+    @property
+    def right_line(self) -> str:
+        right = self.questions.line("CODE" if self.has_codes else self.roll[0], str)
+        part = part_of(right.encode(), self.label)
+        return right if part is None else part.decode()
 
     def right_words(self) -> str:
+        if self.poll is None:
+            ranks = "its label and a rank or a hyphen for each option"
+            return f"A valid line: {self.right_line} (an elector of the roll, and for each question that is answered {ranks})"
         name = "a code of the roll" if self.has_codes else "an elector of the roll"
-        ranks = f"{len(self.option_names)} ranks with commas between, a rank or a hyphen for each option"
+        ranks = (
+            f"{len(self.poll.names)} ranks with commas between, a rank or a hyphen for each option"
+        )
         return f"A valid line in this poll: {self.right_line} ({name}, a space, and {ranks})"
+
+
+# what is said of an answer that is the first one, or another one, of its elector to its question
+COUNTED, REPLACED = "counted", "replaced"
+# the same of a ballot of which the answers differ
+IN_PART = f"{REPLACED} in part"
+
+
+def replies_to(
+    lines: Iterable[tuple[bytes, str | None]], counting: Mapping[str, str], *, is_late: bool
+) -> Iterator[str]:
+    """The reply to each line, with debvote's answer to it, unless it is late: the word with which it
+    is refused; or whether a ballot is counted, or has replaced one of its elector, by what counts of
+    electors and the lines above. If that differs by question, it says so: `A replaced, B counted`.
+    """
+    having = {name: {*answers_in(answers)} for name, answers in counting.items()}
+    for line, answer in lines:
+        if refused := LATE_REPLY if is_late else (answer or "").partition(":")[0]:
+            yield refused
+            continue
+        name, _, answers = line.decode("ascii").partition(" ")
+        there = having.setdefault(name, set())
+        said = {label: REPLACED if label in there else COUNTED for label in answers_in(answers)}
+        is_same = len({*said.values()}) == 1
+        yield said.popitem()[1] if is_same else ", ".join(map(" ".join, said.items()))
+        there.update(answers_in(answers))
+
+
+def said_of(finding: Finding) -> str:
+    return f"{finding.word}: {finding._replace(remark='').hint}"
 
 
 def envelope_words(numbers: Collection[int]) -> str:
@@ -250,45 +382,50 @@ def in_parts(lines: Sequence[bytes]) -> Iterator[list[bytes]]:
             part, size = [], 0
         part.append(line)
         size += len(line) + 1
-    yield part
+    if part:
+        yield part
 
 
 def frame_words(lines: Iterable[Line]) -> Iterator[str]:
     """The marks and line ends of Windows that were removed, once a file."""
-    changed = [line for line in lines if line.as_it_came != line.repaired]
-    marked = {line.file_name for line in changed if line.had_mark}
-    returns = collections.Counter(line.file_name for line in changed if line.had_return)
-    for name in dict.fromkeys(line.file_name for line in changed):
-        if name in marked:
+    changed = (one for one in lines if one.as_it_came != one.repaired)
+    for name, its in grouped((line.file_name, line) for line in changed).items():
+        if any(line.had_mark for line in its):
             yield f"{name}: it begins with a mark that Windows writes (byte-order mark); it was removed"
-        if count := returns[name]:
+        if count := sum(line.had_return for line in its):
             verb, they = ("ends", "it") if count == 1 else ("end", "them")
             yield f"{name}: {count_of(count, 'line')} {verb} as Windows ends {they} (carriage return); that was removed"
 
 
 def change_words(line: CheckedLine) -> Iterator[str]:
-    before = line.original.as_reported
-    if before != line.as_entered:
-        how = ", ".join(differences(before, line.as_entered))
-        yield f"{line.original.where}: `{shown_line(before)}` was changed to `{shown_line(line.as_entered)}` ({how})"
+    before, after = line.original.as_reported, line.changed
+    if before != after:
+        how = ", ".join(differences(before, after)) or "labels"
+        yield f"{line.original.where}: `{shown_line(before)}` was changed to `{shown_line(after)}` ({how})"
 
 
 def summary(replies: Sequence[str]) -> str:
-    counts = collections.Counter(replies).items()
-    listed = ", ".join(f"{number} {reply}" for reply, number in counts)
-    return count_of(len(replies), "line") + (f" ({listed})" if listed else "")
+    """How many lines there are, by the replies to them; those to single answers come last."""
+    parts = [reply.split(", ") for reply in replies if ", " in reply]
+    whole = collections.Counter(reply for reply in replies if ", " not in reply)
+    listed = [f"{number} {reply}" for reply, number in whole.items()]
+    if parts:
+        answers = sorted(collections.Counter(itertools.chain(*parts)).items())
+        said = ", ".join(f"{answer} {number}" for answer, number in answers)
+        listed.append(f"{len(parts)} {IN_PART}: {said}")
+    return count_of(len(replies), "line") + (f" ({', '.join(listed)})" if listed else "")
 
 
 def standing_words(
     vote: Vote, before: dict[str, str], after: dict[str, str], none: str
 ) -> list[str]:
     """Whose ballot is another one afterwards, or is gone (`none`); with codes only how many."""
-    changed = {name: after.get(name) for name, ranks in before.items() if after.get(name) != ranks}
+    changed = {name: after.get(name) for name, its in before.items() if after.get(name) != its}
     gone = list(changed.values()).count(None)
     if vote.has_codes:
         said = f"  {count_of(gone, 'elector')}: {none}; {count_of(len(changed) - gone, 'elector')}: an earlier ballot"
         return [said] if changed else []
     return [
-        f"  {name}: {f'{vote.ranks_in_words(ranks)}, as before' if ranks else none}"
-        for name, ranks in changed.items()
+        f"  {name}: {f'{vote.answers_in_words(answers)}, as before' if answers else none}"
+        for name, answers in changed.items()
     ]

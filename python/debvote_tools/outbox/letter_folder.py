@@ -111,7 +111,13 @@ def letter_files(due: LettersDue, letters: Sequence[OutgoingLetter]) -> dict[str
     if printed:
         call, style = due.composer.call_data, resources(PACKAGE, "letter.css")
         files[TO_PRINT] = render_page(
-            PACKAGE, "print.html", call.language, style=style, title=call.poll.name, letters=printed
+            PACKAGE,
+            "print.html",
+            call.language,
+            style=style,
+            title=call.questions.name,
+            is_secret=call.questions.is_secret,
+            letters=printed,
         )
     return files
 

@@ -1,5 +1,6 @@
-"""Whom the call has not reached, and who gets it printed. `status` says it too, so nothing is
-imported here that reads letters or makes pages.
+"""Whom the call has reached, and who gets it printed: the one answer for `status`, for each kind of
+letters and for what a letter after an extension says. `status` asks it, so nothing is imported here
+that reads letters or makes pages.
 """
 
 from collections.abc import Sequence
@@ -13,44 +14,51 @@ from debvote_tools.poll.announced import address_in
 
 NO_LETTER, WAS_REFUSED, CAME_BACK = "no letter", "refused", "came back"
 
-# an elector, why the call has not reached them, and what the server said
+# an elector, why the call has not reached them, by what came last, and what the server said
 Unreached = tuple[Elector, str, str]
 
 
+def unreached(election: Election, history: History, *, without: int = 0) -> list[Unreached]:
+    """The electors whom the call has not reached: to whom no letter of it went out with their own
+    mark of now, at their address of now or on paper; whose address a server refused, and took no
+    letter since; and from whose address a letter came back, unless a ballot of theirs came by
+    letter since. `without` is an act whose letters reach nobody yet.
+    """
+    electors, call = queries.electors(election.book), election.called(history).number
+    found = outgoing.reached(election.book, call, without)
+    back, not_reached = came_back(election, electors, call), list[Unreached]()
+    for elector in electors:
+        place = elector.number, address_in(elector.addresses)
+        act, state, reply, has_call = found.get(place, (0, "", "", 0))
+        failures = [(act, WAS_REFUSED, reply)] if state == REFUSED else []
+        failures += [(back[place], CAME_BACK, "")] if place in back else []
+        if failures or not has_call:
+            _, why, said = max(failures, default=(0, NO_LETTER, ""))
+            not_reached.append((elector, why, said))
+    return not_reached
+
+
 def reached_by_call(election: Election, history: History) -> tuple[list[Unreached], list[str]]:
-    """The electors whom the call has not reached, and the names of those who get it printed; none
-    before `letters call`. Until a letter is taken nobody is reached to whom none was written since
-    the call, or whose last one the server refused, or that came back.
+    """The electors with an address whom the call has not reached, and the names of those who get it
+    printed; none before `letters call`.
     """
     runs = [act for act in history.since_call("letters out") if act.detail["kind"] == "call"]
     if history.call is None or history.has_codes_on_roll or not runs:
         return [], []
     electors = queries.electors(election.book)
-    states = outgoing.last_states(election.book, history.call.number)
-    back, unreached, printed = came_back(election, electors), list[Unreached](), list[str]()
-    for elector in electors:
-        address = address_in(elector.addresses)
-        act, state, reply = states.get((elector.number, address), (None, "", ""))
-        if not address:
-            printed.append(elector.name)
-        elif act is None:
-            unreached.append((elector, NO_LETTER, ""))
-        elif state == REFUSED:
-            unreached.append((elector, WAS_REFUSED, reply))
-        elif back.get(elector.number, 0) > act:
-            unreached.append((elector, CAME_BACK, ""))
-    return unreached, printed
+    printed = [one.name for one in electors if not address_in(one.addresses)]
+    return [one for one in unreached(election, history) if address_in(one[0].addresses)], printed
 
 
-def came_back(election: Election, electors: Sequence[Elector]) -> dict[int, int]:
-    """The last act with which a letter came back, by elector: one with their own mark, from no
-    address of theirs.
+def came_back(
+    election: Election, electors: Sequence[Elector], call: int
+) -> dict[tuple[int, str], int]:
+    """From which addresses of electors letters came back since the call, each with the last act
+    with which one did. Such a letter is from no address of its elector.
     """
-    found: dict[int, int] = {}
-    returned = queries.returned_letters(election.book)
-    by_mark = {elector.mark: elector for elector in electors if elector.mark} if returned else {}
-    for act, sender, marks in returned:
-        for elector in filter(None, map(by_mark.get, marks)):
-            if sender not in map(address_key, elector.addresses):
-                found[elector.number] = act
+    found, on_list = dict[tuple[int, str], int](), {elector.number: elector for elector in electors}
+    for act, sender, number, address in outgoing.returned(election.book, call):
+        addresses = on_list[number].addresses if number in on_list else ()
+        if sender not in map(address_key, addresses):
+            found[number, address_in(addresses) if address is None else address] = act
     return found

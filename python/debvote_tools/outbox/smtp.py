@@ -6,14 +6,13 @@ import contextlib
 import dataclasses
 import ipaddress
 import re
-import signal
 import smtplib
 import ssl
 from collections.abc import Callable, Iterable, Iterator
-from types import FrameType
 
 from debvote_tools.book.outgoing import REFUSED, TAKEN, OutgoingLetter
 from debvote_tools.cli.faults import Fault, Status
+from debvote_tools.patience import within
 
 # in seconds: for each answer of the server, and for the whole conversation about a letter
 PATIENCE, WHOLE = 60, 300
@@ -84,12 +83,12 @@ def send_all(
 ) -> Iterator[OutgoingLetter]:
     """Sends letters in their order, and yields each once it is noted with what the server said."""
     mailer = Mailer(server, sender)
-    with in_time():
+    with within(WHOLE):
         mailer.connection()
     try:
         for letter, data in letters:
             try:
-                with in_time():
+                with within(WHOLE):
                     tried = mailer.send(letter, data)
             except NotNow as why:
                 cure = "run the command again later"
@@ -98,23 +97,6 @@ def send_all(
             yield tried
     finally:
         mailer.close()
-
-
-@contextlib.contextmanager
-def in_time() -> Iterator[None]:
-    """Ends a conversation with a server that answers now and then, but never comes to an end."""
-
-    def stop(number: int, frame: FrameType | None) -> None:
-        raise TimeoutError(f"no end after {WHOLE} seconds")
-
-    before = signal.signal(signal.SIGALRM, stop)
-    # again and again: a letter is tried twice
-    signal.setitimer(signal.ITIMER_REAL, WHOLE, WHOLE)
-    try:
-        yield
-    finally:
-        signal.setitimer(signal.ITIMER_REAL, 0)
-        signal.signal(signal.SIGALRM, before)
 
 
 class Mailer:

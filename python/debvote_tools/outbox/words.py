@@ -9,7 +9,7 @@ import dataclasses
 import datetime
 import functools
 import re
-from collections.abc import Collection, Sequence
+from collections.abc import Collection, Iterator, Sequence
 
 from debvote_tools.book.queries import Elector
 from debvote_tools.inbox.rules import Outcome
@@ -18,7 +18,7 @@ from debvote_tools.inbox.reasons import for_elector
 from debvote_tools.poll.announced import address_in
 from debvote_tools.poll.call import CallData
 from debvote_tools.poll.plain_names import without_accents
-from debvote_tools.text.ballots import faults_of, without_ballots
+from debvote_tools.text.ballots import faults_of
 from debvote_tools.text.language import marked
 from debvote_tools.text.rendering import one_line, render_letter
 from debvote_tools.text.times import time_in_words
@@ -49,7 +49,7 @@ OF_BALLOT = {
         "Your ballot of {time} has arrived. It counts unless you send a later one."
     ),
     Became.REPLACED: marked(
-        "Your ballot of {time} has arrived. A later ballot of yours counts instead."
+        "Your ballot of {time} has arrived. Another ballot of yours, which was entered after it, counts instead."
     ),
     Became.LATE: marked(
         "Your ballot of {time} has arrived. It was entered after the close, so it is late and does not count."
@@ -65,8 +65,11 @@ OF_BALLOT = {
     ),
 }
 AT_THE_END = marked("Your ballot of {time} has arrived, and it counts.")
-# what became of a letter: whether it came from an address of the elector, and whether it was set
-# aside
+NOT_ALL = marked(
+    "These of its answers do not count; others of yours, which were entered after them, count instead: {questions}."
+)
+# what became of a letter: whether it came from an address of the elector, and whether nobody looks
+# at it any more
 OF_LETTER = {
     (True, False): marked(
         "Your letter of {time} has arrived. No ballot from it is entered yet: the secretary has to look at it first."
@@ -81,6 +84,23 @@ OF_LETTER = {
 }
 
 
+# the same of a ballot that came by the page of the vote: whether by the link of the elector
+OF_RECORD = {
+    (True, False): marked(
+        "A ballot of {time} came by the page of the vote, with your link. It is not entered yet: the secretary has to look at it first."
+    ),
+    (True, True): marked(
+        "A ballot of {time} came by the page of the vote, with your link. It was not entered."
+    ),
+    (False, False): marked(
+        "A ballot in your name came by the page of the vote, but not with your present link. It waits until the secretary has looked at it."
+    ),
+    (False, True): marked(
+        "A ballot in your name came by the page of the vote, but not with your present link. The secretary has set it aside."
+    ),
+}
+
+
 @dataclasses.dataclass(frozen=True)
 class Composer:
     """Makes all letters of a run. After the end nobody is invited to vote."""
@@ -90,19 +110,30 @@ class Composer:
     electors: Sequence[Elector] = ()
     # the acts that entered what the secretary typed for a letter
     typed_acts: Collection[int] = ()
+    # the letters that are records of the box
+    records: Collection[int] = ()
 
     def subject(self, kind: str, *, is_extension: bool = False) -> str:
         """The subject of a kind of letters, before the mark that ends it."""
         said = EXTENSION if is_extension else SUBJECTS[kind]
-        return self.call_data.language.say(said, title=one_line(self.call_data.poll.name))
+        return self.call_data.language.say(said, title=one_line(self.call_data.questions.name))
 
-    def call_letter(self, elector: Elector, *, is_extension: bool) -> str:
-        """The call; or that it ends later, which repeats no code. On paper it has at most two
-        sides: if the texts about the options are too long for them, it says where they are.
+    def call_letter(
+        self, elector: Elector, *, is_extension: bool, earlier: Sequence[str] = ()
+    ) -> str:
+        """The call; or that it ends later, which repeats no code. A code that went to earlier
+        addresses is told as such. On paper it has at most two sides: if the texts about the options
+        are too long for them, it says where they are.
         """
         for are_texts_elsewhere in (False, True):
-            more = {"is_extension": is_extension, "are_texts_elsewhere": are_texts_elsewhere}
-            text = self.rendered("debvote_tools.poll", "call.txt", elector, **more)
+            text = self.rendered(
+                "debvote_tools.poll",
+                "call.txt",
+                elector,
+                is_extension=is_extension,
+                are_texts_elsewhere=are_texts_elsewhere,
+                earlier=earlier,
+            )
             if not is_on_paper(elector) or text.count("\n") <= TWO_SIDES:
                 break
         return text
@@ -126,7 +157,7 @@ class Composer:
         return self.text("receipts.txt", elector, fates=fates, has_right_line=has_right_line)
 
     def text(self, template: str, elector: Elector, **values: object) -> str:
-        ways = {"said_of": self.said_of, "quotation_of": quotation_of}
+        ways = {"said_of": self.said_of, "quotation_of": self.quotation_of}
         return self.rendered(PACKAGE, template, elector, **ways, **values)
 
     def rendered(self, package: str, template: str, elector: Elector, **values: object) -> str:
@@ -134,17 +165,20 @@ class Composer:
         greeting = call.language.say(
             "Dear {name},", name=one_line(elector.who)[:200] or elector.name
         )
-        own = {"call": call, "elector": elector, "greeting": greeting, "has_texts": False}
-        own |= {
+        own = {
+            "call": call,
+            "elector": elector,
+            "greeting": greeting,
+            "has_texts": False,
             "own_words": "",
             "kept": "",
             "is_titled": False,
             "is_on_paper": is_on_paper(elector),
+            # who has no address may not see the page, either
+            "is_whole": call.at is None or is_on_paper(elector),
         }
-        # who has no address may not see the page, either
-        own["is_whole"] = call.at is None or is_on_paper(elector)
         text = render_letter(package, template, call.language, **own, **values)
-        return without_ballots(text, len(call.poll.names), self.is_name)
+        return call.questions.without_ballots(text, self.is_name, call.words)
 
     def is_name(self, word: str) -> bool:
         """Whether a word is a name on the roll, or ends one or a real name, in whatever case."""
@@ -164,18 +198,17 @@ class Composer:
         """Says what became of something that came, with its time in the zone in which the end was
         announced, and what is wrong with it.
         """
-        language, zone = (
-            self.call_data.language,
-            self.call_data.until.tzinfo if self.call_data.until else datetime.UTC,
-        )
+        language = self.call_data.language
+        zone = self.call_data.until.tzinfo if self.call_data.until else datetime.UTC
         if not isinstance(fate.became, Became):
-            said = OF_LETTER[fate.is_own, fate.became is Outcome.SET_ASIDE]
+            is_done = fate.became in (Outcome.SET_ASIDE, Outcome.OLDER)
+            of_kind = OF_RECORD if fate.letter and fate.letter.read.link else OF_LETTER
+            said = of_kind[fate.is_own, is_done]
         else:
             is_final = self.is_over and fate.became is Became.COUNTS
             said = AT_THE_END if is_final else OF_BALLOT[fate.became]
         sentences = [language.say(said, time=time_in_words(fate.time.astimezone(zone), language))]
-        if fate.envelope is not None and fate.envelope.act in self.typed_acts:
-            sentences.append(language.say("The secretary typed it, by a letter that came."))
+        sentences += self.more_of(fate)
         if fate.letter is not None and fate.is_own and fate.letter.reason is not None:
             # not the line itself: it may be another's ballot, or have a code
             near = (
@@ -197,11 +230,22 @@ class Composer:
             sentences += faults_of(fate.answer, name, language)
         return " ".join(sentences)
 
+    def more_of(self, fate: Fate) -> Iterator[str]:
+        """What of a ballot does not count, and how it came."""
+        language = self.call_data.language
+        if fate.replaced:
+            named = list(map(self.call_data.questions.titled, fate.replaced))
+            yield language.say(NOT_ALL, questions=language.joined(named))
+        if fate.envelope is not None and fate.envelope.letter in self.records:
+            yield language.say("It came by the page of the vote.")
+        if fate.envelope is not None and fate.envelope.act in self.typed_acts:
+            yield language.say("The secretary typed it, by a letter that came.")
 
-def quotation_of(fate: Fate) -> str:
-    """A refused line behind a bar, with which it is no ballot; empty if it may have words."""
-    line = fate.envelope.line if fate.envelope is not None and fate.answer is not None else b""
-    return f"|{line.decode()}" if QUOTED.fullmatch(line) else ""
+    def quotation_of(self, fate: Fate) -> str:
+        """A refused line behind a bar, with which it is no ballot; empty if it may have words."""
+        line = fate.envelope.line if fate.envelope is not None and fate.answer is not None else b""
+        is_quoted = self.call_data.questions.is_several or QUOTED.fullmatch(line)
+        return f"|{line.decode()}" if line and is_quoted else ""
 
 
 def is_on_paper(elector: Elector) -> bool:

@@ -1,5 +1,6 @@
-// Makes the line of a ballot from the name and the ranks that are chosen on the page, and says it in words. In a secret vote the page
-// asks for no name, and the line has a gap in its place: whoever can change the page learns what is typed into it.
+// Makes the line of a ballot from the name and the ranks that are chosen on the page, and says it in words; with several questions its
+// lines are the name, and for each question that is answered its label and ranks. In a secret vote the page asks for no name, and the
+// line has a gap in its place: whoever can change the page learns what is typed into it.
 // It counts nothing and asks nobody. All texts of the poll are read in the page, and written as texts, never as markup.
 "use strict";
 
@@ -8,6 +9,8 @@
   const OWN_MARK = /^[2-9a-hj-km-np-z]{10}$/;
   // mail programs break longer lines at their space
   const MAIL_LIMIT = 72;
+  // in characters; longer links are cut off on their way
+  const LINK_LIMIT = 2000;
   const UNRANKED = "-";
 
   // each id of the page has a capital letter, and no elector's name has one
@@ -18,9 +21,15 @@
   const sentence = (key, places = {}) => words[key].replace(/\{([a-z]+)\}/g, (all, place) => places[place]);
   // not in a secret vote
   const nameInput = byId("Name");
-  const names = [...form.querySelectorAll(".option .name")].map((node) => node.textContent);
-  // each is a list, or has a button for each rank
-  const ranks = [...form.querySelectorAll(".rank")];
+  const sections = [...form.querySelectorAll(".question")];
+  const questions = (sections.length > 0 ? sections : [form]).map((node) => ({
+    // empty if there is one question
+    label: node.dataset.label ?? "",
+    names: [...node.querySelectorAll(".option .name")].map((name) => name.textContent),
+    // each is a list, or has a button for each rank, or in a motion for each answer, which makes both ranks
+    ranks: [...node.querySelectorAll(".rank")],
+    said: node.querySelector("ul"),
+  }));
   // the names on the roll, and the real names beside them, where the page shows them
   const electors = [...document.querySelectorAll(".roll li")].map((item) => [...item.children].map((part) => part.textContent));
   const roll = electors.map(([name]) => name);
@@ -28,16 +37,23 @@
   const unmarked = document.querySelectorAll(".unmarked");
   // the name and the own mark that the address of the page has
   let linked = {};
+  // the ballot that the page shows; empty while something is missing
+  let ballot = "";
+
+  function element(tag, ...inner) {
+    const node = document.createElement(tag);
+    node.append(...inner);
+    return node;
+  }
 
   // A text that has not changed is not written again, so that a screen reader does not read it again.
-  function say(id, ...nodes) {
-    const made = document.createElement("p");
-    made.append(...nodes);
-    const node = byId(id);
+  function say(place, ...nodes) {
+    const made = element("p", ...nodes);
+    const node = typeof place === "string" ? byId(place) : place;
     if (node.textContent !== made.textContent || node.children.length !== made.children.length) node.replaceChildren(...made.childNodes);
   }
 
-  // ---------------------------------------------------------------- the name
+  // ---- the name
   const find = finderOf(electors);
 
   // The name on the roll that what was typed plainly is, if there is one; and the names that are suggested.
@@ -69,127 +85,114 @@
 
   // The elector and the own mark of a personal link, if the roll has such a name.
   function readLink() {
-    const [name, own = ""] = location.hash.slice(1).toLowerCase().split("/");
+    const [name, own = ""] = placeNamed().toLowerCase().split("/");
     if (nameInput === null || !NAME.test(name) || (roll.length > 0 && !roll.includes(name))) return;
     linked = { name, own: OWN_MARK.test(own) ? own : undefined };
     nameInput.value = name;
+    say("Linked", name);
+    askName(false);
     update();
   }
 
-  // ---------------------------------------------------------------- the ranks in words
-  // The name of an option with its number, as it stands in a sentence.
-  function optionNode(option) {
-    const node = document.createElement("b");
-    node.dataset.option = option + 1;
-    // a name that is written from right to left turns nothing around it
-    node.dir = "auto";
-    node.textContent = sentence("option", { number: option + 1, name: names[option] });
-    return node;
+  // Shows the field for the name, or whose the personal link is.
+  function askName(isAsked) {
+    byId("Who").hidden = !isAsked;
+    byId("You").hidden = isAsked;
   }
 
-  // Some options in a sentence: "Option 1: A, Option 2: B and Option 3: C".
-  function joined(options) {
-    const nodes = options.map(optionNode);
-    const last = nodes.pop();
-    if (nodes.length === 0) return [last];
-    const entries = nodes.flatMap((node, place) => (place === 0 ? [node] : [", ", node]));
-    return nodesOf(words.and, { entries, last: [last] });
+  // ---- the ranks in words
+  // The whole ballot in its order, as the result shows it: each option behind its place, those that are not ranked last.
+  function ballotNodes(given, names) {
+    const steps = [...new Set(given)].filter((rank) => rank !== UNRANKED).sort((a, b) => a - b);
+    return [...steps, UNRANKED].flatMap((rank, step) => {
+      const options = given.flatMap((other, option) => (other === rank ? [option] : []));
+      return options.map((option) => {
+        const name = element("bdi", names[option]);
+        name.dataset.option = option + 1;
+        return element("li", element("b", rank === UNRANKED ? "–" : String(step + 1)), "\u00a0", name);
+      });
+    });
   }
 
-  // What the ranks say, as texts and names: "B; then equally A and C; not ranked: D".
-  function ballotNodes(given) {
-    const optionsOf = (rank) => given.flatMap((other, option) => (other === rank ? [option] : []));
-    const steps = [...new Set(given)].filter((rank) => rank !== UNRANKED).sort((a, b) => a - b).map(optionsOf);
-    const said = steps
-      .map((options) => (options.length === 1 ? joined(options) : nodesOf(words.equally, { options: joined(options) })))
-      .reduce((before, step) => nodesOf(words.then, { before, step }));
-    const unranked = optionsOf(UNRANKED);
-    return unranked.length === 0 ? said : nodesOf(words.unranked, { ranked: said, unranked: joined(unranked) });
-  }
-
-  // ---------------------------------------------------------------- what the page shows
+  // ---- what the page shows
   // The subject ends with the mark of the poll, and with the own mark of the elector whose link this is; in a letter that has to be
   // signed the mark stands below the ballot, too.
-  function mailTo(line, own) {
-    const { title, mark, to } = form.dataset;
+  function mailTo(own) {
+    const { title, mark, to, signed } = form.dataset;
     const subject = encodeURIComponent(`${sentence("subject", { title })} [${own ? `${mark}-${own}` : mark}]`);
-    const lines = "signed" in form.dataset ? [line, `[${mark}]`] : [line];
-    return `${to}?subject=${subject}&body=${encodeURIComponent(lines.map((text) => `${text}\r\n`).join(""))}`;
+    const text = signed === undefined ? `${ballot}\n` : `${ballot}\n[${mark}]\n`;
+    return `${to}?subject=${subject}&body=${encodeURIComponent(text.replaceAll("\n", "\r\n"))}`;
   }
 
   // Two lines of a text are shown, or one in a low window, and the rest at a touch.
   function cut(node) {
-    const button = document.createElement("button");
+    const button = element("button", words.more);
     button.type = "button";
     button.className = "more";
-    button.textContent = sentence("more");
     button.addEventListener("click", () => {
       node.classList.remove("cut");
       button.hidden = true;
     });
     node.classList.add("cut");
     node.after(button);
-    const look = () => {
+    new ResizeObserver(() => {
       button.hidden = !node.classList.contains("cut") || node.scrollHeight <= node.clientHeight + 1;
-    };
-    new ResizeObserver(look).observe(node);
-    return look;
+    }).observe(node);
+  }
+
+  // The answer to a question, as it is on the ballot; none while no option is ranked. It is said in words beside the question.
+  function answerTo({ label, names, ranks, said }) {
+    const given = ranks.flatMap((rank) => ((rank.value ?? rank.querySelector(":checked")?.value) || UNRANKED).split(","));
+    const isRanked = given.some((rank) => rank !== UNRANKED);
+    say(said, ...(isRanked ? ballotNodes(given, names) : []));
+    return isRanked ? `${label} ${given}`.trim() : undefined;
+  }
+
+  // What the page still lacks, or leaves unanswered.
+  function missingFrom(name, answers) {
+    const left = questions.filter((question, at) => answers[at] === undefined).map(({ label }) => label);
+    const said = name === undefined ? [words.type_name] : [];
+    if (left.length === questions.length) said.push(words.rank_missing);
+    else if (left.length > 0) said.push(sentence("unanswered", { questions: left.join(", ") }));
+    return said.join(" ");
   }
 
   function update() {
     const name = nameTyped();
-    const given = ranks.map((rank) => (rank.value ?? rank.querySelector(":checked")?.value) || UNRANKED);
-    const isRanked = given.some((rank) => rank !== UNRANKED);
-    const line = name !== undefined && isRanked ? `${name} ${given.join(",")}` : "";
-    const missing = [name === undefined ? sentence("type_name") : "", isRanked ? "" : sentence("rank_missing")];
-    say("Line", line);
-    say("Words", ...(isRanked ? ballotNodes(given) : []));
-    lookAtWords();
-    say("Missing", missing.filter(Boolean).join(" "));
+    const answers = questions.map(answerTo);
+    const given = answers.filter(Boolean);
+    const isWhole = name !== undefined && given.length > 0;
+    ballot = isWhole ? [name, ...given].join(sections.length > 0 ? "\n" : " ") : "";
+    say("Line", ballot);
+    say("Missing", missingFrom(name, answers));
     say("Copied", "");
-    byId("Ready").hidden = line === "";
-    byId("Long").hidden = line.length <= MAIL_LIMIT;
+    byId("Ready").hidden = !isWhole;
+    byId("Long").hidden = ballot.split("\n").every((line) => line.length <= MAIL_LIMIT);
     const own = name === linked.name ? linked.own : undefined;
     for (const node of unmarked) node.hidden = own !== undefined;
     const over = byId("Over");
     if (over !== null) over.hidden = Date.now() <= Date.parse(form.dataset.until);
     const letter = byId("Letter");
     if (letter === null) return;
-    letter.hidden = unmarked.length > 0 && own === undefined;
-    if (line === "" || letter.hidden) letter.removeAttribute("href");
-    else letter.href = mailTo(line, own);
+    const link = mailTo(own);
+    letter.hidden = (unmarked.length > 0 && own === undefined) || link.length > LINK_LIMIT;
+    if (isWhole && !letter.hidden) letter.href = link;
+    else letter.removeAttribute("href");
   }
 
-  // ---------------------------------------------------------------- the copy
-  function selectLine() {
-    const range = document.createRange();
-    range.selectNodeContents(byId("Line"));
-    const selection = window.getSelection();
-    selection.removeAllRanges();
-    selection.addRange(range);
-    say("Copied", sentence("selected"));
-  }
-
+  // ---- the copy
   async function copyLine() {
     try {
-      await navigator.clipboard.writeText(byId("Line").textContent);
-      say("Copied", sentence("copied"));
+      await navigator.clipboard.writeText(ballot);
+      say("Copied", words.copied);
     } catch {
       // a browser gives no clipboard to a page that did not come by https
-      selectLine();
+      getSelection().selectAllChildren(byId("Line"));
+      say("Copied", words.selected);
     }
   }
 
-  // ---------------------------------------------------------------- the start
-  // The field offers the names on the roll, with the real names that the page shows.
-  function offer() {
-    const offered = document.createElement("datalist");
-    offered.id = "Offered";
-    offered.append(...electors.map(([name, who]) => new Option(who ?? name, name)));
-    form.append(offered);
-    nameInput.setAttribute("list", offered.id);
-  }
-
+  // ---- the start
   // The key of a digit or of the hyphen chooses that rank.
   function chooseByKey(event) {
     if (event.target.type !== "radio" || event.ctrlKey || event.altKey || event.metaKey) return;
@@ -201,10 +204,21 @@
 
   for (const node of form.querySelectorAll(".scripted")) node.hidden = false;
   form.querySelectorAll(".text").forEach(cut);
-  const lookAtWords = cut(byId("Words"));
-  if (roll.length > 0) offer();
+  const foot = byId("Bottom");
+  new ResizeObserver(() => foot.classList.toggle("high", foot.offsetHeight > innerHeight / 2)).observe(foot);
+  if (roll.length > 0) {
+    // the field offers the names on the roll, with the real names that the page shows
+    const offered = element("datalist", ...electors.map(([name, who]) => new Option(who ?? name, name)));
+    offered.id = "Offered";
+    form.append(offered);
+    nameInput.setAttribute("list", offered.id);
+  }
   // a telephone begins a text with a capital letter
   if (nameInput !== null) nameInput.autocapitalize = "none";
+  byId("Not-you")?.addEventListener("click", () => {
+    askName(true);
+    choose("");
+  });
   form.addEventListener("input", update);
   form.addEventListener("keydown", chooseByKey);
   byId("Copy").addEventListener("click", copyLine);

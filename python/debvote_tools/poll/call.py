@@ -5,16 +5,19 @@ import datetime
 import functools
 import re
 import urllib.parse
-from collections.abc import Iterable, Mapping
+from collections.abc import Callable, Iterable, Mapping
 from typing import Any
 
 from debvote_tools.book import queries
 from debvote_tools.book.book import Detail
-from debvote_tools.book.election import LETTER_TEXT, Election, History, Sealed
-from debvote_tools.text.ballots import IN_A_LIST, without_ballots
+from debvote_tools.book.election import BOX_KEY, LETTER_TEXT, Election, History, Sealed
+from debvote_tools.book.queries import Elector
 from debvote_tools.files import sha256_of
 from debvote_tools.text.language import Language, marked
+from debvote_tools.text.motions import Words
 from debvote_tools.text.rendering import render_letter, render_page, resources
+from debvote_tools.poll import box
+from debvote_tools.poll.questions import Questions, quorums_in
 from debvote_tools.poll.sealed import SealedPoll, in_brackets
 
 # a first line that greets: it ends as one does, or begins so in one of the languages
@@ -24,8 +27,6 @@ GREETING = re.compile(
     re.IGNORECASE | re.MULTILINE,
 )
 
-# an option in a sentence: its number and its name do not run into each other
-OPTION = marked("Option {number}: {name}")
 SUBJECT = marked("Ballot: {title}")
 
 
@@ -33,7 +34,6 @@ PACKAGE = "debvote_tools.poll"
 
 # the sentences of the script on the page
 SENTENCES = {
-    "option": OPTION,
     "subject": SUBJECT,
     "type_name": marked("Type your name."),
     "on_roll": marked("On the roll: {names}"),
@@ -43,10 +43,6 @@ SENTENCES = {
     "no_name": marked(
         "Names on the roll have only small letters without accents, digits, points and hyphens, and at most 32 of them."
     ),
-    "then": IN_A_LIST.then,
-    "equally": IN_A_LIST.equally,
-    "unranked": IN_A_LIST.unranked,
-    "and": marked("{entries} and {last}"),
     "rank_missing": marked("Give at least one option a rank."),
     "more": marked("Read on"),
     "selected": marked(
@@ -54,6 +50,7 @@ SENTENCES = {
     ),
     "copied": marked("The line is copied."),
 }
+OF_SEVERAL = {"unanswered": marked("Not answered: {questions}")}
 
 
 @dataclasses.dataclass(frozen=True)
@@ -61,10 +58,10 @@ class CallData:
     """What a call says. The same value makes the same files."""
 
     language: Language
-    # the poll that is public: in a secret vote the one under aliases
-    poll: SealedPoll
-    # how many electors have to prefer an option to the default option
-    quorum_votes: int
+    # those that are public: in a secret vote under aliases
+    questions: Questions
+    # how many electors have to prefer an option to the default option, by question
+    quorum_votes: Mapping[str, int]
     # the end as it is now
     until: datetime.datetime | None = None
     # the mail address for ballots, and the web address of this page, where the result will be
@@ -72,10 +69,14 @@ class CallData:
     at: str | None = None
     # the real names by the names on the roll; None if they will not be published
     real_names: Mapping[str, str] | None = None
-    has_form: bool = False
     is_signed: bool = False
     # a letter goes in by itself only with the own mark of its elector
     is_marked: bool = False
+    # beside the page a script keeps the ballots that it sends; the key makes the links to it
+    has_box: bool = False
+    box_key: bytes = b""
+    # it takes none now, as letters say
+    is_without_box: bool = False
     # what the secretary writes at the head of letters to electors; empty without it
     letter_text: str = ""
     # in a secret vote with names on the roll: ballots are published under aliases
@@ -95,11 +96,11 @@ class CallData:
         """Whether the end is not the one that the poll was sealed with, which the call said at
         first.
         """
-        return self.until is not None and self.until != self.poll.deadline_time
+        return self.until is not None and self.until != self.questions.deadline_time
 
     @property
     def roll(self) -> tuple[str, ...]:
-        return self.poll.roll if self.is_by_name else ()
+        return self.questions.roll if self.is_by_name else ()
 
     @functools.cached_property
     def mark(self) -> str:
@@ -107,7 +108,15 @@ class CallData:
 
     def mark_of(self, own: str) -> str:
         """What ends the subject of a letter of an elector with this own mark."""
-        return in_brackets(self.poll.mark, own)
+        return in_brackets(self.questions.mark, own)
+
+    def link_of(self, elector: Elector | None) -> str | None:
+        """The address of the page, as the personal link of an elector whose own mark may be told."""
+        if elector is None or not (elector.mark and self.at and self.is_by_name):
+            return self.at
+        name, own = elector.name, elector.mark
+        third = f"/{box.link_of(self.box_key, name, own)}" if self.has_box else ""
+        return f"{self.at}#{name}/{own}{third}"
 
     @property
     def mail_to(self) -> str:
@@ -118,13 +127,12 @@ class CallData:
 
     @property
     def mail_to_with_subject(self) -> str:
-        subject = f"{self.language.say(SUBJECT, title=self.poll.name)} {self.mark}"
+        subject = f"{self.language.say(SUBJECT, title=self.questions.name)} {self.mark}"
         return f"{self.mail_to}?subject={urllib.parse.quote(subject)}"
 
     @functools.cached_property
-    def option_names(self) -> list[str]:
-        """The options in plain text, each with its number."""
-        return list(numbered_options(self.poll.names, self.language).values())
+    def answers_in_words(self) -> Callable[[str], str]:
+        return self.questions.in_words(self.language)
 
     @property
     def has_greeting(self) -> bool:
@@ -132,8 +140,10 @@ class CallData:
         return GREETING.match(self.letter_text) is not None
 
     @property
-    def explanations(self) -> list[tuple[int, list[str]]]:
-        return explanations_of(self.poll)
+    def explanations(self) -> dict[str, list[tuple[int, list[str]]]]:
+        """Of each question that has any."""
+        polls = self.questions.items()
+        return {label: found for label, poll in polls if (found := explanations_of(poll))}
 
     @property
     def name_gap(self) -> str:
@@ -143,15 +153,28 @@ class CallData:
         return "CODE" if self.has_codes_on_roll else "NAME"
 
     @property
-    def gaps(self) -> str:
-        """The text in place of the ranks, where an elector is to write them."""
-        return ",".join("_" * len(self.poll.names))
+    def words(self) -> Words:
+        """Those of motions."""
+        return self.questions.words(self.language)
+
+    def form_of(self, name: str) -> list[str]:
+        """A ballot with gaps in place of the ranks, where an elector is to write them: one line, or the
+        name and each answer with its label.
+        """
+        return re.split(" (?=[A-Z] )", self.questions.line(name, lambda _: "_"))
+
+    @property
+    def roll_file(self) -> str:
+        """The place of a poll, each of which has the roll."""
+        return next(iter(self.questions.files))
 
 
 def numbered_options(names: Iterable[str], language: Language) -> dict[int, str]:
-    """Options as parts of a sentence, by their numbers."""
-    options = enumerate(names, start=1)
-    return {number: language.say(OPTION, number=number, name=name) for number, name in options}
+    """Options as parts of a sentence, by their numbers, which do not run into the names."""
+    return {
+        number: language.say("Option {number}: {name}", number=number, name=name)
+        for number, name in enumerate(names, start=1)
+    }
 
 
 def explanations_of(poll: SealedPoll) -> list[tuple[int, list[str]]]:
@@ -167,17 +190,10 @@ def paragraphs_of(text: str) -> list[str]:
 
 
 # ---- the files
-def call_letter(call: CallData) -> str:
-    """The letter of the call to all, with a gap in place of a name."""
-    return letter_to_all(call, is_extension=False)
-
-
-def extension_letter(call: CallData) -> str:
-    """The letter about a later end: the old one, the new one, and that all else is as it was."""
-    return letter_to_all(call, is_extension=True)
-
-
-def letter_to_all(call: CallData, *, is_extension: bool) -> str:
+def call_letter(call: CallData, *, is_extension: bool = False) -> str:
+    """The letter of the call to all, with a gap in place of a name; or that about a later end: the
+    old one, the new one, and that all else is as it was.
+    """
     text = render_letter(
         PACKAGE,
         "call.txt",
@@ -190,28 +206,35 @@ def letter_to_all(call: CallData, *, is_extension: bool) -> str:
         is_on_paper=False,
         is_titled=False,
     )
-    return without_ballots(text, len(call.poll.names), lambda word: True)
+    return call.questions.without_ballots(text, lambda word: True, call.words)
 
 
 def call_page(call: CallData) -> bytes:
+    styles, scripts, words = ["ballot.css"], ["ballot.js"], SENTENCES
+    if call.questions.is_several:
+        styles, words = [*styles, "questions.css"], words | OF_SEVERAL
+    if call.has_box:
+        styles, scripts = [*styles, "box.css"], [*scripts, "box.js"]
+        words = words | box.SENTENCES
     return render_page(
         PACKAGE,
         "page.html",
         call.language,
-        style=resources(PACKAGE, "fields.css", "given.css", "ballot.css"),
-        script=resources(PACKAGE, "names.js", "fold.js", "ballot.js"),
+        style=resources(PACKAGE, "fields.css", "given.css", *styles),
+        script=resources(PACKAGE, "names.js", "fold.js", *scripts),
+        sends=call.has_box,
         call=call,
-        script_words=call.language.words(SENTENCES),
+        script_words=call.language.words(words),
     )
 
 
 def call_files(call: CallData) -> dict[str, bytes]:
-    """The files of a call by name, the checksums last. The poll is the sealed one, byte for byte;
-    if it has codes, it stays out.
+    """The files of a call by name, the checksums last. The polls are the sealed ones, byte for byte;
+    if they have codes, they stay out.
     """
     files = {"index.html": call_page(call), "call.txt": call_letter(call).encode()}
     if not call.has_codes_on_roll:
-        files["poll.toml"] = call.poll.as_bytes()
+        files |= call.questions.files
     checksums = "".join(f"{sha256_of(files[name])}  {name}\n" for name in sorted(files))
     return files | {"SHA256SUMS": checksums.encode()}
 
@@ -231,20 +254,21 @@ def current_call(
 
     return CallData(
         language=election.language,
-        poll=sealed.public,
-        quorum_votes=value_of("quorum_votes"),
+        questions=sealed.public,
+        quorum_votes=quorums_in(value_of("quorum_votes")),
         until=until_of(saying) or now.until,
         to=value_of("to"),
         at=value_of("at"),
         real_names={elector.name: elector.who for elector in queries.electors(election.book)}
         if value_of("names")
         else None,
-        has_form=bool(value_of("form")),
         is_signed=bool(value_of("signed")),
         is_marked=bool(value_of("marked")),
+        has_box=bool(value_of("box")),
+        box_key=queries.sealed(election.book, BOX_KEY) or b"",
         letter_text=(queries.sealed(election.book, LETTER_TEXT) or b"").decode(),
         has_aliases=sealed.is_aliased,
-        has_codes_on_roll=bool(value_of("codes_on_roll")),
+        has_codes_on_roll=now.has_codes_on_roll,
         has_lapsed_codes=now.has_lapsed_codes,
     )
 

@@ -6,17 +6,26 @@ import os
 import pathlib
 import re
 import tomllib
-from collections.abc import Mapping, Sequence
+from collections.abc import Iterator, Mapping, Sequence
 from typing import Any, NamedTuple
 
 from debvote_tools.book import queries
 from debvote_tools.cli.console import LINE_ENDS, count_of, shown_text, tell, tell_as_it_is
-from debvote_tools.book.election import LETTER_TEXT, POLL_FILE, TEXTS, Election, History
-from debvote_tools.cli.faults import Fault, Status, kept_in, stop_at
-from debvote_tools.files import POLL_LIMIT, bad_file, read_text, read_whole
+from debvote_tools.book.election import LETTER_TEXT, POLLS, TEXTS, Election, History
+from debvote_tools.cli.faults import Fault, Status, bad_words, kept_in, stop_at
+from debvote_tools.files import POLL_LIMIT, read_text, read_whole
 from debvote_tools.poll.plain_names import bad_options, bad_title, plain_options, plain_title
-from debvote_tools.poll.sealed import KEYS, SealedPoll, is_set, plain_form, read_plain
-from debvote_tools.result.sheet import Sheet, sheet_in
+from debvote_tools.poll.questions import (
+    LABELS,
+    POLL_FILE,
+    Questions,
+    TITLE_FILE,
+    place_of,
+    read_questions,
+)
+from debvote_tools.poll.sealed import KEYS, SealedPoll, is_set, plain_form
+from debvote_tools.result.sheet import sheet_in
+from debvote_tools.text.motions import ABSTAIN, NO, YES, first_word, words_of
 
 # the file that `new` writes, with its explanations
 NEW_POLL = pathlib.Path(__file__).with_name("new_poll.toml")
@@ -24,7 +33,12 @@ NEW_POLL = pathlib.Path(__file__).with_name("new_poll.toml")
 # in bytes: of all texts together, and of what begins letters to electors
 TEXTS_LIMIT, LETTER_LIMIT = 524_288, 4_096
 
+# in characters; of what begins letters no line is broken anew
+LONGEST_LINE = 78
+
 TEXT_NAME = re.compile(r"([1-9][0-9]?)\.txt")
+# the poll of one of several questions
+OF_LABEL = re.compile(rf"([{LABELS}])\.toml")
 # a file that an editor leaves beside another
 OF_EDITORS = re.compile(r"\..*|.*~|#.*#")
 
@@ -42,14 +56,17 @@ SET_ELSEWHERE = {
     "explanations": "write the text of option 1 into texts/1.txt, and so on",
 }
 
+# keys that are true or false
+FLAGS = ("secret", "motion")
+
 # how `debvote explain` begins a line if it has read the poll as TOML
 IS_TOML = re.compile(r"(?m)^poll(?:: | ok)")
 
 
 class DraftPoll(NamedTuple):
-    """The poll as it is written: the values of its keys, of whatever type."""
+    """The poll of a question as it is written: the values of its keys, of whatever type."""
 
-    folder: pathlib.Path
+    file: pathlib.Path
     values: Mapping[str, Any]
     # as people read them, the default option last; empty where it is no text
     title: str
@@ -58,43 +75,82 @@ class DraftPoll(NamedTuple):
     texts: Mapping[int, str]
     faults: Sequence[Fault]
 
-
-# ---- the files
-def draft_in(folder: pathlib.Path) -> DraftPoll:
-    """Reads the poll of a folder, and the texts beside it."""
-    file = folder / POLL_FILE
-    data = read_whole(file, POLL_LIMIT, "write it", THEN)
-    try:
-        values = tomllib.loads(data.decode("utf-8-sig"))
-    except (ValueError, RecursionError) as error:
-        raise bad_poll(file, f"it can't be read as TOML 1.0: {error}", BY_EDITOR) from None
-    options = values["options"] if isinstance(values.get("options"), list) else []
-    title, *names = (
-        name.strip() if isinstance(name, str) else ""
-        for name in (values.get("title"), *options, values.get("default"))
-    )
-    texts, faults = texts_in(folder / TEXTS, len(options))
-    return DraftPoll(folder, values, title, names, texts, faults_of_keys(values, file) + faults)
+    def says(self, flag: str) -> bool:
+        return self.values.get(flag) is True
 
 
 def bad_poll(file: object, reason: str, cure: str) -> Fault:
     return Fault(file, reason, cure + THEN, Status.BAD_POLL, None)
 
 
-def faults_of_keys(values: Mapping[str, Any], file: object) -> list[Fault]:
+# ---- the files
+def labels_in(folder: pathlib.Path) -> list[str]:
+    """The labels of several questions, by the files of their polls, or that of one, which is empty."""
+    place = folder / POLLS
+    if not place.is_dir():
+        return [""]
+    return [
+        found[1] for file in sorted(place.iterdir()) if (found := OF_LABEL.fullmatch(file.name))
+    ]
+
+
+def files_in(folder: pathlib.Path) -> list[pathlib.Path]:
+    """What is in a folder, if it is there, but for what editors leave."""
+    try:
+        files = folder.iterdir() if folder.exists() else ()
+        return sorted(file for file in files if not OF_EDITORS.fullmatch(file.name))
+    except OSError as error:
+        cure = "put a folder there with a text for each option"
+        raise bad_words(folder, error.strerror, cure, None) from None
+
+
+def title_in(folder: pathlib.Path) -> str:
+    """The title of several questions. Stops if it cannot be read, or is not one line."""
+    file = folder / POLLS / TITLE_FILE
+    write = "write into it one line, what the whole vote is about"
+    title = read_text(file, POLL_LIMIT, write, write, THEN).strip()
+    cure = f"write it in another way{THEN}"
+    stop_at([bad_words(file, reason, cure, None) for _, _, reason in bad_title(title)])
+    return title
+
+
+def draft_in(election: Election, label: str = "") -> DraftPoll:
+    """Reads the poll of a question, and the texts beside it. Stops at a file that is no TOML."""
+    name = f"{POLLS}/{label}.toml" if label else POLL_FILE
+    file = election.path(name)
+    data = read_whole(file, POLL_LIMIT, "write it", THEN)
+    try:
+        values = tomllib.loads(data.decode("utf-8-sig"))
+    except (ValueError, RecursionError) as error:
+        reason = f"it can't be read as TOML 1.0: {error}"
+        said = election.debvote.run("explain", "--poll", name).text
+        # debvote reads a newer TOML than Python does
+        if said and not IS_TOML.search(said):
+            tell_as_it_is(said)
+            reason = "it can't be read as TOML, as said above"
+        raise bad_poll(file, reason, BY_EDITOR) from None
+    options = values["options"] if isinstance(values.get("options"), list) else []
+    title, *names = (
+        name.strip() if isinstance(name, str) else ""
+        for name in (values.get("title"), *options, values.get("default"))
+    )
+    faults = [*faults_of_keys(values, file)]
+    texts = texts_in(election.path(TEXTS) / label, len(options), faults)
+    return DraftPoll(file, values, title, names, texts, faults)
+
+
+def faults_of_keys(values: Mapping[str, Any], file: object) -> Iterator[Fault]:
     """Keys that are set elsewhere, and values that debvote can't be given to name them."""
-    faults = []
     for key, value in values.items():
         if key in SET_ELSEWHERE:
             reason = f"the key `{key}` is not written here: {SET_ELSEWHERE[key]}"
-            faults.append(bad_poll(file, reason, "take it out"))
-        elif key == "secret" and not isinstance(value, bool):
-            cure = "write secret = true, or take the line out"
-            faults.append(bad_poll(file, "`secret` is neither true nor false", cure))
+            yield bad_poll(file, reason, "take it out")
+        elif key in FLAGS and not isinstance(value, bool):
+            cure = f"write {key} = true, or take the line out"
+            yield bad_poll(file, f"`{key}` is neither true nor false", cure)
         elif not has_plain_form(value):
             cure = "write a text, a whole number or a list of these, or take it out"
-            faults.append(bad_poll(file, f"`{shown_text(key)}` has a value of a wrong kind", cure))
-    return faults
+            yield bad_poll(file, f"`{shown_text(key)}` has a value of a wrong kind", cure)
 
 
 def has_plain_form(value: object) -> bool:
@@ -106,32 +162,24 @@ def has_plain_form(value: object) -> bool:
     return isinstance(value, str) or (isinstance(value, float) and math.isfinite(value))
 
 
-def texts_in(folder: pathlib.Path, option_count: int) -> tuple[dict[int, str], list[Fault]]:
-    """The texts by the numbers of their options, and all that is wrong with them."""
-    texts: dict[int, str] = {}
-    faults, size = [], 0
-    try:
-        files = sorted(file for file in folder.iterdir() if not OF_EDITORS.fullmatch(file.name))
-    except FileNotFoundError:
-        return {}, []
-    except OSError as error:
-        cure = "put a folder there with a text for each option"
-        return {}, [bad_file(folder, error.strerror, cure)]
+def texts_in(folder: pathlib.Path, option_count: int, faults: list[Fault]) -> dict[int, str]:
+    """The texts by the numbers of their options; what is wrong with them is added to the faults."""
+    texts, files = dict[int, str](), list[pathlib.Path]()
+    with kept_in(faults):
+        files = files_in(folder)
     for file in files:
         number = TEXT_NAME.fullmatch(file.name)
-        if number is None or int(number[1]) > option_count:
-            most = f"1.txt to {option_count}.txt" if option_count else "1.txt and so on"
-            cure = f"name it by the number of an option that is not the default, {most}, or move it out of there"
-            reason = "it is not the text of an option of this poll"
-            faults.append(bad_file(file, reason, cure))
-            continue
         with kept_in(faults):
+            if number is None or int(number[1]) > option_count:
+                most = f"1.txt to {option_count}.txt" if option_count else "1.txt and so on"
+                cure = f"name it by the number of an option that is not the default, {most}, or move it out of there"
+                raise bad_words(file, "it is not the text of an option of this poll", cure, None)
             texts[int(number[1])] = text_in(file, TEXTS_LIMIT)
     size = sum(len(text.encode()) for text in texts.values())
     if size > TEXTS_LIMIT:
         reason = f"the texts have {size} bytes together; at most {TEXTS_LIMIT} are allowed"
-        faults.append(bad_file(folder, reason, f"shorten them{THEN}"))
-    return dict(sorted(texts.items())), faults
+        faults.append(bad_words(folder, reason, f"shorten them{THEN}", None))
+    return texts
 
 
 def text_in(file: pathlib.Path, limit: int) -> str:
@@ -146,37 +194,75 @@ def letter_text_in(folder: pathlib.Path) -> str:
 
 
 # ---- what is wrong with it as a whole
-def faults_when_sealed(draft: DraftPoll, language: str) -> list[Fault]:
-    """Names that electors could not read, or tell from each other."""
-    faults, plain_names = [], plain_options(draft.names, language)
-    bad_names = (*bad_title(draft.title), *bad_options(draft.names, plain_names))
-    for number, name, why in bad_names:
+def faults_of_names(draft: DraftPoll, roll: Sequence[str], language: str) -> Iterator[Fault]:
+    """Names that electors could not read, or tell from each other; and in a motion those that its
+    words could mean otherwise.
+    """
+    plain_names = plain_options(draft.names, language)
+    for number, name, why in (*bad_title(draft.title), *bad_options(draft.names, plain_names)):
         which = f"option {number}" if number else "the title"
         reason = f"{which}, `{shown_text(name)}`: {why}"
-        faults.append(bad_poll(draft.folder / POLL_FILE, reason, "write it in another way"))
-    return faults
+        yield bad_poll(draft.file, reason, "write it in another way")
+    words = words_of(language, motion=draft.says("motion"))
+    begins = [words.get(first_word(name)) for name in draft.names]
+    taken = ", ".join(name for name in roll if name in words)
+    reasons = {
+        "a motion has one option beside the default": words and len(begins) != 2,
+        "the option of a motion begins with a word for no or abstention": begins[0]
+        in (NO, ABSTAIN),
+        "the default option of a motion begins with a word for yes": begins[-1] == YES,
+        f"a name on the roll is a word of the motion: {taken}": taken,
+    }
+    for reason in filter(reasons.get, reasons):
+        cure = "write it in another way, or take out `motion`"
+        yield bad_poll(draft.file, reason, cure)
 
 
-def sealed_form(
-    draft: DraftPoll,
-    roll: Sequence[str],
-    language: str,
-    *,
-    deadline: str | None = None,
-    address: str | None = None,
-) -> bytes:
+def faults_of_several(election: Election, drafts: Mapping[str, DraftPoll]) -> Iterator[Fault]:
+    """What can't be of the polls of several questions together, or is in their folders beside them."""
+    place, labels = election.path(POLLS), list(drafts)
+    if (file := election.path(POLL_FILE)).exists():
+        reason = f"it is beside the folder {POLLS}, which has the polls of several questions"
+        yield bad_poll(file, reason, "remove one of the two")
+    for file in files_in(place):
+        if file.name != TITLE_FILE and not OF_LABEL.fullmatch(file.name):
+            cure = (
+                "name it A.toml, B.toml and so on (there is no I and no O), or move it out of there"
+            )
+            yield bad_poll(file, "it is not the poll of a question", cure)
+    if len(labels) < 2:
+        cure = f"write {POLLS}/A.toml and {POLLS}/B.toml, or begin anew without --questions"
+        yield bad_poll(place, "it has fewer than two polls", cure)
+    elif missing := sorted({*LABELS[: LABELS.index(labels[-1])]}.difference(labels)):
+        reason = f"there is no poll for {', '.join(missing)}, and labels have no gap"
+        cure = "write it, or give the others the labels A, B and so on"
+        yield bad_poll(place, reason, cure)
+    for file in files_in(election.path(TEXTS)):
+        if file.name not in labels:
+            reason = f"no question has this label: texts are in {TEXTS}/A/1.txt and so on"
+            yield bad_words(file, reason, "move it out of there", None)
+    secret = [label for label, draft in drafts.items() if draft.says("secret")]
+    if 0 < len(secret) < len(labels):
+        cure = "make all secret, or none, or hold an election for those that are secret"
+        yield bad_poll(place, f"only some questions are secret: {', '.join(secret)}", cure)
+    if election.history().has_codes_on_roll:
+        reason = "codes are on the roll, and all votes under one code in a row would be a mark"
+        cure = "begin anew in another folder, with names on the roll or with one question"
+        yield Fault(place, reason, cure, done=None)
+
+
+# ---- the sealed form
+def sealed_form(draft: DraftPoll, roll: Sequence[str], language: str, **announced: object) -> bytes:
     """The poll as it would be sealed, for debvote to say what is wrong: missing and unknown keys,
-    and values of a wrong type, stay.
+    and values of a wrong type, stay. What is announced is end and address.
     """
     title, plain_names = plain_title(draft.title, language), plain_options(draft.names, language)
+    plain = {"title": title, "default": plain_names[-1]}
     made = {
-        key: value
+        key: plain.get(key, value) if isinstance(value, str) else value
         for key, value in draft.values.items()
-        if key not in (*SET_ELSEWHERE, "secret") and has_plain_form(value)
+        if key not in (*SET_ELSEWHERE, *FLAGS) and has_plain_form(value)
     }
-    for key, name in (("title", title), ("default", plain_names[-1])):
-        if isinstance(made.get(key), str):
-            made[key] = name
     if isinstance(made.get("options"), list):
         made["options"] = [
             name if isinstance(value, str) else value
@@ -185,12 +271,11 @@ def sealed_form(
     texts = tuple(draft.texts.get(number, "") for number in range(1, len(draft.names)))
     further = {
         "roll": list(roll),
-        "deadline": deadline,
-        "address": address,
-        "secret": draft.values.get("secret") is True,
+        "secret": draft.says("secret"),
         "shown_title": draft.title if draft.title != title else None,
         "shown_options": tuple(draft.names) if draft.names != plain_names else (),
         "explanations": texts if any(texts) else (),
+        **announced,
     }
     made |= {key: value for key, value in further.items() if is_set(value)}
     others = {json.dumps(key): made[key] for key in made if key not in KEYS}
@@ -199,80 +284,90 @@ def sealed_form(
 
 # ---- asking debvote
 class Checked(NamedTuple):
-    """What a call would seal, and the sheet of the poll without ballots."""
+    """What a call would seal, and how many votes the quorum of each question is."""
 
-    poll: SealedPoll
-    sheet: Sheet
+    questions: Questions
+    quorums: Mapping[str, int]
     letter_text: str
 
 
-def checked(
-    election: Election, *, deadline: str | None = None, address: str | None = None
-) -> Checked:
-    """Checks the poll and all texts. Raises all faults at once."""
-    try:
-        draft = draft_in(election.folder)
-    except Fault as fault:
-        if fault.status != Status.BAD_POLL:
-            raise
-        said = election.debvote.run("explain", "--poll", POLL_FILE).text
-        # debvote reads a newer TOML than Python does
-        if not said or IS_TOML.search(said):
-            raise
-        tell_as_it_is(said)
-        reason = "it can't be read as TOML, as said above"
-        raise bad_poll(fault.file, reason, BY_EDITOR) from None
-    language = election.language.code
+def checked(election: Election, **announced: object) -> Checked:
+    """Checks the polls and all texts. Raises all faults at once. The polls are sealed with what is
+    announced, as `sealed_form` has it.
+    """
+    faults, title, letter_text, language = list[Fault](), "", "", election.language.code
     roll = [elector.name for elector in queries.electors(election.book)]
-    faults = [*draft.faults, *faults_when_sealed(draft, language)]
+    drafts = {label: draft_in(election, label) for label in labels_in(election.folder)}
+    for draft in drafts.values():
+        faults += [*draft.faults, *faults_of_names(draft, roll, language)]
+    if "" not in drafts:
+        with kept_in(faults):
+            faults += faults_of_several(election, drafts)
+        with kept_in(faults):
+            title = title_in(election.folder)
     if not roll:
         cure = f"run {election.command('roll')} first"
         faults.append(Fault(None, "there are no electors yet", cure, done=None))
-    letter_text = ""
     with kept_in(faults):
         letter_text = letter_text_in(election.folder)
-    data = sealed_form(draft, roll or ["nobody"], language, deadline=deadline, address=address)
-    stop_at([*faults, *faults_by_debvote(election, data)])
-    sheet = sheet_in(election.debvote.answer("count", data).text)
-    return Checked(read_plain(data), sheet, letter_text)
+    polls = {}
+    for label, draft in drafts.items():
+        polls[label] = sealed_form(draft, roll or ["nobody"], language, **announced)
+        faults += faults_by_debvote(election, draft.file, polls[label])
+    stop_at(faults)
+    quorums = {
+        label: sheet_in(election.debvote.answer("count", data).text).quorum
+        for label, data in polls.items()
+    }
+    motions = [label for label, draft in drafts.items() if draft.says("motion")]
+    return Checked(read_questions(polls, motions, title), quorums, letter_text)
 
 
-def faults_by_debvote(election: Election, poll_bytes: bytes) -> list[Fault]:
-    file = election.path(POLL_FILE)
+def faults_by_debvote(election: Election, file: pathlib.Path, poll_bytes: bytes) -> Iterator[Fault]:
     answer = election.debvote.run("explain", "--poll", "/dev/stdin", given=poll_bytes)
     if not answer.text:
-        said = answer.faults.strip().removeprefix("debvote: ")
-        reason = said or f"debvote ended with status {answer.status}"
-        return [Fault(file, reason, f"run {election.command('check')} again", answer.status, None)]
-    return [
-        bad_poll(file, line.removeprefix("poll: "), BY_EDITOR)
-        for line in answer.text.splitlines()
-        if line.startswith("poll: ")
-    ]
+        reason = answer.refusal or f"debvote ended with status {answer.status}"
+        cure = f"run {election.command('check')} again"
+        yield Fault(file, reason, cure, answer.status, None)
+    for line in answer.text.splitlines():
+        if line.startswith("poll: "):
+            yield bad_poll(file, line.removeprefix("poll: "), BY_EDITOR)
 
 
-def lacks_codes(election: Election, history: History, poll: SealedPoll) -> bool:
+def lacks_codes(election: Election, history: History, questions: Questions) -> bool:
     has_all = all(elector.code for elector in queries.electors(election.book))
-    return poll.secret and not history.has_codes_on_roll and not has_all
+    return questions.is_secret and not history.has_codes_on_roll and not has_all
 
 
 def tell_checked(found: Checked) -> None:
-    poll = found.poll
-    lines = [f"Title: {poll.name}"]
+    tell(f"Title: {found.questions.name}")
+    for label, poll in found.questions.items():
+        tell(*poll_in_words(label, poll))
+    own = found.letter_text.splitlines()
+    if own:
+        tell(f"Letters to electors begin with {LETTER_TEXT}:")
+        tell(*(f"  {line}".rstrip() for line in own))
+    if long := [str(number) for number, line in enumerate(own, 1) if len(line) > LONGEST_LINE]:
+        why = f"have more than {LONGEST_LINE} characters, so mail programs may break them"
+        tell(f"Note: these lines of {LETTER_TEXT} {why}: {', '.join(long)}")
+
+
+def poll_in_words(label: str, poll: SealedPoll) -> Iterator[str]:
+    """What is asked, below the title of the one question."""
+    if label:
+        yield f"Question {label}: {poll.name}"
     if poll.name != poll.title:
-        lines.append(f"  plain: {poll.title}")
-    lines.append("Options:")
+        yield f"  plain: {poll.title}"
+    yield "Options:"
     for choice in poll.choices:
         kind = f"majority ratio {choice.ratio}" if choice.ratio else "the default option"
-        lines.append(f"{choice.number:3}  {choice.name} ({kind})")
+        yield f"{choice.number:3}  {choice.name} ({kind})"
         if choice.name != choice.plain:
-            lines.append(f"     plain: {choice.plain}")
+            yield f"     plain: {choice.plain}"
         if choice.text:
             words = count_of(len(choice.text.split()), "word")
-            lines.append(f"     text: {words} from {TEXTS}/{choice.number}.txt")
-    if found.sheet.is_more_than:
-        lines.append("Majority: more than the ratio (Debian's rule is at least the ratio)")
-    if found.letter_text:
-        lines.append(f"Letters to electors begin with {LETTER_TEXT}:")
-        lines += (f"  {line}".rstrip() for line in found.letter_text.splitlines())
-    tell(*lines)
+            yield f"     text: {words} from {TEXTS}/{place_of(label, f'{choice.number}.txt')}"
+    if poll.motion:
+        yield "A motion, yes: {}, no: {}".format(*poll.names)
+    if poll.wording == "more_than":
+        yield "Majority: more than the ratio (Debian's rule is at least the ratio)"

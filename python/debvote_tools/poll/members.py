@@ -1,19 +1,23 @@
-"""The list of members, a table as spreadsheets save it, and the roll that it becomes."""
+"""The list of members, a table as spreadsheets save it, and the roll that it becomes: CSV with a comma,
+semicolon or tab, in UTF-8 or UTF-16.
+"""
 
+import codecs
+import csv
+import io
 import itertools
 import operator
-import pathlib
 import re
 import unicodedata
-from collections.abc import Callable, Hashable, Iterable, Iterator, Mapping, Sequence
-from typing import NamedTuple, TypeVar
+from collections.abc import Iterable, Iterator, Mapping, Sequence
+from typing import NamedTuple
 
 from debvote_tools.inbox.mime import ADDRESS, address_key
 from debvote_tools.book.queries import Elector
-from debvote_tools.inbox.tables import Row, read_table
 from debvote_tools.cli.console import listed, shown_text, steering
 from debvote_tools.cli.faults import Fault, stop_at
-from debvote_tools.files import TABLE_LIMIT, read_whole
+from debvote_tools.files import kind_of
+from debvote_tools.grouping import grouped, several
 from debvote_tools.poll.plain_names import (
     ELECTOR_LIMIT,
     alike,
@@ -21,6 +25,13 @@ from debvote_tools.poll.plain_names import (
     is_elector_name,
     made_different,
 )
+
+DELIMITERS = {",": "comma", ";": "semicolon", "\t": "tab"}
+# longer than a file that is read, so that a cell has no limit of its own
+CELL_LIMIT = 67_108_864
+SAVE_AS, LINE_END = "save it again as CSV in UTF-8", rb"\r\n?|\n"
+
+AGAIN = "then run debvote-election roll again"
 
 # the heads of each column, small letters alone, the preferred ones first
 HEADS = {
@@ -33,8 +44,6 @@ REQUIRED = ("who", "mail")
 
 # the file that `new` writes
 NEW_MEMBERS = "who,mail\n"
-
-AGAIN = "then run debvote-election roll again"
 
 # the fingerprint of a key of OpenPGP
 FINGERPRINT = re.compile(r"[0-9A-F]{40}")
@@ -56,6 +65,17 @@ ROLL_LIMIT = 10_000
 
 # how many a fault names
 NAMED_LIMIT = 10
+
+
+class Row(NamedTuple):
+    """A row with as many cells as the head line, or more, and the line where it begins, from 1."""
+
+    line: int
+    cells: list[str]
+
+    @property
+    def is_blank(self) -> bool:
+        return not any(cell.strip() for cell in self.cells)
 
 
 class Member(NamedTuple):
@@ -105,24 +125,80 @@ Wrong = tuple[int | None, str, str]
 class Roll(NamedTuple):
     """The members in the order of the list, after the call in that of the sealed poll."""
 
-    file: object
-    electors: tuple[Member, ...]
-    faults: tuple[Fault, ...]
+    electors: Sequence[Member]
     # electors of the last list who are not on this one
-    gone: tuple[Elector, ...] = ()
+    gone: Sequence[Elector] = ()
 
 
 # ---- the table
-def members_in(file: pathlib.Path) -> Roll:
-    unread = "the list of members is a CSV file, as a spreadsheet saves it: put it there"
-    return members_of(read_whole(file, TABLE_LIMIT, unread, f", {AGAIN}"), file)
+def bad_list(file: object, reason: str, cure: str) -> Fault:
+    return Fault(file, reason, f"{cure}, {AGAIN}", done=None)
 
 
-def members_of(data: bytes, file: object = "members.csv") -> Roll:
-    """The members as the table has them. Raises `Fault` if it has not the right columns."""
-    wanted = re.findall(r"\w+", " ".join(HEADS.values()))
-    table = read_table(data, wanted, file, bad_list, skips_spaces=True)
-    heads = [re.sub(r"[\W_]", "", alike(head)) for head in table.head.cells]
+def read_table(data: bytes, file: object) -> tuple[list[Row], str]:
+    """The rows of a table, from its head line on, blank ones too; and its delimiter, which is the one
+    that finds most heads in the first line that is not blank. A quotation mark after spaces begins a
+    cell, too.
+    """
+    text = table_text(data, file)
+    head_line = next((line for line in re.split(r"[\r\n]+", text) if line.strip(' \t,;"')), "")
+    known = re.findall(r"\w+", " ".join(HEADS.values()))
+
+    def fitness(delimiter: str) -> tuple[int, int]:
+        cells = csv.reader([head_line], delimiter=delimiter, skipinitialspace=True)
+        found = {head.strip().casefold() for head in next(cells, [])}
+        return len(found.intersection(known)), head_line.count(delimiter)
+
+    delimiter = max(DELIMITERS, key=fitness)
+    csv.field_size_limit(CELL_LIMIT)
+    lines = io.StringIO(text, newline="")
+    reader = csv.reader(lines, delimiter=delimiter, strict=True, skipinitialspace=True)
+    rows: list[Row] = []
+    line = 1
+    try:
+        for cells in reader:
+            missing = len(rows[0].cells) - len(cells) if rows else 0
+            row = Row(line, cells + [""] * missing)
+            line = reader.line_num + 1
+            if rows or not row.is_blank:
+                rows.append(row)
+    except csv.Error as error:
+        reason = f"the row that begins here is not a row of cells with a {DELIMITERS[delimiter]} between them ({error})"
+        cure = "close each quotation mark, and put nothing between it and the delimiter"
+        raise bad_list(f"{file}:{line}", reason, cure) from None
+    if not rows:
+        raise bad_list(file, "it is empty", "write the header line, and a line for each row")
+    return rows, delimiter
+
+
+def table_text(data: bytes, file: object) -> str:
+    """The text of a file, by its mark; without one it is in UTF-8."""
+    if (kind := kind_of(data)) is not None:
+        raise bad_list(file, f"it is {kind}, not CSV", f"open it in the spreadsheet and {SAVE_AS}")
+    is_utf_16 = data.startswith((codecs.BOM_UTF16_LE, codecs.BOM_UTF16_BE))
+    if b"\0" in data and not is_utf_16:
+        words = "it is not text in UTF-8, nor in UTF-16 with a byte-order mark"
+        raise bad_list(file, words, SAVE_AS)
+    try:
+        return data.decode("utf-16" if is_utf_16 else "utf-8-sig")
+    except UnicodeDecodeError as error:
+        if is_utf_16:
+            words = "it begins as text in UTF-16, but the rest is not"
+            raise bad_list(file, words, SAVE_AS) from None
+        number = len(re.split(LINE_END, error.object[: error.start]))
+        line = re.split(LINE_END, error.object)[number - 1]
+        seen = shown_text(line.decode("cp1252", "replace"))
+        words = f"it is not in UTF-8, but perhaps in Latin-1: {seen}"
+        raise bad_list(f"{file}:{number}", words, SAVE_AS) from None
+
+
+# ---- the members
+def members_of(data: bytes, file: object) -> tuple[list[Member], list[Wrong]]:
+    """The members as the table has them, and what is wrong with them. Raises `Fault` if it has not
+    the right columns.
+    """
+    (first, *rows), delimiter = read_table(data, file)
+    heads = [re.sub(r"[\W_]", "", alike(head)) for head in first.cells]
     columns: dict[str, list[str]] = {}
     for column, choices in HEADS.items():
         free = {*heads}.difference(*columns.values())
@@ -131,30 +207,26 @@ def members_of(data: bytes, file: object = "members.csv") -> Roll:
                 columns.setdefault(column, words)
     twice = [head for head in itertools.chain(*columns.values()) if heads.count(head) > 1]
     wrong: list[Wrong] = [
-        (table.head.line, f"the header line has the column `{head}` twice", "rename one of them")
+        (first.line, f"the header line has the column `{head}` twice", "rename one of them")
         for head in twice
     ]
     if missing := [f"`{column}`" for column in REQUIRED if column not in columns]:
-        reason = f"the header line has no column {' and no column '.join(missing)}; it has {table.heads_in_words}"
+        has = ", ".join(f"`{shown_text(cell)}`" for cell in first.cells if cell.strip())
+        reason = f"the header line has no column {' and no column '.join(missing)}; it has {has or 'none'}"
         cure = "put the real names under `who` and the addresses under `mail`; a column `name`, with names on the roll, is optional"
-        wrong.append((table.head.line, reason, cure))
+        wrong.append((first.line, reason, cure))
     stop_at(faults_of(file, wrong))
-    indices = {column: [heads.index(head) for head in used] for column, used in columns.items()}
     # up to the last column that has a head
     width = max(index for index, head in enumerate(heads, start=1) if head)
     members = []
-    for row in table.rows:
+    for row in rows:
         if not row.is_blank:
-            members.append(member_of(row, indices))
-            wrong += wrong_row(row, members[-1], width, table.delimiter)
+            members.append(member_of(row.line, dict(zip(heads, row.cells)), columns))
+            wrong += wrong_row(row, members[-1], width, delimiter)
     if not members:
         cure = "write a line for each member below the header line"
         wrong.append((None, "there is nobody on it", cure))
-    return Roll(file, tuple(members), tuple(faults_of(file, wrong)))
-
-
-def bad_list(file: object, reason: str, cure: str) -> Fault:
-    return Fault(file, reason, f"{cure}, {AGAIN}", done=None)
+    return members, wrong
 
 
 def faults_of(file: object, wrong: Iterable[Wrong]) -> list[Fault]:
@@ -163,18 +235,20 @@ def faults_of(file: object, wrong: Iterable[Wrong]) -> list[Fault]:
     ]
 
 
-def member_of(row: Row, indices: Mapping[str, Sequence[int]]) -> Member:
-    """The member of a row, each cell on one line."""
+def member_of(
+    line: int, by_head: Mapping[str, str], columns: Mapping[str, Sequence[str]]
+) -> Member:
+    """The member of a line, from its cells, each on one line."""
     cells = {}
-    for column, places in indices.items():
-        text = " ".join(row.cells[index] for index in places)
+    for column, heads in columns.items():
+        text = " ".join(by_head[head] for head in heads)
         cells[column] = unicodedata.normalize("NFC", " ".join(text.split()))
     addresses = IN_BRACKETS.findall(cells["mail"]) or BETWEEN_ADDRESSES.split(cells["mail"])
     each_once = dict.fromkeys(
         address.strip().removeprefix("mailto:") for address in addresses if address.strip()
     )
     key = "".join(cells.get("key", "").split()).upper()
-    return Member(row.line, cells.get("name", ""), cells["who"], tuple(each_once), key)
+    return Member(line, cells.get("name", ""), cells["who"], tuple(each_once), key)
 
 
 def wrong_row(row: Row, member: Member, width: int, delimiter: str) -> Iterator[Wrong]:
@@ -191,7 +265,7 @@ def wrong_row(row: Row, member: Member, width: int, delimiter: str) -> Iterator[
         if LOST in cell:
             reason = f"`{shown}` has lost a character when it was saved (U+FFFD)"
             yield line, reason, "write the character again"
-    if beyond := row.cells_after(width):
+    if beyond := [cell.strip() for cell in row.cells[width:] if cell.strip()]:
         reason = f"`{shown_text(beyond[0])}` is after the last column of the header line"
         yield line, reason, "put quotation marks around a cell that contains the delimiter"
     if not member.who and not member.name:
@@ -213,24 +287,23 @@ def wrong_row(row: Row, member: Member, width: int, delimiter: str) -> Iterator[
 
 # ---- the roll
 def roll_of(
-    members: Roll, known: Sequence[Elector], language: str, *, is_called: bool = False
+    data: bytes, file: object, known: Sequence[Elector], language: str, *, is_called: bool
 ) -> Roll:
     """The roll of a list; `known` are all electors of the book. After the call only addresses and
-    keys may change.
+    keys may change. Raises all faults at once.
     """
-    electors = with_proposals(with_known(members.electors, known), known, language)
+    members, wrong = members_of(data, file)
+    electors = with_proposals(with_known(members, known), known, language)
     numbers = {elector.known.number for elector in electors if elector.known}
     gone = [one for one in known if one.position is not None and one.number not in numbers]
-    wrong: list[Wrong] = []
-    if electors:
-        wrong += wrong_people(members.electors, electors)
+    wrong += wrong_people(members, electors)
     if electors and is_called:
         wrong += wrong_after_call(electors, gone)
+    stop_at(faults_of(file, wrong))
     if is_called:
         order = {elector.number: index for index, elector in enumerate(known)}
         electors.sort(key=lambda one: order[one.known.number] if one.known else len(order))
-    faults = (*members.faults, *faults_of(members.file, wrong))
-    return Roll(members.file, tuple(electors), faults, tuple(gone))
+    return Roll(electors, gone)
 
 
 def with_known(rows: Sequence[Member], known: Sequence[Elector]) -> list[Member]:
@@ -242,9 +315,9 @@ def with_known(rows: Sequence[Member], known: Sequence[Elector]) -> list[Member]
     for what, candidates in itertools.product(("name", "who"), (last, known)):
         form = operator.attrgetter(what)
         taken = {elector.number for elector in found.values()}
-        rows_by_form = grouped((row for row in rows if row.line not in found), form)
-        free = (elector for elector in candidates if elector.number not in taken)
-        for text, electors in grouped(free, form).items():
+        rows_by_form = grouped((form(row), row) for row in rows if row.line not in found)
+        free = grouped((form(one), one) for one in candidates if one.number not in taken)
+        for text, electors in free.items():
             fitting = rows_by_form.get(text, [])
             if text and len(fitting) == len(electors) == 1:
                 found[fitting[0].line] = electors[0]
@@ -254,23 +327,6 @@ def with_known(rows: Sequence[Member], known: Sequence[Elector]) -> list[Member]
         else row
         for row in rows
     ]
-
-
-Entry = TypeVar("Entry")
-
-
-def grouped(
-    entries: Iterable[Entry], form: Callable[[Entry], Hashable]
-) -> dict[Hashable, list[Entry]]:
-    groups: dict[Hashable, list[Entry]] = {}
-    for entry in entries:
-        groups.setdefault(form(entry), []).append(entry)
-    return groups
-
-
-def several(entries: Iterable[Entry], form: Callable[[Entry], Hashable]) -> list[list[Entry]]:
-    """The groups that have a form in common, but for the empty one."""
-    return [group for text, group in grouped(entries, form).items() if text and len(group) > 1]
 
 
 def with_proposals(
@@ -295,7 +351,7 @@ def with_proposals(
 def wrong_people(rows: Sequence[Member], electors: Sequence[Member]) -> Iterator[Wrong]:
     """Names that are missing, or not clearly of one person, and keys that several have."""
     given = {row.line: row.name for row in rows}
-    by_who = grouped(electors, lambda elector: elector.who)
+    by_who = grouped((one.who, one) for one in electors)
     for who, group in by_who.items():
         nameless = [elector.line for elector in group if not given[elector.line]]
         if who and len(group) > 1 and nameless:
@@ -313,10 +369,10 @@ def wrong_people(rows: Sequence[Member], electors: Sequence[Member]) -> Iterator
         if not one.name and one.who:
             reason = f"no name can be made from {shown_text(one.who)} or an address"
             yield one.line, reason, "write one under `name`"
-    for group in several(electors, lambda elector: elector.name):
-        reason = f"{lines_in_words(group)} have the same name: {shown_text(group[0].name)}"
+    for name, group in several((one.name, one) for one in electors).items():
+        reason = f"{lines_in_words(group)} have the same name: {shown_text(name)}"
         yield group[1].line, reason, "give each a different name, or take a line out"
-    for group in several(electors, lambda elector: elector.key):
+    for group in several((one.key, one) for one in electors).values():
         reason = f"{lines_in_words(group)} have the same key"
         yield group[1].line, reason, "leave it only on the line of its owner"
     if len(electors) > ROLL_LIMIT:

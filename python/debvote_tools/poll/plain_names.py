@@ -4,7 +4,7 @@ import collections
 import itertools
 import re
 import unicodedata
-from collections.abc import Collection, Iterable, Mapping, Sequence
+from collections.abc import Collection, Iterable, Iterator, Mapping, Sequence
 
 from debvote_tools.cli.console import LINE_ENDS, number_of, odd_sign, shown_text
 from debvote_tools.poll.sealed import marks_in
@@ -23,7 +23,7 @@ TITLE = re.compile(
     r"(?:(?:in|a)\b)?(?:\s*(?:[a-z]{2,6}\.|h\. ?c\.|\(\w{2,5}\.?\)))*"
 )
 # what follows a comma and is no first name
-JUNIOR = ("jr", "jun", "sr", "sen")
+JUNIOR = "jr jun sr sen".split()
 
 # how each language spells letters that it has no accents on
 SPELLINGS: Mapping[str, Mapping[str, str]] = {"de": {"ä": "ae", "ö": "oe", "ü": "ue"}}
@@ -117,15 +117,22 @@ def plain_title(title: str, language: str) -> str:
 
 
 def plain_options(names: Sequence[str], language: str) -> list[str]:
-    """The plain names of all options. An empty one stays empty, so that it is refused."""
-    bases = {
-        number: plain_text(name, language, OPTION_LIMIT) or f"Option {number}"
-        for number, name in enumerate(names, start=1)
+    """The plain names of all options. An empty one stays empty, so that it is refused. Where nothing
+    with a letter is left, a number may be that of another option.
+    """
+    numbered = list(enumerate(names, start=1))
+    texts = {
+        number: plain_text(name, language, OPTION_LIMIT)
+        for number, name in numbered
         if name and not is_plain(name, OPTION_LIMIT)
     }
-    kept = [name for number, name in enumerate(names, start=1) if number not in bases]
+    bases = {
+        number: text if re.search("[A-Za-z]", text) else f"Option {number}"
+        for number, text in texts.items()
+    }
+    kept = [name for number, name in numbered if number not in bases]
     made = dict(zip(bases, made_different(list(bases.values()), kept, OPTION_LIMIT, " ")))
-    return [made.get(number, name) for number, name in enumerate(names, start=1)]
+    return [made.get(number, name) for number, name in numbered]
 
 
 # ---- electors
@@ -171,45 +178,44 @@ def alike(text: str) -> str:
     """The text without case, accents, blanks and unseen characters."""
     if text.isascii():
         return "".join(text.split()).lower()
-
-    def is_told_apart(character: str) -> bool:
-        if character.isspace() or unicodedata.category(character) == "Cf" or character in UNSEEN:
-            return False
-        return not unicodedata.combining(character) or character in VOICED
-
     characters = unicodedata.normalize("NFKD", text.casefold())
     return "".join(filter(is_told_apart, characters)).casefold()
 
 
-def bad_title(title: str) -> list[BadName]:
-    reasons = bad_characters(title)
+def is_told_apart(character: str) -> bool:
+    if character.isspace() or unicodedata.category(character) == "Cf" or character in UNSEEN:
+        return False
+    return not unicodedata.combining(character) or character in VOICED
+
+
+def bad_title(title: str) -> Iterator[BadName]:
+    for reason in bad_characters(title):
+        yield 0, title, reason
     if marks_in(title):
         # each answer would wait as one about that vote
-        reasons.append("it has the mark of a vote in brackets, as only subjects of letters do")
-    return [(0, title, reason) for reason in reasons]
+        yield 0, title, "it has the mark of a vote in brackets, as only subjects of letters do"
 
 
-def bad_options(names: Sequence[str], plain_names: Sequence[str]) -> list[BadName]:
+def bad_options(names: Sequence[str], plain_names: Sequence[str]) -> Iterator[BadName]:
     """Names of options that people can't read or tell apart. Of equal plain names debvote speaks."""
     options = list(enumerate(zip(names, plain_names), start=1))
-    found = [(at, name, why) for at, (name, _) in options for why in bad_characters(name)]
+    for number, (name, _) in options:
+        for reason in bad_characters(name):
+            yield number, name, reason
     for (first, (name, plain)), (second, (other, other_plain)) in itertools.combinations(
         options, 2
     ):
         like = {alike(plain): "the plain name of ", alike(name): ""}.get(alike(other))
         if like is not None and alike(other) and plain != other_plain:
             reason = f"it looks like {like}option {first}, `{shown_text(name)}`, except for case, accents, blanks or invisible characters"
-            found.append((second, other, reason))
-    return found
+            yield second, other, reason
 
 
-def bad_characters(name: str) -> list[str]:
-    reasons = []
+def bad_characters(name: str) -> Iterator[str]:
     if odd := odd_sign(name, refused=REFUSED_IN_NAMES):
         what = "which controls a terminal or turns text around"
-        reasons.append(f"it has the character {number_of(odd)}, {what}")
+        yield f"it has the character {number_of(odd)}, {what}"
     if len(name) > SHOWN_LIMIT:
-        reasons.append(f"it has {len(name)} characters; at most {SHOWN_LIMIT} are allowed")
+        yield f"it has {len(name)} characters; at most {SHOWN_LIMIT} are allowed"
     if name and not alike(name):
-        reasons.append("it has no visible character")
-    return reasons
+        yield "it has no visible character"

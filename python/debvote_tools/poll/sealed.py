@@ -1,6 +1,5 @@
 """The sealed poll, in plain form: TOML with a line `key = value` for each key, in the order of
-`KEYS`, each value as JSON writes it. One SHA-256 covers all that the call announces; its first
-digits are the mark of the poll in the subjects of letters.
+`KEYS`, each value as JSON writes it. `questions.py` has what is the same for all polls of an election.
 """
 
 import dataclasses
@@ -16,11 +15,11 @@ from debvote_tools.cli.faults import Fault, Status
 from debvote_tools.files import sha256_of
 
 # the keys in their order: those that debvote needs always, and the others only if they are set
-REQUIRED = ("title", "options", "ratios", "default", "quorum", "roll")
+REQUIRED = "title options ratios default quorum roll".split()
 KEYS = (
-    *("title", "options", "ratios", "default", "quorum", "wording", "roll", "last_envelope"),
-    *("deadline", "address", "secret", "shown_title", "shown_options", "explanations"),
-)
+    "title options ratios default quorum wording roll last_envelope "
+    "deadline address secret shown_title shown_options explanations"
+).split()
 
 
 class Wording(NamedTuple):
@@ -57,6 +56,8 @@ class SealedPoll:
     shown_options: tuple[str, ...] = ()
     # a text for each option but the default, empty if there is none
     explanations: tuple[str, ...] = ()
+    # whether it may be answered by yes, no and abstain; this is sealed beside it
+    motion: bool = False
 
     @property
     def plain_names(self) -> tuple[str, ...]:
@@ -83,7 +84,6 @@ class SealedPoll:
     def deadline_time(self) -> datetime.datetime | None:
         return None if self.deadline is None else datetime.datetime.fromisoformat(self.deadline)
 
-    @functools.lru_cache(4)
     def as_bytes(self) -> bytes:
         """The poll in plain form."""
         return plain_form(
@@ -93,11 +93,6 @@ class SealedPoll:
     @functools.cached_property
     def checksum(self) -> str:
         return sha256_of(self.as_bytes())
-
-    @property
-    def mark(self) -> str:
-        """The digits in square brackets in the subjects of letters about this poll."""
-        return self.checksum[:16]
 
 
 def is_set(value: object) -> bool:
@@ -111,18 +106,18 @@ def plain_form(values: dict[str, Any]) -> bytes:
     return "".join(lines).replace("\x7f", "\\u007f").encode()
 
 
-@functools.lru_cache(4)
-def read_plain(data: bytes, file: object = "poll.toml") -> SealedPoll:
+@functools.cache
+def read_plain(data: bytes, *, motion: bool = False) -> SealedPoll:
     """Reads a poll in plain form, which it must have byte for byte."""
     try:
         pairs = [line.split(" = ", 1) for line in data.decode("utf-8").split("\n")[:-1]]
         poll = poll_of({key: json.loads(value) for key, value in pairs})
         if poll.as_bytes() == data:
-            return poll
+            return dataclasses.replace(poll, motion=motion)
     except (ValueError, TypeError):
         pass
     cure = "give the poll.toml of a call or of a published folder"
-    raise Fault(file, "it is not a sealed poll in plain form", cure, Status.BAD_POLL, None)
+    raise Fault("poll.toml", "it is not a sealed poll in plain form", cure, Status.BAD_POLL, None)
 
 
 def poll_of(values: dict[str, Any]) -> SealedPoll:

@@ -12,7 +12,8 @@ from debvote_tools.cli.faults import Fault
 from debvote_tools.files import sha256_of
 from debvote_tools.inbox.lines import CODE_WITHIN
 from debvote_tools.poll.call import PACKAGE, CallData
-from debvote_tools.poll.sealed import SealedPoll, with_roll
+from debvote_tools.poll.questions import Questions
+from debvote_tools.poll.sealed import with_roll
 from debvote_tools.text.ballots import in_normal_form
 from debvote_tools.text.rendering import render_page, resources
 
@@ -20,6 +21,9 @@ from debvote_tools.text.rendering import render_page, resources
 # keeps the code
 BY_PYTHON = "python3 -I -c \"import hmac; print(hmac.new(input('Code: ').replace(' ', '').encode(), input('Name: ').encode(), 'sha256').hexdigest()[:32])\""
 BY_OPENSSL = "printf %s NAME | openssl dgst -sha256 -hmac CODE -r | cut -c1-32"
+
+# how many rows of slips fit on a side, by the lines of each, which have at least so many columns
+ROWS, COLUMNS = {4: 20, 3: 27, 2: 40}, 45
 
 # what a code and an alias look like
 CODE = re.compile(r"[0-9a-f]{32}")
@@ -50,13 +54,17 @@ def demand_no_code(name: str, data: bytes, codes: Collection[str], done: str) ->
         raise Fault(None, words, "check the texts that you gave", done=done)
 
 
-def codes_csv(electors: Iterable[Elector]) -> bytes:
-    """The table of the codes, for a spreadsheet or a mail merge."""
+def codes_csv(electors: Iterable[Elector], *, is_several: bool = False) -> bytes:
+    """The table of the codes, for a spreadsheet or a mail merge. With several questions it has no
+    aliases: each elector has one for each.
+    """
     text = io.StringIO()
     table = csv.writer(text, lineterminator="\n")
-    table.writerow(("name", "who", "mail", "code", "alias"))
-    rows = ((one.name, one.who, " ".join(one.addresses), one.code, one.alias) for one in electors)
-    table.writerows(map(harmless, row) for row in rows)
+    heads = "name who mail code alias".split()[: 5 - is_several]
+    table.writerow(heads)
+    for one in electors:
+        cells = one._asdict() | {"mail": " ".join(one.addresses)}
+        table.writerow(harmless(cells[head]) for head in heads)
     return text.getvalue().encode()
 
 
@@ -67,8 +75,28 @@ def harmless(cell: str) -> str:
 
 def slips(call: CallData, electors: Sequence[Elector]) -> bytes:
     """The page of slips, to be cut. With codes on the roll the name is the code."""
-    style, language = resources(PACKAGE, "slips.css"), call.language
-    return render_page(PACKAGE, "slips.html", language, style=style, call=call, electors=electors)
+    rows = next((rows for rows, most in ROWS.items() if lines_of_slip(call, electors) <= most), 1)
+    return render_page(
+        PACKAGE,
+        "slips.html",
+        call.language,
+        style=resources(PACKAGE, "slips.css"),
+        call=call,
+        electors=electors,
+        rows=rows,
+    )
+
+
+def lines_of_slip(call: CallData, electors: Sequence[Elector]) -> float:
+    """About how many lines a slip has, rather more. Two short options stand beside each other."""
+    longest = max((one.who for one in electors), key=len, default="")
+    polls, form = call.questions.values(), call.form_of(f"{'':32}")
+    # the head of each of several questions, and its answer in the form
+    heads = [poll.name for poll in polls] if call.questions.is_several else []
+    texts = (call.questions.name, longest, call.at or "", call.to or "", *form, *heads)
+    more = sum(len(text.encode()) // COLUMNS for text in texts) + 2 * len(heads)
+    options = [len(name.encode()) for poll in polls for name in poll.names]
+    return 17 + more + sum(0.5 if long <= 20 else long // COLUMNS + 1 for long in options)
 
 
 # ---- aliases
@@ -77,9 +105,22 @@ def alias_of(code: str, name: str) -> str:
     return hmac.new(code.encode(), name.encode(), "sha256").hexdigest()[:32]
 
 
-def aliased_poll(poll: SealedPoll, aliases: Mapping[str, str]) -> SealedPoll:
-    """The poll with aliases on its roll, sorted, so that their order tells no name."""
-    return with_roll(poll, sorted(aliases[name] for name in poll.roll))
+def alias_in(label: str, elector: Elector) -> str:
+    """The alias of an elector in a question, so that no two questions have the same one; of an elector
+    whose name on the roll is a code, that name.
+    """
+    return (
+        alias_of(elector.code, f"{label} {elector.name}".strip()) if elector.code else elector.name
+    )
+
+
+def aliased(questions: Questions, electors: Sequence[Elector]) -> Questions:
+    """The polls with aliases on their rolls, sorted, so that their order tells no name."""
+    polls = {}
+    for label, poll in questions.items():
+        aliases = {one.name: alias_in(label, one) for one in electors}
+        polls[label] = with_roll(poll, sorted(aliases[name] for name in poll.roll))
+    return Questions(polls, questions.title)
 
 
 def aliased_ballots(standing: Mapping[str, str], aliases: Mapping[str, str]) -> bytes:

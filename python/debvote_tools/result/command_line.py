@@ -3,7 +3,6 @@
 import argparse
 import pathlib
 import signal
-import sys
 import tomllib
 from collections.abc import Sequence
 from typing import Any
@@ -13,7 +12,6 @@ from debvote_tools.cli.arguments import (
     Options,
     add_arguments,
     add_version,
-    arguments_of,
     option,
     positional,
 )
@@ -61,29 +59,28 @@ def parser() -> argparse.ArgumentParser:
 def main(program_folder: pathlib.Path, given: Sequence[str] | None = None) -> int:
     """Publishes, and returns the exit status. `program_folder` is that of the program."""
     # if it is asked to end, it takes away what it has made
-    for number in (signal.SIGHUP, signal.SIGINT, signal.SIGTERM):
-        signal.signal(number, lambda number, _: sys.exit(128 + number))
-    arguments = arguments_of(Arguments, parser().parse_args(given))
+    console.prepare(signal.SIGHUP, signal.SIGINT, signal.SIGTERM)
+    arguments = Arguments(**vars(parser().parse_args(given)))
     target_folder = pathlib.Path(arguments.target)
-    console.prepare()
     try:
         folder.demand_outside(target_folder)
         if not folder.is_free(target_folder):
             raise folder.in_use(target_folder, "an empty folder", "name another folder")
         facts = facts_of(arguments, program_folder)
-        with folder.made(facts, target_folder, program_folder) as made:
-            made.take_place(target_folder)
+        with folder.beside(target_folder) as new:
+            [outcome] = folder.filled(new.folder, {"": facts}, program_folder).outcomes.values()
+            new.take_place(target_folder)
     except Fault as fault:
         return console.failed(PROGRAM, fault.words, fault.status)
     except OSError as error:
         words = f"the folder can't be made ({error}): name a place where you can write"
         return console.failed(PROGRAM, words, Status.BAD_OUTPUT)
     try:
-        console.tell_as_it_is(f"{made.answers.sheet.last_line}\n{made.answers.verified}\n")
+        console.tell_as_it_is(f"{outcome.sheet.last_line}\n{outcome.verified}\n")
     except console.OutputFailed as fault:
         words = f"the output failed; the folder {arguments.target} was made nevertheless: look at its page index.html"
         return console.failed(PROGRAM, words, fault.status)
-    return made.answers.status
+    return outcome.sheet.status
 
 
 # ---- the facts of two files
@@ -96,7 +93,7 @@ def facts_of(arguments: Arguments, program_folder: pathlib.Path) -> Facts:
     if poll.secret and not all(map(CODE.fullmatch, poll.roll)):
         cure = "publish it from its election, with debvote-election publish"
         words = "the vote is secret, and this would publish each name with its vote"
-        raise Fault(arguments.poll, words, cure, Status.DOUBT, None)
+        raise Fault(arguments.poll, words, cure, done=None)
     return Facts(
         poll,
         ballots,
@@ -124,9 +121,8 @@ def demand_in_order(poll_bytes: bytes, arguments: Arguments, debvote: Debvote) -
         return
     if answer.status == Status.DONE:
         raise other_format("the sheet of this debvote")
-    said = answer.faults.strip().removeprefix("debvote: ")
     cure = f"debvote explain --poll {arguments.poll} says what to correct"
-    raise refused(arguments.poll, said, cure, answer.status)
+    raise refused(arguments.poll, answer.refusal, cure, answer.status)
 
 
 def sealed_of(poll_bytes: bytes, file: str) -> SealedPoll:
@@ -142,10 +138,9 @@ def sealed_of(poll_bytes: bytes, file: str) -> SealedPoll:
     strange = [key for key in values if not is_right(key, values[key], len(document["options"]))]
     cure = "give the poll.toml of a call, or take the key out"
     if strange:
-        words = f"a sealed poll cannot have such a value of {', '.join(strange)}"
-        raise refused(file, words, cure)
+        raise refused(file, f"a sealed poll cannot have such a value of {', '.join(strange)}", cure)
     poll = poll_of(values)
-    found = bad_title(poll.name) if poll.name != poll.title else []
+    found = [*bad_title(poll.name)] if poll.name != poll.title else []
     for number, name, why in bad_options(poll.names, poll.plain_names):
         if name != poll.plain_names[number - 1]:
             found.append((number, name, why))

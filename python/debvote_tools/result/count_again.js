@@ -1,5 +1,6 @@
 // The button "Count again here": counts the files that the page carries, or those that the reader chooses, by recount.js, which
-// stands above, and says what is the same and what is not. Nothing is sent, and nothing is kept.
+// stands above, and says what is the same and what is not. Nothing is sent, and nothing is kept. It takes neither the page nor a
+// checksum from a letter: a page that somebody has changed would call it right.
 "use strict";
 
 // The bytes of a file that the page carries, as it was published; null where it does not carry it.
@@ -23,16 +24,6 @@ async function inSlices(steps, isWanted, tell = () => {}) {
     if (!isWanted()) return null;
   }
 }
-
-// The options of a ballot in its order, those that are equal together, and those that are not ranked.
-function orderOf(ranks) {
-  const withRank = (rank) => [...ranks.keys()].filter((at) => ranks[at] === rank);
-  const steps = [...new Set(ranks)].filter((rank) => rank !== Infinity).sort((a, b) => a - b);
-  return { steps: steps.map(withRank), unranked: withRank(Infinity) };
-}
-
-// Texts as part of a sentence.
-const joined = (texts, and) => (texts.length > 1 ? texts.slice(0, -1).join(", ") + and + texts.at(-1) : texts[0]);
 
 (() => {
   const byId = (id) => document.getElementById(id);
@@ -82,9 +73,8 @@ const joined = (texts, and) => (texts.length > 1 ? texts.slice(0, -1).join(", ")
     }
   }
 
-  // What there is to say of the files, once they are counted; of the page and of SHA256SUMS alone the checksums.
+  // What there is to say of the files, once they are counted.
   async function told(files, isLast) {
-    if (!files.poll) return aboutChecksums(files);
     const poll = readPoll(files.poll);
     const tally = await inSlices(count(poll, files.ballots), isLast, (share) => {
       progress.value = share;
@@ -121,13 +111,15 @@ const joined = (texts, and) => (texts.length > 1 ? texts.slice(0, -1).join(", ")
     return nodes;
   }
 
-  // The line is the program's, in English, and its number and name of an option have one blank between them.
-  function lastLine(line) {
-    const node = element("p", "");
-    const [before, after] = words.last.split("{line}");
-    node.append(before, element("code", line), after);
+  // A sentence with what is copied or compared at its places.
+  function exact(key, places, kind) {
+    const node = element("p", "", kind);
+    node.append(...nodesOf(words[key], Object.fromEntries(Object.entries(places).map(([place, text]) => [place, [element("code", text)]]))));
     return node;
   }
+
+  // The line is the program's, in English, and its number and name of an option have one blank between them.
+  const lastLine = (line) => exact("last", { line });
 
   // Two lines that differ, as they are shown. Where the line feed alone differs, this is said of each.
   function shownApart({ given, counted }) {
@@ -145,10 +137,12 @@ const joined = (texts, and) => (texts.length > 1 ? texts.slice(0, -1).join(", ")
     return node;
   }
 
-  const option = (poll, at) => sentence("option", { number: at + 1, name: poll.shown[at] });
+  // an option as the page has it
+  const option = (poll, at) => `${at + 1}\u00a0${poll.shown[at]}`;
 
-  // A ballot in words, as the page says it; its options are said so.
-  function ballotWords(ranks, said) {
+  // A ballot in words, as the page says it; its options are said so, but in a motion.
+  function ballotWords(poll, ranks, said) {
+    if (words.answers) return answerIn(ranks, poll.shown, words);
     const { steps, unranked } = orderOf(ranks);
     const listed = (some) => joined(some.map(said), words.and);
     if (steps.length === 0) return words.nothing;
@@ -164,7 +158,7 @@ const joined = (texts, and) => (texts.length > 1 ? texts.slice(0, -1).join(", ")
     const [named, numbered] = [(at) => option(poll, at), (at) => String(at + 1)];
     const isSame = (node, ballot) => {
       const [elector, ranks] = ballot?.line.split(" ") ?? [];
-      const texts = [named, numbered].map((said) => () => ballotWords(ballot.ranks, said));
+      const texts = [named, numbered].map((said) => () => ballotWords(poll, ballot.ranks, said));
       const isText = (text) => node.textContent === `${elector} ${ranks}${words.colon}${text()}`;
       return ballot !== undefined && node.id === elector && texts.some(isText);
     };
@@ -173,27 +167,35 @@ const joined = (texts, and) => (texts.length > 1 ? texts.slice(0, -1).join(", ")
     return entries.length === ballots.length ? [] : [sentence("the_ballots")];
   }
 
-  // Whether the page names the options as the poll does, where it has their plain names too.
+  // Whether each name beside a number is that of this option in the poll, and the list of options has them all, with their plain names.
   function areNamesSame(poll) {
+    const isNamed = (node) => poll.shown[node.previousElementSibling.textContent - 1] === node.textContent;
     const entries = [...document.querySelectorAll('[aria-labelledby="Options"] li')];
-    const isNamed = (node, at) => {
-      const plain = poll.shown[at] === poll.names[at] ? "" : sentence("plain_name", { name: poll.names[at] });
-      return node.querySelector("b")?.textContent === option(poll, at) && node.textContent.includes(plain);
-    };
-    const whys = [...document.querySelectorAll(".option > span:first-child")].map((node) => node.textContent).sort().join("\n");
-    const isSame = entries.length === poll.names.length && entries.every(isNamed);
-    const all = [...poll.names.keys()].map((at) => option(poll, at)).sort().join("\n");
-    return isSame && whys === all && document.querySelector("h1").textContent === poll.shownTitle;
+    const plain = (at) => (poll.shown[at] === poll.names[at] ? undefined : sentence("plain_name", { name: poll.names[at] }));
+    const isListed = (node, at) => node.textContent.startsWith(option(poll, at)) && node.querySelector(".plain")?.textContent === plain(at);
+    const isSame = entries.length === poll.names.length && entries.every(isListed) && [...document.querySelectorAll("i + bdi")].every(isNamed);
+    return isSame && document.querySelector("h1").textContent === poll.shownTitle;
+  }
+
+  // Whether the winner's numbers against others are those of the count; each language parts thousands by its own sign.
+  function areDuelsSame(poll, { votes, voters }, won) {
+    return [...document.querySelectorAll(".duel")].every((node) => {
+      const other = poll.shown.indexOf(node.querySelector("bdi").textContent);
+      const numbers = node.lastElementChild.textContent.replace(/(\d)[.,\u00a0](?=\d{3})/g, "$1").match(/\d+/g).map(Number);
+      if (won === poll.names.length - 1) return numbers[0] === votes[other]?.[won];
+      const [over, under, equal = 0] = numbers;
+      return over === votes[won][other] && under === votes[other]?.[won] && equal === voters - over - under;
+    });
   }
 
   // Whether the page shows what its files come to: its result, its names, its votes and its ballots.
   function aboutPage(files, poll, tally, outcome, line) {
     const others = [];
-    // the winner stands alone; in a tie the first sentence names all that are left
+    // the winner stands alone; in a tie all that are left stand together
     const won = line.startsWith("Winner: ") ? parseInt(line.slice(8), 10) - 1 : null;
-    const named = [...document.querySelectorAll(won === null ? ".outcome p b" : "#Result b")].map((node) => node.textContent);
-    const wanted = won === null ? outcome.set.map((at) => option(poll, at)) : [poll.shown[won]];
-    if (named.slice(0, won === null ? wanted.length : undefined).join("\n") !== wanted.join("\n")) others.push(sentence("the_result"));
+    const named = [...document.querySelectorAll(won === null ? ".outcome .left bdi" : "#Result b")].map((node) => node.textContent);
+    const wanted = won === null ? outcome.set.map((at) => poll.shown[at]) : [poll.shown[won]];
+    if (named.join("\n") !== wanted.join("\n") || !areDuelsSame(poll, tally, won)) others.push(sentence("the_result"));
     if (!areNamesSame(poll)) others.push(sentence("the_names"));
     const cells = [...document.querySelectorAll('[aria-labelledby="Votes"] tbody td')].map((cell) => cell.textContent);
     const counted = tally.votes.flatMap((row, a) => row.map((votes, b) => (a === b ? "-" : String(votes))));
@@ -208,60 +210,36 @@ const joined = (texts, and) => (texts.length > 1 ? texts.slice(0, -1).join(", ")
     return [...digest].map((byte) => byte.toString(16).padStart(2, "0")).join("");
   }
 
-  // What was typed, as it is or as a line that sha256sum prints, which may name its file.
-  function checksumTyped() {
-    const typed = byId("Again-letter").value.trim();
-    return (/^\\?([0-9a-f]{64})(?:\s|$)/i.exec(typed)?.[1] ?? typed.replace(/\s/g, "")).toLowerCase();
-  }
-
-  // What to say of a typed checksum that none of the files has: a part of one is not called another one.
-  function unlike(typed) {
-    const number = typed.match(/[0-9a-f]/g)?.length ?? 0;
-    return number === 64 ? ["letter_other"] : ["letter_digits", { number }];
-  }
-
-  // The checksums of both files, beside those that the page names and the one that was typed.
+  // The checksums of both files, beside those that the page names.
   async function aboutChecksums(files) {
     if (!globalThis.crypto || !crypto.subtle) return [paragraph("no_sums")];
-    const parts = files.poll ? [["poll_sum", files.poll], ["ballots_sum", files.ballots]] : [];
+    const parts = [["poll_sum", files.poll], ["ballots_sum", files.ballots]];
     const { seal } = byId("Again").dataset;
-    if (seal && files.poll) parts.push(["sealed_sum", Uint8Array.from([...new TextEncoder().encode(seal + "\n"), ...files.ballots])]);
+    if (seal) parts.push(["sealed_sum", Uint8Array.from([...new TextEncoder().encode(seal + "\n"), ...files.ballots])]);
     const named = byId("How-to-verify").closest("section").textContent;
-    const typed = checksumTyped();
     const nodes = [];
-    let isFound = typed === "";
     for (const [key, bytes] of parts) {
       const sum = await sumOf(bytes);
-      const said = [sentence(key, { sum }), sentence(named.includes(sum) ? "sum_named" : "sum_not_named")];
-      if (typed === sum) said.push(sentence("letter_same"));
-      isFound = isFound || typed === sum;
-      nodes.push(element("p", said.join(" "), named.includes(sum) ? "" : "differs"));
+      const isNamed = named.includes(sum);
+      const node = exact(key, { sum }, isNamed ? "" : "differs");
+      node.append(` ${sentence(isNamed ? "sum_named" : "sum_not_named")}`);
+      nodes.push(node);
     }
-    // no page can name these
-    for (const [file, bytes] of files.others ?? []) {
-      const sum = await sumOf(bytes);
-      isFound = isFound || typed === sum;
-      nodes.push(element("p", sentence("file_sum", { file, sum }) + (typed === sum ? ` ${sentence("letter_same")}` : "")));
-    }
-    return isFound ? nodes : [element("p", sentence(...unlike(typed)), "differs"), ...nodes];
+    return nodes;
   }
 
   // The files that were chosen, by what they are; the sheet is the page's where none is among them. Null where one is missing, or
   // two are of a kind. Of a file that is too long no more is read than shows it.
   async function chosen() {
     const found = new Map();
-    const others = [];
     for (const file of byId("Again-files").files) {
-      const kind = ["poll", "ballots", "sheet", "index", "sha256sums"].find((start) => file.name.toLowerCase().startsWith(start));
+      const kind = ["poll", "ballots", "sheet"].find((start) => file.name.toLowerCase().startsWith(start));
       if (found.has(kind)) return null;
-      if (!kind) continue;
-      found.set(kind, new Uint8Array(await file.slice(0, MOST_BALLOT_BYTES + 1).arrayBuffer()));
-      if (kind === "index" || kind === "sha256sums") others.push([file.name, found.get(kind)]);
+      if (kind) found.set(kind, new Uint8Array(await file.slice(0, MOST_BALLOT_BYTES + 1).arrayBuffer()));
     }
+    if (!found.has("poll") || !found.has("ballots")) return null;
     const whoseSheet = found.has("sheet") ? "sheet_chosen" : "sheet_of_page";
-    const files = { whoseSheet, arePublished: false, others, sheet: carried("Sheet-file"), ...Object.fromEntries(found) };
-    const isWhole = Boolean(files.poll) === Boolean(files.ballots) && (files.poll || (others.length > 0 && !found.has("sheet")));
-    return isWhole ? files : null;
+    return { whoseSheet, arePublished: false, sheet: carried("Sheet-file"), ...Object.fromEntries(found) };
   }
 
   async function countChosen() {
@@ -285,10 +263,7 @@ const joined = (texts, and) => (texts.length > 1 ? texts.slice(0, -1).join(", ")
   });
   byId("Again-button")?.addEventListener("click", () => countAgain(ofPage()));
   byId("Again-chosen").addEventListener("click", countChosen);
-  byId("Again-letter").autocapitalize = "none";
-  byId("Again-letter").addEventListener("keydown", (event) => {
-    if (event.key === "Enter") byId("Again-button")?.click();
-  });
   byId("Again").hidden = false;
+  byId("Chosen").hidden = false;
   byId("Again-no-script").hidden = true;
 })();

@@ -5,13 +5,15 @@ the result and the data. `told.jinja` says it in words.
 import dataclasses
 import datetime
 import functools
-from collections.abc import Callable, Mapping
+from collections.abc import Callable, Collection, Iterable, Mapping, Sequence
 from typing import Any
 
-from debvote_tools.debvote import Finding, casting_words
+from debvote_tools.debvote import Finding, casting_words, standing_in
+from debvote_tools.poll.questions import Questions
 from debvote_tools.text.ballots import ballot_lines
 from debvote_tools.poll.sealed import SealedPoll
-from debvote_tools.result.sheet import Sheet, sheet_in
+from debvote_tools.result.sheet import Castings, Sheet, castings_kept
+from debvote_tools.result.why import Why
 from debvote_tools.text.language import ENGLISH, Language
 
 # what the letter of the result does not tell, besides a close of which there is no more to say
@@ -23,10 +25,7 @@ FOR_SECRETARY = {
     "mostly refused": "more than half of the lines are refused, {refused} of {lines}; debvote explain says why",
     "not closed": "the vote is not closed; close it first",
     "closed early": "the vote was closed at {closed}, before its announced end, {until}",
-    "late letter": (
-        "the ballot of letter {letter} is late, but the letter arrived at {arrival}, before the end and the close; to count it run "
-        "debvote-election reopen --in-time {envelopes} --because TEXT"
-    ),
+    "box not asked": "the box of the web host was not asked since the end: run debvote-election add --box",
     "letters left": (
         "these letters arrived in time, and wait: {letters}; set aside what is no ballot (debvote-election held NUMBER --set-aside); if "
         "one is a ballot, run debvote-election reopen --because TEXT, then debvote-election held NUMBER --enter"
@@ -41,12 +40,17 @@ FOR_SECRETARY = {
 Said = Callable[[datetime.datetime], Any]
 
 
-def with_times(places: Mapping[str, Any], said: Said) -> dict[str, Any]:
-    """What fills a sentence, with each time as it is said."""
-    return {
-        key: said(value) if isinstance(value, datetime.datetime) else value
-        for key, value in places.items()
-    }
+class Told:
+    """What a sentence tells, whose places are filled."""
+
+    places: Mapping[str, Any]
+
+    def shown(self, said: Said) -> dict[str, Any]:
+        """What fills it, with each time as it is said."""
+        return {
+            key: said(value) if isinstance(value, datetime.datetime) else value
+            for key, value in self.places.items()
+        }
 
 
 @dataclasses.dataclass(frozen=True)
@@ -55,9 +59,9 @@ class Words:
     made again.
     """
 
-    # the plain name of the option that the casting vote chooses; whose it was and on which day, if
-    # that is said. No count can show it
-    casting: str | None = None
+    # the options that casting votes choose, as `castings_said` has them; whose these were and on which
+    # day, if that is said. No count can show it
+    casting: str | Castings | None = None
     cast_by: str | None = None
     cast_on: str | None = None
     about: str | None = None
@@ -67,12 +71,16 @@ class Words:
     language: str | None = None
 
     @property
+    def castings(self) -> Castings:
+        return castings_kept(self.casting)
+
+    @property
     def cast_day(self) -> datetime.date | None:
         return datetime.date.fromisoformat(self.cast_on) if self.cast_on else None
 
 
 @dataclasses.dataclass(frozen=True)
-class Doubt:
+class Doubt(Told):
     """Something doubtful about a result. The page tells it, and most stop a publication until it is
     forced with a reason.
     """
@@ -89,9 +97,6 @@ class Doubt:
     def for_secretary(self) -> str:
         return FOR_SECRETARY[self.kind].format(**self.as_data())
 
-    def shown(self, said: Said) -> dict[str, Any]:
-        return with_times(self.places, said)
-
 
 def doubts_about(sheet: Sheet) -> list[Doubt]:
     """The doubts about what came, by the sheet of all lines that came."""
@@ -101,21 +106,45 @@ def doubts_about(sheet: Sheet) -> list[Doubt]:
     return found
 
 
+def told_apart(doubts: Mapping[str, Sequence[Doubt]]) -> dict[str, list[Doubt]]:
+    """The doubts about each question by its label, and without a label those that all questions have,
+    such as those about the whole vote: each is told once.
+    """
+    first, *others = doubts.values()
+    shared = [one for one in first if all(one in its for its in others)]
+    of_each = ((label, its) for label, its in doubts.items() if label)
+    return {"": shared} | {
+        label: [one for one in its if one not in shared] for label, its in of_each
+    }
+
+
 @dataclasses.dataclass(frozen=True)
-class Act:
+class Act(Told):
     """Something that was done in an election, at a time by the clock of the secretary's computer.
 
-    `places` fill its sentence; all times are in the zone in which the end was announced. `because`
-    is None if no reason was given, or it is not published.
+    `places` fill its sentence, those that differ by question by the labels; all times are in the zone
+    in which the end was announced. `because` is None if no reason was given, or it is not published.
     """
 
     time: datetime.datetime
     done: str
     places: Mapping[str, Any] = dataclasses.field(default_factory=dict)
     because: str | None = None
+    # the questions that it is about alone; None if about all
+    labels: Collection[str] | None = None
 
-    def shown(self, said: Said) -> dict[str, Any]:
-        return with_times(self.places, said)
+    def told_of(self, labels: Collection[str]) -> "Act":
+        """The same, as it is told of some questions: of several each after its label."""
+        places = {
+            key: ", ".join(
+                f"{label} {value[label]}" if len(labels) > 1 else str(value[label])
+                for label in labels
+            )
+            if isinstance(value, dict)
+            else value
+            for key, value in self.places.items()
+        }
+        return dataclasses.replace(self, places=places)
 
     @property
     def is_quiet(self) -> bool:
@@ -126,26 +155,9 @@ class Act:
 
 
 @dataclasses.dataclass(frozen=True)
-class SecretVote:
-    """What is known of a secret vote, and is not published as it is."""
-
-    # the codes of the electors; none gets into the folder
-    codes: frozenset[str]
-    # the random line of the last close, if it made one
-    seal: str | None
-    # the sheet of the private files, and how many lines were entered after the close
-    sheet_text: str
-    late: int
-    # the electors whose votes a comparison with the last publication would show
-    compared: tuple[str, ...] = ()
-
-    @functools.cached_property
-    def sheet(self) -> Sheet:
-        return sheet_in(self.sheet_text)
-
-
-@dataclasses.dataclass(frozen=True)
 class Facts:
+    """The facts of a question. What is about the whole vote each question has."""
+
     poll: SealedPoll
     # the lines in time; in a secret vote the ballots that stand, under aliases
     ballots: bytes
@@ -154,23 +166,34 @@ class Facts:
     desks: int = 1
     # of two files: the checksum of the file that was given as the poll
     given_checksum: str | None = None
-    # what was done, None of two files; and how many lines came after the end, and are in time since
-    # the vote was not closed
+    # what was done, about all questions, None of two files; and of each line that came after the end,
+    # and is in time since the vote was not closed, the labels of the questions that it answers
     acts: tuple[Act, ...] | None = None
-    lines_after_end: int = 0
-    # in a vote that is not secret: the lines that were entered after the close
+    after_end: Sequence[Collection[str]] = ()
+    # the lines that were entered after the close: how many came late, and unless the vote is secret the
+    # file of all
+    late_number: int = 0
     late: bytes | None = None
     # the letter of the last close
     closed: bytes | None = None
     # by the names on the roll, if they are published
     real_names: Mapping[str, str] = dataclasses.field(default_factory=dict)
-    # those that are known before the count; in the end all
-    doubts: tuple[Doubt, ...] = ()
-    secret: SecretVote | None = None
+    # those that are known before the count
+    doubts: Sequence[Doubt] = ()
+    # of a secret vote, and not published: the codes of the electors, of which none gets into the folder,
+    # the sheet of the files with names, and the electors whose votes a comparison with the last
+    # publication would show; and the random line of the last close, if it made one
+    codes: Collection[str] = ()
+    private: Sheet | None = None
+    compared: Sequence[str] = ()
+    seal: str = ""
     # whether the names on the roll are codes, and nobody has a list of them
     has_codes: bool = False
     # the web address of the result, if it is known
     at: str | None = None
+    # the label of the question, and all questions of the election; of two files none are known
+    label: str = ""
+    questions: Questions | None = None
 
     @property
     def is_of_two_files(self) -> bool:
@@ -184,38 +207,70 @@ class Facts:
     @property
     def days(self) -> list[datetime.date]:
         """The day of the call that holds, and that of the first close."""
-        acts = self.acts or ()
-        calls = [act for act in acts if act.done in ("called", "called until")]
-        closes = [act for act in acts if act.done == "closed" and act.time >= calls[-1].time]
-        return [act.time.date() for act in (*calls[-1:], *closes[:1])]
+        days: list[datetime.date] = []
+        for act in self.acts or ():
+            if act.done in ("called", "called until"):
+                days = [act.time.date()]
+            elif act.done == "closed":
+                days = [*days, act.time.date()][:2]
+        return days
+
+    def acts_about(self, labels: Collection[str]) -> list[Act]:
+        """What was done, as it is told of some questions."""
+        return [
+            act.told_of(labels)
+            for act in self.acts or ()
+            if act.labels is None or any(label in act.labels for label in labels)
+        ]
 
     @property
-    def late_number(self) -> int:
-        """How many lines were entered after the close."""
-        return self.secret.late if self.secret else len(ballot_lines(self.late or b""))
+    def lines_after_end(self) -> int:
+        return sum(self.label in labels for labels in self.after_end)
 
     @property
-    def seal(self) -> str:
-        """The random line of the last close; empty if there is none."""
-        return (self.secret and self.secret.seal) or ""
+    def late_lines(self) -> list[bytes]:
+        return ballot_lines(self.late or b"")
+
+    @property
+    def casting(self) -> str | None:
+        """The plain name of the option that the casting vote chooses."""
+        return self.words.castings.get(self.label)
 
     @property
     def casting_words(self) -> list[str]:
-        return casting_words(self.words.casting)
+        return casting_words(self.casting)
+
+    def doubts_as_data(self, doubts: Iterable[Doubt]) -> list[dict[str, Any]]:
+        """Doubts as the act of a publication keeps them, each with the label of the question."""
+        question = {"question": self.label} if self.label else {}
+        return [doubt.as_data() | question for doubt in doubts]
 
 
 @dataclasses.dataclass(frozen=True)
-class Answers:
-    """What debvote answers about poll and ballots, and the picture that Graphviz draws, if it does."""
+class Outcome:
+    """How a question ended: its facts, and what debvote answers about poll and ballots."""
 
+    facts: Facts
     sheet: Sheet
-    sheet_text: str
-    # the exit status of the count
-    status: int
     standing_text: str
     # the lines that are refused, those after a last envelope among them
     refused: list[Finding]
-    picture: bytes | None
+    # the defeats, for Graphviz
+    graph: str
     # what `verify` says of the sheet
     verified: str
     version: str
+
+    @functools.cached_property
+    def standing(self) -> dict[str, str]:
+        """The ranks of the ballots that count, by the names on the roll."""
+        return standing_in(self.standing_text)
+
+    @property
+    def doubts(self) -> list[Doubt]:
+        """All doubts; those about what came by the sheet of all lines that came."""
+        return [*doubts_about(self.facts.private or self.sheet), *self.facts.doubts]
+
+    def why(self, named: Callable[[SealedPoll], Mapping[int, str]]) -> Why:
+        """Why it ended so; the options are named as parts of a sentence."""
+        return Why(self.sheet, named(self.facts.poll))

@@ -2,6 +2,27 @@
 // that is made here of name and code. The ballot is taken from a count of the files that the page carries. Nothing is sent or kept.
 "use strict";
 
+// The options of a ballot in its order, those that are equal together, and those that are not ranked.
+function orderOf(ranks) {
+  const withRank = (rank) => [...ranks.keys()].filter((at) => ranks[at] === rank);
+  const steps = [...new Set(ranks)].filter((rank) => rank !== Infinity).sort((a, b) => a - b);
+  return { steps: steps.map(withRank), unranked: withRank(Infinity) };
+}
+
+// The answer to a motion, by the order of its two ranks: the word, and the name of the option unless it begins with the word.
+function answerIn([option, other], names, words) {
+  const at = option === other ? 2 : Number(option > other);
+  const word = words.answers.split(" ")[at];
+  const said = word[0].toUpperCase() + word.slice(1);
+  const begins = names[at]?.normalize("NFC").toLowerCase().match(/[\p{L}\p{N}_]+/u)?.[0];
+  return at === 2 || begins === word ? said : said + words.colon + names[at];
+}
+
+// Texts as part of a sentence.
+function joined(texts, and) {
+  return texts.length > 1 ? texts.slice(0, -1).join(", ") + and + texts.at(-1) : texts[0];
+}
+
 (() => {
   const DIGITS = 32;
   const CODE = /^[0-9a-f]{32}$/;
@@ -18,18 +39,28 @@
   // only in a secret vote; where codes are on the roll, they are typed as the name
   const codeInput = byId("Code");
   const isByCode = "type_code" in words;
+  // The questions of the page: all, of which it carries the ballot of each elector, null for those who have none; or its own one.
+  const carriedQuestions = [...document.querySelectorAll("pre[data-options]")].map(({ dataset, textContent }) => ({
+    ...dataset, names: JSON.parse(dataset.options),
+    ballots: new Map(textContent.trim().split("\n").map((line) => [line.split(" ")[0], line.includes(" ") ? line : null])),
+  }));
+  const ownNames = () => [...document.querySelectorAll('[aria-labelledby="Options"] li i + bdi')].map((node) => node.textContent);
+  const questions = carriedQuestions.length > 0 ? carriedQuestions : [{ label: byId("Find").dataset.label ?? "", names: ownNames(), motion: words.answers }];
   // what was typed last; an answer to what was typed before is not shown
   let asked = 0;
 
   const say = (...nodes) => byId("Answer").replaceChildren(...nodes);
 
-  function element(tag, text) {
+  function element(tag, ...inner) {
     const node = document.createElement(tag);
-    node.textContent = text;
+    node.append(...inner);
     return node;
   }
 
-  const paragraph = (...said) => element("p", sentence(...said));
+  // a sentence with nodes at its places
+  const paragraph = (key, places = {}) => element("p", ...nodesOf(words[key], places));
+  // what was typed
+  const quoted = (text) => [element("q", element("bdi", text))];
 
   // ---- names
   const folded = (text) => text.normalize("NFKD").replace(/[\p{M}\s]/gu, "").toLowerCase();
@@ -66,6 +97,7 @@
   // ---- ballots
   // The ballot of each elector on the roll by the files of the page, null for those who have none; null if the page carries no files.
   async function countFiles() {
+    if (carriedQuestions.length > 0) return null;
     const [pollBytes, ballotBytes] = [carried("Poll-file"), carried("Ballots-file")];
     if (pollBytes === null) return null;
     const poll = readPoll(pollBytes);
@@ -84,7 +116,8 @@
 
   // The ballot of an elector as the page has it, and where it has them, as its files have it: null if there is none, undefined if
   // there is no such elector.
-  function ballotOf(elector, files) {
+  function ballotOf(elector, question, files) {
+    if (question.ballots) return question.ballots.get(elector);
     const place = byId(elector);
     const isOnPage = place?.closest(".ballots");
     const onPage = isOnPage ? `${elector} ${place.querySelector("code").textContent}` : place?.closest(".roll, .absent") ? null : undefined;
@@ -93,18 +126,18 @@
   }
 
   // A ballot as a numbered list, with the names that the page has for the options, and as the line that came.
-  function ballotNode(line) {
-    const names = [...document.querySelectorAll('[aria-labelledby="Options"] li b')].map((node) => node.textContent);
+  function ballotNode(line, { names, motion }) {
     const ranks = line.split(" ")[1].split(",").map((rank) => (rank === "-" ? Infinity : Number(rank)));
-    const { steps, unranked } = orderOf(ranks);
+    const { steps, unranked } = motion ? { steps: [], unranked: [] } : orderOf(ranks);
     const listed = (some) => joined(some.map((at) => names[at]), words.and);
     const list = document.createElement("ol");
     list.append(...steps.map((some) => element("li", some.length > 1 ? sentence("equally", { options: listed(some) }) : names[some[0]])));
     const node = document.createElement("div");
     node.className = "found";
-    node.append(...(steps.length > 0 ? [list] : [paragraph("nothing")]));
-    if (steps.length > 0 && unranked.length > 0) node.append(paragraph("not_ranked", { options: listed(unranked) }));
-    node.append(paragraph("line", { line }));
+    if (motion) node.append(element("p", element("bdi", answerIn(ranks, names, words))));
+    else node.append(...(steps.length > 0 ? [list] : [paragraph("nothing")]));
+    if (steps.length > 0 && unranked.length > 0) node.append(paragraph("not_ranked", { options: [listed(unranked)] }));
+    node.append(paragraph("line", { line: [element("code", line)] }));
     return node;
   }
 
@@ -117,7 +150,6 @@
     find ??= finderOf(items.map(namesIn));
     const { suggested: names } = find(name);
     if (names.length === 0) return [];
-    const node = document.createElement("p");
     const realNames = new Map(items.map(namesIn));
     const shown = (one) => (realNames.get(one) === undefined ? one : `${one} (${realNames.get(one)})`);
     const choose = (chosen) => {
@@ -125,8 +157,7 @@
       nameInput.focus();
       show();
     };
-    node.append(...nodesOf(words.do_you_mean, { names: suggestions(names, choose, shown) }));
-    return [node];
+    return [paragraph("do_you_mean", { names: suggestions(names, choose, shown) })];
   }
 
   // That a refused or a late line has the name of an elector, with a link to these lines; only an open vote has them.
@@ -135,41 +166,53 @@
     if (!lines.some((node) => node.textContent.trim().split(/[\s:]/)[0].toLowerCase() === elector)) return [];
     const link = element("a", byId("Refused-lines").textContent);
     link.href = "#Refused-lines";
-    const node = document.createElement("p");
-    node.append(...nodesOf(words.uncounted, { lines: [link] }));
-    return [node];
+    return [paragraph("uncounted", { lines: [link] })];
   }
 
-  // What there is to say of electors, of whom those count that are on the roll. Each has a name that is said.
+  // The title of a question of several, with a link to its page.
+  function headingOf({ label, title, ballots }, elector) {
+    if (!ballots) return [];
+    const link = element("a", `${label} ${title}`);
+    link.href = `${label}/index.html${codeInput === null ? `#${elector}` : ""}`;
+    return [element("h4", link)];
+  }
+
+  // What there is to say of electors, of whom those count that are on the roll. Each has a name that is said, and by question the name
+  // on the roll.
   function told(electors, files) {
-    const found = electors.filter(([elector]) => ballotOf(elector, files) !== undefined);
+    const ballotsOf = ({ onRolls }) => questions.map((question, at) => ballotOf(onRolls[at], question, files));
+    const found = electors.filter((elector) => ballotsOf(elector).some((line) => line !== undefined));
     if (found.length === 0) {
+      const [{ name, onRolls }] = electors;
       const meant = "do_you_mean" in words ? suggested(nameInput.value) : [];
-      return meant.length > 0 ? meant : [paragraph("no_elector", { name: electors[0][1], alias: electors[0][0] })];
+      return meant.length > 0 ? meant : [paragraph("no_elector", { name: quoted(name), alias: [element("code", onRolls[0])] })];
     }
-    return found.flatMap(([elector, name]) => {
-      const line = ballotOf(elector, files);
-      if (line === null) return [paragraph("no_ballot", { name, alias: elector }), ...uncounted(elector)];
-      return [paragraph("counts", { name }), ballotNode(line)];
-    });
+    const answerOf = (line, { name, onRolls }, at) => {
+      const heading = headingOf(questions[at], onRolls[at]);
+      if (line) return [...heading, paragraph("counts", { name: [element("b", name)] }), ballotNode(line, questions[at])];
+      const places = { name: [name], alias: [element("code", onRolls[at])] };
+      return [...heading, paragraph("no_ballot", places), ...uncounted(onRolls[at])];
+    };
+    return found.flatMap((elector) => ballotsOf(elector).flatMap((line, at) => answerOf(line, elector, at)));
   }
 
   async function show() {
     const names = namesTyped();
     const mine = (asked += 1);
     if (names.length === 0) return say(paragraph("type_name"));
-    let electors = names.map((name) => [name, name]);
+    let rollsOf = (name) => questions.map(() => name);
     const code = withoutGaps((codeInput ?? nameInput).value);
     if (isByCode && !CODE.test(code)) return say(paragraph("type_code"));
     if (codeInput !== null) {
       if (!globalThis.crypto || !crypto.subtle) return say(paragraph("no_alias"));
-      electors = await Promise.all(names.map(async (name) => [await aliasOf(name, code), name]));
+      rollsOf = (name) => Promise.all(questions.map(({ label }) => aliasOf(`${label} ${name}`.trim(), code)));
     }
     let nodes;
     try {
+      const electors = await Promise.all(names.map(async (name) => ({ name, onRolls: await rollsOf(name) })));
       nodes = told(electors, await ballotsOfFiles());
     } catch (fault) {
-      nodes = [paragraph(fault.key ?? "unread", { fault: fault.message })];
+      nodes = [paragraph(fault.key ?? "unread", { fault: [fault.message] })];
     }
     return mine === asked ? say(...nodes) : undefined;
   }
@@ -181,12 +224,12 @@
 
   // The ballot that the address of the page names, whatever follows a slash; the browser may have gone to its place in the list.
   async function showNamed() {
-    const [named] = location.hash.slice(1).split("/");
+    const [named] = placeNamed().split("/");
     const place = byId(named) ?? byId(named.toLowerCase());
     if (codeInput !== null || place?.closest(".ballots, .roll") == null) return;
     nameInput.value = place.id;
     await show();
-    place.closest("details").open = false;
+    place.closest("details")?.removeAttribute("open");
     byId("Find-your-ballot").scrollIntoView();
   }
 

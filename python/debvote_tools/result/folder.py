@@ -1,28 +1,44 @@
 """The published folder. It is made beside its place, whole, and counted twice; only then it takes
-its place. debvote is started at most six times, of a secret vote four times.
+its place. For each question debvote is started at most six times, in a secret vote four times.
 """
 
 import contextlib
 import dataclasses
+import functools
 import itertools
 import os
 import pathlib
 import runpy
 import shutil
 import sys
-import tempfile
-from collections.abc import Iterator
+from collections.abc import Iterator, Mapping
+from typing import NamedTuple
 
 from debvote_tools.cli.console import tell_aside, tell_aside_as_it_is
-from debvote_tools.cli.faults import Fault, Status, bad_words
+from debvote_tools.cli.faults import Fault, Status, bad_words, stop_at
 from debvote_tools.debvote import Answer, Debvote, findings_in
-from debvote_tools.files import TEMPORARY, locked, sha256_of, sync_folder, write_public
+from debvote_tools.files import (
+    TEMPORARY,
+    locked,
+    sha256_of,
+    sync_folder,
+    temporary_folder,
+    write_public,
+)
+from debvote_tools.poll.questions import SUMS_FILE, TITLE_FILE, Questions, place_of
 from debvote_tools.poll.secret import demand_no_code
 from debvote_tools.result import file_names
-from debvote_tools.result.facts import Answers, Facts, doubts_about
-from debvote_tools.result.file_names import BALLOTS, CHECKSUMS, POLL, RECOUNT, SHEET
-from debvote_tools.result.page import letter_of, page_of, picture_of
-from debvote_tools.result.sheet import Sheet, result_json, sheet_in, votes_csv
+from debvote_tools.result.facts import Doubt, Facts, Outcome, told_apart
+from debvote_tools.result.file_names import BALLOTS, CHECKSUMS, PAGE, POLL, RECOUNT, SHEET
+from debvote_tools.result.page import front_page_of, letter_of, page_of, pictures_of
+from debvote_tools.result.sheet import (
+    Sheet,
+    as_json,
+    outcome_as_data,
+    result_json,
+    sheet_in,
+    votes_csv,
+)
 
 NOTHING_DONE = "nothing was published"
 
@@ -43,18 +59,21 @@ BESIDE = {
 BESIDE_PLACE = f"{TEMPORARY}result-"
 
 
+class Filled(NamedTuple):
+    """A folder that is whole: how each question ended, the checksums of all files, by their places in
+    it, and the letter of the result.
+    """
+
+    outcomes: Mapping[str, Outcome]
+    checksums: Mapping[str, str]
+    letter: bytes
+
+
 @dataclasses.dataclass
-class Made:
-    """A folder that is made and counted, beside its place."""
+class NewFolder:
+    """A folder beside its place."""
 
     folder: pathlib.Path
-    answers: Answers
-    # all doubts
-    facts: Facts
-    # of each file by its name
-    checksums: dict[str, str]
-    # the letter of the result
-    letter: bytes
     # the book has its act: if it gets no place now, the next run sees that it got none
     is_in_book: bool = False
 
@@ -65,7 +84,7 @@ class Made:
         place = real_place(target_folder)
         if place.is_dir():
             with locked(place, is_directory=True):
-                aside = folder_beside(place)
+                aside = temporary_folder(place.parent, BESIDE_PLACE)
                 place.rename(aside)
                 try:
                     self.folder.rename(place)
@@ -83,10 +102,6 @@ class Made:
 def real_place(target_folder: pathlib.Path) -> pathlib.Path:
     """Where the folder will be. If the place is a link, the link stays."""
     return pathlib.Path(os.path.realpath(target_folder))
-
-
-def folder_beside(place: pathlib.Path) -> pathlib.Path:
-    return pathlib.Path(tempfile.mkdtemp(prefix=BESIDE_PLACE, dir=place.parent))
 
 
 def left_beside(place: pathlib.Path) -> list[pathlib.Path]:
@@ -107,10 +122,9 @@ def is_free(target_folder: pathlib.Path) -> bool:
 def demand_outside(target_folder: pathlib.Path) -> None:
     """Stops at a place within a published folder, or that of a call, which stays as it is."""
     for above in real_place(target_folder).parents:
-        if all((above / name).is_file() for name in (CHECKSUMS, file_names.PAGE)):
+        if all((above / name).is_file() for name in (CHECKSUMS, PAGE)):
             words = f"it would be in {above}, whose files are published as they are"
-            cure = "name a folder outside of it"
-            raise bad_words(target_folder, words, cure, NOTHING_DONE)
+            raise bad_words(target_folder, words, "name a folder outside of it", NOTHING_DONE)
 
 
 def is_publication(folder: pathlib.Path, checksum: str) -> bool:
@@ -118,152 +132,223 @@ def is_publication(folder: pathlib.Path, checksum: str) -> bool:
     they stand there.
     """
     try:
-        files = {file.name: sha256_of(file.read_bytes()) for file in folder.iterdir()}
-        if files.pop(CHECKSUMS, None) != checksum:
+        data = (folder / CHECKSUMS).read_bytes()
+        if sha256_of(data) != checksum:
             return False
-        lines = (folder / CHECKSUMS).read_text().splitlines()
+        lines = (line.split("  ") for line in data.decode().splitlines())
+        listed = {folder / name: found for found, name in lines}
+        # what has a file of several questions below it is a folder
+        above = {parent for file in listed for parent in file.parents}
+        others = (file for file in folder.rglob("*") if file not in (folder / CHECKSUMS, *above))
+        return all(listed.get(file) == sha256_of(file.read_bytes()) for file in others)
     except OSError:
         return False
-    listed = {name: found for found, name in (line.split("  ") for line in lines)}
-    return files.items() <= listed.items()
 
 
 def in_use(target_folder: pathlib.Path, words: str, cure: str) -> Fault:
-    reason = f"it exists already, and is not {words}"
-    return Fault(target_folder, reason, cure, Status.BAD_WORDS, NOTHING_DONE)
+    return bad_words(target_folder, f"it exists already, and is not {words}", cure, NOTHING_DONE)
 
 
 @contextlib.contextmanager
-def made(
-    given: Facts, target_folder: pathlib.Path, program_folder: pathlib.Path | None
-) -> Iterator[Made]:
-    """Makes the folder beside its place, and removes it at the end unless it was moved, or the
+def beside(target_folder: pathlib.Path) -> Iterator[NewFolder]:
+    """Makes an empty folder beside its place, and removes it at the end unless it was moved, or the
     book has its act.
-
-    `program_folder` is that of the program that runs this: debvote may be beside it.
     """
-    folder, filled = folder_beside(real_place(target_folder)), None
-    with locked(folder, is_directory=True):
+    new = NewFolder(temporary_folder(real_place(target_folder).parent, BESIDE_PLACE))
+    with locked(new.folder, is_directory=True):
         try:
-            filled = fill(folder, given, program_folder)
-            folder.chmod(0o755)
-            sync_folder(folder)
-            yield filled
+            yield new
         finally:
-            if filled is None or not filled.is_in_book:
-                shutil.rmtree(folder, ignore_errors=True)
+            if not new.is_in_book:
+                shutil.rmtree(new.folder, ignore_errors=True)
 
 
 # ---- what is in it
-def fill(folder: pathlib.Path, given: Facts, program_folder: pathlib.Path | None) -> Made:
-    """Writes all files into an empty folder, and has them counted by debvote and by `recount.py`.
-    Stops at doubts that are not forced, at a code of an elector, and if the counts differ.
+def filled(
+    folder: pathlib.Path, given: Mapping[str, Facts], program_folder: pathlib.Path | None
+) -> Filled:
+    """Writes all files of a result into an empty folder, those of each of several questions into one
+    with its label, and has each question counted by debvote and by `recount.py`. Stops at doubts that
+    are not forced, at a code of an elector, and if the counts differ. `program_folder` is that of the
+    program that runs this: debvote may be beside it.
     """
-    debvote, checksums = Debvote(folder, program_folder), dict[str, str]()
-
-    def write(files: dict[str, bytes]) -> None:
-        for name, data in files.items():
-            if given.secret is not None:
-                demand_no_code(name, data, given.secret.codes, NOTHING_DONE)
-            write_public(folder / name, data)
-            checksums[name] = sha256_of(data)
-
-    def ask(task: str, *words: str, also: tuple[int, ...] = ()) -> Answer:
-        """What debvote answers, and its fault lines as they are. Stops unless its exit status is 0,
-        or one of these with a text.
-        """
-        answer = debvote.run(task, "--poll", POLL, "--ballots", BALLOTS, *words)
-        tell_aside_as_it_is(answer.faults)
-        if answer.status != Status.DONE and not (answer.text and answer.status in also):
-            sys.exit(answer.status)
-        return answer
-
-    write({POLL: given.poll.as_bytes(), BALLOTS: given.ballots})
-    desks = ["--desks", str(given.desks)]
-    count = ask("count", *desks, *given.casting_words, also=(Status.TIE, Status.CASTING_OUTSIDE))
-    sheet = sheet_in(count.text)
-    full = demand_publishable(given, sheet, count.text)
-    write({SHEET: count.text.encode()})
-    # in a secret vote only the ballots that stand are published
-    standing = given.ballots.decode() if given.secret else ask("standing").text
-    refused = ask("explain", also=(Status.DOUBT,)).text if sheet.refused else None
-    graph = ask("picture", *desks, *given.casting_words, also=(Status.TIE,)).text
-    verified = ask("verify", "--sheet", SHEET, *desks, also=(Status.DOUBT,))
-    if verified.status == Status.DOUBT:
-        raise unlike("debvote verify", verified.text.strip().replace("\n", ", "))
-    answers = Answers(
-        sheet=sheet,
-        sheet_text=count.text,
-        status=count.status,
-        standing_text=standing,
-        refused=findings_in(refused).refused if refused else [],
-        picture=picture_of(graph, len(sheet.names)),
-        verified=verified.text.rstrip("\n"),
-        version=debvote.version(),
-    )
-    write(further_files(full, answers))
-    demand_same(folder, full.casting_words, answers)
-    # each of these has checksums of those above
-    write({file_names.PAGE: page_of(full, answers, checksums)})
-    lines = (f"{checksum}  {name}\n" for name, checksum in sorted(checksums.items()))
-    write({CHECKSUMS: "".join(lines).encode()})
-    letter = letter_of(full, sheet, checksums)
-    if full.is_of_two_files:
+    filling = Filling(folder, given)
+    outcomes = {label: filling.counted(label, program_folder) for label in given}
+    doubts = demand_publishable(outcomes)
+    for (label, one), picture in zip(outcomes.items(), pictures_of(outcomes.values())):
+        filling.write(label, further_files(one, picture))
+        demand_same(folder / label, one)
+        # it has checksums of the files above
+        filling.write_page(label, page_of(one, picture, filling.sums(label)))
+    facts = one.facts
+    if facts.label and facts.questions is not None:
+        filling.write("", files_above(facts.questions, outcomes, filling.checksums))
+        filling.write_page("", front_page_of(facts.questions, outcomes, doubts))
+    letter = letter_of(outcomes, doubts, filling.checksums)
+    if facts.is_of_two_files:
         # two files have no other folder for it
-        write({file_names.LETTER: letter})
-    return Made(folder, answers, full, checksums, letter)
+        filling.write("", {file_names.LETTER: letter})
+    filling.end()
+    return Filled(outcomes, filling.checksums, letter)
 
 
-def demand_publishable(given: Facts, sheet: Sheet, sheet_text: str) -> Facts:
-    """The facts with all doubts. Stops at doubts of an election that are not forced, and at what is
-    never published.
+class Filling:
+    """A folder while it is filled, with the checksum of each file by its place. Files without a label
+    are those of the one question, or those above several.
     """
+
+    def __init__(self, folder: pathlib.Path, given: Mapping[str, Facts]) -> None:
+        self.folder, self.given, self.checksums = folder, given, dict[str, str]()
+
+    def write(self, label: str, files: Mapping[str, bytes]) -> None:
+        codes = next(iter(self.given.values())).codes
+        for name, data in files.items():
+            place = place_of(label, name)
+            demand_no_code(place, data, codes, NOTHING_DONE)
+            write_public(self.folder / place, data)
+            self.checksums[place] = sha256_of(data)
+
+    def sums(self, label: str) -> dict[str, str]:
+        """The checksums of the files of a question by their names, without a label those of all."""
+        above = f"{label}/" if label else ""
+        named = self.checksums.items()
+        return {name.removeprefix(above): its for name, its in named if name.startswith(above)}
+
+    def write_page(self, label: str, page: bytes) -> None:
+        """Writes the page, which is the last file, and the checksums of all."""
+        self.write(label, {PAGE: page})
+        lines = (f"{checksum}  {name}\n" for name, checksum in sorted(self.sums(label).items()))
+        self.write(label, {CHECKSUMS: "".join(lines).encode()})
+
+    def counted(self, label: str, program_folder: pathlib.Path | None) -> Outcome:
+        """Writes poll, ballots and sheet of a question, and asks debvote about them."""
+        given, folder = self.given[label], self.folder / label
+        folder.mkdir(exist_ok=True)
+        debvote = Debvote(folder, program_folder)
+        ask = functools.partial(answer_of, debvote)
+        desks, casting = ("--desks", str(given.desks)), given.casting_words
+        tie = (Status.TIE, Status.CASTING_OUTSIDE)
+        self.write(label, {POLL: given.poll.as_bytes(), BALLOTS: given.ballots})
+        sheet = sheet_in(ask("count", *desks, *casting, also=tie).text)
+        self.write(label, {SHEET: sheet.text.encode()})
+        verified = ask("verify", "--sheet", SHEET, *desks, also=(Status.DOUBT,))
+        if verified.status == Status.DOUBT:
+            raise unlike("debvote verify", verified.text.strip().replace("\n", ", "))
+        refused = ask("explain", also=(Status.DOUBT,)).text if sheet.refused else None
+        return Outcome(
+            facts=given,
+            sheet=sheet,
+            # in a secret vote only the ballots that stand are published
+            standing_text=given.ballots.decode() if given.private else ask("standing").text,
+            refused=findings_in(refused).refused if refused else [],
+            graph=ask("picture", *desks, *casting, also=tie).text,
+            verified=verified.text.rstrip("\n"),
+            version=debvote.version(),
+        )
+
+    def end(self) -> None:
+        for label in {"", *self.given}:
+            (self.folder / label).chmod(0o755)
+            sync_folder(self.folder / label)
+
+
+def answer_of(debvote: Debvote, task: str, *words: str, also: tuple[int, ...] = ()) -> Answer:
+    """What debvote answers in its folder, and its fault lines as they are. Stops unless its exit status
+    is 0, or one of these with a text.
+    """
+    answer = debvote.run(task, "--poll", POLL, "--ballots", BALLOTS, *words)
+    tell_aside_as_it_is(answer.faults)
+    if answer.status != Status.DONE and not (answer.text and answer.status in also):
+        sys.exit(answer.status)
+    return answer
+
+
+def files_above(
+    questions: Questions, outcomes: Mapping[str, Outcome], checksums: Mapping[str, str]
+) -> dict[str, bytes]:
+    """What is above the folders of several questions: their title and the list of their polls, as the
+    call has them, and how each ended, as data.
+    """
+    files = questions.files
+    ended = {
+        label: {
+            "label": one.facts.poll.name,
+            "outcome": outcome_as_data(one.sheet),
+            "checksum": checksums[place_of(label, CHECKSUMS)],
+        }
+        for label, one in outcomes.items()
+    }
+    data = {"format": "debvote results 1", "title": questions.name, "questions": ended}
+    above = {name: files[name] for name in (TITLE_FILE, SUMS_FILE)}
+    return above | {file_names.DATA: as_json(data).encode()}
+
+
+# ---- doubts
+def demand_publishable(outcomes: Mapping[str, Outcome]) -> dict[str, list[Doubt]]:
+    """All doubts, told apart. Stops at those of an election that are not forced, and at what is never
+    published.
+    """
+    facts = next(iter(outcomes.values())).facts
+    doubts = told_apart({label: one.doubts for label, one in outcomes.items()})
+    passes = facts.is_of_two_files or (facts.words.is_forced and facts.words.because)
+    cure = (
+        'put it right, or publish as it is with --force --because "TEXT" (the result page says so)'
+    )
+    faults, notes = list[Fault](), list[str]()
+    for label, about in doubts.items():
+        where = f"question {label}" if label else None
+        its = list(never_published(outcomes[label])) if label in outcomes else []
+        reasons = "; ".join(doubt.for_secretary() for doubt in about if doubt.stops)
+        if reasons and not passes and not its:
+            its = [Fault(where, reasons, cure, done=NOTHING_DONE)]
+        faults += its
+        note = ": ".join(filter(None, ["Note", where]))
+        notes += (f"{note}: {doubt.for_secretary()}; the result page says so" for doubt in about)
+    stop_at(faults)
+    tell_aside(*notes)
+    return doubts
+
+
+def never_published(outcome: Outcome) -> Iterator[Fault]:
+    """What is wrong with a question, whatever is forced."""
+    given, sheet = outcome.facts, outcome.sheet
     left = {sheet.names[option]: option for option in sheet.left}
-    casting = given.words.casting
-    if casting is not None and casting not in left:
+    if given.casting is not None and given.casting not in left:
         shown = " and ".join(f"{option} {name}" for name, option in left.items())
-        words = f"no casting vote can choose {casting}, which is not left; left {'are' if len(left) > 1 else 'is'} {shown}"
+        words = f"no casting vote can choose {given.casting}, which is not left; left {'are' if len(left) > 1 else 'is'} {shown}"
         cure = "name an option that is left"
-        raise Fault("--casting", words, cure, Status.CASTING_OUTSIDE, NOTHING_DONE)
+        yield Fault("--casting", words, cure, Status.CASTING_OUTSIDE, NOTHING_DONE)
     if given.poll.secret and not (
         sheet.last_envelope is None and sheet.lines == sheet.valid == sheet.voters
     ):
-        raise unlike(None, "a line of this secret vote does not count, or counts more than once")
-    if given.secret is not None:
-        if title_and_votes(given.secret.sheet_text) != title_and_votes(sheet_text):
-            words = "the sheet under aliases differs from the sheet of the votes as they came"
-            raise unlike(None, words)
-        sheet = given.secret.sheet
-    doubts = (*doubts_about(sheet), *given.doubts)
-    stopping = [doubt.for_secretary() for doubt in doubts if doubt.stops]
-    is_forced = given.words.is_forced and given.words.because
-    if stopping and not (given.is_of_two_files or is_forced):
-        cure = 'put it right, or publish as it is with --force --because "TEXT" (the result page says so)'
-        raise Fault(None, "; ".join(stopping), cure, Status.DOUBT, NOTHING_DONE)
-    tell_aside(*(f"Note: {doubt.for_secretary()}; the result page says so" for doubt in doubts))
-    return dataclasses.replace(given, doubts=doubts)
+        yield unlike(None, "a line of this secret vote does not count, or counts more than once")
+    if given.private and title_and_votes(given.private) != title_and_votes(sheet):
+        yield unlike(
+            None, "the sheet under aliases differs from the sheet of the votes as they came"
+        )
 
 
-def title_and_votes(sheet_text: str) -> tuple[str, str]:
+def title_and_votes(sheet: Sheet) -> tuple[str, str]:
     """The parts of a sheet that are the same under names and under aliases: its title, and all from
     its line `Voters:` on.
     """
-    head, _, votes = sheet_text.partition("\nVoters: ")
+    head, _, votes = sheet.text.partition("\nVoters: ")
     return head.partition("\n")[0], votes
 
 
-def further_files(given: Facts, answers: Answers) -> dict[str, bytes]:
+def further_files(outcome: Outcome, picture: bytes | None) -> dict[str, bytes]:
     """The files that follow from poll, ballots and sheet, those of the book, and the programs and
     the guide beside them.
     """
+    facts, sheet = outcome.facts, outcome.sheet
     files = {
-        file_names.STANDING: answers.standing_text.encode(),
-        file_names.DATA: result_json(answers.sheet, given.poll, answers.version).encode(),
-        file_names.TABLE: votes_csv(answers.sheet).encode(),
-        file_names.PICTURE: answers.picture,
-        file_names.LATE: given.late,
-        file_names.CLOSED: given.closed,
-        file_names.SEAL: f"{given.seal}\n".encode() if given.seal else None,
+        file_names.STANDING: outcome.standing_text.encode(),
+        file_names.DATA: result_json(sheet, facts.poll, outcome.version).encode(),
+        file_names.TABLE: votes_csv(sheet).encode(),
+        file_names.PICTURE: picture,
+        file_names.LATE: facts.late,
+        file_names.CLOSED: facts.closed,
+        file_names.SEAL: f"{facts.seal}\n".encode() if facts.seal else None,
     }
     for name, (what, places) in BESIDE.items():
         file = next((place for place in places if place.is_file()), None)
@@ -277,26 +362,24 @@ def further_files(given: Facts, answers: Answers) -> dict[str, bytes]:
 # ---- the second count
 def unlike(what: str | None, words: str) -> Fault:
     """The fault of files that do not belong together."""
-    cure = "keep all files, and tell the maintainers"
-    return Fault(what, words, cure, Status.DOUBT, NOTHING_DONE)
+    return Fault(what, words, "keep all files, and tell the maintainers", done=NOTHING_DONE)
 
 
-def demand_same(folder: pathlib.Path, casting_words: list[str], answers: Answers) -> None:
+def demand_same(folder: pathlib.Path, outcome: Outcome) -> None:
     """Counts a folder by the program that is in it. Stops if it finds another sheet, or other
     ballots that stand.
     """
     program = runpy.run_path(str(folder / RECOUNT))
     files = ["--poll", str(folder / POLL), "--ballots", str(folder / BALLOTS)]
-    for task, wanted in (("count", answers.sheet_text), ("standing", answers.standing_text)):
-        words = casting_words if task == "count" else []
+    for task, wanted in (("count", outcome.sheet.text), ("standing", outcome.standing_text)):
+        words = outcome.facts.casting_words if task == "count" else []
         try:
             text, _ = program["answer"]([task, *files, *words])
             said = "" if text == wanted else difference(text, wanted)
         except program["Fault"] as fault:
             said = f"it says `{fault.args[0]}`"
         if said:
-            what = f"{RECOUNT}, the second count, differs from debvote in its `{task}`"
-            raise unlike(what, said)
+            raise unlike(f"{RECOUNT}, the second count, differs from debvote in its `{task}`", said)
 
 
 def difference(text: str, wanted: str) -> str:

@@ -1,4 +1,4 @@
-"""The page and the letter of a result: what their templates are filled with."""
+"""The pages and the letter of a result: what their templates are filled with."""
 
 import base64
 import html
@@ -7,23 +7,31 @@ import shlex
 import shutil
 import subprocess
 import xml.etree.ElementTree as xml
-from collections.abc import Iterable, Mapping
+from collections.abc import Iterable, Mapping, Sequence
 from typing import Any
 
 from markupsafe import Markup
 
 from debvote_tools.cli.console import seen, tell_aside
-from debvote_tools.debvote import Finding, standing_in
+from debvote_tools.debvote import Finding
+from debvote_tools.poll.questions import Questions
 from debvote_tools.poll.secret import BY_OPENSSL, BY_PYTHON, sealed_checksum
+from debvote_tools.poll.sealed import SealedPoll
 from debvote_tools.poll.call import explanations_of, numbered_options, paragraphs_of
 from debvote_tools.result import file_names, scripts
-from debvote_tools.result.facts import Answers, Facts
-from debvote_tools.result.sheet import Sheet
-from debvote_tools.result.why import Why
-from debvote_tools.text.ballots import IN_A_LIST, ballot_lines, ballots_in_words, faults_of
+from debvote_tools.result.facts import Doubt, Outcome
+from debvote_tools.text.ballots import ballot_lines, ballots_in_words, faults_of
 from debvote_tools.text.language import ENGLISH, Language
+from debvote_tools.text.motions import COLON
 from debvote_tools.text.rendering import InHtml, render_letter, render_page, resources
 from debvote_tools.text.times import date_in_words
+
+# what both kinds of pages have
+STYLES = ("fields.css", "given.css", "page.css")
+SCRIPTS = ("names.js", "find.js", "fold.js")
+
+# the questions of a result that are shown whole; of more each is a line, which opens
+MOST_WHOLE = 6
 
 # in bytes; larger files are not carried by the page, and the reader chooses them. Those of a secret
 # vote, which the finding of one's own ballot needs too, never come to more: a poll has at most
@@ -32,7 +40,14 @@ CARRIED_LIMIT = 4_000_000
 
 # in bytes; if the names of the options in all ballots come to more, ballots have their numbers
 # alone
-NAMES_LIMIT = 2_000_000
+NAMES_LIMIT = 3_000_000
+
+# an option on the page: its number, which a style frames, and its name, which may be written from
+# right to left, and turns nothing around it
+NAMED = Markup("<i>{}</i>\u00a0<bdi>{}</bdi>")
+
+# in characters; where the names in a ballot come to more, paper has their numbers alone
+LONG_BALLOT = 200
 
 # how many characters of a refused line are shown, and how many bytes of such lines in all, or a few
 # more
@@ -50,95 +65,165 @@ IN_HASTE = ["-Gsplines=line", "-Gnslimit=1", "-Gmclimit=0.1"]
 # read
 LEAST_SHARE = 0.75
 
+# the width of paper, in the size of the text
+PAPER = 40
+
 # how the name of an option begins in the picture
 NUMBERED = re.compile(r"^([0-9]+) ")
+# what stands at a defeat in it that was removed
+REMOVED = re.compile("(?P<votes>.*), round (?P<round>[0-9]+)")
 
 SPACE = "{http://www.w3.org/2000/svg}"
 SHAPES = {SPACE + name for name in ("svg", "g", "polygon", "polyline", "ellipse", "path", "text")}
 
 
-def letter_of(facts: Facts, sheet: Sheet, checksums: Mapping[str, str]) -> bytes:
+def letter_of(
+    outcomes: Mapping[str, Outcome],
+    doubts: Mapping[str, Sequence[Doubt]],
+    checksums: Mapping[str, str],
+) -> bytes:
     """The letter of the result: what an elector compares with the web site, sent by a way that does
-    not lead over it. `checksums` are those of the published files, by their names.
+    not lead over it. `checksums` are those of the published files, by their places.
     """
-    why = Why(sheet, numbered_options(facts.poll.names, facts.language))
-    values = {"facts": facts, "sheet": sheet, "why": why, "checksums": checksums}
-    return render_letter(__package__, "result.txt", facts.language, **values).encode()
+    facts = next(iter(outcomes.values())).facts
+    return render_letter(
+        __package__,
+        "result.txt",
+        facts.language,
+        facts=facts,
+        outcomes=outcomes,
+        named=lambda poll: numbered_options(poll.names, facts.language),
+        doubts=doubts,
+        acts=[act for act in facts.acts_about(outcomes) if not act.is_quiet],
+        checksums=checksums,
+    ).encode()
 
 
-def page_of(facts: Facts, answers: Answers, checksums: Mapping[str, str]) -> bytes:
-    """The page, whole."""
-    language, sheet, poll = facts.language, answers.sheet, facts.poll
-    in_html = InHtml(language.code, language.catalog)
-    # a name that is not plain may be written from right to left, and turns nothing around it
-    pairs = enumerate(zip(poll.names, poll.plain_names), start=1)
-    names = {
-        option: name if name == plain else in_html.given(name) for option, (name, plain) in pairs
-    }
-    named, bold = numbered_options(names.values(), in_html), Markup('<b data-option="{}">{}</b>')
-    # the page shows the ballots that stand, as debvote lists them
-    standing = standing_in(answers.standing_text)
-    # many ballots are alike
-    have_names = len(standing) * sum(map(len, named.values())) <= NAMES_LIMIT
-    shown = [str(name if have_names else key) for key, name in named.items()]
-    in_words_of = ballots_in_words(shown, language, IN_A_LIST)
-    style, picture = resources(__package__, "fields.css", "given.css", "page.css"), None
-    if answers.picture is not None and len(names) <= MOST_IN_PAGE:
-        picture, least_width = picture_in_page(answers.picture, language)
-        style += f".picture svg {{ min-width: {least_width}px; }}\n"
-    file_lines = ballot_lines(facts.ballots)
-    refused = ((one.line, cause_of(one, language)) for one in answers.refused)
-    own_letter = [file_names.LETTER] if facts.is_of_two_files else []
+def named_in_html(poll: SealedPoll) -> dict[int, Markup]:
+    """The options by their numbers, as parts of a sentence on a page."""
+    return {option: NAMED.format(option, name) for option, name in enumerate(poll.names, start=1)}
+
+
+def page_with(
+    template: str, title: str, outcomes: Sequence[Outcome], label: str = "", /, **values: Any
+) -> bytes:
+    """A page with one outcome or with all, and the script that finds a ballot in them."""
+    facts = outcomes[0].facts
+    language = facts.language
     return render_page(
         __package__,
-        "page.html",
+        template,
         language,
+        head=InHtml(language.code, language.catalog).say("Result: {title}", title=title),
+        title=title,
+        days=[date_in_words(day, language) for day in facts.days],
+        colon=language.between(COLON),
+        facts=facts,
+        poll=facts.poll,
+        label=label,
+        # what is said of the whole vote, the page of all questions has
+        about=paragraphs_of("" if label else facts.words.about or ""),
+        given_checksum=None
+        if facts.given_checksum == facts.poll.checksum
+        else facts.given_checksum,
+        example=next((name for one in outcomes for name in one.standing), ""),
+        # with those of a motion, if one is among them
+        find_words=scripts.find_words(
+            max((one.facts for one in outcomes), key=lambda facts: facts.poll.motion)
+        ),
+        find_letters=scripts.find_letters(language),
+        **values,
+    )
+
+
+def front_page_of(
+    questions: Questions, outcomes: Mapping[str, Outcome], doubts: Mapping[str, Sequence[Doubt]]
+) -> bytes:
+    """The page above those of several questions."""
+    return page_with(
+        "front.html",
+        questions.name,
+        [*outcomes.values()],
+        style=resources(__package__, *STYLES, "front.css"),
+        script=resources(__package__, *SCRIPTS),
+        questions=questions,
+        outcomes=outcomes,
+        named=named_in_html,
+        doubts=doubts,
+        are_folded=len(outcomes) > MOST_WHOLE,
+    )
+
+
+def page_of(outcome: Outcome, drawing: bytes | None, checksums: Mapping[str, str]) -> bytes:
+    """The page of a question, whole."""
+    facts, sheet = outcome.facts, outcome.sheet
+    language, poll, options = facts.language, facts.poll, len(sheet.names)
+    style, picture = resources(__package__, *STYLES) + table_on_paper(options, sheet.voters), None
+    if drawing is not None and options <= MOST_IN_PAGE:
+        picture, least_width = picture_in_page(drawing, language)
+        # paper does not scroll, and a page with something wider would be printed smaller
+        style += f"@media screen {{ .picture svg {{ min-width: {least_width}px; }} }}\n"
+    own_letter = [file_names.LETTER] if facts.is_of_two_files else []
+    return page_with(
+        "page.html",
+        poll.name,
+        [outcome],
+        facts.label,
         style=style,
         script=resources(
-            __package__, file_names.SCRIPT, "names.js", "count_again.js", "find.js", "fold.js"
+            __package__, file_names.SCRIPT, "names.js", "count_again.js", *SCRIPTS[1:]
         ),
-        head=in_html.say("Result: {title}", title=poll.name),
-        title=poll.name,
-        days=[date_in_words(day, language) for day in facts.days],
-        colon=language.between(scripts.COLON),
         plain_name=scripts.PLAIN_NAME,
-        facts=facts,
-        poll=poll,
         sheet=sheet,
-        answers=answers,
-        names=names,
-        named=named,
-        why=Why(sheet, {option: bold.format(option, name) for option, name in named.items()}),
+        outcome=outcome,
+        why=outcome.why(named_in_html),
         share=share(sheet.voters, sheet.electors, language),
         because=paragraphs_of(facts.words.because or ""),
-        about=paragraphs_of(facts.words.about or ""),
-        given_checksum=None
-        if facts.given_checksum == checksums[file_names.POLL]
-        else facts.given_checksum,
         explanations=explanations_of(poll),
+        has_picture=drawing is not None,
         picture=picture,
-        picture_command=shlex.join(drawing_words(len(names))),
-        ballot_words={ranks: Markup(in_words_of(ranks)) for ranks in set(standing.values())},
-        have_names=have_names,
-        standing=standing,
-        refused=runs_of(((at, file_lines[at - 1], cause) for at, cause in refused), in_html),
-        late=runs_of(
-            ((at, line, "") for at, line in enumerate(ballot_lines(facts.late or b""), start=1)),
-            in_html,
-        ),
-        by_python=BY_PYTHON,
-        by_openssl=BY_OPENSSL,
+        picture_command=shlex.join(drawing_words(options)),
+        by_python=of_question(BY_PYTHON, facts.label),
+        by_openssl=of_question(BY_OPENSSL, facts.label),
         checksums=checksums,
         # in a secret vote that of the close has the line of the seal, too
         sealed_checksum=facts.seal and sealed_checksum(facts.seal, facts.ballots),
         files=sorted({*checksums, file_names.CHECKSUMS, *own_letter}),
         casting="".join(f" {word}" for word in map(shlex.quote, facts.casting_words)),
-        example=next(iter(standing), "NAME"),
-        find_words=scripts.find_words(facts),
-        find_letters=scripts.find_letters(language),
-        again_words=scripts.again_words(language),
-        carried=carried_files(poll.as_bytes(), facts.ballots, answers.sheet_text.encode()),
+        again_words=scripts.again_words(language, poll),
+        carried=carried_files(poll.as_bytes(), facts.ballots, sheet.text.encode()),
+        **ballots_on_page(outcome),
     )
+
+
+def ballots_on_page(outcome: Outcome) -> dict[str, Any]:
+    """What the page of a question says of the ballots, and of the lines that do not count."""
+    facts, poll, standing = outcome.facts, outcome.facts.poll, outcome.standing
+    language, named = facts.language, named_in_html(poll)
+    # many ballots are alike
+    have_names = len(standing) * sum(map(len, named.values())) <= NAMES_LIMIT
+    shown = [str(name if have_names else key) for key, name in named.items()]
+    if poll.motion:
+        have_names, shown = True, [html.escape(name) for name in poll.names]
+    in_words_of = ballots_in_words(shown, language, poll.motion)
+    lines, late = ballot_lines(facts.ballots), facts.late_lines
+    refused = ((one.line, lines[one.line - 1], cause_of(one, language)) for one in outcome.refused)
+    return {
+        "standing": standing,
+        "have_names": have_names,
+        "ballot_words": {ranks: Markup(in_words_of(ranks)) for ranks in set(standing.values())},
+        "are_long": sum(map(len, poll.names)) > LONG_BALLOT,
+        "refused": runs_of(refused, language),
+        "late": runs_of(((at, line, "") for at, line in enumerate(late, start=1)), language),
+    }
+
+
+def of_question(command: str, label: str) -> str:
+    """A command that makes an alias: with several questions of the label, too."""
+    if not label:
+        return command
+    asked = command.replace("input('Name: ')", f"('{label} ' + input('Name: '))")
+    return asked.replace(" NAME ", f" '{label} NAME' ")
 
 
 def share(voters: int, electors: int, language: Language = ENGLISH) -> str:
@@ -154,14 +239,14 @@ def share(voters: int, electors: int, language: Language = ENGLISH) -> str:
 
 
 # ---- lines that do not count
-def runs_of(found: Iterable[tuple[int, bytes, str]], language: InHtml) -> list[dict[str, Any]]:
+def runs_of(found: Iterable[tuple[int, bytes, str]], language: Language) -> list[dict[str, Any]]:
     """Lines with their numbers and causes; those that are alike and follow each other are one
     entry. If the texts are too many, the last have none.
     """
     runs: list[dict[str, Any]] = []
-    left = TEXTS_LIMIT
+    in_html, left = InHtml(language.code, language.catalog), TEXTS_LIMIT
     for number, line, cause in found:
-        text = line_on_page(line, language) if left > 0 else None
+        text = line_on_page(line, in_html) if left > 0 else None
         same = {"last": number - 1, "cause": cause, "text": text}
         if runs and runs[-1].items() >= same.items():
             runs[-1]["last"] = number
@@ -222,20 +307,37 @@ def drawing_words(options: int) -> list[str]:
     return ["dot", "-Tsvg", *([] if options <= MOST_IN_PAGE else IN_HASTE)]
 
 
-def picture_of(graph: str, options: int) -> bytes | None:
-    """Draws a graph as a picture. If it can't, it says why, and returns None."""
+def table_on_paper(options: int, voters: int) -> str:
+    """The style by which the table of votes is as wide as A4 paper at most, as page.css has its
+    cells: browsers cut what is wider.
+    """
+    digits = len(str(max(options, voters)))
+    size = (PAPER - options / 16) / (options * (0.7 * digits + 0.4) + 10)
+    return f"@media print {{ table {{ font-size: {min(size, 1):.2f}rem; }} }}\n"
+
+
+def pictures_of(outcomes: Iterable[Outcome]) -> list[bytes | None]:
+    """The defeats of each question as a picture. Why there is none is said once."""
+    pictures, faults = list[bytes | None](), dict[str, None]()
+    for one in outcomes:
+        try:
+            pictures.append(drawn(one.graph, len(one.sheet.names)))
+        except (OSError, subprocess.SubprocessError) as error:
+            pictures.append(None)
+            faults[f"Note: no picture: {error}"] = None
+    tell_aside(*faults)
+    return pictures
+
+
+def drawn(graph: str, options: int) -> bytes:
+    """Draws a graph. Raises OSError or SubprocessError if it can't."""
     dot = shutil.which("dot")
     if dot is None:
-        tell_aside("Note: no picture: Graphviz (its program dot) is not installed")
-        return None
+        raise FileNotFoundError("Graphviz (its program dot) is not installed")
     words = [dot, *drawing_words(options)[1:]]
-    try:
-        return subprocess.run(
-            words, input=graph.encode(), capture_output=True, timeout=PICTURE_SECONDS, check=True
-        ).stdout
-    except subprocess.SubprocessError as error:
-        tell_aside(f"Note: no picture: {error}")
-        return None
+    return subprocess.run(
+        words, input=graph.encode(), capture_output=True, timeout=PICTURE_SECONDS, check=True
+    ).stdout
 
 
 def picture_in_page(picture: bytes, language: Language) -> tuple[Markup, int]:
@@ -246,13 +348,16 @@ def picture_in_page(picture: bytes, language: Language) -> tuple[Markup, int]:
     dropped is said in the language.
     """
     svg = xml.fromstring(picture)
-    colon = language.between(scripts.COLON)
+    colon = language.between(COLON)
     dropped = {"quorum": language.say("no quorum"), "majority": language.say("no majority")}
     for node in svg.iterfind(f".//{SPACE}g[@class='node']"):
         named, *why = node.iter(f"{SPACE}text")
         named.text = NUMBERED.sub(rf"\1{colon}", named.text or "")
         for text in why:
             text.text = dropped.get(text.text or "", text.text)
+    for text in svg.iterfind(f".//{SPACE}g[@class='edge']/{SPACE}text"):
+        if removed := REMOVED.fullmatch(text.text or ""):
+            text.text = language.say("{votes}, round {round}", **removed.groupdict())
     for part in list(svg.iter()):
         part.attrib.pop("id", None)
         for child in [child for child in part if child.tag not in SHAPES]:

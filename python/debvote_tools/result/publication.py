@@ -4,24 +4,27 @@ result.
 
 import dataclasses
 import datetime
-import json
-from collections.abc import Iterator, Mapping, Sequence
+import operator
+from collections.abc import Collection, Iterator, Mapping
 from typing import Any
 
 from debvote_tools.book import queries
-from debvote_tools.book.book import Book, Detail, DoneAct, as_text, from_text
-from debvote_tools.book.election import Election, History, Sealed
+from debvote_tools.book.book import NAME, Book, DoneAct, as_text, from_text
+from debvote_tools.book.election import TEXTS, Election, History, fixed_by
 from debvote_tools.cli.console import is_terminal, is_yes, tell_aside
 from debvote_tools.cli.faults import Fault
 from debvote_tools.debvote import casting_words
 from debvote_tools.files import sha256_of
-from debvote_tools.inbox.vote import Vote
-from debvote_tools.inbox.waiting import left
+from debvote_tools.inbox.asked import is_unasked_since_close
+from debvote_tools.inbox.lines import name_in
+from debvote_tools.inbox.pending import Pending
 from debvote_tools.poll.call import zone_of
-from debvote_tools.poll.secret import aliased_ballots, sealed_checksum
+from debvote_tools.poll.secret import alias_in, aliased_ballots, sealed_checksum
+from debvote_tools.poll.questions import Questions, place_of
 from debvote_tools.poll.sealed import SealedPoll
-from debvote_tools.result.facts import Act, Doubt, Facts, SecretVote, Words
-from debvote_tools.result.file_names import BALLOTS, CHECKSUMS, PAGE, POLL
+from debvote_tools.result.facts import Act, Doubt, Facts, Words
+from debvote_tools.result.file_names import BALLOTS
+from debvote_tools.result.sheet import castings_kept, sheet_in
 from debvote_tools.text.ballots import ballot_file, in_normal_form
 from debvote_tools.text.language import Language, language_of
 from debvote_tools.text.rendering import render_letter
@@ -38,61 +41,61 @@ def last_publication(history: History) -> DoneAct | None:
     return next(reversed(publications(history)), None)
 
 
-def detail_of(words: Words, checksums: Mapping[str, str], facts: Facts, *, decides: bool) -> Detail:
-    """The detail of the act, with the checksums that the letter of the result names. `decides` says
-    whether the casting vote does.
-    """
+# ---- the facts
+def facts_of(election: Election, words: Words, pending: Pending) -> dict[str, Facts]:
+    """The facts of each question, by its label."""
+    history, sealed, book = election.history(), election.sealed(), election.book
+    demand_own_lines(election)
+    electors = queries.electors(book)
+    has_names = history.announced("names")
+    shared: dict[str, Any] = {
+        "words": words,
+        "language": election.language if words.language is None else language_of(words.language),
+        "acts": acts_of(book, history, is_secret=sealed.counted.is_secret),
+        "after_end": after_end(book, history),
+        "closed": closing_letter(history, sealed.public, election.language)
+        if history.closes
+        else None,
+        "real_names": {elector.name: elector.who for elector in electors} if has_names else {},
+        "has_codes": history.has_codes_on_roll,
+        "at": history.announced("at"),
+        "questions": sealed.public,
+    }
     return {
-        "words": dataclasses.asdict(words),
-        "casting": words.casting if decides else None,
-        "checksums": {name: checksums[name] for name in (POLL, BALLOTS, PAGE, CHECKSUMS)},
-        "doubts": [doubt.as_data() for doubt in facts.doubts],
+        label: Facts(
+            label=label,
+            poll=poll,
+            doubts=tuple(doubts_of(history, label, poll, words.castings.get(label), pending)),
+            **cast_in(election, history, label, words),
+            **shared,
+        )
+        for label, poll in sealed.public.items()
     }
 
 
-# ---- the facts
-def facts_of(election: Election, words: Words, waiting: Sequence[int]) -> Facts:
-    """`waiting` are the letters that arrived in time and wait."""
-    with election.book.snapshot():
-        history, sealed, book = election.history(), election.sealed(), election.book
-        ballots = ballot_file(queries.lines_in_time(book))
-        late = ballot_file(queries.late_lines(book))
-        is_secret, has_names = sealed.counted.secret, history.announced("names")
-        electors = queries.electors(book) if has_names or is_secret else []
-        acts = acts_of(book, history, is_secret=is_secret)
-        count_after_end = lines_after_end(book, history)
-        doubts = doubts_of(election, history, sealed.public, words.casting, waiting)
-    secret = None
-    if is_secret:
-        poll_bytes, casting = sealed.counted.as_bytes(), casting_words(words.casting)
-        standing = election.debvote.standing(poll_bytes, ballots)
-        sheet = election.debvote.answer("count", poll_bytes, ballots, *casting).text
-        ballots = aliased_ballots(standing, queries.public_names(electors))
-        secret = SecretVote(
-            codes=frozenset(elector.code for elector in electors if elector.code),
-            seal=history.closes[-1].detail["seal"],
-            sheet_text=sheet,
-            late=late.count(b"\n"),
-            compared=tuple(shown_by_comparison(election, sealed, history, standing, ballots)),
-        )
-    demand_as_closed(history, ballots)
-    return Facts(
-        poll=sealed.public,
-        ballots=ballots,
-        language=election.language if words.language is None else language_of(words.language),
-        words=words,
-        acts=acts,
-        lines_after_end=count_after_end,
-        late=None if is_secret else late,
-        closed=closing_letter(history, sealed.public, election.language)
-        if history.closes
-        else None,
-        real_names={elector.name: elector.who for elector in electors} if has_names else {},
-        doubts=tuple(doubts),
-        secret=secret,
-        has_codes=history.has_codes_on_roll,
-        at=history.announced("at"),
-    )
+def cast_in(election: Election, history: History, label: str, words: Words) -> dict[str, Any]:
+    """The facts about the ballots of a question. Stops if debvote does not find them as they are kept."""
+    poll, book = election.sealed().counted[label], election.book
+    with book.question(label), book.snapshot():
+        ballots, late = map(ballot_file, (queries.lines_to_count(book), queries.late_lines(book)))
+        # what was entered anew as in time came in time
+        late_number = len(queries.lines(book, queries.LEFT_LATE))
+        public, standing = public_ballots(book, label, poll, ballots), queries.what_counts(book)
+    demand_kept(election, election.debvote.standing(poll.as_bytes(), ballots), standing)
+    demand_as_closed(history, label, public)
+    if not poll.secret:
+        return {"ballots": public, "late": late, "late_number": late_number}
+    casting = casting_words(words.castings.get(label))
+    return {
+        "ballots": public,
+        "late_number": late_number,
+        "codes": frozenset(one.code for one in queries.electors(book) if one.code),
+        "seal": fixed_by(history.closes[-1])[label].seal,
+        "private": sheet_in(
+            election.debvote.answer("count", poll.as_bytes(), ballots, *casting).text
+        ),
+        "compared": shown_by_comparison(election, history, label, standing, public),
+    }
 
 
 def early_end(history: History) -> datetime.datetime | None:
@@ -102,145 +105,139 @@ def early_end(history: History) -> datetime.datetime | None:
     return history.until if history.closes and history.closes[0].detail.get("early") else None
 
 
-def closing_letter(history: History, poll: SealedPoll, language: Language) -> bytes:
-    """The letter of the last close; the poll is the public one."""
-    close = history.closes[-1]
-    time = close.time.astimezone(zone_of(history))
-    values = {"close": close, "time": time, "poll": poll, "early_end": early_end(history)}
+def closing_letter(history: History, questions: Questions, language: Language) -> bytes:
+    """The letter of the last close, with what it says of the one before; the questions are the public
+    ones. In a secret vote the reason for which the vote was opened again stays in the log.
+    """
+    close, zone = history.closes[-1], zone_of(history)
+    values = {"close": close, "time": close.time.astimezone(zone), "questions": questions}
+    values |= {"fixed": fixed_by(close), "early_end": early_end(history), "earlier": None}
+    if earlier := history.closes[:-1]:
+        reopened = [act for act in history.since_call("reopen") if act.number < close.number]
+        values |= {"earlier": fixed_by(earlier[-1])}
+        values["earlier_time"] = earlier[-1].time.astimezone(zone)
+        values["because"] = None if questions.is_secret else reopened[-1].detail["because"]
     return render_letter(__package__, "closed.txt", language, **values).encode()
 
 
-def demand_as_closed(history: History, ballots: bytes) -> None:
-    """Stops if the ballots are not those that the close has fixed."""
+def public_ballots(book: Book, label: str, poll: SealedPoll, ballots: bytes) -> bytes:
+    """The file of all lines of a question as it is published: in a secret vote the ballots that count,
+    by alias.
+    """
+    if not poll.secret:
+        return ballots
+    aliases = {one.name: alias_in(label, one) for one in queries.electors(book)}
+    return aliased_ballots(queries.what_counts(book), aliases)
+
+
+KEEP = "keep the folder as it is, and tell the maintainers"
+
+
+def demand_kept(election: Election, said: object, kept: object) -> None:
+    """Stops if debvote, asked anew, says another thing of the lines than the book keeps of it."""
+    if said != kept:
+        words = "debvote says of its lines another thing than it keeps: a verdict was changed, or another version of debvote judges"
+        raise Fault(election.path(NAME), words, KEEP)
+
+
+def demand_own_lines(election: Election) -> None:
+    """Stops if an envelope is not kept for the elector whose name its line begins with."""
+    roll = frozenset(election.sealed().counted.roll)
+    for number, name, line in queries.names_and_lines(election.book):
+        if roll.intersection([name_in(line).decode()]) != set(filter(None, [name])):
+            words = f"envelope {number} is kept for another elector than the one whose name its line begins with"
+            raise Fault(election.path(NAME), words, KEEP)
+
+
+def demand_as_closed(history: History, label: str, ballots: bytes) -> None:
+    """Stops if the ballots of a question are not those that the close has fixed; of a secret vote the
+    public ones.
+    """
     if not history.is_closed:
         return
-    close = history.closes[-1].detail
-    checksum = sealed_checksum(close["seal"], ballots) if "seal" in close else sha256_of(ballots)
-    if checksum != close["checksum"]:
-        words = (
-            f"the ballots have the checksum {checksum}, and the close recorded {close['checksum']}"
-        )
-        cure = "keep the folder as it is, and tell the maintainers"
-        raise Fault(None, words, cure, done="nothing was published")
+    fixed = fixed_by(history.closes[-1])[label]
+    checksum = sealed_checksum(fixed.seal, ballots) if fixed.seal else sha256_of(ballots)
+    if checksum != fixed.checksum:
+        words = f"the ballots have the checksum {checksum}, and the close recorded {fixed.checksum}"
+        raise Fault(None, words, KEEP)
 
 
 def shown_by_comparison(
-    election: Election,
-    sealed: Sealed,
-    history: History,
-    standing: Mapping[str, str],
-    ballots: bytes,
+    election: Election, history: History, label: str, standing: Mapping[str, str], ballots: bytes
 ) -> list[str]:
     """The electors of a secret vote whose ballots differ from those of the last publication: a
     comparison shows theirs alone.
     """
-    earlier = history.named("publish")
-    if not earlier or earlier[-1].detail["checksums"][BALLOTS] == sha256_of(ballots):
+    earlier, file = history.named("publish"), place_of(label, BALLOTS)
+    if not earlier or earlier[-1].detail["checksums"][file] == sha256_of(ballots):
         return []
-    lines = queries.lines_as_of(election.book, earlier[-1].number)
-    before = election.debvote.standing(sealed.counted.as_bytes(), ballot_file(lines))
+    with election.book.question(label):
+        before = queries.what_counted(election.book, earlier[-1].number)
     then, now = (
         {name: in_normal_form(ranks) for name, ranks in votes.items()}
         for votes in (before, standing)
     )
-    return [name for name in sealed.counted.roll if then.get(name) != now.get(name)]
+    roll = election.sealed().counted.roll
+    return [name for name in roll if then.get(name) != now.get(name)]
 
 
 def doubts_of(
-    election: Election,
-    history: History,
-    poll: SealedPoll,
-    casting: str | None,
-    waiting: Sequence[int],
-) -> list[Doubt]:
+    history: History, label: str, poll: SealedPoll, casting: str | None, pending: Pending
+) -> Iterator[Doubt]:
     """The doubts that the book shows before the count. `casting` is the option of the casting vote
-    by its plain name; `waiting` are the letters that arrived in time and wait.
+    by its plain name.
     """
-    found = [] if history.is_closed else [Doubt("not closed")]
+    if not history.is_closed:
+        yield Doubt("not closed")
     if (until := early_end(history)) is not None:
         closed = history.closes[0].time.astimezone(until.tzinfo)
-        places = {"closed": closed, "until": until}
         # `close --early` has agreed to it
-        found.append(Doubt("closed early", places, stops=False))
-    found += in_time_and_entered_late(election, history)
+        yield Doubt("closed early", {"closed": closed, "until": until}, stops=False)
+    if is_unasked_since_close(history):
+        # `close --force` has agreed to it
+        yield Doubt("box not asked", stops=history.closes[0].detail["early"])
     names = dict(zip(poll.plain_names, poll.names))
-    earlier = dict.fromkeys(act.detail["casting"] for act in history.named("publish"))
-    others = [option for option in earlier if option is not None and casting not in (None, option)]
-    found += [Doubt("other casting vote", {"option": names[option]}) for option in others]
-    told = history.closes[-1].detail.get("left", []) if history.closes else []
-    if numbers := [number for number in waiting if number not in told]:
-        waits: dict[str, Any] = {"number": len(numbers), "letters": ", ".join(map(str, numbers))}
+    earlier = dict.fromkeys(
+        castings_kept(act.detail["casting"]).get(label) for act in history.named("publish")
+    )
+    for option in earlier:
+        if option is not None and casting not in (None, option):
+            yield Doubt("other casting vote", {"option": names[option]})
+    if numbers := pending.untold:
+        waits = {"number": len(numbers), "letters": ", ".join(map(str, numbers))}
         # an earlier publication may have had it
-        stops = not left(history).issuperset(numbers)
-        found.append(Doubt("letters left", waits, stops))
-    return found
-
-
-def in_time_and_entered_late(election: Election, history: History) -> list[Doubt]:
-    """A doubt for each letter that arrived before the end and the first close, and whose ballot is
-    late, was not entered again, and would count: its elector has no later ballot.
-    """
-    book, late = election.book, list[queries.Envelope]()
-    if history.closes:
-        late = queries.envelopes(book, f"{queries.LATE} AND letter IS NOT NULL")
-    if late:
-        last_in_time = {line: number for number, line in queries.numbered_lines_in_time(book)}
-        late = [
-            envelope for envelope in late if last_in_time.get(envelope.line, 0) < envelope.number
-        ]
-        later = Vote(election, history).later_ballots(late)
-        late = [envelope for envelope in late if envelope.number not in later]
-    if not late:
-        return []
-    last = min(time for time in (history.closes[0].time, history.until) if time is not None)
-    numbers: dict[int | None, list[str]] = {}
-    for envelope in late:
-        numbers.setdefault(envelope.letter, []).append(str(envelope.number))
-    found = []
-    for kept in queries.kept_letters(book):
-        arrived = json.loads(kept.read_json)["arrived"] if kept.number in numbers else None
-        if arrived is not None and from_text(arrived) <= last:
-            places = {
-                "letter": kept.number,
-                "arrival": from_text(arrived).astimezone(zone_of(history)),
-                "envelopes": " ".join(numbers[kept.number]),
-            }
-            found.append(Doubt("late letter", places))
-    return found
+        yield Doubt("letters left", waits, stops=bool(pending.stopping))
 
 
 # ---- what was done
 def acts_of(book: Book, history: History, *, is_secret: bool) -> tuple[Act, ...]:
-    """What the page tells, with its times in the zone in which the end was announced."""
-    zone = zone_of(history)
-
-    def in_zone(time: datetime.datetime) -> datetime.datetime:
-        return time.astimezone(zone)
-
-    acts: list[Act] = []
+    """What the pages tell, with its times in the zone in which the end was announced."""
+    in_zone = operator.methodcaller("astimezone", zone_of(history))
+    found: list[Act] = []
     for before, act in zip([None, *history.acts], history.acts):
         if before is not None and act.went_back(before):
-            acts.append(Act(act.time, "clock", {"before": before.time}))
-        acts += acts_of_page(act, book, history, is_secret=is_secret)
-    return tuple(Act(in_zone(act.time), act.done, act.shown(in_zone), act.because) for act in acts)
-
-
-def lines_after_end(book: Book, history: History) -> int:
-    """How many lines, rows and ballots of desks came after the end, and are in time, valid or not.
-    What was entered after the first close is left out: whoever entered it said that it came before
-    that close.
-    """
-    if history.until is None:
-        return 0
-    condition = "letter IS NULL AND time > ? AND act < ?"
-    first_close = history.closes[0].number if history.closes else history.last.number + 1
-    return len(
-        queries.lines(book, condition, as_text(history.until), first_close, view=queries.IN_TIME)
+            found.append(Act(act.time, "clock", {"before": before.time}))
+        found += acts_of_page(act, book, history, is_secret=is_secret)
+    return tuple(
+        dataclasses.replace(one, time=in_zone(one.time), places=one.shown(in_zone)) for one in found
     )
 
 
+def after_end(book: Book, history: History) -> list[Collection[str]]:
+    """Of each line, row and ballot of a desk that came after the end, and is in time, valid or not, the
+    labels of the questions that it answers. What was entered after the first close is left out: whoever
+    entered it said that it came before that close.
+    """
+    if history.until is None:
+        return []
+    condition = f"{queries.TO_COUNT} AND letter IS NULL AND time > ? AND act < ?"
+    first_close = history.closes[0].number if history.closes else history.last.number + 1
+    values = as_text(history.until), first_close
+    return [one.by_question for one in queries.envelopes(book, condition, *values)]
+
+
 def acts_of_page(act: DoneAct, book: Book, history: History, *, is_secret: bool) -> Iterator[Act]:
-    """What the page says of an act, which is nothing for most acts. In a secret vote the reasons of
+    """What the pages say of an act, which is nothing for most acts. In a secret vote the reasons of
     `strike` and `reopen` stay in the log.
     """
     time, detail = act.time, act.detail
@@ -256,9 +253,9 @@ def acts_of_page(act: DoneAct, book: Book, history: History, *, is_secret: bool)
         case "addresses":
             yield Act(time, "roll changed", {"number": detail["electors"]})
         case "strike":
-            for envelope in queries.envelopes(book, "struck = ?", act.number):
+            for one in queries.envelopes(book, "struck = ?", act.number):
                 done = "struck in secret" if is_secret else "struck"
-                yield Act(time, done, {"envelope": envelope.number}, reason)
+                yield Act(time, done, {"envelope": one.number}, reason, one.by_question)
         case "close":
             yield Act(time, "closed", close_of(act, book, history), detail.get("because"))
         case "reopen":
@@ -273,23 +270,32 @@ def acts_of_page(act: DoneAct, book: Book, history: History, *, is_secret: bool)
 
 def close_of(act: DoneAct, book: Book, history: History) -> dict[str, Any]:
     """What a close says, and how many lines in time came in or were struck since the one before."""
-    detail: Mapping[str, Any] = act.detail
-    places = {key: detail[key] for key in ("lines", "checksum", "early", "waiting", "after_end")}
+    fixed = fixed_by(act).items()
+    places: dict[str, Any] = {
+        "lines": {label: its.lines for label, its in fixed},
+        "checksum": {label: its.checksum for label, its in fixed},
+        "came": None,
+        "struck": None,
+    }
+    places |= {key: act.detail[key] for key in ("early", "waiting", "after_end")}
     earlier = [close.number for close in history.closes if close.number < act.number]
-    came = struck = None
-    if earlier:
-        between = "late = 0 AND {0} > ? AND {0} < ?"
-        came, struck = (
-            len(queries.lines(book, between.format(column), earlier[-1], act.number))
-            for column in ("act", "struck")
-        )
-    return places | {"came": came, "struck": struck}
+    between = "late = 0 AND {0} > ? AND {0} < ?"
+    for place, column in (("came", "act"), ("struck", "struck")) if earlier else ():
+        places[place] = {
+            label: len(queries.lines(book, between.format(column), earlier[-1], act.number))
+            for label in queries.by_question(book)
+        }
+    return places
 
 
 # ---- texts that a secret vote makes public
-def texts_of_poll(poll: SealedPoll) -> dict[str, str]:
+def texts_of(questions: Questions) -> dict[str, str]:
     """The texts of the options, by their files."""
-    return {f"texts/{number}.txt": text for number, text in enumerate(poll.explanations, start=1)}
+    return {
+        f"{TEXTS}/{place_of(label, f'{number}.txt')}": text
+        for label, poll in questions.items()
+        for number, text in enumerate(poll.explanations, start=1)
+    }
 
 
 def agreed_texts(

@@ -31,12 +31,21 @@ class Why:
         return [self.row(pair) for pair in pairs]
 
     def row(self, pair: Iterable[int]) -> Row:
-        """Two options, and how many prefer the first and the second."""
+        """Two options, the number of the second, and how many prefer the first, prefer the second, and rank
+        both equally.
+        """
         a, b = pair
         over, under = self.sheet.votes[a, b], self.sheet.votes[b, a]
         removed = self.removed.get((a, b)) or self.removed.get((b, a))
-        names = {"option": self.said[a], "other": self.said[b]}
-        return names | {"over": over, "under": under, "round": removed}
+        names = {"option": self.said[a], "other": self.said[b], "rival": b}
+        equal = self.sheet.voters - over - under
+        return names | {"over": over, "under": under, "equal": equal, "round": removed}
+
+    @staticmethod
+    def few(rows: list[Row]) -> tuple[list[Row], int]:
+        """The first two rows, and how many others there are; if it is one, three rows."""
+        shown = rows[: 3 if len(rows) == 3 else 2]
+        return shown, len(rows) - len(shown)
 
     # ---- beside the default option
     def majority(self, option: int) -> int:
@@ -45,15 +54,15 @@ class Why:
         return ratio * under + 1 if self.sheet.is_more_than else max(ratio * under, under + 1)
 
     def needs(self, option: int) -> Row:
-        """How many prefer an option to the default option, the reverse, and rank both equally; and
-        how many it needs: for what it was dropped for, or for quorum and majority.
+        """An option and the default option, and how many it needs: for what it was dropped for, or for
+        quorum and majority.
         """
         row, majority = self.row((option, self.default)), self.majority(option)
         by_cause = {"quorum": self.sheet.quorum, "majority": majority}
         dropped = self.sheet.dropped.get(option)
         return row | {
-            "equal": self.sheet.voters - row["over"] - row["under"],
             "ratio": self.sheet.ratios[option],
+            "dropped": dropped,
             "needed": by_cause[dropped] if dropped else max(by_cause.values()),
         }
 
@@ -69,11 +78,6 @@ class Why:
         return sorted(rows, key=lambda row: int(row["needed"] - row["over"]))
 
     # ---- beside each other
-    def ended(self, option: int) -> str:
-        """As the sheet, but `cast` if the casting vote chose another one."""
-        ended = self.sheet.ended(option)
-        return "cast" if ended == "lost" and option in self.sheet.left else ended
-
     @property
     def in_order(self) -> list[int]:
         """The winner, then the options that stay in the set for most rounds, and last those that
@@ -95,6 +99,16 @@ class Why:
     def set_aside(self, option: int | None = None) -> list[Row]:
         """The defeats that were removed: all, or those by an option."""
         return self.rows(pair for pair in self.removed if option in (None, pair[0]))
+
+    def aside(self, option: int) -> list[Row]:
+        """An option, and each other one that it beats or that beats it by a defeat that was removed."""
+        pairs = (pair for pair in self.removed if option in pair)
+        return self.rows((option, a if b == option else b) for a, b in pairs)
+
+    @property
+    def beat_each_other(self) -> bool:
+        """Whether options of the last set beat others of it, by defeats that were removed."""
+        return any({*pair} <= {*self.sheet.left} for pair in self.removed)
 
     def left_with(self, option: int) -> list[Row]:
         """An option of the last set, and each other one."""

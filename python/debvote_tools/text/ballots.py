@@ -3,39 +3,27 @@
 """
 
 import functools
+import itertools
 import re
-from collections.abc import Callable, Iterable, Iterator, Sequence
-from typing import NamedTuple
+from collections.abc import Callable, Collection, Iterable, Iterator, Mapping, Sequence
 
 from debvote_tools.text.language import ENGLISH, Language, marked
+from debvote_tools.text.motions import Words, in_words, may_answer, with_ranks
 
 UNRANKED = "-"
+
+# an answer in a ballot: the label of its question, if it has one, and its ranks
+ANSWER = re.compile("(?:([A-Z]) )?([0-9,-]+)")
 
 # what can be in the place of an option, in the order of preference
 NUMBERS = {str(rank): rank for rank in range(1, 100)} | {UNRANKED: 100}
 
 
-class Phrases(NamedTuple):
-    """The sentences that describe a ballot in words."""
-
-    then: str
-    equally: str
-    unranked: str
-    nothing: str
-
-
-IN_A_TEXT = Phrases(
-    then=marked("{before}, then {step}"),
-    equally=marked("{options} equally"),
-    unranked=marked("{ranked}; not ranked, and so behind all others: {unranked}"),
-    nothing=marked("no option is ranked, so nothing is preferred"),
-)
-IN_A_LIST = Phrases(
-    then=marked("{before}; then {step}"),
-    equally=marked("equally {options}"),
-    unranked=marked("{ranked}; not ranked: {unranked}"),
-    nothing=marked("nothing is preferred"),
-)
+# what describes a ballot in words
+THEN = marked("{before}, then {step}")
+EQUALLY = marked("{options} equally")
+UNRANKED_LAST = marked("{ranked}; not ranked, and so behind all others: {unranked}")
+NOTHING = marked("no option is ranked, so nothing is preferred")
 
 
 def ballot_lines(ballots_bytes: bytes) -> list[bytes]:
@@ -55,39 +43,88 @@ def in_normal_form(ranks: str) -> str:
     return ",".join(normal[rank] for rank in given)
 
 
-def ranks_in_words(ranks: str, names: Sequence[str], language: Language = ENGLISH) -> str:
-    """A valid ballot without markup: "At the lake, then Further discussion, then ..". The names are
-    those of the options, the default option last.
+def answers_in(answers: str) -> dict[str, str]:
+    """The ranks by the labels of their questions, from what a ballot has behind the name: `1,2`, of
+    which the label is empty, or `A 1,2 C 2,1,3`.
     """
-    return ballots_in_words(names, language)(ranks)
+    return dict(ANSWER.findall(answers))
+
+
+def answers_text(answers: Mapping[str, str]) -> str:
+    """What a ballot has behind the name, from the ranks by question."""
+    return " ".join(filter(None, itertools.chain(*answers.items())))
+
+
+def line_of(name: str, answers: Mapping[str, str]) -> str:
+    """A ballot from the ranks by question."""
+    return f"{name} {answers_text(answers)}"
+
+
+@functools.lru_cache(maxsize=10_000)
+def answers_of(ballot: str) -> Mapping[str, str]:
+    """The ranks by question, of a ballot with its name. Each is compared with many others."""
+    return answers_in(ballot.partition(" ")[2])
+
+
+def differ(ballot: str, other: str) -> bool:
+    """Whether two ballots answer a question in different ways."""
+    ranks, others = answers_of(ballot), answers_of(other)
+    return any(others.get(label, one) != one for label, one in ranks.items())
+
+
+def without(ballot: str, labels: Collection[str]) -> str:
+    """A ballot without the answers to some questions; empty if none is left."""
+    left = {label: one for label, one in answers_of(ballot).items() if label not in labels}
+    return line_of(ballot.partition(" ")[0], left) if left else ""
+
+
+def part_of(line: bytes, label: str) -> bytes | None:
+    """What answers one question, of a line as it was entered: `ada 2,1,3` of `ada A 1,2 C 2,1,3`; None
+    if nothing does. The one question without a label is answered by the line itself.
+    """
+    if not label:
+        return line
+    before, _, after = line.partition(b" %b " % label.encode())
+    return b"%b %b" % (before.partition(b" ")[0], after.partition(b" ")[0]) if after else None
 
 
 def ballots_in_words(
-    names: Sequence[str], language: Language = ENGLISH, phrases: Phrases = IN_A_TEXT
+    names: Sequence[str], language: Language = ENGLISH, motion: bool = False
 ) -> Callable[[str], str]:
-    """The same for many ballots: `add` prints 100,000."""
-    alone, then = [(name,) for name in names], language.between(phrases.then)
+    """Says valid ballots by their ranks, without markup: "At the lake, then Further discussion, then
+    ..", or of a motion "Yes". The names are those of the options, the default option last. `add` prints
+    100,000.
+    """
+    if motion:
+        return functools.partial(answer_in_words, in_words(names, language))
+    alone, then = [(name,) for name in names], language.between(THEN)
 
     # many ballots have few groups of options that are equal
     @functools.cache
     def step(group: tuple[str, ...]) -> str:
         if len(group) == 1:
             return group[0]
-        return language.say(phrases.equally, options=language.joined(group))
+        return language.say(EQUALLY, options=language.joined(group))
 
-    def in_words(ranks: str) -> str:
+    def order_in_words(ranks: str) -> str:
         steps: dict[str, tuple[str, ...]] = {}
         for rank, name in zip(ranks.split(","), alone):
             steps[rank] = steps[rank] + name if rank in steps else name
         unranked = steps.pop(UNRANKED, ())
         if not steps:
-            return language.say(phrases.nothing)
+            return language.say(NOTHING)
         said = then.join(step(steps[rank]) for rank in sorted(steps, key=NUMBERS.__getitem__))
         if not unranked:
             return said
-        return language.say(phrases.unranked, ranked=said, unranked=language.joined(unranked))
+        return language.say(UNRANKED_LAST, ranked=said, unranked=language.joined(unranked))
 
-    return in_words
+    return order_in_words
+
+
+def answer_in_words(answers: Sequence[str], ranks: str) -> str:
+    """The answer to a motion, of yes, no and abstention, by the order of its ranks."""
+    option, default = (NUMBERS[rank] for rank in ranks.split(","))
+    return answers[2 if option == default else int(option > default)]
 
 
 # ---- why a line is no ballot
@@ -136,6 +173,14 @@ def name_with_ranks(options: int) -> re.Pattern[str]:
     return re.compile(rf"(?<!\S){SIGNS}{name}{SIGNS}(?:{BLANK}+|(?<=:)){SIGNS}{BLANK}*{ranks}")
 
 
+@functools.cache
+def ranks_alone(options: int) -> re.Pattern[str]:
+    """As many ranks as there are options: with a name they are offered as a ballot."""
+    return re.compile(
+        rf"{SIGNS}{RANK}(?:(?:{BLANK}*[,;]|{BLANK}){BLANK}*{RANK}){{{options - 1}}}{SIGNS}"
+    )
+
+
 # most letters of a run have the same lines
 @functools.lru_cache(maxsize=10_000)
 def may_read_as_ballot(line: str, options: int) -> bool:
@@ -143,22 +188,36 @@ def may_read_as_ballot(line: str, options: int) -> bool:
     return enough and name_with_ranks(options).search(line) is not None
 
 
-def without_ballots(text: str, options: int, is_name: Callable[[str], bool]) -> str:
+def without_ballots(text: str, options: int, is_name: Callable[[str], bool], words: Words) -> str:
     """The text, in which no line reads as a ballot of so many options, wherever it is broken at
-    blanks. Before a ballot in a line, and before that line, there is a bar, and the ballot begins a
-    line: `paper: ada 1,2` becomes `|paper:` and `|ada 1,2`.
+    blanks, or has their ranks alone; or in a motion a word alone or behind a name. Before a ballot in
+    a line, and before that line, there is a bar, and the ballot begins a line: `paper: ada 1,2`
+    becomes `|paper:` and `|ada 1,2`.
     """
 
-    def barred(line: str) -> str:
-        if not may_read_as_ballot(line, options):
-            return line
-        parts = name_with_ranks(options).sub(
-            lambda found: f"\n{found[0]}" if is_name(found["name"]) else found[0], line
-        )
-        if parts == line:
-            return line
-        blanks = line[: len(line) - len(line.lstrip())]
-        bare = (part.strip().removeprefix("|") for part in parts.split("\n"))
-        return "\n".join(f"{blanks}|{part}" for part in bare if part)
+    return "\n".join(barred(line, options, is_name, words) for line in text.split("\n"))
 
-    return "\n".join(map(barred, text.split("\n")))
+
+def is_in_words(line: str, is_name: Callable[[str], bool], words: Words) -> bool:
+    """Whether a line is an answer in a word, alone or behind a name, which `Option 1` is not."""
+    ranked = with_ranks(line, words)
+    if ranked == line or not may_answer(line, words):
+        return False
+    *name, _ = ranked.split()
+    return not name or (not name[-1].isdigit() and is_name(name[-1]))
+
+
+def barred(line: str, options: int, is_name: Callable[[str], bool], words: Words) -> str:
+    bare = line.strip()
+    blanks = line[: len(line) - len(line.lstrip())]
+    if ranks_alone(options).fullmatch(bare) or is_in_words(bare, is_name, words):
+        return f"{blanks}|{bare}"
+    if not may_read_as_ballot(line, options):
+        return line
+    parts = name_with_ranks(options).sub(
+        lambda found: f"\n{found[0]}" if is_name(found["name"]) else found[0], line
+    )
+    if parts == line:
+        return line
+    its = (part.strip().removeprefix("|") for part in parts.split("\n"))
+    return "\n".join(f"{blanks}|{part}" for part in its if part)

@@ -22,18 +22,23 @@ def marked(text: str) -> str:
     return text
 
 
-def numbered(one: str, many: str) -> tuple[str, str]:
-    """The same for a sentence with a singular and a plural."""
-    return one, many
+def marked_each(*texts: str) -> tuple[str, ...]:
+    """The same for several sentences."""
+    return texts
+
+
+def marked_by_name(**texts: str) -> dict[str, str]:
+    """The same for sentences that have names."""
+    return texts
 
 
 class Language:
     """A language. It says sentences in plain text; `rendering.InHtml` says them in HTML."""
 
-    # how a text is written that is not the program's, that a reader has to see or compares
-    # character by character, and a link
-    GIVEN = STRONG = EXACT = "{}"
-    LINK = "{1}"
+    # how a text is written that is not the program's, that a reader has to see or compares character by
+    # character; words of another person, in brackets, where none reads as a ballot, since no repair takes
+    # these away; and a link
+    FORMS = {"given": "{}", "strong": "{}", "exact": "{}", "quoted": "({})", "link": "{1}"}
 
     def __init__(self, code: str, catalog: gettext.NullTranslations) -> None:
         self.code, self.catalog = code, catalog
@@ -71,22 +76,19 @@ class Language:
         return json.dumps(said | more, ensure_ascii=False)
 
     # ---- texts within a sentence
-    def given(self, text: str) -> str:
-        """A text that may be written from right to left, and turns nothing around it."""
-        return self.made(self.GIVEN).format(text)
+    def number(self, number: int) -> str:
+        """A number whose thousands are parted."""
+        return f"{number:,}".replace(",", self.between("{thousands},{rest}"))
 
-    def quoted(self, text: str) -> str:
-        """Words of another person. In brackets none reads as a ballot: no repair takes these away."""
-        return f"({text})"
+    def numbers(self, row: Mapping[str, object]) -> dict[str, object]:
+        """The places of a sentence, of which a reader has to see the numbers."""
+        return {
+            key: self.formed("strong", self.number(value)) if isinstance(value, int) else value
+            for key, value in row.items()
+        }
 
-    def strong(self, text: str) -> str:
-        return self.made(self.STRONG).format(text)
-
-    def exact(self, text: str) -> str:
-        return self.made(self.EXACT).format(text)
-
-    def link(self, address: str, text: str) -> str:
-        return self.made(self.LINK).format(address, text)
+    def formed(self, form: str, *texts: str) -> str:
+        return self.made(self.FORMS[form]).format(*texts)
 
 
 ENGLISH = Language("en", gettext.NullTranslations())

@@ -18,8 +18,8 @@ from typing import Any
 import jinja2
 from markupsafe import Markup
 
-from debvote_tools.text.ballots import ranks_in_words
 from debvote_tools.text.language import ENGLISH, Language, marked
+from debvote_tools.text.motions import WORDS
 from debvote_tools.text.times import date_in_words, time_in_words
 
 # mail programs leave lines of this length as they are
@@ -29,15 +29,18 @@ COLUMNS = 72
 class InHtml(Language):
     """A language that says sentences in HTML, and escapes what is put into them."""
 
-    GIVEN, STRONG, EXACT = "<bdi>{}</bdi>", "<b>{}</b>", "<code>{}</code>"
-    LINK = '<a href="{}">{}</a>'
+    # a text that may be written from right to left turns nothing around it
+    FORMS = {
+        "given": "<bdi>{}</bdi>",
+        "strong": "<b>{}</b>",
+        "exact": "<code>{}</code>",
+        # the browser adds the quotation marks of the language
+        "quoted": "<q><bdi>{}</bdi></q>",
+        "link": '<a href="{}">{}</a>',
+    }
 
     def made(self, text: str) -> Markup:
         return Markup(text)
-
-    def quoted(self, text: str) -> Markup:
-        # the browser adds the quotation marks of the language
-        return Markup("<q><bdi>{}</bdi></q>").format(text)
 
 
 def one_line(text: str) -> str:
@@ -85,17 +88,18 @@ def templates_of(package: str, language: Language, *, is_page: bool) -> jinja2.E
         optimized=False,
     )
     environment.filters |= PAGE_FILTERS if is_page else LETTER_FILTERS
+    forms = {name: functools.partial(speaker.formed, name) for name in speaker.FORMS}
     for names, place in (
-        (("given", "strong", "exact", "quoted"), environment.filters),
-        (("say", "say_number", "say_each", "link", "joined"), environment.globals),
+        ("number numbers", environment.filters),
+        ("say say_number say_each joined", environment.globals),
     ):
-        place |= {name: getattr(speaker, name) for name in names}
+        place |= forms | {name: getattr(speaker, name) for name in names.split()}
     environment.globals |= {
         "is_page": is_page,
         "marked": marked,
+        "motion_words": WORDS[language.code],
         "time_in_words": functools.partial(time_in_words, language=language),
         "date_in_words": functools.partial(date_in_words, language=language),
-        "ranks_in_words": functools.partial(ranks_in_words, language=language),
     }
     return environment
 
@@ -124,15 +128,19 @@ def render_page(
     *,
     style: str,
     script: str = "",
+    sends: bool = False,
     **values: object,
 ) -> bytes:
-    """A page. It loads nothing, and runs its own script alone, which its policy names by checksum."""
+    """A page. It loads nothing, and runs its own script alone, which its policy names by checksum. One
+    that `sends` does so to its own host alone.
+    """
     style = resources("debvote_tools", "page.css") + style
     if language != ENGLISH:
         # words may be longer than a narrow window
         style += resources("debvote_tools", "long_words.css")
     scripts = f"script-src {checksum_source(script)}; " if script else ""
-    policy = f"default-src 'none'; {scripts}style-src {checksum_source(style)}; base-uri 'none'; form-action 'none'"
+    connects = "connect-src 'self'; " if sends else ""
+    policy = f"default-src 'none'; {scripts}style-src {checksum_source(style)}; {connects}base-uri 'none'; form-action 'none'"
     made = {"style": Markup(style), "script": Markup(script), "policy": Markup(policy)}
     page = templates_of(package, language, is_page=True).get_template(template)
     return page.render(values | made | {"language": language.code}).encode()

@@ -2,16 +2,22 @@
 
 import datetime
 
-from debvote_tools.text.language import ENGLISH, Language, marked
+from debvote_tools.text.language import ENGLISH, Language, marked_each
 
-DAYS = (
-    *(marked("Monday"), marked("Tuesday"), marked("Wednesday"), marked("Thursday")),
-    *(marked("Friday"), marked("Saturday"), marked("Sunday")),
-)
-MONTHS = (
-    *(marked("January"), marked("February"), marked("March"), marked("April"), marked("May")),
-    *(marked("June"), marked("July"), marked("August"), marked("September")),
-    *(marked("October"), marked("November"), marked("December")),
+DAYS = marked_each("Monday", "Tuesday", "Wednesday", "Thursday", "Friday", "Saturday", "Sunday")
+MONTHS = marked_each(
+    "January",
+    "February",
+    "March",
+    "April",
+    "May",
+    "June",
+    "July",
+    "August",
+    "September",
+    "October",
+    "November",
+    "December",
 )
 
 

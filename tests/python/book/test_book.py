@@ -3,6 +3,7 @@
 import contextlib
 import hashlib
 import io
+import itertools
 import json
 import os
 import pathlib
@@ -100,21 +101,36 @@ class Copies(BookTest):
         self.add("ada 1,2,3,4")
         shutil.copy(self.book, copy)
         self.add("ben 1,2,3,4")
+        self.done("strike", "1", "--because", "not hers")
+        self.done("call", "--until", "2099-12-06 18:00", "--zone", "UTC")
         copy.replace(self.book)
-        self.assert_stops("election.db", "older copy")
+        lacks = "it ends with act 4, and this computer has seen act 7: it is an older copy, which lacks add (1), strike (1), extend (1)"
+        self.assert_stops("election.db", lacks)
         self.assertIn("--moved", self.election("add", "--yes", "more").faults)
         self.assert_fault(self.election("add", "--yes", "--moved", "more"), 2, "--moved", "reason")
         for text in ("a\u202eb", "a\x1b[1m", "one line\nand one more"):
             odd = self.election("add", "--yes", "--moved", "--because", text, "more")
             self.assert_fault(odd, 2, "--because: the text has the character U+", "nothing was changed")
         self.done("add", "--yes", *MOVED, "more")
-        self.assertEqual([line.split()[4] for line in self.done("log").output.splitlines()[::2]][-2:], ["moved", "add"])
+        log = self.done("log").output
+        self.assertEqual(([line.split()[4] for line in log.splitlines()[::2]][-2:], log.count(lacks)), (["moved", "add"], 1))
         # no file of a disk shows that all of it was put back, so the secretary says it where nothing stops
         self.write("more", "ida 1,2,3,4\n")
         self.assertIn("3 counted", self.done("add", "--yes", *MOVED, "more").output)
         self.done("close")
         self.done("publish")
         self.assertIn("in which act 6 was the last", self.read("result/index.html").decode())
+
+    def test_a_path_in_any_bytes(self) -> None:
+        here, self.folder = self.folder, self.scratch / os.fsdecode(b"spring \xff")
+        here.rename(self.folder)
+        self.assert_stops("never seen this election in this folder", acting=ACTING[:2], reading=READING[:1])
+        self.write("more", "hal 1,2,3,4\n")
+        self.done("add", "--yes", *MOVED, "more")
+        self.add("ida 1,2,3,4")
+        self.done("close")
+        self.done("publish")
+        self.done("new", os.fsdecode(b"autumn \xfe"), cwd=self.scratch)
 
     def test_gone_on_elsewhere(self) -> None:
         copy = self.scratch / "copy"
@@ -125,7 +141,7 @@ class Copies(BookTest):
         shutil.copy(copy, other / "election.db")
         self.write("lines", "cleo 1,2,3,4\n")
         self.done("add", "--yes", *MOVED, self.folder / "lines", cwd=other)
-        self.done("add", "--yes", "--again", self.folder / "lines", cwd=other)
+        self.done("desk", given="cleo 1,2,3,4\n", cwd=other)
         shutil.copy(other / "election.db", self.book)
         self.assert_stops("election.db", "is not the one that this computer saw")
 
@@ -326,7 +342,7 @@ class Rewritten(BookTest):
             columns = [(table, name, kind) for table in tables for _, name, kind, *_ in connection.execute(f"PRAGMA table_info({table})")]
             owners = {table: connection.execute(f"SELECT max(rowid), act FROM {table}").fetchone() for table in tables}
         later = "strftime('%Y-%m-%dT%H:%M:%SZ', {}, '+1 second')"
-        other = {"INTEGER": "coalesce({} + 1000, 1000)", "TEXT": "{} || ' '", "BLOB": "CAST({} || 'x' AS BLOB)"}
+        other = {"INTEGER": "coalesce({} + 1000, 1000)", "TEXT": "coalesce({}, '') || ' '", "BLOB": "CAST({} || 'x' AS BLOB)"}
         for table, column, kind in columns:
             row, act = owners[table]
             value = (later if column == "time" else other[kind]).format(column)
@@ -341,7 +357,7 @@ class Rewritten(BookTest):
                 self.assertGreater(len(self.formats()), 1)
             self.book.write_bytes(whole)
             tried += 1
-        self.assertEqual((len(tables), tried), (10, 51))
+        self.assertEqual((len(tables), tried), (10, 52))
         self.done("log", "--check")
 
     def test_a_line_that_is_changed_removed_or_added(self) -> None:
@@ -386,9 +402,21 @@ class Rewritten(BookTest):
         for name, at in {"the envelope": table + 1, "the act": table + 5, "the act of the index": index + 4}.items():
             with self.subTest(name):
                 self.book.write_bytes(whole[:at] + bytes([whole[at] ^ 2]) + whole[at + 1 :])
-                for words in RELYING[:3]:
-                    self.assert_fault(self.election(*words), 9, "election.db: the book is damaged", "struck")
+                is_mended = name == "the act of the index"
+                for words in RELYING[:5]:
+                    ended = self.election(*words)
+                    self.assert_fault(ended, 9, "election.db: the book is damaged", "struck")
+                    said = "its tables are whole: on a copy of the file, REINDEX of sqlite3 mends it" in ended.faults
+                    self.assertEqual(said, is_mended, ended)
                 self.assertGreater(len(self.formats()), 1)
+                # nothing is built on it, either
+                self.assert_fault(self.election("desk", given="hal 1,2,3,4\n"), 9, "election.db: the book is damaged", "nothing was changed")
+        copy = self.scratch / "copy"
+        shutil.copy(self.book, copy)
+        with contextlib.closing(sqlite3.connect(copy)) as connection:
+            connection.execute("REINDEX")
+        copy.replace(self.book)
+        self.done("export", "out")
 
     def test_another_schema(self) -> None:
         """What somebody adds to the schema, takes from it or changes in it is seen by each command that opens the book."""
@@ -420,8 +448,105 @@ class Rewritten(BookTest):
         self.sql(CHANGED)
         self.write("more", "hal 1,2,3,4\n")
         strike, call = ("strike", "1", "--because", "x"), ("call", "--at", "https://club.example/")
-        for words in (("add", "--yes", "more"), strike, ("undo", "--yes"), call):
+        acting = (("add", "--yes", "more"), strike, ("undo", "--yes"), call)
+        for words in acting:
             self.assert_fault(self.election(*words), 9, "act 4 does not match its digest", "nothing was changed")
+
+    def test_no_act_adopts_rows(self) -> None:
+        """Rows with the number of the act to come, or of one after it, stop it, in whatever table they are."""
+        self.fill_each_table()
+        whole = self.read("election.db")
+        [(last,)] = self.rows("SELECT max(act) FROM act")
+        tables = [name for name, in self.rows("SELECT name FROM sqlite_schema WHERE type = 'table' AND name <> 'act'")]
+        for table, act in itertools.product(tables, (last + 1, last + 7)):
+            # a copy of its last row, with other keys
+            row = {column: column for _, column, *_ in self.rows(f"PRAGMA table_info({table})")}
+            row |= {"act": str(act)} | ({table: f"{table} + 100"} if table in row else {})
+            row |= {"elector": {"name": "'new'"}, "struck": {"envelope": "1"}}.get(table, {})
+            values = f"SELECT {', '.join(row.values())} FROM {table} ORDER BY rowid DESC LIMIT 1"
+            self.sql(f"INSERT INTO {table} ({', '.join(row)}) {values}")
+            with self.subTest(table, act=act):
+                self.assert_fault(self.election("desk", given="hal 1,2,3,4\n"), 9, f"it has rows of act {act}, and no such act")
+                self.assertEqual(self.rows("SELECT max(act) FROM act"), [(last,)])
+            self.book.write_bytes(whole)
+        # after that each command that acts, and the book stays as it is
+        self.sql(f"INSERT INTO struck VALUES (1, {last + 1})")
+        changed = self.read("election.db")
+        self.write("more", "hal 1,2,3,4\n")
+        for words in (("add", "--yes", "more"), ("undo", "--yes"), ("held", "1", "--wait"), ("close",), ("call", "--at", "https://x.example/")):
+            self.assert_fault(self.election(*words), 9, f"it has rows of act {last + 1}, and no such act", "nothing was changed")
+        self.assertEqual(self.read("election.db"), changed)
+
+    def made_whole(self, *statements: str) -> None:
+        """Changes the book, computes its chain anew, and has the computer note it: whoever has the computer can do so."""
+        self.sql(*statements)
+        triggers = self.rows("SELECT name, sql FROM sqlite_schema WHERE type = 'trigger' AND tbl_name = 'act'")
+        with mock.patch.dict(os.environ, {"XDG_STATE_HOME": str(self.state)}):
+            book, before = open_book(self.book), chain.BEGINNING
+            with contextlib.closing(book.connection) as connection:
+                for name, _ in triggers:
+                    connection.execute(f"DROP TRIGGER {name}")
+                for *act, _ in connection.execute("SELECT * FROM act ORDER BY act").fetchall():
+                    before = chain.digest_of(connection, before, act)
+                    connection.execute("UPDATE act SET digest = ? WHERE act = ?", (before, act[0]))
+                for _, sql in triggers:
+                    connection.execute(sql)
+                book.note().put(machine_note.Note(int(act[0]), before), is_moved=True)
+
+    def assert_changed(self, statement: str, said: str) -> None:
+        """A book that was changed so, and made whole, stops those that others rely on. Then it is as before."""
+        whole, state = self.read("election.db"), {file: file.read_bytes() for file in (self.state / "debvote").iterdir()}
+        self.made_whole(statement)
+        self.done("log", "--check")
+        for words in (("count",), ("close",), ("publish", "--force", "--because", "x")):
+            with self.subTest(statement, words=words):
+                self.assert_fault(self.election(*words), 9, f"election.db: {said}")
+        self.book.write_bytes(whole)
+        for file, data in state.items():
+            file.write_bytes(data)
+
+    def test_electors_are_those_of_the_lines(self) -> None:
+        """For whom an envelope is kept is compared with its line: else `show` tells whose ballot it is, and it is another's."""
+        self.add("ben 1,2", "nobody 1,2,3,4", "cleo 1,2,3,4", "dan 1,2,3,4")
+        said = "envelope {} is kept for another elector than the one whose name its line begins with"
+        numbers = dict(self.rows("SELECT name, elector FROM elector"))
+        for envelope, number in ((1, numbers["eve"]), (3, numbers["eve"]), (3, "NULL"), (4, numbers["eve"]), (5, numbers["eve"])):
+            self.assert_changed(f"UPDATE envelope SET elector = {number} WHERE envelope = {envelope}", said.format(envelope))
+        # two are exchanged: as many have a ballot, and each line counts
+        exchanged = f"UPDATE envelope SET elector = CASE envelope WHEN 5 THEN {numbers['dan']} ELSE {numbers['cleo']} END WHERE envelope IN (5, 6)"
+        self.assert_changed(exchanged, said.format(5))
+        self.assert_changed("UPDATE elector SET name = 'zoe' WHERE name = 'cleo'", said.format(5))
+        self.done("close")
+
+    def test_verdicts_are_those_of_debvote(self) -> None:
+        """What the book keeps of debvote's verdicts is compared where others rely on it."""
+        # the third line is refused, and replaces nothing
+        self.add("ben 1,2", "cleo 1,2,3,4")
+        wrong = "UPDATE envelope SET answer = 'bad rank count: ..' WHERE envelope = 1"
+        for statement in (
+            wrong,
+            "UPDATE envelope SET answer = NULL WHERE envelope = 3",
+            # two are exchanged: Ben loses his ballot, and nobody else gets one
+            "UPDATE envelope SET answer = CASE envelope WHEN 4 THEN 'bad rank count: ..' END WHERE envelope IN (3, 4)",
+        ):
+            self.assert_changed(statement, "debvote says of its lines another thing than it keeps")
+        self.done("close")
+        # after the close the ballots are compared with it, too
+        self.made_whole("UPDATE envelope SET line = CAST('ada 4,3,2,1' AS BLOB) WHERE envelope = 1")
+        for words in (("count",), ("publish",)):
+            self.assert_fault(self.election(*words), 9, "the ballots have the checksum", "and the close recorded")
+
+    def test_a_row_that_names_a_row_that_is_not_there(self) -> None:
+        """The chain is made whole over it, so that only what the rows name tells."""
+        for statement, said in {
+            "INSERT INTO struck VALUES (99, 4)": "row 99 of struck names a row of envelope that is not there",
+            "UPDATE envelope SET elector = 99 WHERE envelope = 1": "row 1 of envelope names a row of elector that is not there",
+        }.items():
+            whole = self.read("election.db")
+            self.made_whole(statement)
+            for words in (("log", "--check"), ("count",), ("close",)):
+                self.assert_fault(self.election(*words), 9, said)
+            self.book.write_bytes(whole)
 
     def test_what_no_command_can_read(self) -> None:
         """It is told as what it is, by whatever command meets it."""
@@ -567,7 +692,7 @@ class Places(BookTest):
         with sqlite3.connect(self.book) as connection:
             connection.execute(f"PRAGMA application_id = {0x64627674}")
             connection.execute("PRAGMA user_version = 2")
-        self.assert_fault(self.election("status"), 2, "it is a book (version 2), and this program writes version 4")
+        self.assert_fault(self.election("status"), 2, "it is a book (version 2), and this program writes version 5")
         # a book of 2.0.0 is refused by name, and not opened: what a command that was cut off left stays, too
         with contextlib.closing(sqlite3.connect(self.book)) as connection:
             connection.execute("PRAGMA user_version = 3")
@@ -602,6 +727,22 @@ class Places(BookTest):
             self.assert_fault(self.without_rights(*words), 7, "is not writable")
         (self.scratch / "more").write_text("ben 1,2,3,4\n")
         self.assert_fault(self.without_rights("add", "--yes", self.scratch / "more"), 7, "is not writable")
+
+    def test_read_only_folder_in_which_an_act_was_cut_off(self) -> None:
+        """Both files together are the book: the act is taken back where that can be written."""
+        names, journal = ("election.db", "election.db-journal"), f"{self.book.resolve()}-journal"
+        self.traced("-P", journal, "-e", "inject=unlink:signal=KILL", words=("desk",), given="ada 1,2,3,4\n")
+        copy = self.scratch / "copy"
+        copy.mkdir()
+        for name in names:
+            shutil.copy(self.folder / name, copy)
+            (self.folder / name).chmod(0o444)
+        self.addCleanup(self.folder.chmod, 0o755)
+        self.folder.chmod(0o555)
+        words = "a command was cut off in its act, and the act can be taken back only in a folder that is writable; "
+        cure = f"copy {' and '.join(names)} together into a folder of your own, and work there"
+        self.assert_fault(self.without_rights("status"), 9, words + cure)
+        self.assertIn("\nLines: 0 (", self.election("status", cwd=copy).output)
 
     def test_no_locks(self) -> None:
         compiler = shutil.which("cc")

@@ -62,7 +62,7 @@ def content(file: pathlib.Path) -> tuple[object, ...]:
     with contextlib.closing(book.connection):
         book.demand_whole()
         kept = [(letter.number, letter.state, letter.identity) for letter in queries.kept_letters(book)]
-        return queries.envelopes(book), queries.lines_in_time(book), queries.all_electors(book), kept, queries.sealed(book, "poll")
+        return queries.envelopes(book), queries.lines_to_count(book), queries.all_electors(book), kept, queries.sealed(book, "poll")
 
 
 class Damaged(elections.ElectionTest):

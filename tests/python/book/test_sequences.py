@@ -31,6 +31,9 @@ WRITES = "pwrite64,ftruncate"
 # how many such calls a command makes at most
 MAX_CALLS = 80
 
+# they have one address
+COUPLE = ["hal", "ida"]
+
 RANKS = ["1,2,3,4", "2,1,3,4", "-,-,1,2", "1,1,1,1", "4,3,2,1"]
 REPLY = re.compile(r"(?m)^(\d+) (counted|replaced|late|bad .*?|not .*?)  ")
 
@@ -54,6 +57,14 @@ class Letter:
     ranks: str
     is_taken_back: bool = False
     waits: bool = True
+    # the envelopes of it that no undo took back, and those of them that the secretary typed
+    entered: list[int] = dataclasses.field(default_factory=list)
+    typed: list[int] = dataclasses.field(default_factory=list)
+
+    @property
+    def electors(self) -> list[str]:
+        """Those who have the address that it came from."""
+        return COUPLE if self.elector in COUPLE else [self.elector]
 
 
 @dataclasses.dataclass
@@ -91,18 +102,43 @@ class Model:
         self.came -= collections.Counter(texts)
         for number in numbers:
             line = self.lines[number - 1]
-            if line.letter is not None and not line.is_struck:
+            if line.letter is not None:
                 letter = self.letters[line.letter - 1]
-                letter.is_taken_back = letter.waits = True
+                letter.entered.remove(number)
+                letter.typed = [one for one in letter.typed if one != number]
+                if not line.is_struck:
+                    letter.is_taken_back = letter.waits = True
             line.is_struck = True
             self.anew.pop(number, None)
 
-    def enter_letters(self, ballots: dict[int, str]) -> None:
-        """One act that enters these ballots of letters, in their order. All arrived before any close."""
-        for number in ballots:
+    def enter_letters(self, ballots: list[tuple[int, str]], *, is_typed: bool = False) -> None:
+        """One act that enters these ballots of letters, in their order; all arrived before any close. A letter waits until each who has a
+        ballot in it has one entered, and each who has its address, if one of them was typed.
+        """
+        self.enter([text for _, text in ballots], is_late=False, from_file=False, letters=[number for number, _ in ballots])
+        for envelope, (number, _) in zip(self.entered[-1][0], ballots):
             letter = self.letters[number - 1]
-            letter.is_taken_back = letter.waits = False
-        self.enter([*ballots.values()], is_late=self.is_closed, from_file=False, letters=[*ballots])
+            letter.entered.append(envelope)
+            letter.typed += [envelope] * is_typed
+        for letter in (self.letters[number - 1] for number, _ in ballots):
+            wanted = {*([letter.elector] if letter.ranks else []), *(letter.electors if letter.typed else [])}
+            letter.waits = not wanted <= {self.elector_of(envelope) for envelope in letter.entered}
+            letter.is_taken_back = False
+
+    def elector_of(self, envelope: int) -> str:
+        return self.lines[envelope - 1].text.split()[0]
+
+    def without_ballot(self, number: int) -> list[str]:
+        """Who has the address of a letter, and has no ballot of it that is not struck."""
+        letter = self.letters[number - 1]
+        having = [self.elector_of(envelope) for envelope in letter.entered if not self.lines[envelope - 1].is_struck]
+        return [name for name in letter.electors if name not in having]
+
+    def with_a_ballot(self) -> list[int]:
+        """The letters that wait, and whose own ballot can be entered: none can while the vote is closed."""
+        if self.is_closed:
+            return []
+        return [number for number in self.waiting if self.letters[number - 1].ranks and self.letters[number - 1].elector in self.without_ballot(number)]
 
     @property
     def waiting(self) -> list[int]:
@@ -123,10 +159,12 @@ class Step:
 
 
 class SequencesTest(LettersTest):
+    members = elections.members_of(elections.NAMES).replace("ida@", "hal@")
+
     # ------------------------------------------------------------ the steps
     def step(self, model: Model, chance: random.Random) -> Step:
         """A command that can be given now, with what it does."""
-        steps = [self.adding] * 4 + [self.desk] * 3 + [self.mailing, self.typing, self.entering] * 2
+        steps = [self.adding] * 4 + [self.desk] * 3 + [self.mailing, self.entering] * 2 + [self.typing] * 4
         steps += [self.undoing, self.striking, self.closing, self.reopening, self.bringing_back]
         while True:
             after = copy.deepcopy(model)
@@ -167,10 +205,10 @@ class SequencesTest(LettersTest):
         """Letters that wait: a colon is above the ballot, or there is none. Each has a second of its own."""
         box = ""
         for number in range(len(model.letters) + 1, len(model.letters) + chance.randint(1, 3) + 1):
-            letter = Letter(chance.choice(elections.NAMES), chance.choice([*RANKS, ""]))
+            letter = Letter(chance.choice([*elections.NAMES, *COUPLE * 4]), chance.choice([*RANKS, ""]))
             text = f"My ballot:\n\n{letter.elector} {letter.ranks}" if letter.ranks else "I am for the lake."
             time = f"Mon, 23 Nov 2026 10:{number // 60:02}:{number % 60:02} +0000"
-            head = f"Received: from a by b; {time}\nFrom: {letter.elector}@club.example\nMessage-ID: <{number}@mail.example>\n"
+            head = f"Received: from a by b; {time}\nFrom: {letter.electors[0]}@club.example\nMessage-ID: <{number}@mail.example>\n"
             box += f"From x@club.example Mon Nov 23 10:00:00 2026\n{head}\n{text}\n\n"
             model.letters.append(letter)
         self.write("box", box)
@@ -178,28 +216,32 @@ class SequencesTest(LettersTest):
 
     def entering(self, model: Model, chance: random.Random) -> Step | None:
         """The one ballot of each of some letters."""
-        numbers = [number for number in model.waiting if model.letters[number - 1].ranks]
+        numbers = model.with_a_ballot()
         chosen = chance.sample(numbers, chance.randint(0, len(numbers)))
         if not chosen:
             return None
-        model.enter_letters({number: self.ballot(model, number) for number in sorted(chosen)})
+        model.enter_letters([(number, self.ballot(model, number)) for number in sorted(chosen)])
         return Step(["held", *map(str, chosen), "--enter", "--force"], None, [model])
 
     def bringing_back(self, model: Model, chance: random.Random) -> Step | None:
         """All letters that were taken back, but for those in which a ballot was read that is not there."""
-        numbers = [number for number in model.waiting if model.letters[number - 1].ranks and model.letters[number - 1].is_taken_back]
+        numbers = [number for number in model.with_a_ballot() if model.letters[number - 1].is_taken_back]
         if not numbers:
             return None
-        model.enter_letters({number: self.ballot(model, number) for number in numbers})
+        model.enter_letters([(number, self.ballot(model, number)) for number in numbers])
         return Step(["held", "--enter", "--force"], None, [model])
 
     def typing(self, model: Model, chance: random.Random) -> Step | None:
-        if not model.waiting:
+        """What was read in a letter: the ballots of one or of both who sent it, also after it went in."""
+        numbers = [number for number in range(1, len(model.letters) + 1) if model.without_ballot(number)]
+        if not numbers or model.is_closed:
             return None
-        number = chance.choice(model.waiting)
-        ballot = f"{model.letters[number - 1].elector} {chance.choice(RANKS)}"
-        model.enter_letters({number: ballot})
-        return Step(["held", str(number), "--as", ballot, "--force"], None, [model])
+        number = chance.choice(numbers)
+        names = model.without_ballot(number)
+        ballots = [f"{name} {chance.choice(RANKS)}" for name in chance.sample(names, chance.randint(1, len(names)))]
+        model.enter_letters([(number, ballot) for ballot in ballots], is_typed=True)
+        words = [word for ballot in ballots for word in ("--as", ballot)]
+        return Step(["held", str(number), *words, "--force"], None, [model])
 
     def ballot(self, model: Model, number: int) -> str:
         letter = model.letters[number - 1]

@@ -38,7 +38,7 @@ class Open(CallTest):
         poll = read_plain(self.read("call/poll.toml"))
         self.assertEqual((poll.deadline, poll.address, list(poll.roll)), ("2026-12-04T18:00:00+01:00", "vote@club.example", elections.NAMES))
         for text in (ended.output, self.texts()):
-            for part in (hashlib.sha256(self.read("call/poll.toml")).hexdigest(), f"[{poll.mark}]", FIRST):
+            for part in (hashlib.sha256(self.read("call/poll.toml")).hexdigest(), f"[{poll.checksum[:16]}]", FIRST):
                 self.assertIn(part, text)
         subprocess.run(["sha256sum", "--quiet", "-c", "SHA256SUMS"], cwd=self.folder / "call", check=True)
         # made again it is the same, and no act
@@ -109,7 +109,7 @@ class Again(CallTest):
         for page, other in (("https://club.example/vote/", "moved/"), ("https://club.example/moved/", "vote/")):
             self.done("call", "--at", page)
             self.assertEqual((page in self.texts(), other in self.texts()), (True, False))
-        for words in (("--to", "other@club.example"), ("--names",), ("--form",), ("--keyring", "poll.toml")):
+        for words in (("--to", "other@club.example"), ("--names",), ("--keyring", "poll.toml")):
             with self.subTest(words):
                 self.assert_fault(self.election("call", *words), 9, words[0], "--take-back")
 
@@ -200,6 +200,9 @@ class Letters(CallTest):
         self.assert_fault(self.election("call", "--marked"), 9, "--marked: the call was made without it", "--take-back")
 
     def test_the_text_is_sealed_by_each_call(self) -> None:
+        self.write("letter.txt", "x" * 78 + "\n" + "y" * 79 + "\n")
+        why = "have more than 78 characters, so mail programs may break them: 2\n"
+        self.assertIn(f"Note: these lines of letter.txt {why}", self.done("check").output)
         self.write("letter.txt", "\ufeffDear members,\r\npaper ballots go to the office.\r\n\r\n")
         text = "Dear members,\npaper ballots go to the office.\n"
         for output in (self.done("check").output, self.done("call", *UNTIL).output):
@@ -287,6 +290,18 @@ class Secret(CallTest):
         self.assertIn("Made 1 code.", self.done("codes").output)
         self.assertEqual(self.table()[:-1], before)
 
+    def test_what_a_killed_run_left_is_taken_away(self) -> None:
+        self.done("codes")
+        private = self.folder / "private"
+        for words in (("codes",), ("call", *UNTIL), ("call", "--take-back")):
+            for file in private.iterdir():
+                file.unlink()
+            self.traced("-e", "inject=rename:signal=KILL:when=1", words=("codes",))
+            self.assertEqual([file.name.startswith(".debvote-") for file in private.iterdir()], [True])
+            self.done(*words)
+            names = [] if words[-1] == "--take-back" else ["codes.csv", "slips.html"]
+            self.assertEqual(sorted(file.name for file in private.iterdir()), names)
+
     def test_a_code_stays_with_its_person(self) -> None:
         """Also if the name is written in another way; whoever gets the name on the roll after them gets another code."""
 
@@ -319,6 +334,7 @@ class Secret(CallTest):
         self.assert_fault(self.election("roll"), 9, "codes are on the roll")
         self.assertIn("Made 0 codes.", self.done("codes").output)
         ended = self.done("call", *UNTIL)
+        self.assertIn("no poll.toml.\nPrint private/slips.html, cut the slips out, and let each elector draw one.\n", ended.output)
         self.assertEqual(sorted(file.name for file in (self.folder / "call").iterdir()), ["SHA256SUMS", "call.txt", "index.html"])
         codes = set(re.findall(r"\b[0-9a-f]{32}\b", self.done("export", self.scratch / "out").output + (self.scratch / "out" / "poll.toml").read_text()))
         self.assertEqual(len(codes), 9)
@@ -344,7 +360,7 @@ class Secret(CallTest):
         """Two published rolls tell nothing about an elector who was added in between."""
         self.called()
         slip, aliases = self.read("private/slips.html").decode(), self.published_codes()
-        self.assertIn(f"<b>[{read_plain(self.read('call/poll.toml')).mark}]</b>", slip)
+        self.assertIn(f"<b>[{read_plain(self.read('call/poll.toml')).checksum[:16]}]</b>", slip)
         self.assertNotIn(" is void", slip + self.texts())
         said = r"All 9 codes are void(?s:.*)\nNext: put right what was wrong, then run debvote-election codes\n"
         self.assertRegex(self.done("call", "--take-back").output, said)

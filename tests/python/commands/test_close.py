@@ -1,6 +1,5 @@
 """`close`, `reopen`, `status`, `export`: when lines are late, what the close binds, and what is said of it all."""
 
-import contextlib
 import hashlib
 import os
 import unittest
@@ -10,6 +9,7 @@ from unittest import mock
 from debvote_tools.commands import close
 from debvote_tools.result import folder as result_folder
 
+from tests.support import elections
 from tests.support.called import LettersTest
 from tests.support.terminal import Terminal
 
@@ -35,7 +35,7 @@ class Close(LettersTest):
         self.assertEqual((self.read("letters/closed.txt").decode(), self.done("log").output.splitlines()[:-2]), (letter, log.splitlines()))
         self.assertEqual(self.exported(), (before, "ada 4,3,2,1\n"))
         wanted = {"stage": "closed", "electors": 9, "lines": 3, "valid": 2, "refused": 1, "late": 1, "voters": 2, "waiting": 0}
-        wanted |= {"stopping": [], "not_reached": {}, "printed": []}
+        wanted |= {"stopping": [], "box": None, "not_reached": {}, "printed": []}
         self.assertEqual({key: value for key, value in self.numbers().items() if key not in ("act", "digest", "without_ballot")}, wanted)
 
     def test_the_end(self) -> None:
@@ -65,15 +65,15 @@ class Meanwhile(LettersTest):
 
     def closing_after(self, lines: Iterator[str]) -> mock._patch:
         """Before each close that is decided, a desk enters the next of these lines."""
-        fixed = close.fixed
+        fixed = close.what_is_fixed
 
         def after_a_desk(*found: object) -> object:
-            detail = fixed(*found)
+            of_one = fixed(*found)
             if (line := next(lines, None)) is not None:
                 self.entered(line)
-            return detail
+            return of_one
 
-        return mock.patch.object(close, "fixed", after_a_desk)
+        return mock.patch.object(close, "what_is_fixed", after_a_desk)
 
     def test_a_line_between_checksum_and_close(self) -> None:
         self.add_lines("ada 1,2,3,4")
@@ -84,28 +84,22 @@ class Meanwhile(LettersTest):
         self.assertIn(hashlib.sha256(ballots.encode()).hexdigest(), self.read("letters/closed.txt").decode())
         self.done("publish")
 
-    def test_a_desk_that_never_stops(self) -> None:
-        with mock.patch.object(close, "TRIES", 2), self.closing_after(iter(["ada 1,2,3,4"] * 9)):
-            self.assert_fault(self.election("close"), 9, MEANWHILE)
-        self.assertEqual(self.numbers()["stage"], "called")
-
     def test_a_line_while_it_is_published(self) -> None:
         """What is late by then is in no folder that does not say so; without new words the folder is that of the book, too."""
         self.add_lines("ada 1,2,3,4", "ben 1,2,3,4")
         self.done("close")
-        made = result_folder.made
+        filled = result_folder.filled
 
-        @contextlib.contextmanager
-        def before_a_line(*found: object) -> Iterator[object]:
-            with made(*found) as folder:
-                self.entered("dan 1,2,3,4")
-                yield folder
+        def before_a_line(*found: object) -> object:
+            made = filled(*found)
+            self.entered("dan 1,2,3,4")
+            return made
 
         for is_made_again in (False, True):
             if is_made_again:
                 self.done("publish")
             files = {name: data for name, data in self.contents().items() if name.startswith("result/")}
-            with mock.patch.object(result_folder, "made", before_a_line):
+            with mock.patch.object(result_folder, "filled", before_a_line):
                 self.assert_fault(self.election("publish"), 9, MEANWHILE)
             self.assertEqual({name: data for name, data in self.contents().items() if name.startswith("result/")}, files)
 
@@ -126,8 +120,12 @@ class Asked(LettersTest):
         self.set_clock("2026-12-01T17:00:00+00:00")
         self.add_lines("ada 1,2,3,4")
         self.set_clock("2026-12-02T18:30:00+00:00")
-        self.done("desk", given="ben 1,2,3,4\n")
-        last = "Added last: 2026-12-01 17:00:00 UTC. Entered last at a desk: 2026-12-02 18:30:00 UTC."
+        self.done("desk", given="ben 1,2,3,4\nida 1,2,3,4\n")
+        self.done("strike", "3", "--because", "not hers")
+        self.done("call", "--until", "2026-12-02 20:00", "--zone", "UTC")
+        self.set_clock("2026-12-02T20:30:00+00:00")
+        last = "Added last: 2026-12-01 17:00:00 UTC. Entered last at a desk: 2026-12-02 18:30:00 UTC. "
+        last += "Strikes: 1. End of the vote: Wednesday, 2 December 2026, 20:00 (UTC)."
         asked = "Is that all? It is if the mailbox was added just now, all paper is entered, and no desk is open."
         for answer in ("n\n", "\x04"):
             terminal = Terminal(self, "close")
@@ -144,9 +142,22 @@ class Asked(LettersTest):
         self.assertRegex(output, r"^[^[]*Closed: 3 lines came in time[^[]*$")
         self.assertEqual((status, self.numbers()["lines"], self.numbers()["stage"]), (0, 3, "closed"))
 
+    def test_another_close_meanwhile(self) -> None:
+        self.add_lines("ada 1,2,3,4")
+        terminal = Terminal(self, "close")
+        terminal.until("[y/n] ")
+        self.done("close")
+        closed = self.read("election.db"), self.read("letters/closed.txt")
+        terminal.type("y\n")
+        output, status = terminal.end()
+        self.assertIn("another command closed the vote meanwhile; nothing was changed: run the command again", output)
+        self.assertEqual((status, self.read("election.db"), self.read("letters/closed.txt")), (9, *closed))
+        self.assertIn("with 1 line in time. Nothing was changed.", self.done("close").output)
+        self.done("publish")
+
     def test_yes(self) -> None:
         output, status = Terminal(self, "close", "--yes").end()
-        said = "Until now 0 lines came in time. Added last: never. Entered last at a desk: never."
+        said = "Until now 0 lines came in time. Added last: never. Entered last at a desk: never. Strikes: 0. End of the vote: not announced."
         self.assertEqual((status, said in output, "[y/n]" in output), (0, True, False))
 
 
@@ -171,6 +182,11 @@ class Reopen(LettersTest):
         for said in ("Closed: 3 lines came in time", "with 3 lines in time. Nothing was changed"):
             self.assertRegex(self.done("close").output, rf"{said}(?s:.*)\nChecksum of the ballots: {checksum}\n")
         self.assertIn("3 lines came in time", self.read("letters/closed.txt").decode())
+        # the line that was entered anew did not come late, though it stays in the file
+        self.done("publish")
+        self.assertEqual(self.read("result/late.txt").decode().count("\n"), 3)
+        self.assertIn("2 came late.", self.read("letters/result.txt").decode())
+        self.assertIn("<li><b>2</b> came late</li>", self.read("result/index.html").decode())
 
     def test_a_result_before_the_last_close_is_not_the_result(self) -> None:
         self.assertRegex(self.done("status").output, r"\nClosed: at [^\n]* UTC\nQuorum")
@@ -213,6 +229,12 @@ class Told(LettersTest):
         self.assertEqual(((out / "poll.toml").read_bytes(), out.stat().st_mode & 0o777), (self.read("call/poll.toml"), 0o700))
         self.assertEqual({file.stat().st_mode & 0o777 for file in out.rglob("*") if file.is_file()}, {0o600})
         self.assert_fault(self.election("export", out), 2, "already")
+
+    def test_formats_names_what_status_tells_a_program(self) -> None:
+        """Each key of the object that `status --json` prints."""
+        formats = (elections.ROOT / "docs" / "FORMATS.md").read_text()
+        part = formats.partition("`debvote-election status --json` ")[2].partition("\n## ")[0]
+        self.assertEqual([key for key in self.numbers() if f"`{key}`" not in part], [])
 
     def test_a_clock_that_went_back(self) -> None:
         """By a minute at most it is only set right."""

@@ -45,5 +45,7 @@ class Count(elections.ElectionTest):
         self.assert_counted((), 1, f"Next: {choose}")
         self.assert_counted(("--casting", "Hall"), 0, f"Next: debvote-election publish --casting Hall {cast}\n")
         self.assert_counted(("--casting", "Further discussion"), 8, "'Further discussion' is not among them")
+        ended = self.election("count", "--casting", "Hall", "--casting", "At the lake")
+        self.assert_fault(ended, 8, "--casting='At the lake': it has the casting vote Hall already; nothing was counted: give one of them")
         ended = self.election("count", "--casting", "Nowhere")
         self.assert_fault(ended, 8, "no option has this name", "'At the lake', Hall, 'Sell the house and meet there'")

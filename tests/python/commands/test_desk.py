@@ -49,7 +49,7 @@ class AtATerminal(TerminalTest):
         """The end of the input and an interrupt are a no, too."""
         before, desk = self.last_act(), self.at_terminal()
         shown = desk.after(f"ada {RANKS}\nperhaps\nn\n", "It was not entered.")
-        self.assertIn("Type y to enter it, or n to drop it.\n", shown)
+        self.assertIn("Type y for yes, or n for no.\n", shown)
         desk.until("Ballot: ")
         self.assertIn("Type a ballot, or q to end.\n", desk.after("\n", "Ballot: "))
         self.assertIn("This desk has entered 0 lines.\n", self.end(desk, "\x04"))
@@ -64,11 +64,12 @@ class AtATerminal(TerminalTest):
         desk = self.at_terminal()
         for line, words in {
             "Gsu 1,2,3,4": "Gsu 1,2,3,4: bad not on roll: gsu is not on the roll",
-            "Ada 1,,3,4": 'Ada 1,,3,4: bad shape: column 7: ","; a ballot has a rank there: a number from 1 to 99, or a hyphen',
+            "Ada 1,,3,4": 'Ada 1,,3,4: bad shape: column 7: ","; a ballot has a rank there: a number from 1 to 99, or a hyphen for an option that is not ranked, and so last',
             "Ada 1,2": "Ada 1,2: bad rank count: 2 ranks, the poll has 4 options",
         }.items():
             shown = desk.after(f"{line}\nperhaps\nn\n", CAST_REFUSED)
-            self.assertRegex(shown, rf"\nn\nIt would be refused: {re.escape(words)}\nA valid line [^\n]*\nIt would")
+            # the terminal shows what was typed ahead before it or behind it
+            self.assertRegex(shown, rf"\n(n\n)?It would be refused: {re.escape(words)}\nA valid line [^\n]*\nIt would")
             # the question is asked in the same words again
             desk.until(CAST_REFUSED)
             desk.until("Ballot: ")
@@ -201,6 +202,23 @@ class NamesAreCompleted(TerminalTest):
         self.end(desk, "q\n")
 
 
+class WholeNames(TerminalTest):
+    members = "who,name,mail\nAnna Meier,meier,\nAnna Meier-Huber,anna-meier-huber,\nBen Müller,ben-1,\nBen Müller,ben-2,\nMüller Ben,ben-3,\n"
+
+    def test_they_come_before_parts(self) -> None:
+        """That of one elector alone is that elector's; of those who have it one is chosen."""
+        desk = self.at_terminal()
+        shown = desk.after(f"Anna  Meier {RANKS}\n", CAST)
+        self.assertIn(f"` was changed to `meier {RANKS}` (spaces, real name, capital letters)\nmeier: At the lake, ", shown)
+        desk.after("n\n", "Ballot: ")
+        self.assertIn("`meier Anna` is part of 2 names:", desk.after(f"Meier Anna {RANKS}\n", "for none: "))
+        desk.after("n\n", "Ballot: ")
+        listed = desk.after(f"Ben Müller {RANKS}\n", "for none: ")
+        self.assertIn("` is part of 2 names:\n  1 ben-1 (Ben Müller)\n  2 ben-2 (Ben Müller)\n", listed)
+        self.assertIn("\nben-2: At the lake, ", desk.after("2\n", CAST))
+        self.end(desk, "n\nq\n")
+
+
 class FromAPipe(CalledTest):
     def test_each_line_is_answered_at_once(self) -> None:
         desk = self.desk()
@@ -250,6 +268,19 @@ class FromAPipe(CalledTest):
         for given in ("", "\n\n"):
             self.assertIn("This desk has entered 0 lines.\n", self.told("desk", given=given))
         self.assertEqual(self.last_act(), before)
+
+    def test_the_head_of_a_table_stops_it(self) -> None:
+        """The columns may stand in another order than the options. Below a ballot no line is a head."""
+        said = "desk: the lines look like a table; its columns may stand in another order than the options; "
+        rows = "Name None,Sell,Repair,Dinghy\nada 4,1,2,3\n"
+        self.assert_refused(("desk",), 4, said, "write each line as a name and its ranks in the order of the options", given=rows)
+        self.assertEqual(self.lines(), [])
+        desk = self.desk()
+        self.assertTrue(self.answer(desk, "Name None,Sell,Repair,Dinghy\n").startswith("1 bad shape  Name"))
+        output, faults = desk.communicate("ada 4,1,2,3\n")
+        self.assertIn(said, output + (faults or ""))
+        self.assertEqual(self.lines(), ["Name None,Sell,Repair,Dinghy"])
+        self.assertIn("2 counted  ada: ", self.told("desk", given=f"ada 4,1,2,3\n{rows}"))
 
     def test_many_lines_in_one_go(self) -> None:
         lines = [f"ada {number // 99 + 1},{number % 99 + 1},1,2" for number in range(9000)]

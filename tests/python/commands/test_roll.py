@@ -2,6 +2,8 @@
 
 import json
 
+from debvote_tools.files import TABLE_LIMIT
+
 from tests.support import elections
 from tests.support.terminal import Terminal
 
@@ -68,6 +70,17 @@ class Roll(RollTest):
             output = self.done(command, "--all").output
             self.assertTrue(all(f"elector-{number}" in output for number in range(201)), command)
             self.assertNotIn("--all", output, command)
+
+    def test_a_folder_no_file_and_one_that_is_too_long(self) -> None:
+        file, again = self.folder / "members.csv", ", then run debvote-election roll again"
+        file.unlink()
+        self.assert_fault(self.election("roll"), 2, "members.csv: No such file or directory; ", again)
+        file.mkdir()
+        self.assert_fault(self.election("roll"), 2, "members.csv: Is a directory; ", again)
+        file.rmdir()
+        with open(file, "wb") as long:
+            long.truncate(TABLE_LIMIT + 1)
+        self.assert_fault(self.election("roll"), 2, f"members.csv: it is longer than {TABLE_LIMIT} bytes; shorten it", again)
 
     def test_all_faults_at_once(self) -> None:
         ended = self.roll("A B,x,Ada,a@club.example,z", "ÄÖ,Ben,b@club.example", ",,", "ada,Cleo,nowhere", head="name,who,mail")

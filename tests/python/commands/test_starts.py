@@ -1,4 +1,4 @@
-"""How often a command starts debvote: at most three times, `publish` eight times."""
+"""How often a command starts debvote: most never do, `publish` at most eight times."""
 
 import hashlib
 import os
@@ -10,9 +10,11 @@ from tests.support import elections
 COUNTED = elections.ROOT / "tests" / "support" / "counted"
 CALLED, TEN, ELEVEN = (f"2026-11-{time}:00:00+00:00" for time in ("20T09", "23T10", "24T11"))
 
+# how often it is started at most
+MOST = {"check": 2, "codes": 2, "call": 2, "add": 2, "desk": 2, "close": 1, "count": 1, "publish": 8}
+
 # right lines, some that are repaired, and some that are refused
 LINES = "\ufeffada 1,2,4,3\r\nben 1, 2, 3, 4\nBen 2;1;3;4\ncle 1,2,3,4\ndan 1,2\n\neve 1,2,3,4,5\n"
-TABLE = "name,a,b,c,d\nfay,1,2,3,4\ngus,2,1,3,4\nhall,1,2,3,4\n"
 
 
 def letter_of(number: int, name: str, text: str, mark: str, kind: str = "plain") -> str:
@@ -44,7 +46,7 @@ class Starts(elections.ElectionTest):
         for words in commands:
             self.started(*words.split())
 
-    def started(self, *words: object, **how: object) -> None:
+    def started(self, *words: object, most: int | None = None, **how: object) -> None:
         """Runs a command, which must do what it is asked for, and counts how often it starts debvote."""
         counter, command = self.scratch / "starts", str(words[0])
         counter.write_bytes(b"")
@@ -52,7 +54,7 @@ class Starts(elections.ElectionTest):
         self.tried.add(command)
         with self.subTest(words):
             self.assertIn(ended.status, (0, 1) if command in ("count", "publish") else (0,), ended)
-            self.assertLessEqual(len(counter.read_bytes()), 8 if command == "publish" else 3)
+            self.assertLessEqual(len(counter.read_bytes()), MOST.get(command, 0) if most is None else most)
 
     def mailbox(self) -> str:
         mark = hashlib.sha256(self.read("call/poll.toml")).hexdigest()[:16]
@@ -63,13 +65,20 @@ class Starts(elections.ElectionTest):
 
     def votes(self) -> None:
         self.write("lines", LINES)
-        self.write("table.csv", TABLE)
         self.write("mail", self.mailbox())
         self.started("letters", "call")
         self.set_clock(TEN)
-        self.each(["add --look lines", *["add --yes --force lines"] * 2, "add --again --yes --force lines"])
-        self.each(["add --csv --name name --ranks a,b,c,d --yes --force table.csv", "add --look mail", *["add --yes mail"] * 2])
+        self.each(["add --look lines", *["add --yes --force lines"] * 2])
+        # all are repaired; or a table, of which nothing is
+        self.started("add", "-", given="Ada Lovelace: 1;2;3;4\nBen 1, 2, 3, 4\n")
+        self.started("add", "--force", "-", given="Name;a;b;c;d\nada 1,2,3,4\nBen 1, 2, 3, 4\n")
+        # below a ballot no line is the head of a table
+        for number in range(3):
+            self.write(f"odd{number}", f"ada 1,2,3,4\nBen 1, 2, 3, {number + 1}\ncleo 1,2,{number},4\n")
+        self.started("add", "odd0", "odd1", "odd2", most=2)
+        self.each(["add --look mail", *["add --yes mail"] * 2])
         self.each(["held", "held 2", "held 2 --enter 1 --force", "held 3 4 --set-aside"])
+        self.started("held", "7", "--as", "fay 1,2,3,4", "--as", "gus 1,2,4,3", "--force", most=1)
         self.started("desk", given="ada 1,2,3,4\n")
         self.each(["show ada", "status", "status --json", "undo --yes", "log", "log --check", "strike 1 --because x"])
         self.each(["letters receipts", "letters reminders", "roll --yes"])

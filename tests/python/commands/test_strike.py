@@ -33,12 +33,17 @@ class Strike(CalledTest):
         self.assertEqual(self.book.rows("SELECT letter, state FROM letter_state WHERE act = ?", self.last_act()), [(1, "struck")])
 
     def test_what_is_refused(self) -> None:
+        self.set_clock("2099-12-24T10:00:00+00:00")
         self.told("strike", 3, *WHY)
+        struck = self.last_act()
+        self.set_clock("2099-12-24T11:00:00+00:00")
+        self.told("desk", given=f"cleo {RANKS}\n")
         before = self.last_act()
         refused = {
-            (3, *WHY): (9, f"envelope 3 is struck already, by act {before} at "),
-            (9, *WHY): (9, "there is no envelope 9; there are envelopes 1 to 4; nothing was changed: "),
+            (3, *WHY): (9, f"envelope 3 is struck already, by act {struck} at 2099-12-24 10:00:00 UTC; nothing was changed: see debvote-election log"),
+            (9, *WHY): (9, "there is no envelope 9; there are envelopes 1 to 5; nothing was changed: "),
             (0, *WHY): (9, "there is no envelope 0; "),
+            (2**64, *WHY): (9, f"there is no envelope {2**64}; there are envelopes 1 to 5; "),
             (1,): (2, "strike: it needs a reason, which the log keeps; nothing was changed: "),
             (1, "--because", " "): (2, "strike: it needs a reason"),
             (1, "--because", "a\u202eb"): (2, "--because: the text has the character U+202E, which no plain text has"),
@@ -48,6 +53,7 @@ class Strike(CalledTest):
         for words, (status, said) in refused.items():
             self.assert_stops(self.election("strike", *words), before, status, said)
         # also one that undo took back
+        self.told("undo")
         self.told("undo")
         before = self.last_act()
         self.assert_stops(self.election("strike", 1, *WHY), before, 9, f"envelope 1 is struck already, by act {before} at ")
@@ -59,8 +65,12 @@ class Strike(CalledTest):
         self.told("add", given=f"cleo {RANKS}\n")
         self.told("reopen", "--because", "a bag was forgotten")
         self.assertIn("Struck envelope 2: ", self.told("strike", 2, *WHY))
+        # what the act before has struck is not there to be replaced
+        self.assertIn("6 counted  ben: ", self.told("desk", "--came-before-close", "yes", given=f"ben {RANKS}\n"))
         output = self.told("strike", 5, *WHY)
         self.assertIn(f"Struck envelope 5 (late): `cleo {RANKS}`, because: it was pencil\nThe current ballot of cleo: none\n", output)
+        self.told("export", self.scratch / "out")
+        self.assertEqual((self.scratch / "out" / "late.txt").read_text(), "")
 
 
 class AtATerminal(CalledTest):
@@ -81,7 +91,7 @@ class AtATerminal(CalledTest):
         self.told("add", given=f"ada {RANKS}\nben {RANKS}\n")
         before = self.last_act()
         for keys in ("n\n", "\x04"):
-            self.assertIn("strike: you did not say yes; nothing was changed: ", self.end(self.asked(), keys, 9))
+            self.assertIn(": you did not say yes; nothing was changed: ", self.end(self.asked(), keys, 9))
             self.assertEqual(self.last_act(), before)
         terminal = self.asked()
         self.told("desk", given=f"cleo {RANKS}\n")

@@ -1,7 +1,9 @@
 """`undo`: the last act that entered lines is taken back, and nothing else."""
 
 from debvote_tools.book import queries
+from debvote_tools.inbox.letter_lines import to_json
 
+from tests.support import letters
 from tests.support.called import HALL, LAKE, OTHER_RANKS, RANKS, CalledTest
 from tests.support.terminal import Terminal
 
@@ -51,7 +53,8 @@ class Undo(CalledTest):
         with self.book.act("offer") as act:
             for name in ("ada", "ben"):
                 source = queries.keep_source(act, "inbox", b"letter")
-                letter = act.insert("letter", source=source, identity=name, known="{}")
+                [came] = letters.read(letters.letter(name, f"{name} {RANKS}"))
+                letter = act.insert("letter", source=source, identity=name, known=to_json(came))
                 act.insert("letter_state", letter=letter, state="entered")
                 queries.add_envelopes(act, [queries.NewEnvelope(f"{name} {RANKS}".encode(), "", source, letter)], [self.elector(name)], is_late=False)
         said = rf"Took back 2 lines \(act {self.first_act}: offer, (?s:.*)2 letters then wait again, as taken back: 1, 2\n"
@@ -86,7 +89,7 @@ class AtATerminal(CalledTest):
         """No answer, at the end of the input, is a no; with --yes nothing is asked."""
         lines = f"ada {RANKS}", f"ada {OTHER_RANKS}", f"ben {RANKS}", "x"
         for keys in ("n\n", "\x04"):
-            self.assertIn("undo: you did not say yes; nothing was changed: ", self.end(self.asked(), keys, 9, *lines))
+            self.assertIn(": you did not say yes; nothing was changed: ", self.end(self.asked(), keys, 9, *lines))
             self.assertEqual(self.last_act(), self.before)
         self.told("desk", given=f"ada {RANKS}\n")
         terminal = Terminal(self, "undo")

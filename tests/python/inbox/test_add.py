@@ -1,6 +1,7 @@
 """`add`: what is told, what is in the book, and that nothing is lost."""
 
 import os
+import re
 import resource
 import shutil
 import signal
@@ -23,6 +24,10 @@ class Added(CalledTest):
         replies = f"1 counted  ada: {LAKE}\n2 counted  ben: {HALL}\n3 replaced  ada: {HALL}\n"
         note = "Note: more.txt has 2 ballots of ada (1, 3); the last one counts.\n"
         self.assertEqual(self.told("add", "more.txt"), f"{replies}{note}Added 3 lines (2 counted, 1 replaced).\n{NEXT}\n")
+        # of many the first places
+        for places in ("1, 2, 3, 4, 5", "1, 2, 3, 4, 5, .."):
+            self.write("many", f"ben {RANKS}\n" * (places.count(",") + 1))
+            self.assertIn(f"Note: many has {places.count(',') + 1} ballots of ben ({places}); the last one counts.\n", self.told("add", "--look", "many"))
         self.assertEqual(self.sources(), [("more.txt", self.read("more.txt"))])
         self.assertEqual(self.acts(), [("add", {"files": ["more.txt"], "lines": 3, "passed_over": 0})])
         [act] = self.book.acts()[self.first_act - 1 :]
@@ -44,7 +49,10 @@ class Added(CalledTest):
         self.assertIn("Next: debvote-election status --folder election; ", output)
 
     def test_the_number_the_elector_and_the_words_of_a_line(self) -> None:
+        preview = self.told("add", "--look", given="ada 1,1,-,2\nben -,-,-,-\n")
         output = self.told("add", given="ada 1,1,-,2\nben -,-,-,-\n")
+        replies = [line for line in output.splitlines() if line.startswith(("1 ", "2 "))]
+        self.assertEqual([line for line in preview.splitlines() if line.startswith(("1 ", "2 "))], replies)
         words = "At the lake and In the town hall equally, then Further discussion; not ranked, and so behind all others: Sell the house"
         self.assertIn(f"1 counted  ada: {words} and meet there\n", output)
         self.assertIn("2 counted  ben: no option is ranked, so nothing is preferred\n", output)
@@ -58,6 +66,8 @@ class Added(CalledTest):
         self.told("add", "--force", given="\n".join(came))
         electors = [None if name is None else self.elector(name) for name in came.values()]
         self.assertEqual([envelope.elector for envelope in self.envelopes()[3:]], electors)
+        # a refused line is not there to be replaced
+        self.assertIn(" counted  cleo: ", self.told("desk", given=f"cleo {RANKS}\n"))
 
     def test_names_of_files(self) -> None:
         names = ("ä" * 127, "x" * 255, "-n", "a b\nc")
@@ -113,7 +123,7 @@ class Added(CalledTest):
             "standard input:2: `ben\\u00A01,2,4,3` was changed to `ben 1,2,4,3` (no-break spaces)\n2 counted  ben: ",
             "standard input:3: `cleo 1,2,–,3` was changed to `cleo 1,2,-,3` (dashes)\n3 counted  cleo: ",
             '5 bad shape  dan 1.: column 6: "."; a ballot has a comma or its end there, or a second digit of the rank\n'
-            "  it goes in as it came; written as `dan 1` it is refused too: bad rank count: 1 ranks, the poll has 4 options\n",
+            "  it goes in as it came; written as `dan 1` it is refused too: bad rank count: 1 rank, the poll has 4 options\n",
             '6 bad shape  1,2,3,4: column 2: ","; a ballot has a space there, or more of the name: a to z, 0 to 9, . or -\n',
         ):
             self.assertIn(told, output)
@@ -162,10 +172,6 @@ class Added(CalledTest):
         with open(self.folder / "long", "wb") as file:
             file.truncate(33_554_433)
         self.assert_fault(self.election("add", "long"), 4, "long: it is longer than 33554432 bytes, ", "add it in parts")
-        # words that do not go together
-        self.assert_refused(("add", "--csv"), 2, "--csv: it needs --name COLUMN and --ranks ", given="x")
-        for words in (["--name", "x"], ["--ranks", "x"], ["--blank-is-unranked"], ["--oldest-first"], ["--newest-first"]):
-            self.assert_refused(("add", *words), 2, f"{words[0]}: only for tables; nothing was added: give --csv too, or leave this out", given="x")
         self.assertEqual((self.acts(), self.sources()), ([], []))
 
     def test_in_a_signed_vote_a_line_needs_force_and_a_reason(self) -> None:
@@ -177,9 +183,9 @@ class Added(CalledTest):
         self.assertIn("1 counted  ada: ", self.told("add", "--force", "--because", "they brought it", "more"))
         detail = {"files": ["more"], "lines": 1, "passed_over": 0, "unsigned": True, "because": "they brought it"}
         self.assertEqual(self.acts()[-1], ("add", detail))
-        # a table too, and with all else at once
-        self.write("form", "n,a,b,c,d\nada,x,2,3,4\nben,x,2,3,4\n")
-        ended = self.election("add", "--csv", "--name=n", "--ranks=a,b,c,d", "form")
+        # with all else at once
+        self.write("wrong", "ada x,2,3,4\nben x,2,3,4\n")
+        ended = self.election("add", "wrong")
         self.assertRegex(ended.faults, r"\A.*letters must be signed.*\n.*debvote takes none of the 2 lines.*\n\Z")
         self.assertEqual(ended.status, 9)
 
@@ -219,11 +225,13 @@ class AfterTheEnd(CalledTest):
         output = self.told("add", given="ada 2,1,4,3\nben x\n")
         self.assertRegex(output, r"^Note: the vote was closed at \d{4}-\d\d-\d\d \d\d:\d\d:\d\d UTC; what is added now is late\.\n")
         self.assertIn(f"3 late  ada: {HALL}\n", output)
-        hint = "a ballot has a rank there: a number from 1 to 99, or a hyphen"
+        hint = "a ballot has a rank there: a number from 1 to 99, or a hyphen for an option that is not ranked, and so last"
         self.assertIn(f'4 late  ben x: bad shape: column 5: "x"; {hint}\n', output)
         said = "2 lines came after the close, and late lines do not count.\nAdded 2 lines (2 late).\nNext: debvote-election count\n"
         self.assertIn(said, output)
         self.assertEqual((self.lines(), self.late_lines()), (["ada 1,2,4,3", "ben 1,2,4,3"], ["ada 2,1,4,3", "ben x"]))
+        # what came before the close is late all the same, until it is opened again
+        self.assertIn("This desk has entered 0 lines", self.told("desk", "--came-before-close", "yes", given=""))
         # after reopen the answer is asked for and kept
         self.act("reopen", {"because": "a bag was forgotten"})
         said = " and opened again, and only what came before counts; nothing was added: say whether this came before that close: "
@@ -232,20 +240,22 @@ class AfterTheEnd(CalledTest):
         self.assertIn("6 late  dan: ", self.told("add", "--came-before-close", "no", given="dan 1,2,4,3\n"))
         self.assertEqual((self.lines()[2:], self.late_lines()[2:]), (["cleo 1,2,4,3"], ["dan 1,2,4,3"]))
         self.assertEqual([detail.get("came_before_close") for name, detail in self.acts() if name == "add"], [None, None, None, True, False])
+        # a late line is not there to be replaced
+        self.assertIn("7 counted  dan: ", self.told("desk", "--came-before-close", "yes", given="dan 2,1,4,3\n"))
 
 
 class NoBallots(CalledTest):
-    def assert_stops_without_force(self, data: str | bytes, *parts: str, words: tuple[str, ...] = ()) -> None:
+    def assert_stops_without_force(self, data: str | bytes, *parts: str) -> None:
         """It stops; `--force` adds each line."""
         self.write("wrong", data)
         said = "none of the 2 lines as ballots; nothing was added: "
-        self.assert_refused(("add", *words, "wrong"), 9, said, *parts, ", or add it anyway with --force")
-        self.assertIn("Added 2 lines (2 bad ", self.told("add", *words, "--force", "wrong"))
+        self.assert_refused(("add", "wrong"), 9, said, *parts, ", or add it anyway with --force")
+        self.assertIn("Added 2 lines (2 bad ", self.told("add", "--force", "wrong"))
         self.assertEqual(len(self.lines()), 2)
         self.told("undo")
 
     def test_by_what_it_looks_like(self) -> None:
-        table = "it looks like a table: add it with --csv --name COLUMN --ranks COLUMN,COLUMN,.."
+        table = "it looks like a table: write each line as a name and its ranks in the order of the options"
         for data, said in (
             ('\ufeff"Name";who;mail\r\nada;Ada;ada@club.example\r\n', "it looks like the list of members: name "),
             *((f"When{sign}Your name{sign}a\nMonday{sign}ada{sign}1\n", table) for sign in ",;\t"),
@@ -253,9 +263,6 @@ class NoBallots(CalledTest):
             ("ada 1,2\nben 2,1\n", "its first line is `ada 1,2`, bad rank count: 2 ranks, the poll has 4 options)"),
         ):
             self.assert_stops_without_force(data, said)
-        columns = ("--csv", "--name=n", "--ranks=e,a,b,c")
-        data = "n,a,b,c,d,e\nada,1,2,3,4,x\nben,1,2,3,4,x\n"
-        self.assert_stops_without_force(data, "check that --name and --ranks name the right ", words=columns)
 
     def test_all_that_stands_against_it_is_said_at_once(self) -> None:
         self.write("good", "ada 1,2,4,3\n")
@@ -296,7 +303,6 @@ class OtherOrder(CalledTest):
 
     def test_a_line_that_names_options_in_another_order(self) -> None:
         for head in (
-            "Name,In the town hall,At the lake,Further discussion,Sell the house and meet there\n",
             "name in the TOWN hall, at the lake\n",
             "\ufeff# further discussion;sell the house and meet there\r\n",
             "\tFurther discussion\tAt  the lake\n",
@@ -312,7 +318,6 @@ class OtherOrder(CalledTest):
         # in the order of the poll
         self.told("undo")
         for head in (
-            "Name,At the lake,In the town hall,Sell the house and meet there,Further discussion\n",
             "name At the lake, Further discussion\n",
             "In the town hall, and once more In the town hall\n",
             # parts of other words
@@ -322,34 +327,60 @@ class OtherOrder(CalledTest):
             with self.subTest(head=head):
                 self.assertIn("These would be 4 lines (1 bad shape, 3 counted)", self.told("add", "--look", given=head + self.ROWS))
 
-    def test_lines_of_a_table_and_semicolons_between_ranks(self) -> None:
-        """Few are ballots if it has a comma, a space, two signs, or words."""
+    def test_what_looks_like_a_table(self) -> None:
+        """By the head, whatever it says, or by the rows; nothing of it is repaired."""
         said = "wrong: the lines look like a table; its columns may stand in another order than the options; nothing was added: "
-        tables = ["".join(f"{name}{sign}1{sign}2{sign}-{sign}3\n" for name in ("ada", "Ben", "nobody")) for sign in (";", "\t", "|", "; ", "\u00b7", ":")]
-        for rows in (*tables, '\ufeff"ada";"1";"";"3";"2"\r\n\r\n'):
+        cure = "write each line as a name and its ranks in the order of the options, or add it anyway with --force"
+        heads = "Name None,Sell,Repair,Dinghy", "Name;At the lake;In the town hall;Sell the house and meet there;Further discussion", "WHO\tA\tB\tC\tD", "a b c d e", "When;Who;A;B;C"
+        for rows in (*(f"{head}\n{self.ROWS}" for head in heads), "ada,1,2,3,4\nben,1,2,3,4\n", "ada 1 2 3 4\nben 1 2 3 4\n", "ada;1;2\nben\t1\t2\n"):
             self.write("wrong", rows)
-            self.assert_refused(("add", "wrong"), 9, said, "--csv --name COLUMN --ranks COLUMN,COLUMN,.., or add it anyway with --force")
-        self.told("add", "--force", "wrong")
-        self.told("undo")
-        for rows in ("ada,1,2,3,4\nben,1,2,3,4\n", "ada 1 2 3 4\nben 1 2 3 4\n", "ada;1;2;3;4\nben|1|2|3|4\n", "ada;1;2;3;4\nben;1;2;3;x\n"):
+            for asked in ((), ("--look",)):
+                self.assert_refused(("add", *asked, "wrong"), 9, said, cure)
+        self.write("wrong", "Name;Lake;Hall;Sell;Further\nada 1;2;3;4\nben 2,1,3,4\n")
+        self.assertIn("Added 3 lines (2 bad shape, 1 counted).\n", self.told("add", "--force", "wrong"))
+        self.assertEqual(self.lines(), ["Name;Lake;Hall;Sell;Further", "ada 1;2;3;4", "ben 2,1,3,4"])
+
+    def test_lines_of_a_table_and_semicolons_between_ranks(self) -> None:
+        """Few are ballots if it has other signs, or words; both signs between ranks may be decimals."""
+        for rows in ("ada|1|2|3|4\nben|1|2|3|4\n", "ada;1;2;3;4\nben;1;2;3;x\n", "ada 1\nben 2\n"):
             self.write("wrong", rows)
             self.assert_refused(("add", "wrong"), 9, "wrong: debvote takes none of the 2 lines as ballots")
         self.told("add", given="ada 1;2;4;3\nben 1; 2 ;4; 3\ncleo 1, 2, 4, 3\ndan 1;2,4;3\n")
         self.assertEqual(self.lines(), ["ada 1,2,4,3", "ben 1,2,4,3", "cleo 1,2,4,3", "dan 1;2,4;3"])
 
-    def test_a_table_in_another_order(self) -> None:
-        """By the times of its rows, or by the names of its columns. No --force passes over this."""
-        head, rows = "At the lake,In the town hall,Sell,Further discussion", "2026-11-23 10:00,ada,1,2,4,3\n2026-11-22 10:00,ada,2,1,4,3\n"
-        self.write("form", f"When,n,{head}\n{rows}")
-        right = ("--csv", "--name=n", f"--ranks={head}", "--newest-first")
-        other = ("--csv", "--name=n", "--ranks=In the town hall,At the lake,Sell,Further discussion", "--newest-first")
-        times = "form: the times of the column `When` are ", ", against --oldest-first; nothing was "
-        columns = ("--ranks: `In the town hall` stands in the place of option 1 At the lake",)
-        for words in ((), ("--force",), ("--look",)):
-            self.assert_refused(("add", *right[:3], "--oldest-first", *words, "form"), 2, *times)
-            self.assert_refused(("add", *other, *words, "form"), 2, *columns)
-        self.told("add", *right, "form")
-        self.assertEqual(self.lines(), ["ada 2,1,4,3", "ada 1,2,4,3"])
+
+class RealNames(CalledTest):
+    """A name counts as the one on the roll if it is that of one elector alone, on the roll or really."""
+
+    members = "who,name,mail\n" + "".join(
+        f"{who},{name},{name}@club.example\n"
+        for who, name in (("Ada Lovelace", "ada"), ("Ben Müller", "ben-1"), ("Ben Muller", "ben-2"), ("Cleo", "cleo-blum"), ("Cleo Blum", "dan"))
+    )
+
+    def test_that_of_one_elector(self) -> None:
+        self.write("more", f"Ada Lovelace {RANKS}\nLovelace {RANKS}\n")
+        said = f"more:1: `Ada Lovelace {RANKS}` was changed to `ada {RANKS}` (spaces, real name, capital letters)\n1 counted  ada: {LAKE}\n"
+        self.assertIn(said, self.told("add", "more"))
+        self.told("desk", given=f"ada lovelace: 1; 2; 4; 3.\nADA-LOVELACE 2,1,4,3\nCleo {RANKS}\n")
+        self.assertEqual(self.lines(), [f"ada {RANKS}", f"Lovelace {RANKS}", f"ada {RANKS}", "ada 2,1,4,3", f"cleo-blum {RANKS}"])
+        # the line as it came is refused for its name, and what it means for another reason
+        said = "6 bad shape  Ada Lovelace 1,2: column 1: ", "written as `ada 1,2` it is refused too: bad rank count: 2 ranks, the poll has 4 options\n"
+        output = self.told("desk", given="Ada Lovelace 1,2\n")
+        self.assertEqual([part for part in said if part not in output], [], output)
+        self.assertTrue(self.told("show", "ada lovelace").startswith("ada: Ada Lovelace "))
+
+    def test_that_of_several(self) -> None:
+        """Nothing goes in until somebody says who is meant; by force the line goes in, and is refused."""
+        for name, meant in (("Ben Müller", "ben-1 and ben-2"), ("cleo blum", "cleo-blum and dan")):
+            with self.subTest(name):
+                self.write("more", f"ada {RANKS}\n{name} {RANKS}\n")
+                said = f"more:2: it has the name of {meant}; nothing was added: write the name on the roll of the one who is meant, or add it"
+                for look in ((), ("--look",)):
+                    self.assert_refused(("add", *look, "more"), 9, said)
+                self.assertIn(f"desk:1: it has the name of {meant}; it was not entered.\n", self.told("desk", given=f"{name} {RANKS}\n"))
+                self.assert_fault(self.election("show", name), 9, f"name one of {meant.replace(' and', ',')}")
+        self.assertEqual(self.lines(), [])
+        self.assertIn("Added 2 lines (1 counted, 1 bad shape).\n", self.told("add", "--force", "more"))
 
 
 class OtherNames(CalledTest):
@@ -363,38 +394,6 @@ class OtherNames(CalledTest):
         ended = self.election("add", given="further discussion b\nada 2,1,4,3\ncleo 1,2,4,3\n")
         self.assertIn("standard input: line 1 names options of the poll in another order", ended.faults)
         self.assertRegex(self.told("add", given="anna-maier 1,2,3,4\n"), r"did you mean anna-meier\b.*anna-meier-2")
-
-
-class Tables(CalledTest):
-    WORDS = ("--csv", "--name=n", "--ranks=a,b,c,d")
-
-    def setUp(self) -> None:
-        super().setUp()
-        self.write("form", "n,a,b,c,d\nada,1,2,4,3\nben,1,2,4,3\nada,2,1,4,3\n")
-
-    def test_two_rows_of_one_elector_that_differ(self) -> None:
-        said = "form: it has two different ballots of ada (row 2 and row 4), and the one that is entered last counts; nothing was added: "
-        for words in ([], ["--force"]):
-            self.assert_refused(("add", *self.WORDS, *words, "form"), 9, said, "--oldest-first or --newest-first")
-        self.assertIn(f"3 replaced  ada: {HALL}\n", self.told("add", *self.WORDS, "--oldest-first", "form"))
-        self.told("undo")
-        self.assertIn(f"6 replaced  ada: {LAKE}\n", self.told("add", *self.WORDS, "--newest-first", "form"))
-        self.assertEqual(self.lines(), ["ada 2,1,4,3", "ben 1,2,4,3", "ada 1,2,4,3"])
-        self.assertEqual([envelope.place for envelope in self.envelopes()[3:]], [": row 4", ": row 3", ": row 2"])
-        # equal rows and refused ones have no order
-        self.write("form", "n,a,b,c,d\ncleo,1,2,4,3\ncleo,1,2,4,3\ncleo,1,2,x,3\n")
-        self.assertIn("Added 3 lines (1 counted, 1 replaced, 1 bad shape).\n", self.told("add", *self.WORDS, "form"))
-
-    def test_an_empty_cell_is_a_hyphen_if_the_call_says_so_and_heads(self) -> None:
-        self.write("form", "n,a,b,c,d\nada,1,,,2\nben,1,2,3,4\n")
-        said = "--blank-is-unranked: the call does not say that an empty cell counts as a hyphen, so electors may have meant something else; nothing was "
-        self.assert_refused(("add", *self.WORDS, "--blank-is-unranked", "form"), 9, said, "--force")
-        self.act("extend", {"form": True})
-        self.assertIn("(empty cells)\n1 counted  ada: ", self.told("add", *self.WORDS, "--blank-is-unranked", "form"))
-        self.assertEqual(self.lines(), ["ada 1,-,-,2", "ben 1,2,3,4"])
-        # heads that the shell has cut
-        words = ("add", "--csv", "--name", "n", "--ranks", "The", "lake,b,c,d", "form")
-        self.assert_refused(words, 2, "--csv: there is no file lake,b,c,d; nothing was added: ")
 
 
 class Failing(CalledTest):
@@ -431,12 +430,11 @@ class Failing(CalledTest):
         ended = self.run_program("/usr/bin/python3", copy / "debvote-election", "add", given=f"ada {RANKS}\n", env=env)
         self.assertEqual((ended.status, len(self.lines())), (127, 2), ended)
 
-    def test_replies_that_debvote_does_not_give(self) -> None:
-        for number, (how, status) in enumerate({"exit 0": 10, "echo 'debvote: no memory' >&2; exit 7": 7}.items(), start=1):
-            self.write("debvote", f'#!/bin/sh\nif [ "$1" = steps ]; then {how}; fi\nexec {elections.PROGRAM} "$@"\n').chmod(0o755)
-            env = elections.environment() | {"PATH": f"{self.folder}:{os.environ['PATH']}", "XDG_STATE_HOME": str(self.state)}
-            ended = self.election("add", given=f"ada {number},2,3,4\n", env=env)
-            if "counted" in ended.output:
-                self.skipTest("debvote lies beside the program, and that one is asked first")
-            self.assert_fault(ended, status, f"the lines were entered nevertheless (envelope {number})")
-            self.assertEqual(len(self.lines()), number)
+    def test_replies_are_those_of_debvote(self) -> None:
+        """The book says what became of lines as the box does, to which all of them are cast in turn."""
+        files = ["ada 1,2,3,4\nben 1,2\nada 2,1,3,4\n", "ben 1,2,3,4\nnobody 1,2,3,4\nada 9\nada 1,2,4,3\n", "ben 2,1,3,4\n, ,\ncleo 1,2,3,4\n"]
+        told = [found for text in files for found in re.findall(r"(?m)^\d+ (\w+(?: \w+)*)  ", self.election("add", "--force", given=text).output)]
+        self.write("all", "".join(files))
+        steps = self.debvote("steps", "--poll", "call/poll.toml", "--ballots", "all").output
+        self.assertEqual(told, [line.partition(" ")[2] for line in steps.splitlines()])
+        self.assertEqual(set(told), {"counted", "replaced", "bad rank count", "bad not on roll", "bad shape"})

@@ -147,7 +147,6 @@ class Look(CalledTest):
         self.assert_look_says_it(given=MONDAY)
         self.assert_look_says_it(given=f"ada {OTHER_RANKS}\n{MONDAY}cleo {RANKS}\nGsu 1,2\n")
         self.told("strike", 1, "--because", "a test")
-        self.assert_look_says_it("--again", given=MONDAY)
         self.assertIn("  it goes in as it came; written as `gsu 1,2,3,4` it is refused too: ", self.told("add", "--look", given="Gsu 1,2,3,4\n"))
         # what stops, and after the close
         self.write("wrong", f"Dear all,\nwe meet on Monday\nhal {RANKS}\n")

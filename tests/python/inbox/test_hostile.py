@@ -67,13 +67,15 @@ class Bombs(unittest.TestCase):
             "a line of names": letter("ada", "ada " * 60_000 + "1,2"),
             "80,000 lines that may be ballots": letter("ada", "a 1\n" * 80_000),
             "60,000 lines of another part": letter("ada", f"--b\n\n{BALLOT}\n--b\n\n" + "".join(f"{number}\n" for number in range(60_000)) + "--b--\n", kind=MIXED),
+            "names of ligatures": letter("ada", "\n".join("\ufdfa" * 240 + " 1,2,4,3" for _ in range(199))),
+            "short names of ligatures": letter("ada", "\n".join("\ufdfa " * 50 + " 1,2,4,3" for _ in range(199))),
             "lines of ranks": letter("ada", ("1," * 240 + "\n") * 500),
         }  # fmt: skip
         for what, data in bombs.items():
             began = time.process_time()
             self.assertTrue(outcomes(data)[0].startswith("waits: ") or "head" in what or "field" in what, what)
-            # no second is promised, but a time that grows with the square of the length would be minutes
-            self.assertLess(time.process_time() - began, 20, what)
+            # no second is promised of long ones, but a time that grows with the square of the length would be minutes
+            self.assertLess(time.process_time() - began, 20 if len(data) > 300_000 else 0.5, what)
         self.assertEqual(lines_in(*list(bombs.values())[-3:], letter("ben", f"ben {RANKS}")), [f"ben {RANKS}"])
         # many lines in the head are no trouble
         self.assertEqual(outcomes(letter("ada", BALLOT, head="X: y\n" * 40_000)), [f"in: {BALLOT}"])

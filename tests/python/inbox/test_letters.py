@@ -7,7 +7,7 @@ from unittest import mock
 from debvote_tools.book import queries
 from debvote_tools.book.election import POLL_WITH_NAMES
 from debvote_tools.commands import held
-from debvote_tools.inbox import signature
+from debvote_tools.inbox import entering, signature
 from debvote_tools.outbox import letter_folder
 
 from tests.support import elections, letters, pgp
@@ -58,6 +58,9 @@ class Adding(LettersTest):
         later = letter("cleo", f"cleo {OTHER}", "Mon, 23 Nov 2026 12:00:00 +0000", number=2)
         said = self.add(ada, ben, later, letter("cleo", f"cleo {RANKS}"), letter("dan", f"dan {RANKS}", sender="s@x.example"))
         self.assertIn("4 new letters; 1 came before.", said)
+        self.assertIn("\nNext: debvote-election held, which lists the letters that wait; debvote-election undo takes back ", said)
+        cure = "if you know which ballot is meant, type it with --as LINE"
+        self.assert_refused(("held", 2, "--enter", 1), 9, f"line 1 of letter 2 is not a ballot of this poll; nothing was changed: {cure}\n")
         head = "letter  arrived                  from                    subject\n"
         row = "     2  2026-11-23 10:00:00 UTC  Ben <ben@club.example>  für den See\n        no ballot found\n"
         self.assertIn(f"{head}{row}        other words: I vote for the lake.\n", without_marks(said))
@@ -65,6 +68,17 @@ class Adding(LettersTest):
         self.assertEqual(self.exported()[0], f"ada {RANKS}\ncleo {RANKS}\ncleo {OTHER}\n")
         self.assertEqual(self.numbers()["waiting"], 2)
         self.assertIn("2 letters wait", self.told("status"))
+
+    def test_what_may_be_text_of_another_letter_is_kept_once(self) -> None:
+        """Alone it is a letter of its own."""
+        inner = self.of_this_vote(letter("ben", f"ben {RANKS}"))
+        outer = mailbox(letter("ada", "hello").rstrip(b"\n") + b"\n" + mailbox(inner).rstrip(b"\n"))
+        for told in ("2 new letters; 0 came before.", "0 new letters; 2 came before."):
+            self.write("outer.mbox", outer)
+            self.assertIn(told, self.told("add", "--yes", "outer.mbox"))
+            self.assertEqual(self.exported()[0], "")
+        self.assertIn("1 new letter; 0 came before.", self.told("add", "--yes", self.box(inner)))
+        self.assertEqual(self.exported()[0], f"ben {RANKS}\n")
 
     def test_a_mailbox_longer_than_any_file_of_lines(self) -> None:
         """Else what is beyond that length would be in no list, and nobody would be told."""
@@ -99,8 +113,7 @@ class Adding(LettersTest):
         self.assertIn("a later ballot of ada, of ", desk.after("y\n", "Enter 1 ballot?"))
         # it was agreed that the ballot counts; late it would not
         self.told("close", "--force", "--because", "nobody answers")
-        self.assertIn("what is added now is late.\nben (letter 2): At the lake", desk.after("y\n", "Enter 1 ballot?"))
-        desk.type("n\n")
+        self.assertIn("the vote is closed: to enter it, reopen", desk.after("y\n", "2 letters wait"))
         desk.end()
         self.assertEqual(self.exported(), (f"ada {OTHER}\n", ""))
 
@@ -125,25 +138,44 @@ class Adding(LettersTest):
         self.told("held", 5, "--enter", 1, "--force")
         self.assertEqual((self.stands("eve"), self.late_lines()), (RANKS, [f"eve {OTHER}"]))
 
-    def test_letters_in_time_that_were_added_after_the_close(self) -> None:
-        """One whose ballot is entered at a desk, too, and one that is entered again as in time: neither is a doubt of the result."""
-        self.told("desk", given=f"cleo {RANKS}\n")
+    def test_an_older_letter_after_the_later_ballot_is_struck_or_taken_back(self) -> None:
+        """Each letter that is judged otherwise then is named, and goes in with the next add."""
+        named = "letter {}, from {} <{}@club.example>, 2026-11-23 10:00:00 UTC: it goes in with the next add of letters\n"
+        self.told("desk", given=f"ada {OTHER}\nben {OTHER}\n")
+        self.add(letter("ada", f"ada {RANKS}"), letter("ben", f"ben {RANKS}"), letter("cleo", "hello"))
+        ada, ben = named.format(1, "Ada", "ada"), named.format(2, "Ben", "ben")
+        said = self.told("strike", 1, "--because", "somebody else wrote it")
+        self.assertEqual((said.count("\nletter "), f"\n{ada}" in said), (1, True), said)
+        said = self.told("undo", "--yes")
+        self.assertEqual((said.count("\nletter "), f"\n{ben}" in said), (1, True), said)
+        self.assertIn("2 ballots of letters went in; 1 letter waits", self.add(letter("ada", f"ada {RANKS}")))
+        # the letters of the act itself are told as taken back
+        said = self.told("undo", "--yes")
+        self.assertIn("2 letters then wait again, as taken back: 1, 2\n", said)
+        self.assertNotIn("\nletter ", said)
+
+    def test_plain_ballots_in_time_that_were_added_after_the_close(self) -> None:
+        """None goes in, as the first envelope of the book or a later one: a ballot that becomes late is one that nobody misses."""
+        ada, ben = letter("ada", f"ada {RANKS}"), letter("ben", f"ben {OTHER}")
         self.told("close")
-        self.assertRegex(self.add(letter("ada", f"ada {RANKS}"), letter("ben", f"ben {RANKS}")), r"\nNext: debvote-election status\n$")
-        late = f"ada {RANKS}\nben {RANKS}\n"
-        self.assertEqual(self.exported(), (f"cleo {RANKS}\n", late))
-        how = "run debvote-election reopen --in-time 2 --because TEXT"
-        self.assert_fault(self.election("publish"), 9, "the ballot of letter 1 is late", f"to count it {how}")
-        self.assert_fault(self.election("held", 1, "--enter", 1), 9, "it was entered, and is late", f"if it came in time, {how}")
-        said = self.told("reopen", "--because", "a letter was forgotten")
-        self.assertIn("Note: still late: 2, 3; if one of them came before the first close, close again and run", said)
-        self.assert_fault(self.election("held", 1, "--enter", 1), 9, f"if it came in time, close again and {how}")
-        self.told("desk", "--came-before-close", "yes", given=f"ada {RANKS}\n")
-        self.told("close")
-        self.assertIn("Envelope 5, entered anew from late envelope 3", self.told("reopen", "--in-time", "3", "--because", "it came in time"))
-        self.assertEqual(self.exported(), (f"cleo {RANKS}\n{late}", late))
+        said = self.add(ada)
+        self.assertIn("the vote is closed: to enter it, reopen\n        line 1: ada", said)
+        self.assertIn("0 ballots of letters went in; 1 letter waits.", said)
+        for words in (("count",), ("publish",)):
+            self.assert_refused(words, 9, "these letters arrived in time, and wait: 1;", "reopen --because TEXT")
+        self.told("reopen", "--because", "a letter was forgotten")
+        self.assertIn("1 counted  ada: ", self.add(ada))
         self.told("close")
         self.told("publish")
+        # after the publication, too
+        result = ("letters", "result", "--at", "https://club.example/vote")
+        self.told(*result)
+        self.add(ben)
+        for words in (("count",), ("publish",), (*result[:-1], "https://club.example/other")):
+            self.assert_refused(words, 9, "these letters arrived in time, and wait: 2;", "reopen --because TEXT")
+        self.told("held", 2, "--set-aside")
+        self.told(*result)
+        self.assertEqual(self.exported(), (f"ada {RANKS}\n", ""))
 
     def test_nothing_of_files_with_a_fault_is_entered_or_kept(self) -> None:
         self.write("lines", f"ben {RANKS}\n")
@@ -164,10 +196,9 @@ class Adding(LettersTest):
         self.assertIn("Nothing was changed", self.told("add", "--look", "inbox.mbox"))
         self.assertEqual(self.contents(), before)
         # each letter has an arrival of its own, so none is asked about when letters are added
-        table = ("--csv", "--name", "who", "--ranks", "a,b,c,d")
-        said = "only for lines and tables, and these are letters; nothing was added: leave this out"
+        said = "only for lines, and these are letters; nothing was added: leave this out"
         answers = [("--came-before-close", answer) for answer in ("yes", "no")]
-        for words in (table, ("--again",), ("--force",), *answers):
+        for words in (("--force",), *answers):
             for more in ("--yes", "--look"):
                 with self.subTest(words, more=more):
                     self.assert_fault(self.election("add", *words, more, "inbox.mbox"), 2, f"{words[0]}: {said}")
@@ -224,7 +255,7 @@ class Adding(LettersTest):
         self.assertIn("\n5 counted  ada: At the lake", said)
         self.assertIn("\n2 letters wait.\n", said)
         self.assertEqual(self.exported()[0], f"ben {OTHER}\nada {RANKS}\ncleo {RANKS}\n")
-        self.assert_fault(self.election("held", "--enter"), 9, "--enter: no letter was taken back that has one ballot")
+        self.assert_fault(self.election("held", "--enter"), 9, "letter 2: its elector has voted since")
         self.told("strike", "5", "--because", "she asked for it")
         listed = self.told("held")
         self.assertIn("2 letters wait", listed)
@@ -243,30 +274,47 @@ class ReadOnce(LettersTest):
         (place / "debvote").chmod(0o755)
         log.write_text("")
         path = {"PATH": f"{place}:{elections.environment()['PATH']}", "XDG_STATE_HOME": str(self.state)}
-        told = self.told(*words, env=elections.environment() | self.clock | path, given=given)
+        told = self.done(*words, env=elections.environment() | self.clock | path, given=given).output
         asked = [line.split(" ", 1) for line in log.read_text().splitlines()]
         self.assertLessEqual({said for _, said in asked}, {"free"}, words)
         return told, [task for task, _ in asked]
 
-    def test_of_lines_three_times_at_most(self) -> None:
+    def test_of_lines_twice_or_three_times(self) -> None:
+        """Three times where a line is no ballot as it came: then it is asked whether all look like a table."""
         lines = f"Ada {RANKS}\nGsu {RANKS}\nben {RANKS}\n"
-        for words, given, asked in (
-            (("add", "--look"), lines, ["explain", "explain", "steps"]),
-            (("add",), lines, ["explain", "explain", "steps"]),
-            (("add",), f"cleo {RANKS}\n", ["explain", "steps"]),
-            (("desk",), f"ada {OTHER}\n", ["explain", "steps"]),
-            (("show", "ada"), None, ["explain"]),
-            (("strike", 1, "--because", "a test"), None, ["standing"]),
-            (("undo",), None, ["standing"]),
+        for words, given, at_most in (
+            (("add", "--look"), lines, 3),
+            (("add",), lines, 3),
+            (("add",), f"cleo {RANKS}\n", 2),
+            (("desk",), f"ada {OTHER}\n", 2),
+            (("show", "ada"), None, 0),
+            (("status",), None, 0),
+            (("strike", 1, "--because", "a test"), None, 0),
+            (("undo",), None, 0),
         ):
-            self.assertEqual(self.with_counter(*words, given=given)[1], asked, words)
-        # lines and bytes as debvote counts them, without what is struck or taken back
-        self.assertEqual(queries.size_in_time(self.book), (3, len(f"Gsu {RANKS}\nben {RANKS}\ncleo {RANKS}\n")))
+            self.assertLessEqual(len(self.with_counter(*words, given=given)[1]), at_most, words)
+        # lines and bytes as debvote counts them, without what is struck or taken back; it takes exactly so many
+        size = len(f"Gsu {RANKS}\nben {RANKS}\ncleo {RANKS}\n")
+        self.assertEqual(queries.size_to_count(self.book), (3, size))
+        self.write("one", f"dan {RANKS}\n")
+        for limit, count in ((size + 11, 3), (size + 12, 4)):
+            with mock.patch.object(entering, "BALLOTS_LIMIT", limit):
+                self.in_this_process("add", "one")
+            self.assertEqual(queries.size_to_count(self.book)[0], count)
+        for words, at_most in (
+            (("letters", "receipts"), 0),
+            (("letters", "reminders"), 0),
+            (("close",), 1),
+            (("count",), 1),
+            (("publish",), 8),
+            (("letters", "result", "--at", "https://club.example/"), 0),
+        ):
+            self.assertLessEqual(len(self.with_counter(*words)[1]), at_most, words)
 
     def test_judging_again_asks_debvote_nothing(self) -> None:
         letters = [letter("ada", f"adaa {RANKS}"), letter("ben", f"I vote ben {RANKS} today"), letter("cleo", f"cleo {RANKS}")]
         self.write("inbox.mbox", mailbox(*letters, letter("dan", "1,2,4,3")))
-        self.assertEqual(self.with_counter("add", "--yes", "inbox.mbox")[1], ["explain", "steps"])
+        self.assertEqual(self.with_counter("add", "--yes", "inbox.mbox")[1], ["explain"])
         self.assertEqual(self.with_counter("add", "--yes", "inbox.mbox")[1], [])
         shown, runs = self.with_counter("held")
         self.assertEqual(runs, [])
@@ -278,7 +326,7 @@ class ReadOnce(LettersTest):
         self.add(letter("eve", "hello"))
         shown, runs = self.with_counter("held")
         self.assertIn("no ballot found; has voted since", shown)
-        self.assertEqual(runs, ["explain"])
+        self.assertEqual(runs, [])
 
     def test_no_letter_slows_down_later_commands(self) -> None:
         """Whatever is in it: of each letter some hundred lines are kept, and no command asks debvote about them again."""
@@ -288,7 +336,7 @@ class ReadOnce(LettersTest):
         self.add(*(letter("ada", text, sender="x@y.example", number=number) for number, text in enumerate((lines, *others))))
         self.assertEqual(self.told("held").count("lines that may be ballots; at most 200 are read"), 1)
         # of the ballots of the book, which are none, some ask
-        for words, runs in ((("held",), 0), (("status",), 1), (("show", "ada"), 0), (("letters", "receipts"), 0)):
+        for words, runs in ((("held",), 0), (("status",), 0), (("show", "ada"), 0), (("letters", "receipts"), 0)):
             self.assertEqual(len(self.with_counter(*words)[1]), runs, words)
 
 
@@ -336,6 +384,18 @@ class Held(LettersTest):
         lines = "   1  I am for the lake.\n   2  \n      .. 7 lines of a letter of ours, which it quotes\n  10  \n  11  And Dan wrote:\n  12  > I am not\n"
         self.assertIn(lines, shown)
         self.assertRegex(without_marks(shown), r"\Aletter 7, from Fay <fay@club\.example>, 2026-11-23 10:00:00 UTC\n  subject: my ballot\n")
+        # files that came with it are named, also photos that programs show within the text; a text that is shown is none
+        files = (
+            'Content-Type: image/jpeg; name="IMG_1.jpeg"\nContent-Disposition: inline; filename="IMG_1.jpeg"',
+            "Content-Type: application/pdf\nContent-Disposition: attachment;\n filename*=utf-8''Stimmzettel%20Ada.pdf",
+            "Content-Type: application/pdf; name==?utf-8?q?Gr=C3=BC=C3=9Fe.pdf?=",
+            "Content-Type: application/octet-stream",
+        )
+        parts = "".join(f"--b\n{head}\n\nx\n" for head in ("Content-Type: text/plain", *files))
+        self.add(letters.letter("hal", f"{parts}--b--\n", kind="multipart/mixed; boundary=b"))
+        named = "attachments: IMG_1.jpeg, Stimmzettel Ada.pdf, Grüße.pdf, application/octet-stream\n"
+        self.assertIn(f"        {named}", self.told("held"))
+        self.assertIn(named, self.told("held", 8))
 
     def test_set_aside_voted_since_and_at_the_close(self) -> None:
         self.assertIn("No letter waits.", self.told("held", "1", "2", "--set-aside"))
@@ -348,8 +408,13 @@ class Held(LettersTest):
         self.assertIn("has voted since", self.told("held"))
         self.assert_fault(self.election("held", "1", "--enter", "5"), 9, "has voted since", "--force")
         self.told("close", "--force", "--because", "neither is a ballot")
+        # a right ballot must not become late because nobody reopened the vote
+        for words in (("--enter", "5"), ("--as", f"ada {RANKS}"), ("--enter",)):
+            said = "letter 1: it arrived in time, and the vote is closed; nothing was changed: if it has a ballot, run debvote-election reopen"
+            self.assert_refused(("held", "1", *words, "--force"), 9, said)
+        self.told("reopen", "--because", "a letter was forgotten")
         self.told("held", "1", "--enter", "5", "--force")
-        self.assertEqual(self.exported(), (f"ada {OTHER}\n", f"ada {RANKS}\n"))
+        self.assertEqual(self.exported(), (f"ada {OTHER}\nada {RANKS}\n", ""))
 
     def test_several_with_one_ballot_each(self) -> None:
         """They go in in the order of their times, those of one elector too."""
@@ -360,7 +425,8 @@ class Held(LettersTest):
         self.assertEqual((ended.status, [part for part in said if part not in ended.faults]), (9, []), ended)
         self.assertEqual(self.exported()[0], "")
         said = self.told("held", 3, 4, 1, 5, "--enter")
-        self.assertIn(f"letter 5, from Cleo <cleo@club.example>, 2026-11-23 08:00:00 UTC: cleo: {LAKE}\n", said)
+        why = "  line 1 is not a greeting, and is above the ballot or next to it\n"
+        self.assertIn(f"letter 5, from Cleo <cleo@club.example>, 2026-11-23 08:00:00 UTC: cleo: {LAKE}\n{why}", said)
         self.assertIn("\n3 counted  dan: In the town hall", said)
         self.assertIn("\n3 letters wait.\n", said)
         self.assertEqual(self.exported()[0], f"cleo {RANKS}\ncleo {OTHER}\ndan {OTHER}\nada {RANKS}\n")
@@ -374,9 +440,12 @@ class Held(LettersTest):
         self.assert_fault(self.election("held", 3, "--enter"), 9, same, "--force")
         self.assert_fault(self.election("held", 3, "--as", "cleo 1,1,1,1"), 9, same)
         self.assertEqual(self.exported()[0], f"cleo {OTHER}\n")
-        # one that arrived before the call does not stop a close
+        # one that arrived before the call does not stop a close, unless it has the mark of the poll: then a clock was wrong
         self.told("held", 1, 2, 3, "--set-aside")
-        self.add(letter("ada", f"ada {RANKS}", "Mon, 9 Nov 2026 10:00:00 +0000", number=2))
+        before = letter("ada", f"ada {RANKS}", "Mon, 9 Nov 2026 10:00:00 +0000", number=2)
+        self.add(before, before.replace(f" [{elections.ANY_MARK}]".encode(), b""))
+        self.assert_refused(("close",), 9, "these letters arrived in time, and wait: 5;")
+        self.told("held", 5, "--set-aside")
         self.assertIn("1 letter that arrived before the call did not go in.", self.told("close"))
 
     def test_what_the_secretary_types(self) -> None:
@@ -389,6 +458,8 @@ class Held(LettersTest):
         self.assertEqual(self.acts()[-1][1], {"letter": 2, "lines": []})
         self.assertIn("It was entered.", self.told("held", 2))
         self.assertNotIn("held --enter", self.told("undo", "--yes"))
+        # its own line may say something else
+        self.assert_refused(("held", "--enter"), 9, "letter 2: its ballot was typed, and taken back", "held 2 --as LINE")
         # what can't be the ballot of a letter
         for line, *parts in (
             ("ben 1,2", "--as: `ben 1,2` is no ballot of this poll: bad rank count: 2 ranks, the poll has 4 options", "A valid line in this poll"),
@@ -401,14 +472,18 @@ class Held(LettersTest):
                 self.assert_refused(("held", 2, "--as", line), 9, *parts)
         # a letter of somebody whom no list names may be anybody's
         self.add(letter("eve", "I am for the lake", sender="e@elsewhere.example"))
-        self.told("held", 3, "--as", f"eve {RANKS}")
+        said = "--as: neither its sender nor a line of letter 3 is of eve"
+        self.assert_refused(("held", 3, "--as", f"eve {RANKS}"), 9, said, "--force")
+        self.told("held", 3, "--as", f"eve {RANKS}", "--force")
         # one may vote for another, as by a paper that came with the letter
         self.told("held", 2, "--as", f"ada {RANKS}", "--force")
         self.assertEqual(self.exported()[0], f"eve {RANKS}\nada {RANKS}\n")
         # for one who has voted since; a line that was refused is no ballot
         self.add(letter("fay", "I am for the lake", sender="f@elsewhere.example"), letter("gus", "hello"))
         self.told("desk", given=f"fay {OTHER}\ngus 1,2\n")
-        self.assert_fault(self.election("held", 4, "--as", f"fay {RANKS}"), 9, "letter 4: its elector has voted since", "--force")
+        said = "--as: neither its sender nor a line of letter 4 is of fay", "letter 4: its elector has voted since"
+        ended = self.election("held", 4, "--as", f"fay {RANKS}")
+        self.assertEqual((ended.status, [part for part in said if part not in ended.faults]), (9, []), ended)
         self.told("held", 4, "--as", f"fay {RANKS}", "--force")
         self.told("held", 5, "--as", f"gus {RANKS}")
         self.assertEqual(self.lines()[2:], [f"fay {OTHER}", "gus 1,2", f"fay {RANKS}", f"gus {RANKS}"])
@@ -424,7 +499,7 @@ class Held(LettersTest):
         desk.end()
         desk = Terminal(self, "held", "1", "3", "--enter", "--force")
         desk.until("Enter 2 ballots? [y/n] ")
-        self.assertIn("held: you did not say yes; nothing was changed", desk.after("n\n", "when you agree"))
+        self.assertIn(": you did not say yes; nothing was changed", desk.after("n\n", "when you agree"))
         desk.end()
         self.assertEqual(self.exported()[0], f"dan {RANKS}\ncleo {RANKS}\n")
         shown, status = Terminal(self, "held", "1", "--enter", "--yes").end()
@@ -473,7 +548,7 @@ class InTime(LettersTest):
         self.told("held", 3, "--set-aside")
         # what arrived later stops nothing
         for name, arrived in (("ada", "Wed, 25 Nov 2026 09:00:01 +0000"), ("dan", "Mon, 16 Nov 2026 10:00:00 +0000")):
-            self.add(letter(name, "hello", arrived, number=4))
+            self.add(letter(name, "hello", arrived, number=4).replace(f" [{elections.ANY_MARK}]".encode(), b""))
         self.assertEqual((self.numbers()["waiting"], self.numbers()["stopping"]), (2, []))
         self.assert_counted()
 
@@ -505,6 +580,34 @@ class InTime(LettersTest):
         self.assertEqual(self.election("publish", "--force", "--because", "nor does Fay").status, 1)
         self.assertEqual(self.election("publish").status, 1)
 
+    def test_an_older_letter_stops_nothing(self) -> None:
+        """It is told in one line and in its receipt. If the later ballot is struck, it goes in."""
+        self.add(letter("ada", f"ada {RANKS}", "Mon, 23 Nov 2026 12:00:00 +0000"))
+        older = letter("ada", f"ada {OTHER}", number=2)
+        for _ in range(2):
+            said = self.add(older)
+            self.assertIn("\nPassed over, since a later letter of its elector went in: letter 2\n0 ballots of letters went in; 0 letters wait.\n", said)
+        self.assertEqual((self.numbers()["waiting"], self.numbers()["stopping"]), (0, []))
+        self.told("letters", "receipts")
+        [receipt] = [text for file in (self.folder / "letters" / "receipts").rglob("*ada*") if "later ballot of this" in (text := " ".join(file.read_text().split()))]
+        self.assertIn("Your letter of Monday, 23 November 2026, 10:00 (UTC) has arrived. No ballot from it was entered. The reason: a later ballot of this elector is in already.", receipt)
+        self.told("strike", 3, "--because", "she asked for it")
+        self.assert_refused(("close",), 9, "these letters arrived in time, and wait: 2;")
+        self.assertIn("4 counted  ada: In the town hall", self.add(older))
+        self.told("close")
+
+    def test_letters_of_another_vote_stop_nothing(self) -> None:
+        """Two votes have one mailbox: each right letter of one of them would stop the close of the other, and its sender would be told."""
+        of_others = [letter(name, f"{name} {RANKS}").replace(elections.ANY_MARK.encode(), b"77d0" * 4) for name in ("ada", "dan")]
+        said = "Letters of other votes, which are passed over here: 2 with [77d077d077d077d0].\n"
+        for words in (("--look",), ("--yes",)):
+            self.assertIn(said, self.add(*of_others, words=words))
+        self.assertEqual((self.numbers()["waiting"], self.numbers()["stopping"]), (0, []))
+        self.assertIn("Wrote 2 letters", self.told("letters", "receipts"))
+        self.assertEqual({elector.name for elector in queries.electors(self.book) if "receipt" in self.told("show", elector.name)}, {"ben", "cleo"})
+        self.assertIn("letter 1, from Ada <ada@club.example>, 2026-11-23 10:00:00 UTC: it has the mark of another vote", self.told("show", "ada"))
+        self.assertIn(said, self.told("close"))
+
     def test_forced_at_the_close(self) -> None:
         self.add(self.wordy)
         # before the close a count is no result
@@ -520,6 +623,25 @@ class InTime(LettersTest):
         self.assertEqual(self.read("result-2/index.html").decode().count(said), 2)
         self.add(letter("fay", "hello"))
         self.assert_fault(self.election("publish", "result-2"), 9, "these letters arrived in time, and wait: 2;")
+
+
+    def test_one_that_arrived_at_no_known_time(self) -> None:
+        """Nobody knows that it came too late: while the vote is closed it waits, and then it counts."""
+        self.add(letters.letter("dan", f"dan {RANKS}", time=None))
+        self.told("close", "--force", "--because", "nobody answers")
+        self.assert_refused(("held", 1, "--enter", "--force"), 9, "letter 1: it arrived in time, and the vote is closed")
+        # one from before the call, without a mark of this vote, is not in time
+        self.add(letters.letter("eve", f"eve {RANKS}", time="Mon, 6 Jan 2020 10:00:00 +0000", subject="hello"))
+        self.assertIn("\n3 late  eve: ", self.told("held", 2, "--enter", "--force"))
+        self.told("reopen", "--because", "Dan has asked")
+        self.assertIn("\n4 counted  dan: ", self.told("held", 1, "--enter", "--force"))
+
+    def test_one_with_a_time_after_it(self) -> None:
+        """The time of the ballot is only that at which it was entered: the next letter may be the later one, and is not passed over."""
+        self.add(letters.letter("dan", f"dan {RANKS}", time=None))
+        self.told("held", 1, "--enter", "--force")
+        self.assertIn("a later ballot of dan, of", self.add(letters.letter("dan", f"dan {OTHER}", number=2)))
+        self.assertEqual(self.numbers()["stopping"], [2])
 
 
 class AtTheEnd(LettersTest):
@@ -547,6 +669,16 @@ class AtTheEnd(LettersTest):
         said = self.told("close", "--force", "--because", "hello is no ballot")
         self.assertIn("\n1 letter that arrived in time did not go in; the result page says so.\n", said)
         self.assertEqual(self.closed(), (1, 3, "hello is no ballot"))
+        # one that is known to have come too late makes a late line
+        self.assertIn("\n1 late  cleo: ", self.told("held", 4, "--enter"))
+        self.assertEqual(self.exported(), ("", f"cleo {RANKS}\n"))
+        # after a reopening it is still late, and is told as such
+        self.told("reopen", "--because", "the end was too early")
+        said = "letter 4: its ballot of cleo was entered, and is late; nothing was changed: if it came before the first close, have the vote closed"
+        self.assert_refused(("held", 4, "--enter"), 9, said, ", then run debvote-election reopen --in-time 1 --because TEXT")
+        self.told("close", "--force", "--because", "hello is no ballot")
+        self.told("reopen", "--in-time", 1, "--because", "the end was too early")
+        self.assert_refused(("held", 4, "--enter"), 9, "letter 4: its ballot of cleo was entered; nothing was changed: there is nothing to do")
 
 
 class Signed(LettersTest):
@@ -656,7 +788,7 @@ class Secret(OwnMarks):
     def test_the_mark_of_the_poll_with_names_is_that_of_another_vote(self) -> None:
         of_names = hashlib.sha256(queries.sealed(self.book, POLL_WITH_NAMES) or b"").hexdigest()[:16]
         said = self.add(letter("ada", f"ada {RANKS}").replace(elections.ANY_MARK.encode(), of_names.encode()))
-        self.assertIn("it has the mark of another vote", said)
+        self.assertIn(f"\nLetters of other votes, which are passed over here: 1 with [{of_names}].\n", said)
         self.add(self.marked("ada", f"ada {RANKS}", number=2))
         self.assertEqual(self.exported()[0], f"ada {RANKS}\n")
 
@@ -690,3 +822,118 @@ class Family(LettersTest):
         self.assert_left(0, f"ada {RANKS}")
         self.told("strike", 5, "--because", "ada asked for it")
         self.assert_left(0)
+
+
+class Couple(LettersTest):
+    """Two electors who have one address, and say in words how they vote."""
+
+    def setUp(self) -> None:
+        super().setUp()
+        self.change_roll("ben@", "ada@")
+        self.add(letter("ada", "Ben is for the town hall, and I am for the lake."))
+        self.ada, self.ben = f"ada {RANKS}", f"ben {OTHER}"
+
+    def assert_left(self, waiting: int, *lines: str) -> None:
+        self.assertEqual((self.numbers()["waiting"], self.lines()), (waiting, list(lines)))
+
+    def test_both_in_one_command(self) -> None:
+        said = self.told("held", 1, "--as", "Ada 1;2;4;3", "--as", self.ben)
+        self.assertIn(f"1 counted  ada: {LAKE}\n2 counted  ben: In the town hall", said)
+        self.assertNotIn("waits on", said)
+        self.assert_left(0, self.ada, self.ben)
+        self.assertEqual(self.acts()[-1], ("enter", {"letter": 1, "lines": []}))
+        self.told("undo", "--yes")
+        self.assert_left(1)
+        said = "letter 1: 2 of these lines are ballots of ada; nothing was changed: name the one that counts"
+        self.assert_refused(("held", 1, "--as", self.ada, "--as", f"ada {OTHER}"), 9, said)
+
+    def test_one_after_the_other(self) -> None:
+        """It waits, stops the close and is shown of the other, until each has a ballot of it, or it is set aside."""
+        waits = "\nletter 1 waits on, for a ballot of ben\n1 letter waits.\n"
+        self.assertIn(waits, self.told("held", 1, "--as", self.ada))
+        self.assertIn("\n  letter 1, from Ada <ada@club.example>, ", self.told("show", "ben"))
+        self.assert_left(1, self.ada)
+        self.assert_refused(("close",), 9, "these letters arrived in time, and wait: 1;")
+        said = "letter 1: its ballot of ada was entered; nothing was changed: there is nothing to do"
+        self.assert_refused(("held", 1, "--as", f"ada {OTHER}", "--force"), 9, said)
+        self.assertNotIn("waits on", self.told("held", 1, "--as", self.ben))
+        self.assert_left(0, self.ada, self.ben)
+        # what is taken back waits, and that of the other stays
+        self.told("undo", "--yes")
+        self.assert_left(1, self.ada)
+        self.told("held", 1, "--set-aside")
+        self.told("close")
+
+    def test_one_that_went_in_by_itself(self) -> None:
+        """Where three have the address it waits again, for the third."""
+        self.told("held", 1, "--set-aside")
+        self.add(letter("ada", f"{self.ada}\n\nBen is for the town hall.\n", number=2))
+        self.assert_left(0, self.ada)
+        self.assert_refused(("held", 2, "--enter", 1), 9, "letter 2: its ballot of ada was entered")
+        self.assertIn("\n  entered\n", self.told("held", 2, "--as", self.ben))
+        self.assert_left(0, self.ada, self.ben)
+        self.told("undo", "--yes")
+        self.write("members.csv", elections.members_of(self.names).replace("ben@", "ada@").replace("cleo@", "ada@"))
+        self.told("roll", "--yes")
+        self.assertIn("letter 2 waits on, for a ballot of cleo\n", self.told("held", 2, "--as", self.ben))
+        self.assert_left(1, self.ada, self.ben)
+        # also of one that was set aside, which then waits again
+        self.told("held", 2, "--set-aside")
+        self.told("undo", "--yes")
+        self.told("held", 2, "--set-aside")
+        self.assertIn("letter 2 waits on, for a ballot of cleo\n1 letter waits.\n", self.told("held", 2, "--as", self.ben))
+        # a line that is entered needs no ballots of others
+        self.add(letter("ada", f"2 of us:\nada {OTHER}", "Mon, 23 Nov 2026 11:00:00 +0000", number=3))
+        self.told("held", 3, "--enter", 2)
+        self.assert_left(1, self.ada, self.ben, f"ada {OTHER}")
+
+    def test_one_that_waits_for_the_other_does_not_go_in_by_itself(self) -> None:
+        """Its own line was typed. Else the next `add` enters it again, also if it was struck, and nobody waits for the other."""
+        self.told("held", 1, "--set-aside")
+        box = self.write("box", letters.mailbox(self.of_this_vote(letter("ada", self.ada, number=2))))
+        self.assertIn("1 ballot would go in", self.election("add", box).faults)
+        self.assertIn("letter 2 waits on, for a ballot of ben\n", self.told("held", 2, "--as", self.ada))
+        self.assertIn("0 ballots of letters went in; 1 letter waits.", self.told("add", "--yes", box))
+        self.told("strike", 1, "--because", "she rang up")
+        self.assertIn("0 ballots of letters went in; 1 letter waits.", self.told("add", "--yes", box))
+        self.assert_left(1)
+
+    def test_several_enter(self) -> None:
+        self.add(letter("dan", f"3 of us:\ndan {RANKS}\neve {RANKS}\nfay {RANKS}"))
+        self.told("held", 2, "--enter", 2, "--enter", "3,4", "--force")
+        self.assert_left(1, f"dan {RANKS}", f"eve {RANKS}", f"fay {RANKS}")
+
+
+class RealNames(LettersTest):
+    """What the secretary types for a letter may have a real name."""
+
+    members = elections.members_of(elections.NAMES).replace("Ada,", "Ada Lovelace,").replace("Ben,", "Ben Blum,").replace("Cleo,", "Ben Blum,")
+    members = "".join(f"{line},{name}\n" for line, name in zip(members.splitlines(), ("name", *elections.NAMES)))
+
+    def test_what_is_typed(self) -> None:
+        self.add(letter("ada", "I am for the lake"), letter("ben", "hello"))
+        self.assertIn("\n1 counted  ada: ", self.told("held", 1, "--as", f"Ada Lovelace {RANKS}"))
+        said = f"--as: `Ben Blum {RANKS}` is no ballot of this poll: it has the name of ben and cleo; nothing was changed: "
+        self.assert_refused(("held", 2, "--as", f"Ben Blum {RANKS}", "--force"), 9, said)
+
+
+class OtherVote(LettersTest):
+    """Letters with the mark of another vote: told in a line, shown by their numbers, and entered only by force."""
+
+    def test_it_is_told_and_entered_by_force(self) -> None:
+        mark = "77d0" * 4
+        self.add(*(letter(name, f"{name} {RANKS}").replace(elections.ANY_MARK.encode(), mark.encode()) for name in ("ada", "ben")), letter("cleo", "hello"))
+        listed = self.told("held")
+        self.assertIn(f"\nLetters of other votes, which are passed over here: 2 with [{mark}].\n1 letter waits.\n", listed)
+        self.assertNotIn("ada@club.example", listed)
+        self.assertIn(f"it has the mark of another vote, [{mark}]", self.told("held", 1))
+        said = f"letter 1: it has the mark of another vote, [{mark}]; nothing was changed: add it to that vote; if this ballot must count, repeat it with --force"
+        for words in (("--enter",), ("--enter", 1), ("--as", f"ada {RANKS}")):
+            self.assert_refused(("held", 1, *words), 9, said)
+        said = self.told("held", 1, "--enter", "--force")
+        self.assertIn(f"UTC: ada: {LAKE}\n  it has the mark of another vote, [{mark}]; add it to that vote\n", said)
+        self.assertEqual(self.lines(), [f"ada {RANKS}"])
+        # with two digits that differ it is of this one, miscopied
+        near = self.mark[:-2] + self.mark[-2:].translate(str.maketrans("0123456789abcdef", "123456789abcdef0"))
+        self.add(letter("dan", f"dan {RANKS}").replace(elections.ANY_MARK.encode(), near.encode()))
+        self.told("held", 4, "--enter")

@@ -1,16 +1,15 @@
 """Letters and lines of a vote that was closed and opened again: which count, in which order, and what is told."""
 
+import shlex
+
 from tests.support.called import LettersTest
 from tests.support.letters import BALLOT, OTHER, OTHER_RANKS, RANKS, letter
 from tests.support.terminal import Terminal
 
-ELEVEN = "Mon, 23 Nov 2026 11:00:00 +0000"
 IN_TIME = ("--because", "it was in time")
 
 
 class Reopened(LettersTest):
-    first, second = letter("ada", BALLOT), letter("ada", OTHER, number=2, time=ELEVEN)
-
     def reopen(self, *words: object) -> str:
         return self.told("reopen", *words, *IN_TIME)
 
@@ -20,26 +19,26 @@ class Reopened(LettersTest):
         self.listed = terminal.until("Enter for none: ")
         return terminal
 
-    def test_late_letters_go_in_by_their_times(self) -> None:
+    def test_late_lines_go_in_by_their_times(self) -> None:
         """In whatever order they are named. What needed no force is not told as forced: a later line that is refused is no ballot."""
         self.add_lines("ada 1,2,3", "ben 1,2,3,4")
         self.told("close")
-        self.add(self.first, self.second)
+        self.add_lines(BALLOT, OTHER)
         said = self.reopen("--in-time", 4, 3, "--force")
         first = f"\nEnvelope 5, entered anew from late envelope 3: {BALLOT}\n"
         self.assertIn(f"{first}Envelope 6, entered anew from late envelope 4: {OTHER}\n", said)
         self.assertEqual(self.stands("ada"), OTHER_RANKS)
         self.assertEqual(self.acts()[-1][1], {"because": "it was in time", "in_time": [3, 4]})
         # they keep their times
-        self.add(letter("ada", "ada 1,1,4,3", number=3, time="Mon, 23 Nov 2026 12:00:00 +0000"))
-        self.assertEqual((self.stands("ada"), self.numbers()["waiting"]), ("1,1,4,3", 0))
+        self.assertIn("a later ballot of ada, of 2026-11-25 09:00:", self.add(letter("ada", "ada 1,1,4,3")))
+        self.assertEqual((self.stands("ada"), self.numbers()["waiting"]), (OTHER_RANKS, 1))
 
-    def test_an_older_late_letter_after_a_newer_one(self) -> None:
+    def test_an_older_late_line_after_a_newer_one(self) -> None:
         self.told("close")
-        self.add(self.first)
+        self.add_lines(BALLOT)
         self.reopen()
-        # the elector's newer letter does not wait, since the late one keeps its time
-        self.add(self.second)
+        self.set_clock("2026-11-25T10:00:00+00:00")
+        self.add_lines(OTHER, words=("--came-before-close", "yes"))
         self.told("close")
         words = ("reopen", "--in-time", 1, *IN_TIME)
         said = "envelope 1 would replace envelope 2, a later ballot of the same elector; nothing was changed: "
@@ -48,17 +47,6 @@ class Reopened(LettersTest):
         self.told(*words, "--force")
         self.assertEqual(self.stands("ada"), RANKS)
         self.assertEqual(self.acts()[-1][1], {"because": "it was in time", "in_time": [1], "force": True})
-
-    def test_an_older_and_a_newer_one_than_that_in_time(self) -> None:
-        """They go in by their times, whatever their envelopes are, and the newest one of all counts."""
-        self.add(self.second)
-        self.told("close")
-        self.add(letter("ada", "ada 1,1,4,3", number=3, time="Mon, 23 Nov 2026 12:00:00 +0000"))
-        self.add(self.first)
-        self.told("held", 3, "--enter", 1, "--force")
-        first = f"\nEnvelope 4, entered anew from late envelope 3: {BALLOT}\n"
-        self.assertIn(f"{first}Envelope 5, entered anew from late envelope 2: ada 1,1,4,3\n", self.reopen("--in-time", 2, 3))
-        self.assertEqual(self.lines(), [OTHER, BALLOT, "ada 1,1,4,3"])
 
     def test_the_times_of_two_closes(self) -> None:
         """What had to come before a close, had to before the first one; the vote is closed since the last one."""
@@ -102,6 +90,22 @@ class Reopened(LettersTest):
         self.add_lines(BALLOT, OTHER, BALLOT, words=("--came-before-close", "yes"))
         self.assertEqual(self.stands("ada"), RANKS)
 
+    def test_all_late_lines_by_the_command_that_is_told(self) -> None:
+        """And by an option that is given several times. The late lines stay."""
+        self.told("close")
+        late = [BALLOT, f"ben {RANKS}", f"cleo {RANKS}"]
+        self.add_lines(*late)
+        said = self.told("reopen", "--because", "Ida's bag")
+        line = "debvote-election close && debvote-election reopen --in-time 1 2 3 --because 'Ida'\"'\"'s bag'"
+        self.assertIn(f"Note: 3 lines late; for those that came before the first close:\n  {line}\n", said)
+        for words in line.split(" && "):
+            self.told(*shlex.split(words)[1:])
+        self.assertEqual((self.lines(), self.late_lines()), (late, late))
+        self.told("undo", "--yes")
+        self.told("close")
+        self.assertIn("Note: 1 line late; ", self.reopen("--in-time", 1, "--in-time", 3))
+        self.assertEqual((self.lines(), self.late_lines()), ([late[0], late[2]], late))
+
     def test_what_is_listed_and_typed_at_a_terminal(self) -> None:
         """The late lines, but for those that were entered before. Numbers are typed with commas between, and nothing else."""
         self.told("close")
@@ -130,16 +134,15 @@ class Reopened(LettersTest):
         self.assertEqual((status, self.last_act(), self.lines()), (9, before, [BALLOT]))
 
     def test_undo_of_a_reopen(self) -> None:
-        """What is late again comes before as such, and can be entered again; a letter waits."""
+        """What is late again comes before as such, and can be entered again."""
         self.told("close")
-        self.add_lines(BALLOT)
-        self.add(letter("ben", f"ben {RANKS}"))
+        self.add_lines(BALLOT, f"ben {RANKS}")
         self.reopen("--in-time", 1, 2)
         self.assertIn("came before; 0 are new", self.add_lines(BALLOT, words=("--came-before-close", "yes")))
         self.told("undo", "--yes")
-        self.assertEqual((self.lines(), self.late_lines(), self.numbers()["waiting"]), ([], [BALLOT, f"ben {RANKS}"], 1))
-        self.assertIn("came before, and was late (envelope 1); --again enters it again", self.add_lines(BALLOT, words=("--came-before-close", "yes")))
-        self.told("close", "--force", "--because", "ben's letter is known")
+        self.assertEqual((self.lines(), self.late_lines()), ([], [BALLOT, f"ben {RANKS}"]))
+        self.assertIn("came before, and was late (envelope 1)", self.add_lines(BALLOT, words=("--came-before-close", "yes")))
+        self.told("close")
         self.reopen("--in-time", 1)
         self.assertEqual(self.lines(), [BALLOT])
 
@@ -150,6 +153,7 @@ class Reopened(LettersTest):
         self.told("call", "--to", "vote@club.example")
         call = self.last_act()
         self.assertIn("it arrived before the call for votes", self.add(letter("ada", BALLOT)))
+        self.told("held", 1, "--set-aside")
         self.told("close")
         self.assert_fault(self.election("call", "--take-back"), 9, "the vote was closed at ", "electors rely on the close")
         self.act("take back", {"call": call})

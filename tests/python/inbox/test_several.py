@@ -1,13 +1,18 @@
 """What becomes of letters beside each other: their order, copies, and what acts decided before."""
 
+import collections
+import dataclasses
+import random
 import unittest
 
 from debvote_tools.book import queries
-from debvote_tools.inbox.judging import Ballot
+from debvote_tools.inbox.judging import Ballot, judge_all
 from debvote_tools.inbox.letter import ParsedLetter
+from debvote_tools.inbox.letter_lines import ReadLetter
+from debvote_tools.inbox.reasons import for_secretary
 from debvote_tools.inbox.rules import LetterCase, Outcome
 
-from tests.support.letters import BALLOT, OTHER, RANKS, alternatives, at, judged, letter, lines_in, outcome, outcomes, parsed
+from tests.support.letters import BALLOT, IN, OTHER, RANKS, alternatives, at, circumstances, judged, letter, lines_in, outcome, outcomes, parsed, read
 
 
 def hour(of_day: int, second: int = 0) -> str:
@@ -30,7 +35,7 @@ def entered(*letters: LetterCase) -> dict[str, object]:
     ballots: dict[str, list[Ballot]] = {}
     for one in going:
         assert one.time is not None
-        ballots.setdefault(one.electors[0], []).append(Ballot(one.time, one.ballots[0].ballot))
+        ballots.setdefault(one.electors[0], []).append(Ballot(one.time, one.ballots[0].ballot, True))
     return {"ballots": ballots, "decisions": {one.read.digest: queries.ENTERED for one in going}}
 
 
@@ -43,7 +48,7 @@ class Several(unittest.TestCase):
         self.assertEqual([one.read.where for one in found], ["letter 3", "letter 1", "letter 2"])
         # an older letter that comes after a newer one
         newer = judged(other(hour(12)))
-        self.assertEqual(outcomes(newer[0].read, first(), **entered(*newer)), ["waits: later ballot", "entered"])
+        self.assertEqual(outcomes(newer[0].read, first(), **entered(*newer)), ["older: later ballot", "entered"])
 
     def test_two_of_one_second_that_differ_both_wait(self) -> None:
         others = [letter("ben", f"ben {RANKS}", time=hour(10)), letter("ada", BALLOT, number=3, time=hour(9))]
@@ -102,6 +107,36 @@ class Several(unittest.TestCase):
         self.assertEqual(outcomes(first(), again, new), [f"in: {BALLOT}", "copy", f"in: {OTHER}"])
         found = judged(first())
         self.assertEqual(outcomes(found[0].read, again, new, **entered(*found)), ["entered", "copy", f"in: {OTHER}"])
+
+    def test_an_earlier_copy_of_one_that_went_in(self) -> None:
+        """A late copy was read first. If another ballot lies between the two, neither mailbox decides which is the last: the secretary does."""
+        again, between = judged(first(time=hour(12))), other(hour(11))
+        since = entered(*again)
+        self.assertEqual(outcomes(first(), again[0].read, **since), ["copy", "entered"])
+        self.assertEqual(outcomes(first(), between, again[0].read, **since), ["waits: came before", "older: later ballot", "entered"])
+        desk = {"ballots": {"ada": [Ballot(at(11), OTHER), Ballot(at(12), BALLOT, True)]}}
+        [copy, _] = judged(first(), again[0].read, **since | desk)
+        said = "it is a copy, of 2026-11-23 10:00:00 UTC, of a letter of 2026-11-23 12:00:00 UTC that was read before, and ada has a ballot of 2026-11-23 11:00:00 UTC, between the two"
+        self.assertEqual(copy.reason and for_secretary(copy.reason), said)
+
+    def test_a_letter_with_a_later_one(self) -> None:
+        """It can count in no case, unless the later one is struck, or is late; a line has only the time at which somebody entered it."""
+        later = judged(other(hour(12)))
+        self.assertEqual(outcomes(later[0].read, first(), **entered(*later)), ["older: later ballot", "entered"])
+        for ballots, becomes in (
+            ([Ballot(at(12), OTHER, True)], "older: later ballot"),
+            ([Ballot(at(12), OTHER, True), Ballot(at(13), OTHER)], "older: later ballot"),
+            ([Ballot(at(12), OTHER)], "waits: later ballot"),
+            ([Ballot(at(9), OTHER, True), Ballot(at(12), OTHER)], "waits: later ballot"),
+            ([Ballot(at(10), OTHER, True), Ballot(at(12), BALLOT)], "waits: later ballot"),
+            ([Ballot(at(9), OTHER, True)], IN),
+        ):
+            self.assertEqual(outcomes(first(), ballots={"ada": ballots}), [becomes], ballots)
+        # whether the vote is closed or not, and beside its copies
+        found = judged(first(), first(time=hour(11)), ballots={"ada": [Ballot(at(12), OTHER, True)]}, is_closed=True, first_close=at(14))
+        self.assertEqual([(outcome(one), one.is_pending) for one in found], [("older: later ballot", False), ("copy", False)])
+        # what breaks a rule waits, though a later one went in
+        self.assertEqual(outcomes(letter("ada", "hello"), ballots={"ada": [Ballot(at(12), OTHER, True)]}), ["waits: no ballot"])
 
     def test_a_later_copy_of_one_that_was_entered_or_set_aside_by_hand(self) -> None:
         """Without a Message-ID an elector's third letter may be the first one once more, and is their last word."""
@@ -170,3 +205,92 @@ class Several(unittest.TestCase):
         found = judged(first(), letter("ada", "hello", number=2, time=hour(9)))
         told = [(outcome(one), one.has_voted_since) for one in found]
         self.assertEqual(told, [("waits: no ballot", True), (f"in: {BALLOT}", False)])
+
+
+# ---------------------------------------------------------------- mailboxes in any order
+MINUTES, LETTERS, BOXES = 12, 4, 3
+
+
+@dataclasses.dataclass(frozen=True)
+class Delivery:
+    """A copy of a letter of one elector: which letter, when and in which mailbox it arrived."""
+
+    letter: int
+    minute: int
+    box: int
+
+
+class World:
+    """What one elector did: letters, some of them delivered several times, and lines at a desk; and what the book then has."""
+
+    def __init__(self, chance: random.Random) -> None:
+        self.chance = chance
+        self.ranks = [chance.choice(("1,2,4,3", "2,1,4,3", "1,1,4,3")) for _ in range(LETTERS)]
+        several = [(number, chance.randint(1, 2)) for number in range(chance.randint(1, LETTERS))]
+        deliveries = [Delivery(number, chance.randrange(MINUTES), chance.randrange(BOXES)) for number, count in several for _ in range(count)]
+        self.deliveries = dict.fromkeys(deliveries)
+        self.desk = {minute: f"ada {chance.choice(self.ranks)}" for minute in range(MINUTES) if chance.random() < 0.08}
+
+    def bytes_of(self, one: Delivery) -> bytes:
+        time = f"Mon, 23 Nov 2026 10:{one.minute:02}:00 +0000"
+        return letter("ada", f"ada {self.ranks[one.letter]}\n", number=one.letter, time=time, head=f"X-Box: {one.box}\n")
+
+    def last_words(self) -> set[str]:
+        """The model: each letter is of the minute in which its first copy arrived, and the last of all counts; it may have several of one minute."""
+        first = {one.letter: one.minute for one in sorted(self.deliveries, key=lambda one: -one.minute)}
+        by_minute: dict[int, set[str]] = collections.defaultdict(set)
+        for number, minute in first.items():
+            by_minute[minute].add(f"ada {self.ranks[number]}")
+        for minute, line in self.desk.items():
+            by_minute[minute].add(line)
+        return by_minute[max(by_minute)]
+
+    def is_plain(self) -> bool:
+        """Whether no person has to look: no line at a desk, and no copy or other letter within the minutes of another letter."""
+        spans = []
+        for number in {one.letter for one in self.deliveries}:
+            minutes = [one.minute for one in self.deliveries if one.letter == number]
+            spans.append((min(minutes), max(minutes)))
+        spans.sort()
+        return not self.desk and all(before < begin for (_, before), (begin, _) in zip(spans, spans[1:]))
+
+    def read(self) -> tuple[str, bool]:
+        """Reads the mailboxes at any minutes, each as it is then, and all at the end; returns the ballot that counts, and whether one waits."""
+        reads = [(minute, self.chance.randrange(BOXES)) for minute in range(MINUTES) if self.chance.random() < 0.4]
+        last = [(MINUTES, box) for box in self.chance.sample(range(BOXES), BOXES)]
+        known = dict(zip(self.deliveries, read(*map(self.bytes_of, self.deliveries)))) if self.deliveries else {}
+        kept = list[ReadLetter]()
+        decisions, box, lines = dict[str, str](), list[Ballot](), list[str]()
+        found = list[LetterCase]()
+        for minute in range(MINUTES + 1):
+            if minute in self.desk:
+                box.append(Ballot(at(10, minute), self.desk[minute]))
+                lines.append(self.desk[minute])
+            for _, number in [one for one in (*reads, *last) if one[0] == minute]:
+                kept += [data for one, data in known.items() if one.box == number and one.minute <= minute and data not in kept]
+                found = judge_all(kept, circumstances(decisions=decisions), lambda _: {"ada": box})
+                # it may be that nobody agrees, but in the end
+                for one in found if minute == MINUTES or self.chance.random() < 0.8 else ():
+                    if one.outcome is Outcome.GOES_IN and one.time is not None:
+                        decisions[one.read.key] = queries.ENTERED
+                        box.append(Ballot(one.time, one.ballots[0].ballot, True))
+                        lines.append(box[-1].line)
+        found = judge_all(kept, circumstances(decisions=decisions), lambda _: {"ada": box})
+        assert not any(one.outcome is Outcome.GOES_IN for one in found)
+        return next(reversed(lines), ""), any(one.outcome is Outcome.WAITS for one in found)
+
+
+class Orders(unittest.TestCase):
+    def test_the_order_of_mailboxes_decides_nothing(self) -> None:
+        """However they are read, the last word of the elector counts, or a letter waits, which stops the close."""
+        plain = told = 0
+        for seed in range(300):
+            world = World(random.Random(seed))
+            for _ in range(4):
+                counts, waits = world.read()
+                with self.subTest(seed=seed):
+                    self.assertTrue(waits or {counts} == world.last_words(), (counts, world.last_words(), world.deliveries, world.desk))
+                    self.assertFalse(waits and world.is_plain(), (world.deliveries, world.desk))
+                plain += world.is_plain()
+                told += waits
+        self.assertGreater(min(plain, told), 200)

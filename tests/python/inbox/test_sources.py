@@ -45,7 +45,7 @@ class Files(unittest.TestCase):
             found = letters_of_file("x", data)
             self.assertEqual([(raw.where, raw.data, raw.is_parted_off) for raw in read_in(found)], [("x", ADA, False)], data[:10])
         # without its first line it is one letter, and all but its first ballot are text of it: it waits
-        for start in (b"\n", b"\r\n\r\n", b"\xef\xbb\xbf"):
+        for start in (b"\n", b"\r\n\r\n", b"\xef\xbb\xbf", b"<?php exit; ?>\n", b"<?php exit; ?>\r\n"):
             self.assert_becomes(start + mailbox(ADA, BEN), IN_ADA, IN_BEN)
         self.assert_becomes(mailbox(ADA, CODED).removeprefix(LINE), PARTED)
 

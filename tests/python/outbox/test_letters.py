@@ -9,6 +9,7 @@ import stat
 
 from debvote_tools.inbox.lines import repaired_line
 from debvote_tools.outbox.letter_folder import in_place
+from debvote_tools.poll.questions import LONGEST_LINE
 
 from tests.support import elections
 from tests.support.called import LAKE
@@ -167,7 +168,9 @@ class OwnWords(OutTest):
     """What the secretary writes begins each letter that asks for a ballot, and a name of the society is in From."""
 
     call_words = None
-    letter = f"Dear friends,\n\npaper goes into the box in the hall.\nIf you are unsure write ada {RANKS} and sign.\n\nYours, Eve\n"
+    letter = f"Dear friends,\n\npaper goes into the box in the hall.\nIf you are unsure write ada {RANKS} and sign.\n\n"
+    # its lines stay as they are, also longer ones
+    letter += f"{RANKS}\n{'a line of a letter ' * 5}.\nThe next one\n\nYours, Eve\n"
 
     def setUp(self) -> None:
         super().setUp()
@@ -183,14 +186,16 @@ class OwnWords(OutTest):
         found["extension"] = self.written("call")
         self.add_lines("ada 1,2")
         found["receipts"] = self.written("receipts")
-        first = self.letter.replace("If you are unsure write ada", "|If you are unsure write\n|ada")
+        first = self.letter.replace("If you are unsure write ada", "|If you are unsure write\n|ada").replace(f"\n{RANKS}", f"\n|{RANKS}")
         begins = {"call": first, "reminders": first, "extension": "Dear Ada,\n\nIt ends later.\n", "receipts": "Dear Ada,\n"}
         for kind, letters in found.items():
             message = letters["ada"]
             self.assertTrue(message.get_content().startswith(begins[kind]), message.get_content())
             self.assertEqual(message["From"], "Wahlleitung T\u00fcV <vote@club.example>")
             self.assertEqual((message["To"], message["Reply-To"]), ("ada@club.example", None))
-        # no line of ours reads as a ballot, also where the secretary's own words have one
+        # no line of ours reads as a ballot, also where the secretary's own words have one, nor is it offered
+        self.add(letter("ada", f"Thank you.\n\n{found['call']['ada'].get_content()}", number=2))
+        self.assertIn("\n        no ballot found\n", self.told("held"))
         for name, message in found["call"].items():
             head = f"In-Reply-To: {message['Message-ID']}\nSubject: Re: {message['Subject']}\n"
             self.add(letter(name, f"{name} {RANKS}\n\nOn Monday the secretary wrote:\n{message.get_content()}", head=head, time=EARLIER))
@@ -209,6 +214,9 @@ class Paper(OutTest):
         page = self.read(name[2]).decode()
         self.assertIn("<bdi>Ada &lt;script&gt;alert(1)&lt;/script&gt; &amp; Söhne</bdi>", page)
         self.assertNotIn("<script>alert", page)
+        # a ballot has what an option needs only where it is more than a plain majority
+        ballot = re.findall(r'<span class="rank"></span>\s*([^<]*)</p>', page)[:4]
+        self.assertEqual(f"{' '.join(ballot)}", OPTIONS)
         # each is for the person above it
         letters = [part.partition("</section>")[0] for part in page.split('<section class="letter">')[1:]]
         self.assertEqual([re.findall(r"Name: (\S+)</p>", part) for part in letters], [[name[1]], ["eve"]])
@@ -282,7 +290,7 @@ class ReceiptsAndReminders(OutTest):
         self.done("undo")
         texts = self.texts("receipts")
         self.assertEqual(sorted(texts), ["ada", "ben", "cleo", "dan", "eve", "fay", "gus"])
-        self.assertRegex(texts["ben"], r"has arrived\. A later ballot of yours counts instead\. .* It counts unless you send a later one")
+        self.assertRegex(texts["ben"], r"has arrived\. Another ballot of yours, which was entered after it, counts instead\. .* It counts unless you send a later one")
         for name, said in (
             ("ada", "has arrived. It counts unless you send a later one."),
             ("ada", f"It was read as (ada {RANKS}), in words: {LAKE}. If you have not sent this"),
@@ -459,7 +467,7 @@ class ReceiptsAndReminders(OutTest):
         self.assertIn(f"\n        {why}, so programs may read it in different ways\n", self.told("held"))
         texts = self.texts("receipts")
         self.assertEqual({name: text.count("has arrived") for name, text in texts.items()}, {"ada": 3, "ben": 1, "cleo": 1, "dan": 1, "eve": 0, "fay": 1})
-        self.assertRegex(texts["ada"], r"08:00 \(UTC\) has arrived\. A later.*09:00 \(UTC\) has arrived\. It counts.*09:30 \(UTC\) has arrived\. No")
+        self.assertRegex(texts["ada"], r"08:00 \(UTC\) has arrived\. Another.*09:00 \(UTC\) has arrived\. It counts.*09:30 \(UTC\) has arrived\. No")
         self.assertIn("No ballot from it was entered. The reason: the secretary has looked at it, and set it aside.", texts["dan"])
         self.assertIn("A letter in your name came from another address. The secretary has set it aside.", texts["eve"])
         self.assertIn(f" look at it first. The reason: {why}. Send it with a name without accents", texts["fay"])
@@ -524,7 +532,7 @@ class ReceiptsAndReminders(OutTest):
     def test_the_end_after_two_extensions_in_reminders_and_receipts(self) -> None:
         for day, words in ((6, "Sunday, 6 December"), (8, "Tuesday, 8 December")):
             self.done("call", "--until", f"2026-12-{day:02} 18:00", "--zone", "UTC")
-            self.assertIn(f"Vote until: {words} 2026, 18:00 (UTC)", self.texts("reminders")["ada"])
+            self.assertIn(f"Vote until: {words} 2026, 18:00 (UTC)", self.texts("reminders", "--yes")["ada"])
             self.set_clock(f"2026-12-{day - 1:02}T10:00:00+00:00")
             self.add(letter("ben", "hi\n", number=day, time=f"Fri, {day - 1:02} Dec 2026 09:00:00 +0000"))
             self.assertNotIn("after the end", self.texts("receipts")["ben"])
@@ -609,7 +617,7 @@ class NoBallots(OutTest):
                 for start in range(len(words)):
                     lines |= {" ".join(words[start : start + count]).encode() for count in (2, 3, 4)}
         self.assertGreater(len(lines), 1000)
-        ballots = [repaired_line(line) for line in lines]
+        ballots = [repaired_line(line, LONGEST_LINE) for line in lines]
         self.write("lines", b"".join(line.replace(b"\n", b" ") + b"\n" for line in ballots if line.strip()))
         steps = ("steps", "--poll", "call/poll.toml", "--ballots", "lines")
         replies = {line.partition(" ")[2] for line in self.debvote(*steps).output.splitlines()}
@@ -629,7 +637,7 @@ class CloseAndResult(OutTest):
         self.assertEqual(sorted(texts), elections.NAMES)
         begin = f"{TITLE} Winner: Option 1: At the lake. It beats each option that was not dropped: "
         numbers = "Option 2: In the town hall by 2 to 0 and Option 4: Further discussion by 2 to 0."
-        facts = "2 of 9 voted, quorum 2 reached, 0 lines of 2 refused. The result is published at: "
+        facts = "2 of 9 voted, quorum 2 reached. The result is published at: "
         own = f"Your own ballot is (ada {RANKS}), in words: {LAKE}. The page shows it at: {AT}#ada "
         self.assertIn(f"Dear Ada, {begin}{numbers} {facts}{AT} {own}What is doubtful", texts["ada"])
         self.assertEqual(f"Dear Ada, {' '.join(self.read('letters/result.txt').decode().split())}", texts["ada"].replace(own, ""))
@@ -641,17 +649,23 @@ class CloseAndResult(OutTest):
             for text in texts.values():
                 self.assertIn(f"{checksum} {name}", text)
         self.assertIn("sha256sum SHA256SUMS index.html && sha256sum -c --ignore-missing SHA256SUMS", texts["ada"])
-        telephone = "choose the index.html and the SHA256SUMS that you downloaded under Count again here: the page tells their checksums"
-        self.assertIn(telephone, texts["ada"])
+        # the page does not compare itself
+        self.assertNotIn("Count again here", texts["ada"])
+        telephone = "A page can't vouch for itself. So on a telephone, which has no such command, ask somebody with a computer to compare it."
+        self.assertIn(f"{telephone} The subject of each true letter to you ends with your own mark", texts["ada"])
         self.assertIn("open the index.html that you downloaded and compared, and read that file", texts["ada"])
         # each act that the page tells
         self.assertIn("That was before the time until which one could vote.", texts["ada"])
         # none of a vote that is open again; each publication has its letters
         self.done("reopen", "--because", "a bag was forgotten")
         self.assert_fault(self.election("letters", "result"), 9, "nothing is published")
+        self.done("desk", "--came-before-close", "yes", given="ada 1,3,4,2\n")
         self.done("close", "--early")
         self.done("publish", "result-2")
-        self.assertEqual(sorted(self.texts("result")), elections.NAMES)
+        texts = self.texts("result")
+        self.assertEqual(sorted(texts), elections.NAMES)
+        # the ballot that counts now, and not that of the first close
+        self.assertIn("Your own ballot is (ada 1,3,4,2), in words: ", texts["ada"])
 
     def test_why_no_ballot_of_an_elector_counts(self) -> None:
         self.add_lines(f"ada {RANKS}", "ben 1,2", f"cleo {RANKS}", "hal 1,2")
@@ -683,6 +697,7 @@ class CloseAndResult(OutTest):
     def test_of_a_close_has_the_checksum_and_of_a_second_one_all_get_it(self) -> None:
         self.add_lines(f"ada {RANKS}")
         self.assert_fault(self.election("letters", "closed"), 9, "the vote is not closed")
+        checksum = "none"
         for count, said in (("1 line", ("closed", "the vote is not closed")), ("2 lines", None)):
             self.done("close", "--early")
             text, found = self.read("letters/closed.txt").decode(), self.written("closed")
@@ -691,6 +706,12 @@ class CloseAndResult(OutTest):
                 self.assertIn(text, message.get_content())
                 self.assertIn(f"{count} came in time.", one_line(message))
                 self.assertRegex(message["Subject"], rf"^Vote closed: Where we meet in spring {MARKS}$")
+                # the second one names what it takes the place of
+                before = "Monday, 23 November 2026, 10:0\\S+ \\(UTC\\), and opened again\\. The reason, in the secretary's words: \\(a bag was forgotten\\)"
+                place = "This letter takes the place of the one about that close, which had this checksum of the ballots"
+                told = re.search(rf"The vote was closed before, on {before} {place}: {checksum} Keep this letter", one_line(message))
+                self.assertEqual(told is None, said is not None, one_line(message))
+            checksum = hashlib.sha256(self.exported()[0].encode()).hexdigest()
             if said:
                 self.done("reopen", "--because", "a bag was forgotten")
                 for kind, fault in (said, ("call", "nobody is asked to vote"), ("reminders", "nobody is asked to vote")):
@@ -727,6 +748,34 @@ class Secret(OutTest):
         self.assertRegex(one_line(found), rf"the result will be: {AT} {LINE}ada _,_,_,_ ")
         self.add(letter("ada", f"ada {RANKS}\n", head=f"In-Reply-To: {found['Message-ID']}\nSubject: Re: {found['Subject']}\n", time=EARLIER))
         self.assertEqual(self.numbers()["valid"], 1)
+
+    def test_a_code_that_went_to_an_address_that_goes(self) -> None:
+        """`roll` says who will see that vote, and the letter to the new address; not of an address that goes before the code went there."""
+        self.written("call")
+        for address, said in (("wrong@x.example", "ada@club.example"), ("ada@new.example", "ada@club.example, wrong@x.example")):
+            self.write("members.csv", elections.members_of(self.names).replace("ada@club.example", address))
+            before = "ada@club.example" if address.startswith("wrong") else "wrong@x.example"
+            seen = f"ada: address {before} becomes {address}; the secret code went to {before}, and whoever reads it there will see this vote"
+            take_back = "(as long as nothing has come, call --take-back makes new codes)"
+            self.assert_refused(["roll"], 9, seen.replace("ada:", "ada (Ada):"), f"{take_back}. Is that right?")
+            self.assertIn(f"{seen} {take_back}\n", self.told("roll", "--yes"))
+            texts = self.texts("call")
+            told = [f"It went to another address before: {one}. Whoever reads letters there will see how you vote." for one in said.split(", ")]
+            self.assertEqual([one in texts["ada"] for one in told], [True] * len(told), texts["ada"])
+            self.assertNotIn("It went to another address", texts["ben"])
+        # a key alone, an address that is added, and an open vote
+        self.write("members.csv", elections.members_of(self.names).replace("ada@club.example", "ada@new.example home@x.example"))
+        self.assertNotIn("code", self.told("roll", "--yes"))
+
+    def test_a_second_close_does_not_tell_why_the_vote_was_opened_again(self) -> None:
+        self.add_lines(f"ada {RANKS}")
+        self.done("close", "--early")
+        self.done("reopen", "--because", "ben's letter was forgotten")
+        self.done("close", "--early")
+        text = " ".join(self.read("letters/closed.txt").decode().split())
+        self.assertIn("The vote was closed before, on Monday, 23 November 2026,", text)
+        self.assertIn("and opened again. This letter takes the place of the one about that close, which had this checksum", text)
+        self.assertNotIn("forgotten", text)
 
     def test_nothing_else_has_codes_or_ranks(self) -> None:
         codes = self.codes()

@@ -120,8 +120,8 @@ class Sending(SendTest):
         self.send("call")
         self.assertEqual(self.not_reached(), {})
 
-    def came_back(self, name: str, what: str, sender: str = "mailer-daemon@mail.example") -> None:
-        sent = {taken.to: taken.data.decode().replace("\r\n", "\n") for taken in self.server.taken}[f"{name}@club.example"]
+    def came_back(self, name: str, what: str, sender: str = "mailer-daemon@mail.example", field: str = "") -> None:
+        sent = next(taken.data.decode().replace("\r\n", "\n") for taken in self.server.taken if taken.to.startswith(f"{name}@"))
         message = parsed(sent.encode())
         head, body = sent.partition("\n\n")[0], message.get_content()
         link = next(line for line in body.splitlines() if "#" in line).strip()
@@ -130,12 +130,13 @@ class Sending(SendTest):
             "head": ("text/rfc822-headers", f"{head}\n"),
             "text": ("text/plain", f"Subject: {message['Subject']}\n"),
             "link": ("text/plain", link),
+            "id": ("text/plain", f"Message-ID: {message['Message-ID']}"),
             "encoded": ('text/plain; charset="utf-8"\nContent-Transfer-Encoding: base64', base64.b64encode(head.encode()).decode()),
             "nothing": ("text/plain", f"ada _,_,_,_ could not be delivered to {name}@club.example"),
         }[what]
         parts = ("text/plain", "I'm sorry to have to inform you that your message could not be delivered."), inner
         text = "".join(f"--b\nContent-Type: {kind}\n\n{part}\n" for kind, part in parts)
-        self.add(letter(name, f"{text}--b--\n", sender=sender, kind=REPORT, number=f"{what}{len(self.server.taken)}"))
+        self.add(letter(name, f"{text}--b--\n", sender=sender, kind=REPORT, number=f"{what}{abs(hash(sent))}", head=field))
 
     def test_what_is_no_letter_that_came_back(self) -> None:
         """A program answers for somebody who is away, or reports from the elector's own address; a delivery is late, or done; a stranger
@@ -159,19 +160,90 @@ class Sending(SendTest):
             self.assertEqual(self.not_reached(), wanted, (action, sender))
 
     def test_whose_letter_came_back_is_named_and_gets_it_again(self) -> None:
-        for what in ("whole", "head", "text", "link", "encoded"):
+        """In each run, until the address is another one. A server that takes letters, as a reminder, shows nothing."""
+        for what in ("whole", "head", "text", "link", "encoded", "id"):
             with self.subTest(what):
                 self.server.taken.clear()
-                self.done("call", "--until", f"2026-12-{5 + len(self.rows('call')) // 11:02} 18:00", "--zone", "UTC")
+                address = f"ada@{what}.example"
+                self.change_roll("ada@club.example", address)
                 self.assert_sent("call")
+                self.assertEqual(self.not_reached(), {})
                 self.came_back("ada", what)
                 self.assertEqual(self.not_reached(), {"ada": "came back"})
                 self.assertIn("Not reached by the call: ada (came back)\n", self.told("letters", "receipts"))
-                first = parsed(self.server.taken[0].data)
-                self.assertNotIn("Not reached", self.assert_sent("call", "Sent 1 of 1 letter.\n").output)
-                again = parsed(self.server.taken[-1].data)
-                self.assertEqual((again["To"], again["Message-ID"]), ("ada@club.example", first["Message-ID"]))
-                self.assertEqual(self.not_reached(), {})
+                first = next(parsed(taken.data) for taken in self.server.taken if taken.to == address)
+                for _ in range(2):
+                    self.assertIn("Not reached by the call: ada (came back)\n", self.assert_sent("call", "Sent 1 of 1 letter.\n").output)
+                    again = parsed(self.server.taken[-1].data)
+                    self.assertEqual((again["To"], again["Message-ID"]), (address, first["Message-ID"]))
+                self.done("letters", "reminders", "--send", "--yes")
+                self.assertEqual(self.not_reached(), {"ada": "came back"})
+
+    def test_a_letter_that_came_back_is_no_news_once_a_ballot_came(self) -> None:
+        """Nor is a copy of it that is added later. A ballot on paper shows nothing."""
+        self.assert_sent("call")
+        for name in ("ada", "ben"):
+            self.came_back(name, "whole")
+        self.add(letter("ada", f"ada {RANKS}\n"))
+        self.add_lines(f"ben {RANKS}")
+        self.assertEqual(self.not_reached(), {"ben": "came back"})
+        self.came_back("ada", "whole", field="X-Folder: another\n")
+        self.assertEqual(self.not_reached(), {"ben": "came back"})
+        self.came_back("ada", "head")
+        self.assertEqual(self.not_reached(), {"ada": "came back", "ben": "came back"})
+
+    def test_what_came_last_is_the_reason(self) -> None:
+        self.server.rcpt_answers = {ALL[0]: "550 no"}
+        self.assert_sent("call", status=9)
+        self.server.rcpt_answers = {}
+        self.assert_sent("call")
+        self.came_back("ada", "whole")
+        self.assertEqual(self.not_reached(), {"ada": "came back"})
+        self.server.rcpt_answers = {ALL[0]: "550 no"}
+        self.assertIn("Not reached by the call: ada (refused: 550 no)\n", self.assert_sent("call", status=9).output)
+        self.assertEqual(self.not_reached(), {"ada": "refused"})
+
+    def test_a_run_that_goes_on_sends_nothing_twice(self) -> None:
+        """Nor to those whose letter came back before."""
+        self.assert_sent("call")
+        self.came_back("ada", "whole")
+        self.server.rcpt_answers = {ALL[1]: "451 later"}
+        self.assert_sent("reminders", "Sent 8 of 9 letters.\n", 9)
+        self.server.rcpt_answers = {}
+        self.assert_sent("reminders", "Sent 1 of 1 letter.\n")
+
+    def test_what_is_only_written_reaches_nobody_whom_a_server_refused(self) -> None:
+        self.server.rcpt_answers = {ALL[0]: "550 no"}
+        self.assert_sent("call", status=9)
+        self.add_lines(f"ada {RANKS}")
+        self.assertIn("Wrote 1 letter: ", self.told("letters", "receipts"))
+        self.assertEqual(self.not_reached(), {"ada": "refused"})
+        # nor does a letter with a new own mark
+        self.change_roll("ada@club.example", "ada@club.example home@x.example")
+        self.told("letters", "call")
+        self.assertEqual(self.not_reached(), {"ada": "refused"})
+
+    def test_a_receipt_is_not_the_call(self) -> None:
+        self.assert_sent("call")
+        self.change_roll("ada@club", "ada@new")
+        self.add_lines(f"ada {RANKS}")
+        self.assert_sent("receipts")
+        self.assertEqual(self.not_reached(), {"ada": "no letter"})
+
+    def test_each_own_mark_is_told_by_a_letter(self) -> None:
+        """That of a second address, and of an address that is put back: whoever knows the first address has the old mark."""
+        self.assert_sent("call")
+        for roll in ("ada@club.example ada@second.example", "ada@new.example", "ada@club.example"):
+            self.server.taken.clear()
+            self.change_roll("ada@club.example", roll)
+            self.assertEqual(self.not_reached(), {"ada": "no letter"})
+            self.assert_sent("call")
+            [taken] = self.server.taken
+            self.assertEqual(taken.to, roll.partition(" ")[0])
+            [(own,)] = self.book.rows("SELECT mark FROM elector_now WHERE name = 'ada'")
+            self.assertIn(f"-{own}]", parsed(taken.data)["Subject"])
+            self.assertEqual(self.not_reached(), {})
+            self.assert_none_is_due("call")
 
     def test_an_old_address_that_refuses_is_no_fault(self) -> None:
         self.change_roll("ada@club", "ada@new")
@@ -273,6 +345,32 @@ class Sending(SendTest):
             self.assert_none_is_due("closed")
             self.done("reopen", "--because", "a bag was forgotten")
 
+    def test_who_was_not_reached_gets_the_whole_call_after_an_extension(self) -> None:
+        """A run that took nothing reaches nobody, whether the letters were files before or not; nor does a call that came back."""
+        self.server.mail_answer = "553 not yours"
+        for _ in range(2):
+            self.assertEqual(self.send("call").status, 7)
+            self.assertEqual(self.not_reached(), dict.fromkeys(elections.NAMES, "no letter"))
+            # a mail program has them now
+            self.told("letters", "call")
+            self.assertEqual(self.not_reached(), {})
+            acts = self.last_act()
+            self.told("letters", "call")
+            self.assertEqual(self.last_act(), acts)
+        self.assertEqual(self.send("call").status, 7)
+        self.server.mail_answer = "250 OK"
+        for day, whole in ((6, elections.NAMES), (7, ["ada"])):
+            self.server.taken.clear()
+            self.done("call", "--until", f"2026-12-{day:02} 12:00", "--zone", "UTC")
+            # again it is the same letter
+            for _ in range(2):
+                self.assert_sent("call")
+            texts = {taken.to.partition("@")[0]: one_line(parsed(taken.data)) for taken in self.server.taken}
+            self.assertEqual([name for name, text in texts.items() if "After the vote all" in text], whole)
+            self.assertEqual([name for name, text in texts.items() if "You have more time" not in text], whole)
+            self.came_back("ada", "whole")
+            self.assertEqual(self.not_reached(), {"ada": "came back"})
+
     def test_a_refused_sender_and_a_lost_connection_cost_nobody_their_letter(self) -> None:
         self.server.mail_answer = "553 not yours"
         self.assert_fault(self.send("call"), 7, "it takes no letters now: 553 not yours", "0 of 9 letters taken in this run")
@@ -319,7 +417,8 @@ class Sending(SendTest):
             (["call", "--yes"], "only with reminders"),
             (["call", "--send", "--server", "x.example", "--password-file", "p"], "only with --user"),
             (["call", "--send", "--server", "x y"], "it is not the name of a server"),
-            (["call", "--send", "--server", "x.example:99999"], "it is not the name of a server"),
+            (["call", "--send", "--server", "x.example:65536"], "it is not the name of a server"),
+            (["call", "--send", "--server", "x.example:0"], "it is not the name of a server"),
             (["call", "--send", "--server", self.server.name, "--user", "u"], "the password of u can't be asked here"),
             (["call", "--send", "--server", self.server.name, "--user", "u", "--password-file", "none"], "No such file"),
             (["call", "--from", "two@x.example, b@x.example"], "it must be one mail address"),
@@ -367,7 +466,7 @@ class Remembered(SendTest):
         # one that is gone
         other.stop()
         said = "the server of the last letters: if it is gone, name another with --server"
-        self.assert_fault(self.election("letters", "reminders", "--send"), 7, f"{other.name}: no connection", said)
+        self.assert_fault(self.election("letters", "reminders", "--send", "--yes"), 7, f"{other.name}: no connection", said)
         self.assert_sent("reminders")
 
     def test_the_user_but_not_the_password(self) -> None:
@@ -384,7 +483,7 @@ class Remembered(SendTest):
         self.assertEqual((ended.status, len(self.server.logins), len(self.server.taken)), (0, 2, 18), ended)
         # a server that is named has the user that is named
         plain = self.mail_server()
-        self.assertEqual(self.election("letters", "reminders", "--send", "--server", plain.name).status, 0)
+        self.assertEqual(self.election("letters", "reminders", "--send", "--yes", "--server", plain.name).status, 0)
         self.assertEqual(plain.logins, [])
 
     def test_a_copy_that_was_moved_sends_no_letters(self) -> None:
@@ -508,8 +607,12 @@ class SeveralRuns(SendTest):
         self.assertIn("Sent 9 of 9 letters.", shown)
 
     def test_reminders_within_a_day_ask_at_a_terminal(self) -> None:
+        """And stop elsewhere."""
         self.assert_sent("reminders")
         words = ("letters", "reminders", "--send", "--server", self.server.name)
+        for how in (words[2:], ()):
+            said = "Reminders were written at 2026-11-23 10:00:00 UTC; nothing was written or sent: if it is right, remind again with --yes"
+            self.assert_refused(("letters", "reminders", *how), 9, said)
         desk = terminal.Terminal(self, *words)
         self.assertIn("Reminders were written at 2026-11-23 10:00:00 UTC. Remind again? [y/n] ", desk.until("[y/n] "))
         desk.type("n\n")
@@ -532,6 +635,8 @@ class Encrypted(unittest.TestCase):
 
     def test_which_servers_are_near(self) -> None:
         for text, host, port, is_encrypted in (
+            ("mail.example.org:1", "mail.example.org", 1, True),
+            ("mail.example.org:65535", "mail.example.org", 65535, True),
             ("localhost", "localhost", 25, False),
             ("127.0.0.1:2525", "127.0.0.1", 2525, False),
             ("[::1]:26", "::1", 26, False),

@@ -23,11 +23,13 @@ from debvote_tools.outbox.words import PACKAGE, SUBJECTS, Composer
 from debvote_tools.poll.announced import is_mail_address
 from debvote_tools.poll.call import CallData, call_page
 from debvote_tools.poll.sealed import SealedPoll
-from debvote_tools.text.ballots import without_ballots
+from debvote_tools.text.ballots import faults_of, without_ballots
+from debvote_tools.text.motions import Words, words_of
 from debvote_tools.text.language import LANGUAGES, language_of
 from debvote_tools.text.rendering import one_line as on_one_line, render_page, resources
 
 from tests.support.at_browser import BROWSER
+from tests.support.calls import alone
 from tests.support.outgoing import one_line, parsed
 
 TIME = datetime.datetime(2026, 11, 23, 10, tzinfo=datetime.UTC)
@@ -41,7 +43,7 @@ LETTER = OutgoingLetter(1, "call", 1, "ada@club.example", "<1@club.example>", TI
 
 
 def vote(code: str = "en", *, is_over: bool = False, **how: object) -> Composer:
-    data = CallData(language_of(code), POLL, 1, to="vote@club.example", at="https://club.example/vote/")
+    data = CallData(language_of(code), alone(POLL), {"": 1}, to="vote@club.example", at="https://club.example/vote/")
     return Composer(dataclasses.replace(data, **how), is_over, typed_acts={2})  # type: ignore[arg-type]
 
 
@@ -55,11 +57,11 @@ def all_that_came() -> list[Fate]:
 
     def envelope(number: int, became: Became, answer: str | None = None) -> Fate:
         line = b"ada 1,2,3" if answer is None else b"ada 1"
-        return Fate(TIME, became, Envelope(number, number, 1, line, None, 1, "", TIME, False, None), answer)
+        return Fate(TIME, became, Envelope(number, number, 1, line, None, 1, "", TIME, False, None, answer))
 
     ballots = [envelope(number, became) for number, became in enumerate(Became) if became is not Became.REFUSED]
     refused = ["bad rank count: 1 ranks, the poll has 3 options", 'bad shape: column 2: "!"']
-    letter = types.SimpleNamespace(reason=Reason.NO_BALLOT(), near=near)
+    letter = types.SimpleNamespace(reason=Reason.NO_BALLOT(), near=near, read=types.SimpleNamespace(link=""))
     outcomes = itertools.product((Outcome.WAITS, Outcome.SET_ASIDE), (True, False))
     letters = [Fate(TIME, outcome, letter=letter, is_own=is_own) for outcome, is_own in outcomes]  # type: ignore[arg-type]
     return [*ballots, *(envelope(9, Became.REFUSED, answer) for answer in refused), *letters]
@@ -70,8 +72,9 @@ WAITS = next(one for one in all_that_came() if one.became is Outcome.WAITS and o
 
 def texts(now: Composer) -> list[str]:
     with_code = ADA._replace(code="c0de")
-    calls = (now.call_letter(elector, is_extension=is_extension) for elector, is_extension in ((ADA, False), (with_code, False), (ADA, True)))
-    results = (now.text("result_to_elector.txt", ADA, letter="RESULT\n", ranks=ranks, fates=all_that_came()) for ranks in ("1,2,3", None))
+    calls = (now.call_letter(elector, is_extension=is_extension) for elector, is_extension in ((ADA, False), (ADA._replace(key="A"), False), (ADA, True)))
+    calls = itertools.chain(calls, [now.call_letter(with_code, is_extension=False, earlier=["a@b.example"])])
+    results = (now.text("result_to_elector.txt", ADA, letter="RESULT\n", answers=ranks, fates=all_that_came()) for ranks in ("1,2,3", None))
     closed = now.text("closed_to_elector.txt", ADA, letter="CLOSED\n")
     return [*calls, now.reminder(ADA, [WAITS]), now.reminder(ADA, []), now.receipt(ADA, all_that_came()), closed, *results]
 
@@ -96,15 +99,18 @@ class Texts(unittest.TestCase):
 
     def test_a_secret_vote_repeats_no_ranks_and_a_signed_one_asks_for_a_signature(self) -> None:
         self.assertIn("(ada 1,2,3)", vote().receipt(ADA, all_that_came()))
-        text = " ".join(vote(is_signed=True).reminder(ADA, []).split())
-        self.assertIn("has to be signed with OpenPGP", text)
-        self.assertNotIn("send the line alone", text)
+        for key, said in (("A" * 40, "Write and sign two lines"), ("", "has no key of yours: a letter from you waits")):
+            text = " ".join(vote(is_signed=True).reminder(ADA._replace(key=key), []).split())
+            self.assertIn("has to be signed with OpenPGP", text)
+            self.assertIn(said, text)
+            self.assertNotIn("send the line alone", text)
+            self.assertEqual("Write and sign" in text, bool(key))
         self.assertNotIn("OpenPGP", vote().reminder(ADA, []))
 
     def test_after_the_end_nobody_is_asked_to_send_anything(self) -> None:
         for code in LANGUAGES:
             for reason in (Reason.TOO_LONG(), Reason.NOT_FIRST(), Reason.NO_BALLOT()):
-                came = WAITS._replace(letter=types.SimpleNamespace(reason=reason, near=()))  # type: ignore[arg-type]
+                came = WAITS._replace(letter=types.SimpleNamespace(reason=reason, near=(), read=types.SimpleNamespace(link="")))  # type: ignore[arg-type]
                 open_text, over = (" ".join(vote(code, is_over=is_over).receipt(ADA, [came]).split()) for is_over in (False, True))
                 said = " ".join(language_of(code).say(for_elector(reason)).split())
                 self.assertIn(f" {said} ", open_text)
@@ -118,7 +124,7 @@ class Texts(unittest.TestCase):
         rest = "THE FILES OF THE RESULT\n\nDownload them.\n"
         place = "The result is published at:\n  https://club.example/vote/\n"
         for letter in ("RESULT\n", f"RESULT\n\n{rest}", f"RESULT\n\n{place}\nDOUBTS\n\n{rest}"):
-            texts = [now.text("result_to_elector.txt", ADA, letter=letter, ranks="2,1,3") for now in (vote(), vote(has_aliases=True))]
+            texts = [now.text("result_to_elector.txt", ADA, letter=letter, answers="2,1,3") for now in (vote(), vote(has_aliases=True))]
             end = letter.removeprefix("RESULT\n").removeprefix(f"\n{place}")
             for text in texts:
                 self.assertTrue(text.startswith(f"Dear Ada L.,\n\nRESULT\n\n{place}\nYour "), text)
@@ -127,11 +133,11 @@ class Texts(unittest.TestCase):
             self.assertIn(own, " ".join(texts[0].split()))
             self.assertNotRegex(texts[1], "#|2,1,3|Hall")
             self.assertIn("find it with your name, ada, and your code", " ".join(texts[1].split()))
-            self.assertIn("The result has no ballot of yours", vote().text("result_to_elector.txt", ADA, letter=letter, ranks=None, fates=()))
+            self.assertIn("The result has no ballot of yours", vote().text("result_to_elector.txt", ADA, letter=letter, answers=None, fates=()))
 
     def test_in_a_secret_vote_no_letter_repeats_what_came(self) -> None:
         elector, now = ADA._replace(code="c0de" * 8), vote(has_aliases=True)
-        result = now.text("result_to_elector.txt", elector, letter="RESULT\n", ranks=None, fates=all_that_came())
+        result = now.text("result_to_elector.txt", elector, letter="RESULT\n", answers=None, fates=all_that_came())
         for text in (now.reminder(elector, all_that_came()), now.receipt(elector, all_that_came()), result):
             self.assertIn("It has 1 rank, and the vote has 3 options.", " ".join(text.split()))
             self.assertNotRegex(text, r"ada \d|\d,\d|\||c0de|in words|Lake, then")
@@ -156,7 +162,7 @@ class CallLetter(unittest.TestCase):
                 default = language_of(code).say("the default option")
                 names = [one for one in lines[line:] if one.startswith("  ") and one.endswith(("Lake", "Hall", f"None ({default})"))]
                 self.assertEqual(len(names), 3)
-                self.assertIn(f"[{POLL.mark}-abcdefghjk]", text)
+                self.assertIn(f"[{alone(POLL).mark}-abcdefghjk]", text)
                 self.assertEqual(lines.count(f"  {POLL.checksum}"), 1)
                 # one page
                 self.assertLess(len(lines), 60)
@@ -208,13 +214,13 @@ class CallLetter(unittest.TestCase):
         # without a page the texts follow
         poll = dataclasses.replace(POLL, explanations=("A lake.\nada 1,2,3\n", "", ""))
         for letter in ("", self.letter):
-            now = vote(poll=poll, at=None, letter_text=letter)
+            now = vote(questions=alone(poll), at=None, letter_text=letter)
             text = dataclasses.replace(now, electors=(ADA,)).call_letter(ADA, is_extension=False)
             self.assertIn("\n\nOption 1: Lake\n\nA lake.\n|ada 1,2,3\n\nWHAT DECIDES\n", text)
             self.assertEqual(text.count("checked"), 1)
             self.assertEqual("The words at the head of this letter, and the texts" in " ".join(text.split()), bool(letter))
             self.assertNotIn("A lake", now.call_letter(ADA, is_extension=True))
-        self.assertNotIn("A lake", vote(poll=poll).call_letter(ADA, is_extension=False))
+        self.assertNotIn("A lake", vote(questions=alone(poll)).call_letter(ADA, is_extension=False))
 
     def test_it_says_what_asks_for_more_than_a_plain_majority_as_the_page_does(self) -> None:
         for code in LANGUAGES:
@@ -225,7 +231,7 @@ class CallLetter(unittest.TestCase):
             )  # fmt: skip
             electors = language.say_number("The roll has {number} elector.", "The roll has {number} electors.", 2)
             for ratios, quorum, is_told in (((1, 3), 1, True), ((1, 1), 0, False)):
-                now = vote(code, poll=dataclasses.replace(POLL, ratios=ratios, quorum=quorum))
+                now = vote(code, questions=alone(dataclasses.replace(POLL, ratios=ratios, quorum=quorum)))
                 text, page = now.call_letter(ADA, is_extension=False), call_page(now.call_data).decode()
                 said = " ".join(text.split())
                 found = [" ".join(one.split()) in words for one in (ratio, electors) for words in (" ".join(page.split()), said)]
@@ -244,9 +250,9 @@ class Printed(unittest.TestCase):
         folder = pathlib.Path(self.enterContext(tempfile.TemporaryDirectory()))
         pages = []
         for number, (now, text) in enumerate(printed):
-            how = {"style": resources(PACKAGE, "letter.css"), "title": "Spring", "letters": [("Ada", rows_to_print(text))]}
+            how = {"style": resources(PACKAGE, "letter.css"), "title": "Spring", "is_secret": False, "letters": [("Ada", rows_to_print(text))]}
             page = render_page(PACKAGE, "print.html", now.call_data.language, **how).decode()
-            self.assertEqual(page.count('<p class="option"><span class="rank"></span>  Op'), len(now.call_data.poll.names))
+            self.assertEqual(page.count('<p class="option"><span class="rank"></span>  Op'), len(now.call_data.questions[""].names))
             pages.append(page.replace('<section class="letter"', f'<section id="at{number}" class="letter"'))
         sections = [re.search(r"(?s)<section id.*</section>", page)[0] for page in pages]
         # the file says on which page is the place of a link
@@ -261,19 +267,29 @@ class Printed(unittest.TestCase):
         for (_, text), first, following in zip(printed, begins, begins[1:], strict=False):
             self.assertIn(following - first, (1, 2), text)
 
+    def test_no_letter_of_a_secret_vote_is_on_the_back_of_another(self) -> None:
+        """Whether they are printed on one side of the paper or on both."""
+        folder = pathlib.Path(self.enterContext(tempfile.TemporaryDirectory()))
+        how = {"style": resources(PACKAGE, "letter.css"), "title": "Spring", "letters": [(name, [[("Hello", "paragraph")]]) for name in ("Ada", "Ben", "Cleo")]}
+        for is_secret, sides in ((False, 3), (True, 6)):
+            (folder / "page.html").write_bytes(render_page(PACKAGE, "print.html", language_of("en"), is_secret=is_secret, **how))
+            words = [BROWSER, "--headless", "--no-sandbox", "--disable-gpu", f"--user-data-dir={folder}/of-browser"]
+            subprocess.run([*words, f"--print-to-pdf={folder}/page.pdf", f"{folder}/page.html"], check=True, capture_output=True)
+            self.assertEqual(len(re.findall(rb"/Type\s*/Page\b", (folder / "page.pdf").read_bytes())), sides)
+
     def test_a_letter_has_at_most_two_sides_and_the_texts_or_where_they_are(self) -> None:
         """With twelve options, no page, a secret code, and 600 characters of the secretary's own; or with texts, if they have room."""
         printed = []
         names = tuple(f"A rather long name of an option, as societies have them, number {number}" for number in range(1, 12))
         poll = dataclasses.replace(POLL, options=names, ratios=(1,) * 11)
         for code in LANGUAGES:
-            now = vote(code, poll=poll, at=None, has_aliases=True, letter_text="Paper ballots go into the box in the hall of our house.\n" * 11)
+            now = vote(code, questions=alone(poll), at=None, has_aliases=True, letter_text="Paper ballots go into the box in the hall of our house.\n" * 11)
             text = now.call_letter(GUS._replace(code="c0de" * 8), is_extension=False)
             self.assertGreater(len(text.splitlines()), 70)
             printed.append((now, text))
             for number, at in ((1, vote().call_data.at), (8, None), (9, vote().call_data.at), (70, vote().call_data.at), (70, None)):
                 poll = dataclasses.replace(POLL, explanations=("A lake, and a meadow with room for forty tents.\n\n" * number, "", ""))
-                now = vote(code, poll=poll, at=at, letter_text="Dear friends,\n\npaper goes into the box in the hall.\n")
+                now = vote(code, questions=alone(poll), at=at, letter_text="Dear friends,\n\npaper goes into the box in the hall.\n")
                 text, by_mail = (now.call_letter(elector, is_extension=False) for elector in (GUS, ADA))
                 self.assertEqual(text.count("forty tents"), number if number < 70 else 0)
                 self.assertEqual(by_mail.count("forty tents"), 0 if at else number)
@@ -356,14 +372,24 @@ class Bytes(unittest.TestCase):
         wrong = ("", "a", "a@b\nBcc: c@d", "a@b, c@d", "<a@b>", "a b@c.example", "\u00e4@b.example", "a@b@c", "-a@b", "a@b.example\n")
         self.assertEqual([text for text in (*right, *wrong) if is_mail_address(text)], list(right))
 
-    def guarded(self, line: str, options: int = 3) -> str:
-        text = without_ballots(f"x\n{line}\ny", options, lambda word: word.lower() in ("ada", "ben-2", "maier"))
+    def test_one_fault_a_line(self) -> None:
+        """Within other words that is the fault, whatever else is wrong with it."""
+        for answer, said in (("bad shape: it is odd", "It is not written"), (None, "It is a ballot"), ("bad not on roll: bob", "The name in it"), ("late: x", "")):
+            found = list(faults_of(answer, "", language_of("en")))
+            self.assertEqual([one.startswith(said) for one in found], [True] * bool(said), answer)
+        within = [list(faults_of(answer, "", language_of("en"), is_within=True)) for answer in ("bad shape: it is odd", None, "late: x")]
+        self.assertEqual(within, [["It has a ballot within other words; the ballot has to be there alone."]] * 3)
+
+    def guarded(self, line: str, options: int = 3, words: Words = {}) -> str:
+        text = without_ballots(f"x\n{line}\ny", options, lambda word: word.lower() in ("ada", "ben-2", "maier"), words)
         self.assertTrue(text.startswith("x\n") and text.endswith("\ny"), text)
         return text[2:-2]
 
     def test_lines_that_read_as_ballots_get_a_bar_and_others_stay(self) -> None:
         for line in (
             "ada 1,2,3", "  Ada: 1, 2, 3.", "\u201cada 1,-,3\u201d", "*ada* 1;2;3", "ada *1,2,3*", "ada:1,2,3", "ben-2 1,2,\u2013", "ada\u00a01 , 2 , 3", "ada -,\u2013,1", "ada 1,2,3 ,4",
+            # ranks alone, which are offered as the ballot of whoever sends them back
+            "1,2,3", "  1; 2 ;3.", "*1*,-,3", "1 2 3", "\u201c1,\u2013,3\u201d",
         ):  # fmt: skip
             blanks = line[: len(line) - len(line.lstrip())]
             self.assertEqual(self.guarded(line), f"{blanks}|{line.strip()}")
@@ -372,6 +398,15 @@ class Bytes(unittest.TestCase):
         self.assertEqual(self.guarded("Zo\u00eb Maier 1,2,3"), "|Zo\u00eb\n|Maier 1,2,3")
         self.assertEqual(self.guarded("ada 1,2,3 ben-2 3,2,1"), "|ada 1,2,3\n|ben-2 3,2,1")
         # others stay
-        for line in ("ada 1,2", "ada _,_,_", "(ada 1,2,3)", "ada, ben, cleo", "3 of 4, 5 of 6, 7 of 8", "Euro 1,2,3", "ada 100,2,3"):
+        for line in ("ada 1,2", "ada _,_,_", "(ada 1,2,3)", "ada, ben, cleo", "3 of 4, 5 of 6, 7 of 8", "Euro 1,2,3", "ada 100,2,3", "1,2", "-- ", "(1,2,3)"):
             self.assertEqual(self.guarded(line), line)
+
+    def test_lines_that_are_answers_to_a_motion_get_a_bar(self) -> None:
+        words = words_of("es", motion=True)
+        for line in ("ada yes", "  Ada: S\u00ed.", "sI\u0301!", "No", "Zo\u00eb Maier: abstenci\u00f3n", "ben-2 NO !"):
+            blanks = line[: len(line) - len(line.lstrip())]
+            self.assertEqual((self.guarded(line, 2, words), self.guarded(line, 2)), (f"{blanks}|{line.strip()}", line))
+        # a sentence, another word, what is in brackets, the name of nobody, and our own lines
+        for line in ("whether he says yes or no", "I asked Paul and ada: no", "ada ja", "ada si", "(sí, no, abstención)", "peter yes", "Option 1: Yes", "Opci\u00f3n 2: No"):
+            self.assertEqual(self.guarded(line, 2, words), line)
         self.assertEqual(self.guarded("The fee is 12,50 Euro", 2), "The fee is 12,50 Euro")

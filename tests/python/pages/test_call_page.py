@@ -12,13 +12,13 @@ import unittest
 import urllib.parse
 
 from debvote_tools.poll.call import CallData, call_files
+from debvote_tools.poll.questions import LABELS, Questions
 from debvote_tools.poll.sealed import SealedPoll, with_roll
 from debvote_tools.text.language import ENGLISH, LANGUAGES, language_of
 
-from tests.support.at_browser import NEEDS_BROWSER, Window
-from tests.support.calls import CALL, KINDS, POLL, SECRET, WITH_CODES
+from tests.support.at_browser import LONE_NUMBERS, NEEDS_BROWSER, Window
+from tests.support.calls import CALL, KINDS, POLL, SECRET, WITH_CODES, alone
 from tests.support.looks import contrast
-from tests.support.page_parts import in_words
 from tests.support.program import PROGRAM
 
 # how many ballots of how many options
@@ -86,13 +86,13 @@ def choices_of(size: int, many: int, chance: random.Random) -> list[tuple[str, l
 
 
 def words_of(ranks: list[str]) -> str:
-    """The order of some ranks in words, in which each option has its number."""
+    """The whole ballot in its order, in which each option has its number."""
     by_rank: dict[str, list[str]] = {}
     for number, rank in enumerate(ranks, start=1):
         by_rank.setdefault(rank, []).append(f"{{{number}}}")
     unranked = by_rank.pop("-", [])
-    steps = [("equally " if by_rank[rank][1:] else "") + in_words(by_rank[rank]) for rank in sorted(by_rank, key=int)]
-    return "; then ".join(steps) + (f"; not ranked: {in_words(unranked)}" if unranked else "")
+    steps = enumerate((by_rank[rank] for rank in sorted(by_rank, key=int)), start=1)
+    return ", ".join([*(f"{place} {option}" for place, step in steps for option in step), *(f"\u2013 {option}" for option in unranked)])
 
 
 @NEEDS_BROWSER
@@ -113,12 +113,17 @@ class PageTest(unittest.TestCase):
         folder = self.scratch / str(next(self.numbers))
         folder.mkdir()
         for name, content in call_files(data).items():
+            (folder / name).parent.mkdir(exist_ok=True)
             (folder / name).write_bytes(content)
         if page is not None:
             (folder / "index.html").write_bytes(page)
         self.window.faults.clear()
         self.window.open(folder / "index.html", place)
         return folder
+
+    def assert_seen(self, parts: tuple[str, ...], unseen: tuple[str, ...]) -> None:
+        seen = self.window.ask("document.body.innerText")
+        self.assertEqual([part for part in parts if part not in seen] + [part for part in unseen if part in seen], [])
 
     def copied(self, clipboard: str) -> tuple[str | None, str, str]:
         """What the button for copying puts there, what the page says, and what is selected then."""
@@ -133,14 +138,14 @@ class Lines(PageTest):
         for size, many in SIZES.items():
             names, choices = names_of(size), choices_of(size, many, chance)
             poll = poll_of(names, many)
-            folder = self.open(CallData(ENGLISH, poll, 1, to=ADDRESS))
+            folder = self.open(CallData(ENGLISH, alone(poll), {"": 1}, to=ADDRESS))
             # no elector's name has a capital letter
             wanted = {"title": f"Vote: {HOSTILE_TITLE}", "head": HOSTILE_TITLE, "wide": 360, "requests": 0, "scripts": 1}
             self.assertEqual(self.window.ask(FACTS), wanted | {"unlabelled": 0, "small": [], "shown": True})
             results = [self.window.ballot(*choice) for choice in choices]
             for (_, ranks), result in zip(choices, results, strict=True):
                 with self.subTest(size=size, ranks=ranks):
-                    self.check_result(names, poll.mark, ranks, result)
+                    self.check_result(names, poll.checksum[:16], ranks, result)
             (folder / "lines").write_text("".join(f"{result['line']}\n" for result in results))
             words = [PROGRAM, "standing", "--poll", folder / "poll.toml", "--ballots", folder / "lines"]
             ended = subprocess.run(words, capture_output=True, text=True)
@@ -154,7 +159,7 @@ class Lines(PageTest):
 
     def check_result(self, names: list[str], mark: str, ranks: list[str], result: dict) -> None:
         self.assertEqual(result["words"], words_of(ranks))
-        self.assertEqual(result["names"], {str(number): f"Option {number}: {name}" for number, name in enumerate(names, start=1)})
+        self.assertEqual(result["names"], {str(number): name for number, name in enumerate(names, start=1)})
         found = result["missing"], result["said"], result["ready"], result["invalid"], result["long"]
         self.assertEqual(found, ("", "", True, "false", len(result["line"]) > 72))
         letter = result["to"], result["subject"], result["body"]
@@ -179,10 +184,10 @@ class Lines(PageTest):
           document.querySelectorAll(".rank").forEach((rank, place) => { rank.querySelectorAll("input")[place].checked = true; });
           dispatchEvent(new Event("pageshow"));""")
         self.assertEqual(self.window.ask(text_of("Line")), "ada 1,2,3,4")
-        self.assertEqual(self.window.ballot("ada", "441-")["words"], "{3}; then equally {1} and {2}; not ranked: {4}")
+        self.assertEqual(self.window.ballot("ada", "441-")["words"], "1 {3}, 2 {1}, 2 {2}, \u2013 {4}")
         # a letter that is to be signed has the mark below the ballot
         self.open(KINDS["signed"])
-        self.assertEqual(self.window.ballot("ada", "1234")["body"], f"ada 1,2,3,4\r\n[{POLL.mark}]\r\n")
+        self.assertEqual(self.window.ballot("ada", "1234")["body"], f"ada 1,2,3,4\r\n[{CALL.questions.mark}]\r\n")
 
     def test_after_the_end_it_says_so_and_still_makes_the_line(self) -> None:
         for until, is_over in ((None, None), (datetime.datetime(2020, 1, 1, tzinfo=datetime.UTC), True), (datetime.datetime.max, False)):
@@ -200,6 +205,118 @@ class Lines(PageTest):
             self.assertEqual((found[2]["body"], found[2]["wide"], self.window.faults), (f"{gap} 2,1,3,-\r\n", 360, []))
             self.assertNotRegex(page, '<textarea|<datalist|<input (?!type="radio")')
             self.assertRegex(page, rf"In the letter, and not on this page, write your \w+ in the place of <code>{gap}</code>")
+
+
+FEE = dataclasses.replace(POLL, title="Raise the fee", options=("Yes, 72 Euro",), ratios=(1,), default="No")
+THREE = Questions({"A": FEE, "B": POLL, "C": FEE}, "Assembly & 2026")
+
+
+class Several(PageTest):
+    """The page of an election of several questions."""
+
+    def call(self, questions: Questions = THREE, data: CallData = CALL) -> CallData:
+        return dataclasses.replace(data, questions=questions, quorum_votes=dict.fromkeys(questions, 1))
+
+    def test_the_ballot_has_what_is_answered(self) -> None:
+        answers, options = {"A": "12", "B": "21-3", "C": "11"}, {"A": 2, "B": 4, "C": 2}
+        said = {"A": "1 {1}, 2 {2}", "B": "1 {2}, 2 {1}, 3 {4}, \u2013 {3}", "C": "1 {1}, 1 {2}"}
+        folder = self.open(self.call())
+        self.assertEqual(self.window.ask(FACTS)["head"], "Assembly & 2026")
+        for chosen in itertools.chain(*(itertools.combinations(answers, count) for count in range(4))):
+            ranks = [rank for label in answers for rank in (answers[label] if label in chosen else "-" * options[label])]
+            result = self.window.ballot("Ada", ranks)
+            lines = ["ada", *(f"{label} {','.join(answers[label])}" for label in chosen)] if chosen else []
+            left = ", ".join(label for label in answers if label not in chosen)
+            missing = (f"Not answered: {left}" if left else "") if chosen else "Give at least one option a rank."
+            self.assertEqual((result["line"], result["missing"]), (" ".join(lines), missing))
+            self.assertEqual((result["body"], result["ready"]), ("".join(f"{line}\r\n" for line in lines) if lines else None, bool(lines)))
+            self.assertEqual((result["words"], result["wide"]), (", ".join(said[label] for label in chosen), 360))
+            # debvote reads each answer as one to its question
+            for label, line in zip(chosen, lines[1:]):
+                ballot = f"ada {line.removeprefix(f'{label} ')}\n".encode()
+                words = [PROGRAM, "standing", "--poll", folder / label / "poll.toml", "--ballots", "/dev/stdin"]
+                self.assertEqual(subprocess.run(words, input=ballot, capture_output=True).stdout, ballot)
+        lines = "ada\nA 1,2\nB 2,1,-,3\nC 1,1"
+        self.assertEqual(self.copied(TAKES)[0], lines)
+        self.assertEqual((self.copied(REFUSES)[2], self.window.faults), (lines, []))
+        self.assertEqual(self.window.ballot("", "1221-311")["missing"], "Type your name.")
+        # what was copied is another ballot
+        self.assertEqual(self.window.ask(text_of("Copied")), "")
+        self.assertEqual(self.window.ballot("", "----2111")["missing"], "Type your name. Not answered: A")
+
+    def test_signed_and_secret(self) -> None:
+        self.open(self.call(data=KINDS["signed"]))
+        self.assertEqual(self.window.ballot("ada", "12----11")["body"], f"ada\r\nA 1,2\r\nC 1,1\r\n[{THREE.mark}]\r\n")
+        secret = Questions({label: dataclasses.replace(poll, secret=True) for label, poll in THREE.items()}, THREE.title)
+        self.open(self.call(secret, SECRET))
+        self.assertEqual(self.window.ballot(None, "12----11")["line"], "NAME A 1,2 C 1,1")
+
+    def test_a_motion_among_them_has_three_buttons(self) -> None:
+        motion = dataclasses.replace(FEE, motion=True)
+        self.open(self.call(Questions({"A": motion, "B": POLL, "C": motion}, THREE.title)))
+        buttons = "[...document.querySelectorAll('.question')].map((node) => [...node.querySelectorAll('input')].length)"
+        self.assertEqual(self.window.ask(buttons), [3, 20, 3])
+        rows = "[...document.querySelectorAll('p.rank')].map((node) => new Set([...node.children].map((one) => one.offsetTop)).size)"
+        self.assertEqual(self.window.ask(rows), [1, 1])
+        for ranks, line, missing, shown in (
+            (["1,2", *"21-3", "1,1"], "ada A 1,2 B 2,1,-,3 C 1,1", "", 4),
+            (["-", *"----", "2,1"], "ada C 2,1", "Not answered: A, B", 0),
+            (["-", *"1111", "-"], "ada B 1,1,1,1", "Not answered: A, C", 4),
+        ):
+            found = self.window.ballot("ada", ranks)
+            self.assertEqual((found["line"], found["missing"]), (line, missing))
+            # what a button says needs no words beside it
+            self.assertEqual(self.window.ask("[...document.querySelectorAll('#Ballot li')].filter((node) => node.checkVisibility()).length"), shown)
+
+    def test_a_long_link_is_not_offered(self) -> None:
+        many = Questions(dict.fromkeys(LABELS, poll_of(names_of(20), 9)), "Assembly 2026")
+        self.open(self.call(many))
+        ranks = [str(rank) for rank in range(1, 21)]
+        of_all = self.window.ballot("e01", ranks * 24)
+        self.assertEqual((of_all["letter"], of_all["ready"], of_all["missing"], of_all["wide"]), (False, True, "", 360))
+        lines = ["e01", *(f"{label} {','.join(ranks)}" for label in LABELS)]
+        self.assertEqual((of_all["line"], self.copied(TAKES)[0]), (" ".join(lines), "\n".join(lines)))
+        # what would take most of the window lies below the questions
+        self.assertEqual(self.window.ask("getComputedStyle(document.getElementById('Bottom')).position"), "static")
+        of_few = self.window.ballot("e01", [*ranks * 12, *["-"] * 20 * 12])
+        self.assertEqual((bool(of_few["letter"]), of_few["missing"]), (True, f"Not answered: {', '.join(LABELS[12:])}"))
+        self.assertLessEqual(len(of_few["letter"]), 2_000)
+
+    def test_widths_and_contrast(self) -> None:
+        self.addCleanup(self.window.show)
+        self.addCleanup(self.window.resize, 360, 640)
+        names = dataclasses.replace(POLL, shown_title="Donaudampfschifffahrt" * 9, shown_options=("\u05d0\u05d1 " * 60, "N" * 90, "C", "{name} $& $1"))
+        for is_dark in (False, True):
+            self.window.show(is_dark=is_dark)
+            self.open(self.call(Questions({"A": FEE, "B": names, "C": poll_of(names_of(32), 4, "ada")}, "Assembly 2026")))
+            for width in (360, 390, 1280):
+                self.window.resize(width, 640)
+                found = self.window.ballot("ada", ["1", "2", "4", "3", "2", "1", *["1"] * 32])
+                self.assertEqual((found["line"].split(" ")[:5], found["wide"]), (["ada", "A", "1,2", "B", "4,3,2,1"], width))
+            # one line that mail programs break is enough
+            for rank, is_long in (("1", False), ("10", True)):
+                self.assertEqual(self.window.ballot("ada", [*"124321", *[rank] * 32])["long"], is_long)
+            self.window.ask("document.querySelectorAll('details').forEach((node) => { node.open = true; })")
+            self.assertGreaterEqual(min(contrast(*colours) for colours in self.window.ask(COLOURS)), 4.5, is_dark)
+
+    def test_without_script_and_on_paper(self) -> None:
+        data = self.call()
+        shown = ("Assembly & 2026", "Question A: Raise the fee", "Question B: Where we meet", "Yes, 72 Euro", "Sell the house")
+        self.open(data, page=call_files(data)["index.html"].replace(b'"use strict";', b'"use strict"; '))
+        self.assert_seen(shown, ("Send by e-mail", "Your name", "Not answered"))
+        self.window.ask("document.querySelectorAll('details').forEach((node) => { node.open = true; })")
+        self.assert_seen(("NAME\nA _,_\nB _,_,_,_\nC _,_\n", "sha256sum -c polls.sha256 && sha256sum polls.sha256", *THREE.checksums), ())
+        places = self.window.ask("[...document.querySelectorAll('pre a')].map((link) => link.getAttribute('href'))")
+        self.assertEqual(places, ["A/poll.toml", "B/poll.toml", "C/poll.toml", "title.txt"])
+        self.open(data)
+        self.window.ballot("ada", "12----11")
+        self.window.show(on_paper=True)
+        self.addCleanup(self.window.show)
+        # a paper to be filled in has nothing of what was chosen
+        self.assert_seen(shown, ("Send by e-mail", "Your name", "Not answered", "ada\nA 1,2"))
+        self.assertFalse(self.window.ask("document.querySelector('#Ballot ul').checkVisibility()"))
+        boxes = "[...document.querySelectorAll('.option')].map((option) => parseFloat(getComputedStyle(option, '::after').width) > 30)"
+        self.assertEqual(self.window.ask(boxes), [True] * 8)
 
 
 class Names(PageTest):
@@ -224,7 +341,7 @@ class Names(PageTest):
             "yves": ("", []), "--": ("", []), "<q>": ("", []),
         }  # fmt: skip
         offered = "[...(document.getElementById('Name').list?.options ?? [])].map((option) => option.value)"
-        self.open(dataclasses.replace(CALL, poll=with_roll(POLL, roll)))
+        self.open(dataclasses.replace(CALL, questions=alone(with_roll(POLL, roll))))
         self.assertEqual(self.window.ask(offered), roll)
         for name, (found, suggested) in wanted.items():
             result = self.window.ballot(name, "1234")
@@ -233,7 +350,7 @@ class Names(PageTest):
             starts = result["said"].startswith("On the roll: "), "is not on the roll of this poll" in result["said"]
             self.assertEqual(starts, (bool(suggested), not found and not suggested), name)
         # without the roll each name that one may have gets its line, and none is told
-        self.open(dataclasses.replace(CALL, poll=with_roll(POLL, [f"x{number}" for number in range(2_001)])))
+        self.open(dataclasses.replace(CALL, questions=alone(with_roll(POLL, [f"x{number}" for number in range(2_001)]))))
         self.assertEqual(self.window.ask(offered), [])
         for name in wanted:
             result, is_name = self.window.ballot(name, "1234"), re.fullmatch("[A-Za-z0-9.-]+", name) is not None
@@ -244,7 +361,7 @@ class Names(PageTest):
         meiers = [f"{given}-meier" for given in ("ada", "ben", "cleo", "dan", "eve", "fay", "gus", "hal", "ida", "jon")]
         roll = [*meiers, "kim-meierhof", "m-12"]
         names = {name: name.replace("-", " ").title() for name in roll} | {"m-12": "Zo\u00eb M\u00fcller-Meier"}
-        self.open(dataclasses.replace(CALL, poll=with_roll(POLL, roll), real_names=names))
+        self.open(dataclasses.replace(CALL, questions=alone(with_roll(POLL, roll)), real_names=names))
         # of more than eight beginnings none is suggested, of a whole family name all are
         for typed, suggested in {
             "meier": [*meiers, "m-12"], "mei": [], "meierh": ["kim-meierhof"], "Mueller": ["m-12"], "zo\u00eb": ["m-12"], "M\u00fcller-Meier": ["m-12"],
@@ -269,13 +386,20 @@ class Names(PageTest):
     def test_the_personal_link(self) -> None:
         # by the place: the name that is filled in, and the own mark in the subject
         places = {"ada": ("ada", ""), f"ada/{OWN}": ("ada", OWN), f"ADA/{OWN.upper()}": ("ada", OWN), f"ada/{OWN}x": ("ada", ""), "ada/0123456789": ("ada", "")}
-        places |= dict.fromkeys(["zoe", f"zoe/{OWN}", f"/{OWN}", "Poll", "%61da", "<b>"], ("", ""))
+        places |= {f"%61da%2F{OWN}": ("ada", OWN)} | dict.fromkeys(["zoe", f"zoe/{OWN}", f"/{OWN}", "Poll", "%", "<b>"], ("", ""))
         for place, (name, own) in places.items():
             with self.subTest(place=place):
                 self.open(CALL, f"#{place}")
                 self.assertEqual(self.window.ask("document.getElementById('Name').value"), name)
+                seen = self.window.ask("['You', 'Name'].map((place) => document.getElementById(place).checkVisibility())")
+                self.assertEqual(seen, [name != "", name == ""])
                 self.check_letter(None, name, own)
+        # who it is stands in place of the field, until it is somebody else
         self.open(CALL, f"#ada/{OWN}")
+        self.assertTrue(self.window.ask(text_of("You")).startswith("You vote as ada"))
+        self.window.ask("document.getElementById('Not-you').click()")
+        self.assertEqual(self.window.ask("[document.activeElement.id, document.activeElement.value]"), ["Name", ""])
+        self.assertFalse(self.window.ask("document.getElementById('You').checkVisibility()"))
         # the own mark goes with the name of the link alone
         self.check_letter("ben", "ben", "")
         self.check_letter(" Ada ", "ada", OWN)
@@ -283,7 +407,7 @@ class Names(PageTest):
         self.window.until("document.getElementById('Name').value === 'ben'")
         self.check_letter(None, "ben", OWN[::-1])
         # where the page has no roll, each name that one may have
-        self.open(dataclasses.replace(CALL, poll=with_roll(POLL, [f"e{number}" for number in range(2_001)])), f"#zoe/{OWN}")
+        self.open(dataclasses.replace(CALL, questions=alone(with_roll(POLL, [f"e{number}" for number in range(2_001)]))), f"#zoe/{OWN}")
         self.assertRegex(str(self.window.ballot(None, "21-3")["subject"]), rf"-{OWN}\]$")
         self.open(SECRET, f"#ada/{OWN}")
         self.assertEqual(self.window.ballot(None, "21-3")["line"], "NAME 2,1,-,3")
@@ -291,7 +415,7 @@ class Names(PageTest):
     def check_letter(self, typed: str | None, name: str, own: str) -> None:
         """The line with this name, in a letter with this own mark; without a name there is none."""
         found = self.window.ballot(typed, "21-3")
-        subject = f"Ballot: Where we meet [{POLL.mark}{'-' if own else ''}{own}]"
+        subject = f"Ballot: Where we meet [{CALL.questions.mark}{'-' if own else ''}{own}]"
         self.assertEqual((found["line"], found["subject"]), (f"{name} 2,1,-,3", subject) if name else ("", None))
 
     def test_with_marks_alone(self) -> None:
@@ -326,7 +450,7 @@ class Looks(PageTest):
         self.addCleanup(self.window.resize, 360, 640)
         for (poll, name), is_dark in itertools.product(polls, (False, True)):
             self.window.show(is_dark=is_dark)
-            self.open(dataclasses.replace(CALL, poll=poll))
+            self.open(dataclasses.replace(CALL, questions=alone(poll)))
             for width in (360, 390, 1280):
                 self.window.resize(width, 640)
                 self.window.ballot(" Zoe L", ["-"] * len(poll.names))
@@ -338,8 +462,21 @@ class Looks(PageTest):
             colours.add((is_dark, self.window.ask("(({ color, backgroundColor }) => color + backgroundColor)(getComputedStyle(document.body))")))
         self.assertEqual((len(colours), len({colour for _, colour in colours})), (2, 2))
 
+    def test_ranks_stand_beside_the_option_where_there_is_room(self) -> None:
+        """`last` stands below the hyphen, and no number of an option is alone on a line."""
+        beside = """[...document.querySelectorAll(".option")].map((option) => option.querySelector(".rank").getBoundingClientRect().left
+          > option.querySelector(".name").getBoundingClientRect().right)"""
+        last = "((small) => small.getBoundingClientRect().top > small.parentNode.getBoundingClientRect().top + 10)(document.querySelector('.rank small'))"
+        names = ("Ein Name aus vielen Worten " * 7, "B " * 90, "C", "N " * 80)
+        self.open(dataclasses.replace(CALL, questions=alone(dataclasses.replace(POLL, shown_options=names))))
+        self.addCleanup(self.window.resize, 360, 640)
+        for width, are_beside in ((360, False), (690, False), (720, True), (1280, True)):
+            self.window.resize(width, 640)
+            found = self.window.ask(f"[{beside}, {last}, {LONE_NUMBERS}]")
+            self.assertEqual(found, [[are_beside] * 4, True, []], width)
+
     def test_long_texts_are_cut_and_read_at_a_touch(self) -> None:
-        self.open(dataclasses.replace(CALL, poll=dataclasses.replace(POLL, explanations=("A long text. " * 40, "", "Short."))))
+        self.open(dataclasses.replace(CALL, questions=alone(dataclasses.replace(POLL, explanations=("A long text. " * 40, "", "Short.")))))
         shown = "[...document.querySelectorAll('.text')].map((node) => node.clientHeight >= node.scrollHeight - 1)"
         self.assertEqual(self.window.ask(shown), [False, True])
         buttons = "[...document.querySelectorAll('.option .more')].filter((node) => node.checkVisibility())"
@@ -353,18 +490,14 @@ class Looks(PageTest):
           - [...document.querySelectorAll("div.rank")].at(-1).getBoundingClientRect().bottom"""
         poll = dataclasses.replace(POLL, explanations=("A long text. " * 40,) * 3)
         for code in LANGUAGES:
-            self.open(dataclasses.replace(CALL, language=language_of(code), poll=poll))
+            self.open(dataclasses.replace(CALL, language=language_of(code), questions=alone(poll)))
             self.window.ballot("ada", "21-3")
             self.window.ask("scrollTo(0, 0)")
             self.assertGreaterEqual(self.window.ask(free), 0, code)
 
-    def assert_seen(self, parts: tuple[str, ...], unseen: tuple[str, ...]) -> None:
-        seen = self.window.ask("document.body.innerText")
-        self.assertEqual([part for part in parts if part not in seen] + [part for part in unseen if part in seen], [])
-
     def test_without_script_and_on_paper(self) -> None:
         poll = dataclasses.replace(POLL, explanations=("A long text. " * 40, "", "Short."))
-        data, texts = dataclasses.replace(CALL, poll=poll), ("At the lake", "A long text. " * 39)
+        data, texts = dataclasses.replace(CALL, questions=alone(poll)), ("At the lake", "A long text. " * 39)
         # a script that was changed does not run
         self.open(data, page=call_files(data)["index.html"].replace(b'"use strict";', b'"use strict"; '))
         self.assert_seen(("Vote until", "Sell the house", *texts, "Short.", "The poll"), ("Send by e-mail", "Your name", "Read on"))
@@ -377,8 +510,11 @@ class Looks(PageTest):
         self.assert_seen(on_paper, ("Send by e-mail", "Your name", "Read on", "Give at least", "1\n2\n3"))
         # each option has a box, in which a rank is written by hand, and its name is not below it
         boxes = "[...document.querySelectorAll('.option')].map((option) => [parseFloat(getComputedStyle(option, '::after').width) > 30, "
-        boxes += "option.getBoundingClientRect().right - option.querySelector('.name').getBoundingClientRect().right > 40])"
-        self.assertEqual(self.window.ask(boxes), [[True, True]] * len(poll.names))
+        boxes += "option.getBoundingClientRect().right - option.querySelector('.name').getBoundingClientRect().right > 40, "
+        boxes += "option.clientHeight - parseFloat(getComputedStyle(option, '::after').height) > 10])"
+        self.assertEqual(self.window.ask(boxes), [[True, True, True]] * len(poll.names))
+        # the name is written on a line
+        self.assertTrue(self.window.ask("document.querySelector('.on-paper').checkVisibility()"))
 
 
 class ByKeys(PageTest):
@@ -402,7 +538,10 @@ class ByKeys(PageTest):
             self.tab_to(f"Rank-{option}")
             self.window.press(rank)
         self.assertEqual(self.window.ask(f"[{text_of('Line')}, {text_of('Missing')}]"), ["ada 2,1,-,3", ""])
-        self.assertTrue(self.window.ask(text_of("Words")).startswith("Option 2: 72 Euro; then Option 1: At the lake; then "))
+        # the whole ballot is read to whoever does not see it, and not the line
+        said = "[...document.querySelectorAll('#Bottom [role=status] li')].map((node) => node.textContent)"
+        self.assertEqual(self.window.ask(said)[:2], ["1\u00a072 Euro", "2\u00a0At the lake"])
+        self.assertEqual(self.window.ask("document.getElementById('Line').closest('output, [role=status], [aria-live]')"), None)
         self.tab_to("Letter")
         self.tab_to("Copy")
         # no clipboard, as a page has none that was opened from a file
@@ -420,6 +559,9 @@ class ByKeys(PageTest):
         for key, line in {" ": "ada 1,-,-,-", "ArrowDown": "ada 2,-,-,-", "ArrowUp": "ada 1,-,-,-", "4": "ada 4,-,-,-", "-": ""}.items():
             self.window.press(key)
             self.assertEqual(self.window.ask(text_of("Line")), line, key)
+        # with the key by which browsers choose a tab it is no rank
+        self.window.press("2", control=True)
+        self.assertEqual(self.window.ask(text_of("Line")), "")
         # what is no line any more can't be taken
         self.assertEqual(self.window.ask(text_of("Missing")), "Give at least one option a rank.")
         self.assertEqual({"Copy", "Letter"} & {place["name"] for place in self.tab_to("What each option needs")}, set())
@@ -435,8 +577,22 @@ class ByKeys(PageTest):
                 way += self.tab_to(f"Rank-{number}")
                 self.window.press("1")
             way += self.tab_to("Copy")
-            self.assertEqual([place["name"] for place in way], ["Name", "Rank-1", "Rank-2", "Rank-3", "Rank-4", "Read on", "Letter", "Copy"])
+            self.assertEqual([place["name"] for place in way], ["Name", "Rank-1", "Rank-2", "Rank-3", "Rank-4", "Letter", "Copy"])
             for place in way:
                 self.assertEqual((place["ring"][:2], place["inWindow"]), (["solid", "3px"], True), (place, is_dark))
             back = self.tab_to("Name", shift=True)
-            self.assertEqual([place["name"] for place in back], ["Letter", "Read on", "Rank-4", "Rank-3", "Rank-2", "Rank-1", "Name"])
+            self.assertEqual([place["name"] for place in back], ["Letter", "Rank-4", "Rank-3", "Rank-2", "Rank-1", "Name"])
+
+    def test_tab_comes_to_each_question_and_no_focus_is_below_the_ballot(self) -> None:
+        self.open(dataclasses.replace(CALL, questions=THREE, quorum_votes=dict.fromkeys(THREE, 1)))
+        way = self.tab_to("Name")
+        self.window.type("ada")
+        ranks = ["Rank-A1", "Rank-A2", "Rank-B1", "Rank-B2", "Rank-B3", "Rank-B4", "Rank-C1", "Rank-C2"]
+        for name in ranks:
+            way += self.tab_to(name)
+            self.window.press("1")
+        self.assertEqual(self.window.ask(text_of("Line")), "ada\nA 1,1\nB 1,1,1,1\nC 1,1")
+        way += self.tab_to("Copy")
+        self.assertEqual([place["name"] for place in way], ["Name", *ranks, "Letter", "Copy"])
+        back = self.tab_to("Name", shift=True)
+        self.assertEqual([place["name"] for place in way + back if not place["inWindow"]], [])

@@ -13,18 +13,19 @@ STYLES = sorted((publishing.ROOT / "python" / "debvote_tools").rglob("*.css"))
 TEXTS = {
     "paper": ["ink", "link", "faint"],
     "shade": ["ink", "link", "faint"],
+    "won": ["ink", "link", "faint"],
     "mark": ["ink", "link", "faint"],
     "warned": ["ink", "link", "warning"],
     "link": ["paper"],
 }
 DRAWN = {"paper": ["line", "link", "warning", "ink"], "shade": ["line", "link", "ink"], "mark": ["line", "ink"]}
-# the numbers within bars, and the edges of bars
-DRAWN |= {"for": ["ink"], "against": ["ink"]}
+# the edges of bars, and the marks in them
+DRAWN |= {"won": ["line", "link", "ink"], "for": ["ink"], "against": ["ink"]}
 
 NAMED = r"--([a-z]+): *([^;]+);"
 SCREENS_IN_DARK = "screen and (prefers-color-scheme: dark)"
 # these name no colour
-LOW_SCREENS = "screen and (max-height: 45rem)"
+OTHERS = "screen and (max-height: 45rem)", "(min-width: 70rem)", "(min-width: 44rem)", "(max-width: 30rem)"
 COLOURED = r"(?<![-\w])(?:color|background|border(?:-[a-z]+)?|outline|fill|stroke)(?:-color)?: *([^;}]+)"
 NO_COLOUR = r"var\(--[a-z]+\)|currentColor|none|0|(?:\d*\.?\d+(?:px|rem|em))|solid|dashed|dotted|collapse"
 
@@ -40,7 +41,7 @@ def colours():
     light, dark, paper, others = {}, {}, {}, ""
     for file in STYLES:
         for medium, rule in rules_of(file.read_text()):
-            {"": light, SCREENS_IN_DARK: dark, "print": paper, LOW_SCREENS: {}}[medium].update(re.findall(NAMED, rule))
+            {"": light, SCREENS_IN_DARK: dark, "print": paper, **dict.fromkeys(OTHERS, {})}[medium].update(re.findall(NAMED, rule))
             others += re.sub(NAMED, "", rule) + "\n"
     return light, {**light, **dark}, {**light, **paper}, others
 
@@ -57,7 +58,7 @@ def value(table, name):
 class ColoursTest(expecting.Expecting):
     def test_what_is_written_can_be_read(self):
         for scheme, table in zip(("light", "dark", "a slip on paper"), colours()[:3], strict=True):
-            for least, pairs in ((4.5, TEXTS | {"for": ["ink"], "against": ["ink"]}), (3, DRAWN)):
+            for least, pairs in ((4.5, TEXTS), (3, DRAWN)):
                 for ground, names in pairs.items():
                     for name in names:
                         found = looks.contrast(value(table, ground), value(table, name))

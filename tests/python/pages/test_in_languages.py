@@ -9,16 +9,16 @@ from debvote_tools.poll.call import SENTENCES as CALL_SENTENCES
 from debvote_tools.result.scripts import COUNT_AGAIN, FIND, FIND_IN_OPEN, FIND_IN_SECRET
 from debvote_tools.text.language import LANGUAGES, language_of
 
-from tests.support import at_browser, languages
+from tests.support import at_browser, elections, languages
 
 TELEPHONE, SMALL, SCREEN = (390, 844), (360, 640), (1280, 800)
 
-# gives each option the chip of a winner that is the default option, and returns the names of the options
-LONGEST_CHIPS = """((byDefault) => {
-  const chips = [...document.querySelectorAll(".option .chip")], won = chips[0].textContent;
-  for (const chip of chips) chip.textContent = `${won} \u00b7 ${byDefault}`;
-  return chips.map((chip) => chip.previousElementSibling);
-})"""
+# a round of the count, and the texts of the picture
+ROUNDS = {"de": "Runde", "en": "round", "es": "ronda", "fr": "tour"}
+PICTURE_TEXTS = "[...document.querySelectorAll('.picture text')].map((node) => node.textContent)"
+
+# the names of options beside their chips, and the rivals of the winner
+NAMES = "[...document.querySelectorAll('.option > :first-child, .duel > :first-child')]"
 
 
 @at_browser.NEEDS_BROWSER
@@ -34,12 +34,14 @@ class InBrowser(languages.LanguageTest):
         for name, place in places.items():
             self.window.open(place / "result" / "index.html")
             if name == "open":
-                self.check_picture()
+                if elections.HAS_PICTURES:
+                    self.check_picture()
                 self.check_find()
             else:
                 self.check_find_in_secret(place)
             self.check_count(place / "result")
             self.check_telephone(place)
+        self.check_outcomes(code)
 
     def said(self, sentences: dict[str, str], key: str, /, **places: object) -> str:
         return self.language.say(sentences[key], **places)
@@ -57,7 +59,7 @@ class InBrowser(languages.LanguageTest):
         """On a small one the winner, the facts and the first option with its bar are on the first screen, also with doubts."""
         self.window.open(place / "result" / "index.html")
         self.window.resize(*SMALL)
-        first = self.window.ask("document.querySelector('.options li .bar').getBoundingClientRect().bottom")
+        first = self.window.ask("document.querySelector('.options li .numbers').getBoundingClientRect().bottom")
         self.assertLessEqual(first, SMALL[1], f"{place.name}: the first screen of a small telephone")
         # what is folded says each doubt, and what a doubt is; it links no file
         folded = self.window.ask("""((doubts) => [doubts.querySelector("summary").textContent.trim().length > 10,
@@ -68,14 +70,32 @@ class InBrowser(languages.LanguageTest):
         end = self.window.ask("document.getElementById('Find-your-ballot').parentNode.getBoundingClientRect().bottom")
         self.assertLessEqual(end, 3 * TELEPHONE[1], f"{place.name}: who has won, one's own ballot, the bars and the reasons are on three screens")
         self.window.resize(*SMALL)
-        # no name is so narrow beside the longest chip that a word breaks
-        names = f"{LONGEST_CHIPS}({json.dumps(self.language.say('default option'))})"
-        self.assertEqual(self.window.broken_words(names), [], f"{place.name}: words on two lines")
+        self.assertEqual(self.window.broken_words(NAMES), [], f"{place.name}: words on two lines")
         self.window.resize(*TELEPHONE)
+
+    def check_outcomes(self, code: str) -> None:
+        """In a tie, by a casting vote and where a defeat was set aside the first option with its bar is on the first screen, too, and the
+        count in the browser finds the page right."""
+        ranks = {"tie": ["1,2,3,4", "3,1,2,4", "2,3,1,4"] * 3, "two": ["1,2,3,4", "2,1,3,4"] * 4, "circle": ["1,2,3,4"] * 4 + ["3,1,2,4"] * 3 + ["2,3,1,4"] * 2}
+        poll = languages.POLL.replace("[1, 1, 3]", "[1, 1, 1]") + f"roll = {json.dumps(languages.ELECTORS)}\n"
+        (self.scratch / "poll.toml").write_text(poll)
+        for name, *casting in (("tie",), ("two",), ("tie", "--casting=At the lake"), ("circle",)):
+            (self.scratch / "ballots").write_text("".join(f"{who} {given}\n" for who, given in zip(languages.ELECTORS, ranks[name])))
+            folder = f"{name}{len(casting)}"
+            files, status = ("--poll", "poll.toml", "--ballots", "ballots"), 0 if casting or name == "circle" else 1
+            self.program("debvote-publish", *files, "--language", code, *casting, folder, status=status)
+            self.window.resize(*SMALL)
+            self.window.open(self.scratch / folder / "index.html")
+            first = self.window.ask("document.querySelector('.options li .numbers').getBoundingClientRect().bottom")
+            self.assertLessEqual(first, SMALL[1], f"{folder}: the first screen of a small telephone")
+            if name == "circle" and elections.HAS_PICTURES:
+                self.assertIn(f"5 : 4, {ROUNDS[code]} 1", self.window.ask(PICTURE_TEXTS))
+            # what it shows is what its files come to
+            self.assertIn(self.said(COUNT_AGAIN, "page_same", ballots=len(ranks[name])), self.window.count_again())
 
     def check_picture(self) -> None:
         """It says in the language why an option was dropped, and numbers stand apart from names."""
-        texts = self.window.ask("[...document.querySelectorAll('.picture text')].map((node) => node.textContent)")
+        texts = self.window.ask(PICTURE_TEXTS)
         self.assertIn(f"1{self.language.between('{before}: {after}')}At the lake", texts)
         self.assertEqual({"majority", "quorum"} & {*texts}, set())
         self.assertNotEqual({self.language.say(text) for text in ("no majority", "no quorum")} & {*texts}, set())
@@ -93,19 +113,12 @@ class InBrowser(languages.LanguageTest):
         heights = window.ask("[...document.querySelectorAll('.rank label')].map((node) => node.getBoundingClientRect().height)")
         self.assertGreaterEqual(min(heights), 41)
         window.resize(*TELEPHONE)
-
-        def both(*options: int) -> str:
-            return self.language.joined(f"{{{option}}}" for option in options)
-
         found = window.ballot(" E01", "21-2")
-        self.assertEqual((found["line"], found["said"]), ("e01 2,1,-,2", ""))
-        ranked = said("then", before="{2}", step=said("equally", options=both(1, 4)))
-        self.assertEqual(found["words"], said("unranked", ranked=ranked, unranked="{3}"))
+        self.assertEqual((found["line"], found["said"], found["words"]), ("e01 2,1,-,2", "", "1 {2}, 2 {1}, 2 {4}, \u2013 {3}"))
         title = said("subject", title="Where we meet in spring")
         self.assertRegex(found["subject"], f"^{re.escape(title)} \\[[0-9a-f]{{16}}\\]$")
         found = window.ballot("\u00c901", "-1--")
         self.assertEqual((found["line"], found["said"]), ("e01 -,1,-,-", said("on_roll", names="e01")))
-        self.assertEqual(found["words"], said("unranked", ranked="{2}", unranked=both(1, 3, 4)))
         found = window.ballot("x_y", "1234")
         self.assertEqual((found["said"], found["missing"]), (said("not_on_roll", name="x_y"), said("type_name")))
         self.assertEqual(window.ballot("e01", "----")["missing"], said("rank_missing"))

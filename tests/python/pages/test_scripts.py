@@ -1,26 +1,25 @@
 """The scripts of a page in a browser: finding one's own ballot, and counting again; also on pages that somebody has changed."""
 
-import dataclasses
 import hashlib
 import json
 import re
+import subprocess
 
 from debvote_tools.poll.secret import alias_of
-from debvote_tools.result import command_line, folder
-from debvote_tools.result.facts import SecretVote
+from debvote_tools.result.sheet import sheet_in
 
 from tests.support import at_browser, publishing
+from tests.support.program import PROGRAM
 from tests.support.publishing import FILES, plain_room, publish
 
 # names that people read, and recasts, a refused line and an elector who did not vote
 POLL = publishing.PLAIN_POLL + 'shown_title = "Größe"\nshown_options = ["72 Euro", "<i>B</i> & \\"C\\"", "N"]\n'
 BALLOTS = "ada 1,2,3\nben -,1,1\nada 2,1,-\nzoe 1,2,3\ncleo -,-,-\n"
-LAST_BALLOT = '<li id="cleo"><b>cleo</b> <code>-,-,-</code>: nothing is preferred</li>\n'
-LETTER_OTHER = "None of these is the checksum that you typed."
+CHOOSE = "Choose poll.toml and ballots.txt, one file of each and under these names; you may add sheet.txt."
+LAST_BALLOT = '<li id="cleo"><b>cleo</b> <code>-,-,-</code>: no option is ranked, so nothing is preferred</li>\n'
 
 
-@at_browser.NEEDS_BROWSER
-class ScriptsTest(publishing.PublishTest):
+class ScriptsTest(publishing.ResultPageTest):
     code = "0123456789abcdef" * 2
 
     @classmethod
@@ -33,38 +32,16 @@ class ScriptsTest(publishing.PublishTest):
         ballots = sorted(f"{alias} {ranks}\n" for alias, ranks in zip(roll, ["1,2,3", "2,1,-", "1,1,1"]))
         cls.secret = plain_room(cls.scratch / "secret", poll, "".join(ballots))
         cls.told_in_secret = publish(cls.secret, *FILES, "result")
-        cls.window = cls.enterClassContext(at_browser.Window(800, 900))
-
-    def page_of(self, room=None, change=None):
-        """The window, with the page, in which the first text of a change is the other one."""
-        text = ((room or self.room) / "result" / "index.html").read_text()
-        changed = text.replace(*change, 1) if change else text
-        self.assertEqual(changed != text, change is not None)
-        # a changed page would not run, since its policy names its scripts
-        file = self.scratch / "page.html"
-        file.write_text(changed)
-        self.window.open(file)
-        return self.window
-
-    def published(self, room, name, **changes):
-        """A room with the result of the files of another one, with what an election adds to them."""
-        programs = publishing.PROGRAM.parent
-        files = {"poll": str(room / "poll.toml"), "ballots": str(room / "ballots")}
-        two = command_line.facts_of(command_line.Arguments(**files, casting=None, desks=1, language="en", target="result"), programs)
-        made_room = plain_room(self.scratch / name)
-        with folder.made(dataclasses.replace(two, **changes), made_room / "result", programs) as made:
-            made.take_place(made_room / "result")
-        return made_room
 
     def test_finding_a_ballot(self):
         self.expect("open", self.told, ("Winner: 2 B\nverified\n", "", 0))
         window = self.page_of()
-        ballot = ['Option 2: <i>B</i> & "C"', "Option 1: 72 Euro", "Not ranked: Option 3: N", "The line: ada 2,1,-"]
+        ballot = ['<i>B</i> & "C"', "72 Euro", "Not ranked: N", "The line: ada 2,1,-"]
         for name in ("ada", " Ada ", "ÁDA"):
-            self.expect(name, window.find(name), ["This ballot counts for ada:", *ballot])
-        equal = ['equally Option 2: <i>B</i> & "C" and Option 3: N', "Not ranked: Option 1: 72 Euro", "The line: ben -,1,1"]
+            self.expect(name, window.find(name), ["ada: counted", *ballot])
+        equal = ['<i>B</i> & "C" and N equally', "Not ranked: 72 Euro", "The line: ben -,1,1"]
         self.expect("equal ranks", window.find("ben")[1:], equal)
-        self.expect("hyphens alone", window.find("cleo")[1:], ["nothing is preferred", "The line: cleo -,-,-"])
+        self.expect("hyphens alone", window.find("cleo")[1:], ["no option is ranked, so nothing is preferred", "The line: cleo -,-,-"])
         for typed, said in {
             "a-d-a": "Do you mean ada?",
             "dan": "dan is on the roll, and no ballot counts for this name.",
@@ -74,6 +51,9 @@ class ScriptsTest(publishing.PublishTest):
             " ": "Type your name.",
         }.items():
             self.expect(f"typed {typed}", window.find(typed), [said])
+        exact = "[...document.querySelectorAll('#Answer code, #Answer q')].map((node) => node.textContent)"
+        self.expect("what is typed is in quotation marks", (window.find("Zoë Ada"), window.ask(exact))[1], ["zoë ada"])
+        self.expect("the line is in code", (window.find("ada"), window.ask(exact))[1], ["ada 2,1,-"])
         # a browser that opens the page at a name shows the ballot, too, and not its place in the list
         window.tell("Page.navigate", url="about:blank")
         window.until("location.href === 'about:blank'")
@@ -81,10 +61,10 @@ class ScriptsTest(publishing.PublishTest):
         window.until("document.getElementById('Answer').textContent.includes('ben')")
         window.until("Math.abs(document.getElementById('Find-your-ballot').getBoundingClientRect().top) < 80")
         self.expect("the list is folded", window.ask("document.getElementById('ben').closest('details').open"), False)
-        for address, name in (("ben", "ben"), ("ada/23456789ab", "ada")):
+        for address, name in (("ben", "ben"), ("ada/23456789ab", "ada"), ("%62en", "ben")):
             window.ask(f"location.hash = '#{address}'")
             window.until(f"document.getElementById('Answer').textContent.includes('{name}')")
-            self.expect(f"the address {address} names an elector", window.found()[0], f"This ballot counts for {name}:")
+            self.expect(f"the address {address} names an elector", window.found()[0], f"{name}: counted")
             window.until("document.querySelectorAll('.folded[open]').length === 0")
             top = window.ask("document.getElementById('Find-your-ballot').getBoundingClientRect().top")
             self.expect(f"{address}: it is shown at once", -1 <= top < 900, True)
@@ -102,7 +82,7 @@ class ScriptsTest(publishing.PublishTest):
         for typed, said in {"Meyer": none, "lee": "Do you mean ben-leeeve-lee?", "Meier": "Do you mean anna-meier (Anna Meier)?"}.items():
             self.expect(typed, window.find(typed), [said])
         window.ask("document.querySelector('#Answer button').click()")
-        window.until("document.getElementById('Answer').textContent.startsWith('This ballot counts for anna-meier:')")
+        window.until("document.getElementById('Answer').textContent.startsWith('anna-meier: counted')")
         # of whoever has a line that does not count the page says where it is
         came = "A line with this name came, and does not count: Refused and late lines"
         for name, more in {"dan": [came], "ben-lee": [], "eve-lee": [came]}.items():
@@ -122,6 +102,49 @@ class ScriptsTest(publishing.PublishTest):
         self.expect("broken words", window.broken_words("[...document.querySelectorAll('th[scope=row]')]"), [])
         self.expect("the page is as wide as the window", window.ask("document.documentElement.scrollWidth"), 360)
 
+    def test_the_table_of_votes_is_whole_on_paper(self):
+        """Browsers cut what is wider than the paper."""
+        self.addCleanup(self.window.resize, 800, 900)
+        self.addCleanup(self.window.show)
+        for options, is_smaller in ((3, False), (30, True)):
+            names = [f"Ausflug nach {number}" for number in range(options - 1)]
+            poll = re.sub("options = .*", f"options = {json.dumps(names)}", publishing.PLAIN_POLL).replace("[1, 1]", f"{[1] * len(names)}")
+            room = plain_room(self.scratch / f"{options} on paper", poll, f"ada {','.join(map(str, range(1, options + 1)))}\n")
+            self.expect("it is published", publish(room, *FILES, "result")[2], 0)
+            window = self.page_of(room)
+            window.show(on_paper=True)
+            window.resize(717, 900)
+            size = window.ask("parseFloat(getComputedStyle(document.querySelector('table')).fontSize)")
+            wide = window.ask("[document.documentElement.scrollWidth, document.querySelector('table').getBoundingClientRect().right <= 717]")
+            self.expect(f"{options} options in {size} pixels", (wide, 8 < size < 16), ([717, True], is_smaller))
+
+    def test_wide_and_narrow_windows_and_long_names(self):
+        """From 70rem finding and checking stand at the right; a long name is smaller, and no number stands alone on a line."""
+        self.addCleanup(self.window.resize, 800, 900)
+        self.addCleanup(self.window.show)
+        sizes = {}
+        for length in (60, 61):
+            names = [("Ein Name aus vielen Worten und noch mehr " * 2)[:length], "B " * 90, "N " * 80]
+            poll = publishing.PLAIN_POLL + f"shown_options = {json.dumps(names)}\n"
+            room = plain_room(self.scratch / f"names-of-{length}", poll)
+            self.expect("it is published", publish(room, *FILES, "result")[2], 0)
+            window = self.page_of(room)
+            sizes[length] = window.ask("parseFloat(getComputedStyle(document.getElementById('Result')).fontSize)")
+            window.ask("document.querySelectorAll('details').forEach((node) => { node.open = true; })")
+            for width, is_beside in ((360, False), (1100, False), (1130, True), (1280, True)):
+                window.resize(width, 640)
+                beside = window.ask("""document.getElementById('Find').getBoundingClientRect().left
+                  > document.querySelector('.outcome').getBoundingClientRect().right""")
+                self.expect(f"{width}: numbers alone on a line, and what is beside it", (window.ask(at_browser.LONE_NUMBERS), beside), ([], is_beside))
+        self.expect("sizes of names", sizes[60] > sizes[61] > 16, True)
+        # a ballot with names that are too long has their numbers alone on paper
+        window.show(on_paper=True)
+        kept = window.ask("['.ballots i', '.ballots bdi', '.duels bdi'].map((place) => document.querySelector(place).checkVisibility())")
+        self.expect("on paper", kept, [True, False, True])
+        # a page with something wider is printed smaller: a picture is drawn as small as the paper is
+        window.resize(700, 900)
+        self.expect("wide on paper", window.ask("[document.documentElement.scrollWidth, document.querySelector('.picture svg')?.clientWidth > 300]"), [700, publishing.HAS_PICTURES])
+
     def test_electors_with_names_of_things_of_the_page(self):
         roll = ["find", "code", "show", "answer", "votes", "name", "result", "again", "poll-file", "ballots", "anna-meier", "graph0"]
         poll = re.sub("roll = .*", f"roll = {json.dumps(roll)}", publishing.PLAIN_POLL)
@@ -129,12 +152,12 @@ class ScriptsTest(publishing.PublishTest):
         self.expect("it is published", publish(room, *FILES, "result"), ("Winner: 1 A\nverified\n", "", 0))
         window = self.page_of(room)
         for name in roll[:-1]:
-            self.expect(name, window.find(name), [f"This ballot counts for {name}:", "Option 1: A", "Option 2: B", "Option 3: N", f"The line: {name} 1,2,3"])
+            self.expect(name, window.find(name), [f"{name}: counted", "A", "B", "N", f"The line: {name} 1,2,3"])
         self.expect("no ballot", window.find(roll[-1]), [f"{roll[-1]} is on the roll, and no ballot counts for this name."])
         self.expect("counted again", window.count_again()[0].startswith("The same, line for line"), True)
         # a name in capitals in the address is the one in small letters, unless it is that of a part of the page
-        window.ask("location.hash = '#Anna-Meier/23456789AB'")
-        window.until("document.getElementById('Answer').textContent.startsWith('This ballot counts for anna-meier:')")
+        window.ask("location.hash = '#Anna-Meier/23456789AB/23456789abcdefgh'")
+        window.until("document.getElementById('Answer').textContent.startsWith('anna-meier: counted')")
         window.ask("location.hash = '#Ballots'")
         window.until("document.getElementById('Ballots').closest('details').open")
         self.expect("what is shown at a part of the page", window.ask("document.getElementById('Name').value"), "anna-meier")
@@ -142,9 +165,12 @@ class ScriptsTest(publishing.PublishTest):
     def test_finding_a_ballot_of_a_secret_vote(self):
         self.expect("secret", self.told_in_secret[1:], ("", 1))
         window, alias = self.page_of(self.secret), alias_of(self.code, "zoe-muller")
-        wanted = ["Option 2: B", "Option 1: A", "Not ranked: Option 3: N", f"The line: {alias} 2,1,-"]
+        wanted = ["B", "A", "Not ranked: N", f"The line: {alias} 2,1,-"]
         for name in ("zoe-muller", "Zoë Müller", "  ZOE  MÜLLER "):
             self.expect(name, window.find(name, f" {self.code[:16].upper()} {self.code[16:]}")[1:], wanted)
+        above = "document.querySelector('.warning').compareDocumentPosition(document.getElementById('Name')) === Node.DOCUMENT_POSITION_FOLLOWING"
+        seen = window.ask(f"[{above}, document.querySelector('.warning').checkVisibility()]")
+        self.expect("what is learned of what is typed stands above the fields", seen, [True, True])
         none = window.find("cleo", self.code)
         self.expect("no ballot", none, [f"Your alias is {alias_of(self.code, 'cleo')}. It is on the roll, and no ballot counts under it."])
         other = f"No elector of this vote has the alias {alias_of('f' * 32, 'ada')}. Type name and code as they are in your letter or on your slip."
@@ -172,17 +198,17 @@ class ScriptsTest(publishing.PublishTest):
     def test_the_checksum_of_the_close(self):
         """In a secret vote it covers the random line, too."""
         folder, seal = self.secret / "result", "5" * 32
-        secret = SecretVote(codes=frozenset(), seal=seal, sheet_text=(folder / "sheet.txt").read_text(), late=0)
-        window = self.page_of(self.published(self.secret, "sealed", secret=secret))
+        private = sheet_in((folder / "sheet.txt").read_text())
+        window = self.page_of(self.published(self.secret, "sealed", seal=seal, private=private))
         sealed = hashlib.sha256(f"{seal}\n".encode() + (folder / "ballots.txt").read_bytes()).hexdigest()
         said = f"The checksum of seal.txt and the ballots, as the letter of the close has to have it, is {sealed}."
-        self.expect("sealed", f"{said} This page names it too. Yours is the same." in window.count_again(sealed), True)
+        self.expect("sealed", f"{said} This page names it too." in window.count_again(), True)
 
     def test_what_is_typed(self):
         """Enter shows the ballot, and an answer goes when another name is typed; of two with one real name both are shown."""
         window = self.page_of(self.published(self.room, "real names", real_names={"ada": "Zoë", "ben": "Zoë", "dan": "Dan"}))
-        counts = [said for said in window.find("zoe") if said.startswith("This ballot counts")]
-        self.expect("one real name", counts, ["This ballot counts for ada:", "This ballot counts for ben:"])
+        counts = [said for said in window.find("zoe") if said.endswith(": counted")]
+        self.expect("one real name", counts, ["ada: counted", "ben: counted"])
         window.ask("document.getElementById('Name').focus()")
         window.press("1")
         window.until("document.getElementById('Answer').textContent === ''")
@@ -208,42 +234,39 @@ class ScriptsTest(publishing.PublishTest):
         self.page_of()
         seen = window.ask("[...document.querySelectorAll('.folded')].map((part) => part.children[1].getBoundingClientRect().height > 0)")
         self.expect("on paper", (seen, window.ask(unfolded)), ([True] * 9, []))
-        # browsers print no grounds: paper has the ink on the paper
-        won = window.ask("(({ backgroundColor, color }) => [backgroundColor, color === getComputedStyle(document.body).color])(getComputedStyle(document.querySelector('.chip.won')))")
-        self.expect("the chip of the winner on paper", won, ["rgba(0, 0, 0, 0)", True])
+        # what is typed there stays out, and of long ballots the names
+        kept = window.ask("""['#Find', '#Count-again-here', '.checks + details', '.verifying', '#Checksums', '.ballots bdi']
+          .map((place) => document.querySelector(place).checkVisibility())""")
+        self.expect("seen on paper", kept, [False, False, False, False, True, True])
 
     def test_counting_again(self):
         folder = self.room / "result"
-        sums = {name: hashlib.sha256((folder / name).read_bytes()).hexdigest() for name in ("poll.toml", "ballots.txt", "index.html")}
         window = self.page_of()
         rows, lines = window.count_again(), (folder / "sheet.txt").read_text().count("\n")
         self.expect("the sheet", rows[0], f"The same, line for line: this count comes to the published sheet, in all its {lines} lines.")
         self.expect("the page", rows[2].startswith("This page shows what its files come to: "), True)
-        for typed in (sums["poll.toml"], f"{sums['poll.toml'].upper()}  poll.toml", f"\\{sums['poll.toml']} *a\\nb", f" {sums['ballots.txt']}\n"):
-            said = " ".join(window.count_again(typed))
-            self.expect(f"typed {typed}", ("Yours is the same." in said, LETTER_OTHER in said), (True, False))
-        self.expect("that of another file", LETTER_OTHER in window.count_again(sums["index.html"])[3], True)
+        # a changed page would call its own checksum right: it takes none, and neither itself nor SHA256SUMS
+        typed = window.ask("[...document.querySelectorAll('[aria-labelledby=Check-it] input')].map((node) => node.type)")
+        self.expect("what is asked for", typed, ["file"])
+        digests = [hashlib.sha256((folder / name).read_bytes()).hexdigest() for name in ("poll.toml", "ballots.txt")]
+        self.expect("checksums are in code", window.ask("[...document.querySelectorAll('#Again-answer p code')].map((node) => node.textContent)")[1:], digests)
         for name in ("index.html", "SHA256SUMS"):
-            data = (folder / name).read_bytes()
-            digest = hashlib.sha256(data).hexdigest()
-            found = [window.count_again(typed, {name: data}) for typed in ("", digest)]
-            self.expect(name, found, [[f"The checksum of {name} is {digest}.{same}"] for same in ("", " Yours is the same.")])
-            self.expect(f"{name}, changed", LETTER_OTHER in window.count_again(digest, {name: data + b"x"})[0], True)
-        sum_of_poll = sums["poll.toml"]
-        for typed, number in ((sum_of_poll[:63], 63), (f"{sum_of_poll[:16]} {sum_of_poll[16:20]}", 20), (f"{sum_of_poll}0", 65), ("?", 0)):
-            self.expect(f"typed {typed}", window.count_again(typed)[3], f"A checksum has 64 digits, 0 to 9 and a to f, and you have typed {number}.")
+            self.expect(name, window.count_again({name: (folder / name).read_bytes()}), [CHOOSE])
 
     def test_counting_again_on_changed_pages(self):
         changes = {
-            "the result": ('<h2 id="Result"><b data-option="2"><bdi>&lt;i&gt;B', '<h2 id="Result"><b data-option="2"><bdi>&lt;i&gt;C'),
-            "the names of title and options  ": ('<span class="unseen">: </span><b><bdi>72', '<span class="unseen">: </span><b><bdi>73'),
+            "the result": ('<h2 id="Result"><b><bdi>&lt;i&gt;B', '<h2 id="Result"><b><bdi>&lt;i&gt;C'),
+            "the result ": ("<b>1 to 0</b>", "<b>1 to 1</b>"),
+            "the result  ": ("against <bdi>N", "against <bdi>M"),
+            "the names of title and options  ": ('<p class="option"><span><i>1</i>\u00a0<bdi>72', '<p class="option"><span><i>1</i>\u00a0<bdi>73'),
             "the names of title and options": ('<h1 dir="auto">Größe', '<h1 dir="auto">Grösse'),
-            "the names of title and options ": ("(plain name, on the result sheet: A)", "(plain name, on the result sheet: B)"),
+            "the names of title and options ": (">plain name, on the result sheet: A<", ">plain name, on the result sheet: B<"),
+            "the names of title and options    ": ("</bdi>, the default option</li>", '</bdi>, the default option <span class="plain">x</span></li>'),
             "the table of votes": ("<td>0</td>", "<td>1</td>"),
             "the ballot of ben": ('<li id="ben"><b>ben</b> <code>-,1,1', '<li id="ben"><b>ben</b> <code>-,1,2'),
             "the ballot of bem": ('<li id="ben">', '<li id="bem">'),
             "the ballots, which are not as many": (LAST_BALLOT, ""),
-            "the ballot of ada": ("</bdi>; then Option 1: <bdi>72 Euro</bdi>; not", "</bdi>; then Option 1: <bdi>73 Euro</bdi>; not"),
+            "the ballot of ada": ("</bdi>, then <i>1</i>\u00a0<bdi>72 Euro</bdi>; not", "</bdi>, then <i>1</i>\u00a0<bdi>73 Euro</bdi>; not"),
         }
         for what, change in changes.items():
             said = [row for row in self.page_of(change=change).count_again() if row.startswith("This page does not show what its files come to: ")]
@@ -253,19 +276,42 @@ class ScriptsTest(publishing.PublishTest):
         folder = self.room / "result"
         files = {name: (folder / name).read_bytes() for name in ("poll.toml", "ballots.txt", "sheet.txt")}
         window = self.page_of()
-        self.expect("the same", window.count_again(files=files)[0].startswith("The same, line for line"), True)
+        self.expect("the same", window.count_again(files)[0].startswith("The same, line for line"), True)
         for name, data, said in [
             ("sheet.txt", files["sheet.txt"].removesuffix(b"\n"), "(without a line feed at its end). By this count it is: Winner: 2 B (with a line feed at its"),
             ("poll.toml", b"# a comment\n" + files["poll.toml"], "not in plain form, as the poll.toml of a result is"),
             ("poll.toml", files["poll.toml"].replace(b'"Plain"', b'"Pl\xffin"'), "poll refused: not in UTF-8"),
         ]:
-            row = window.count_again(files=files | {name: data})[0]
+            row = window.count_again(files | {name: data})[0]
             self.expect(f"{name} is another: {row}", said in row, True)
-        others = window.count_again(files=files | {"ballots.txt": files["ballots.txt"] + b"dan 1,2,3\n"})
+        others = window.count_again(files | {"ballots.txt": files["ballots.txt"] + b"dan 1,2,3\n"})
         told = "If the files are as they were published, tell the other electors."
         shown = [(row.endswith(told), row.startswith("This page")) for row in others if row.startswith(("Not the same", "This page"))]
         self.expect(f"other ballots: {others}", shown, [(True, False)])
         named = {row.split()[4]: row.endswith("This page names it too.") for row in others if row.startswith("The checksum of the ")}
         self.expect("what the page names", named, {"poll,": True, "ballots,": False})
-        two = window.count_again(files=files | {"poll-2.toml": files["poll.toml"]})
-        self.expect("two polls", two, ["Choose poll.toml and ballots.txt, one file of each and under these names; you may add sheet.txt."])
+        self.expect("two polls", window.count_again(files | {"poll-2.toml": files["poll.toml"]}), [CHOOSE])
+        for name in ("poll.toml", "ballots.txt"):
+            self.expect(f"no {name}", window.count_again({other: files[other] for other in files if other != name}), [CHOOSE])
+
+    def test_a_line_that_differs_and_a_casting_vote(self):
+        files = {name: (self.room / "result" / name).read_bytes() for name in ("poll.toml", "ballots.txt", "sheet.txt")}
+        window, lines = self.page_of(), files["sheet.txt"].count(b"\n")
+        row = window.count_again(files | {"sheet.txt": files["sheet.txt"].replace(b"Winner: 2 B", b"Winner: 1 A")})[0]
+        self.expect(f"the line: {row}", re.findall(r"line (\d+) differs", row), [str(lines)])
+        ballots = {"ballots.txt": b"ada 1,2,3\n"}
+        without_sheet = {name: data for name, data in files.items() if name != "sheet.txt"}
+        for given, whose in ((files, "the sheet that you chose"), (without_sheet, "the sheet of this page")):
+            row = window.count_again(given | ballots)[0]
+            self.expect(row, row.startswith(f"Not the same as {whose}: "), True)
+        # of the first option, too
+        files["ballots.txt"] = b"ada 1,1,2\nben 1,1,2\n"
+        words = [PROGRAM, "count"]
+        for kind in ("poll", "ballots"):
+            [name] = [name for name in files if name.startswith(kind)]
+            (self.scratch / name).write_bytes(files[name])
+            words += [f"--{kind}", self.scratch / name]
+        for option in ("A", "B"):
+            sheet = subprocess.run([*words, "--casting", option], capture_output=True).stdout
+            said = f"The sheet has a casting vote for {option}. No count shows whose it was."
+            self.expect(said, said in window.count_again(files | {"sheet.txt": sheet}), True)

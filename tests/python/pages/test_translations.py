@@ -53,7 +53,7 @@ class Translations(languages.LanguageTest):
     def test_what_puts_parts_behind_each_other_has_its_places_at_its_ends(self) -> None:
         for code, entries in self.entries.items():
             forms = {entry.texts[0]: entry.forms[0] for entry in entries}
-            for text in ("{entries} and {last}", "{before}: {after}", "{before}; {after}", "{before}, then {step}", "{before}; then {step}"):
+            for text in ("{entries} and {last}", "{before}: {after}", "{before}; {after}", "{before}, then {step}", "{thousands},{rest}"):
                 first, second = re.findall(r"\{\w+\}", text)
                 self.assertRegex(forms[text], f"^{re.escape(first)}.*{re.escape(second)}$", code)
 

@@ -15,12 +15,13 @@ import urllib.parse
 from debvote_tools.cli.faults import Fault, Status
 from debvote_tools.inbox.lines import repaired_line
 from debvote_tools.poll.announced import demand_mail_address, demand_web_address
-from debvote_tools.poll.call import CallData, call_files, call_letter, extension_letter
+from debvote_tools.poll.call import CallData, call_files, call_letter
+from debvote_tools.poll.questions import LONGEST_LINE
 from debvote_tools.poll.sealed import read_plain, with_roll
 from debvote_tools.text.language import LANGUAGES, language_of
 
 from tests.support import page_parts
-from tests.support.calls import ADDRESS, CALL, CODES, KINDS, PAGE, POLL, ROLL, SECRET, UNTIL, WITH_CODES
+from tests.support.calls import ADDRESS, CALL, CODES, KINDS, PAGE, POLL, ROLL, SECRET, UNTIL, WITH_CODES, alone
 
 LATER = UNTIL + datetime.timedelta(days=2)
 FIRST_WORDS, LATER_WORDS = "Friday, 4 December 2026, 18:00 (UTC+01:00)", "Sunday, 6 December 2026, 18:00 (UTC+01:00)"
@@ -62,9 +63,9 @@ class Files(unittest.TestCase):
                 checksums = dict(line.split("  ")[::-1] for line in files["SHA256SUMS"].decode().splitlines())
                 self.assertEqual(checksums, {name: sha256_of(files[name]) for name in files if name != "SHA256SUMS"})
                 if kind != "codes":
-                    self.assertEqual((read_plain(files["poll.toml"]), files["poll.toml"]), (data.poll, data.poll.as_bytes()))
-                checksum, page = sha256_of(data.poll.as_bytes()), page_of(data)
-                for text in (page, as_read(extension_letter(data))):
+                    self.assertEqual((read_plain(files["poll.toml"]), files["poll.toml"]), (data.questions[""], data.questions[""].as_bytes()))
+                checksum, page = sha256_of(data.questions[""].as_bytes()), page_of(data)
+                for text in (page, as_read(call_letter(data, is_extension=True))):
                     self.assertIn(checksum, text)
                     self.assertNotRegex(text, "grep|extended_to|last_envelope")
                 self.assertIn("answer the same checksum: sha256sum poll.toml ", page)
@@ -73,7 +74,7 @@ class Files(unittest.TestCase):
 
     def test_until_when(self) -> None:
         extended, more = dataclasses.replace(CALL, until=LATER), f"The time was extended. The call said at first: {FIRST_WORDS}"
-        late = dataclasses.replace(extended, poll=dataclasses.replace(POLL, deadline=None))
+        late = dataclasses.replace(extended, questions=alone(dataclasses.replace(POLL, deadline=None)))
         # seen after the end alone
         over = "By the clock of this device the time is over. If you send a line all the same, the secretary decides whether it counts. "
         for data, wanted, change in [
@@ -82,9 +83,9 @@ class Files(unittest.TestCase):
             (late, f"Vote until: {LATER_WORDS} The call did not say it at first. ", "You can now vote until the time below."),
             (dataclasses.replace(late, until=None), "You can vote until the time that the secretary announces. ", None),
         ]:
-            self.assertIn(f"{wanted}{over if data.until else ''}Your name", page_of(data))
+            self.assertIn(f"{wanted}{over if data.until else ''}Name ", page_of(data))
             if change is not None:
-                letter = as_read(extension_letter(data))
+                letter = as_read(call_letter(data, is_extension=True))
                 self.assertTrue(letter.startswith(f"{change} Nothing else that the call says has changed. "), letter)
                 for part in (f"Where we meet {wanted}The page of the vote", "If you have voted, you need not vote again"):
                     self.assertIn(part, letter)
@@ -92,34 +93,33 @@ class Files(unittest.TestCase):
         self.assertFalse(dataclasses.replace(CALL, until=UNTIL.astimezone(datetime.UTC)).is_extended)
 
     def test_where_to(self) -> None:
-        mark = f"[{POLL.mark}]"
+        mark = f"[{CALL.questions.mark}]"
         self.assertIn(f"Send your line to {ADDRESS} in a letter whose subject ends with {mark}.", page_of(CALL))
         self.assertIn("Send your ballot as the secretary announces. ", page_of(dataclasses.replace(CALL, at=None, to=None)))
         self.assertIn(f"your ballot, and below it the mark of this vote, {mark}, so that", page_of(KINDS["signed"]))
-        self.assertIn("In a web form an empty field is a hyphen", page_of(KINDS["signed"]))
         links = [node.attributes["href"] for node in read(CALL).root.all("a") if node.attributes.get("href", "").startswith("mailto:")]
         self.assertEqual(links, [f"mailto:vote%2Bclub@example.org?subject={urllib.parse.quote(f'Ballot: Where we meet {mark}')}"])
-        self.assertEqual(told(CALL, "data-mark"), POLL.mark)
+        self.assertEqual(told(CALL, "data-mark"), CALL.questions.mark)
 
     def test_options_have_their_numbers_and_what_they_need(self) -> None:
         shown = dataclasses.replace(POLL, shown_title="Wohin?", shown_options=("Am See", "72 \u20ac", "Verkaufen", "Keine"))
         for poll, names in ((POLL, POLL.plain_names), (shown, shown.shown_options)):
-            data = dataclasses.replace(CALL, poll=poll)
+            data = dataclasses.replace(CALL, questions=alone(poll))
             text, root = page_of(data), read(data).root
             numbered = [f"Option {number}: {name}" for number, name in enumerate(names, start=1)]
             ratios = [f"majority ratio {ratio}" for ratio in (1, 1, 3)] + ["the default option"]
             rules = "Majority ratio 3: at least 3 times as many electors", "The quorum is 2 votes: at least 2 electors", "The roll has 4 electors."
-            self.assertIn(f"Ballot%3A%20{urllib.parse.quote(poll.name)}%20%5B{poll.mark}%5D", call_files(data)["index.html"].decode())
+            self.assertIn(f"Ballot%3A%20{urllib.parse.quote(poll.name)}%20%5B{data.questions.mark}%5D", call_files(data)["index.html"].decode())
             self.assertEqual([root.one(tag).text() for tag in ("title", "h1")], [f"Vote: {poll.name}", poll.name])
             for part in (*map("{}, {}".format, numbered, ratios), *rules, f"The default option is {numbered[3]}.", "NAME _,_,_,_ "):
                 self.assertIn(part, text)
-        more_than = page_of(dataclasses.replace(CALL, poll=dataclasses.replace(POLL, wording="more_than", quorum=0)))
+        more_than = page_of(dataclasses.replace(CALL, questions=alone(dataclasses.replace(POLL, wording="more_than", quorum=0))))
         self.assertIn("Majority ratio 3: more than 3 times as many electors", more_than)
         self.assertIn("There is no quorum. The roll has 4 electors.", more_than)
 
     def test_texts_of_options(self) -> None:
         poll = dataclasses.replace(POLL, explanations=("First line\nsecond <b>line</b>\n\nand more\n", "", "Sell \u05d0\u05d1\n \n\nit"))
-        data = dataclasses.replace(CALL, poll=poll)
+        data = dataclasses.replace(CALL, questions=alone(poll))
         files = call_files(data)
         page = files["index.html"].decode()
         frames = re.findall(r'<bdi class="name">([^<]*)</bdi></p>\n<div class="said"><div class="text" role="note".*?>\n(.*?)</div>', page, re.DOTALL)
@@ -144,7 +144,7 @@ class Files(unittest.TestCase):
         # real names are shown only where they will be published
         self.assertNotIn(b"Ada", b"".join(call_files(dataclasses.replace(names, real_names=None)).values()))
         for count, in_page, in_letter in ((200, True, True), (201, True, False), (2_000, True, False), (2_001, False, False)):
-            data = dataclasses.replace(CALL, at=None, poll=with_roll(POLL, [f"e{number:04}" for number in range(count)]))
+            data = dataclasses.replace(CALL, at=None, questions=alone(with_roll(POLL, [f"e{number:04}" for number in range(count)])))
             files = {name: call_files(data)[name].decode() for name in ("index.html", "call.txt")}
             self.assertEqual(tuple("e0100" in text for text in files.values()), (in_page, in_letter))
             for text, is_listed in ((page_of(data), in_page), (files["call.txt"], in_letter)):
@@ -207,7 +207,7 @@ class Hostile(unittest.TestCase):
     def hostile(self, texts: list[str]) -> CallData:
         poll = dataclasses.replace(POLL, shown_title=texts[0], shown_options=(texts[1], texts[2], texts[0], texts[2] + "."))
         poll = dataclasses.replace(poll, explanations=(texts[0], texts[1], texts[2]))
-        return dataclasses.replace(CALL, poll=poll, real_names=dict(zip(ROLL, [*texts, "Dan"], strict=True)))
+        return dataclasses.replace(CALL, questions=alone(poll), real_names=dict(zip(ROLL, [*texts, "Dan"], strict=True)))
 
     def test_the_page_runs_its_own_script_alone(self) -> None:
         page = call_files(self.hostile(HOSTILE))["index.html"].decode()
@@ -234,14 +234,14 @@ class NoBallot(unittest.TestCase):
         words = text.split()
         lines = {" ".join(words[start : start + size]) for size in range(1, 9) for start in range(len(words))}
         # the shortest ballot has two ranks
-        for line in (repaired_line(line.encode()) for line in lines if "," in line and any(map(str.isdigit, line))):
+        for line in (repaired_line(line.encode(), LONGEST_LINE) for line in lines if "," in line and any(map(str.isdigit, line))):
             self.assertNotRegex(line, rb"^[a-z0-9.-]{1,32} (?:-|[1-9][0-9]?)(?:,(?:-|[1-9][0-9]?))+$")
 
     def test_of_calls_and_extensions(self) -> None:
         for code, (kind, data), count in itertools.product(LANGUAGES, KINDS.items(), (1, 2, 3, 7)):
-            poll = dataclasses.replace(data.poll, options=(*POLL.options, "D", "E", "F", "G")[:count], ratios=(1,) * count)
-            call = dataclasses.replace(data, poll=poll, language=language_of(code), until=LATER)
-            for text in (call_letter(call), extension_letter(call)):
+            poll = dataclasses.replace(data.questions[""], options=(*POLL.options, "D", "E", "F", "G")[:count], ratios=(1,) * count)
+            call = dataclasses.replace(data, questions=alone(poll), language=language_of(code), until=LATER)
+            for text in (call_letter(call), call_letter(call, is_extension=True)):
                 with self.subTest(language=code, kind=kind, options=count):
                     self.assert_no_ballot(text)
 

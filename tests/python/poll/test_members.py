@@ -2,12 +2,9 @@
 
 import codecs
 import itertools
-import pathlib
-import tempfile
 import unittest
 
 from debvote_tools.cli.faults import Fault, Status
-from debvote_tools.files import TABLE_LIMIT
 from debvote_tools.poll import members
 
 
@@ -17,21 +14,22 @@ KEY = "0123456789ABCDEF0123456789ABCDEF01234567"
 class MembersTest(unittest.TestCase):
     maxDiff = None
 
-    def read(self, content: str | bytes) -> members.Roll:
-        return members.members_of(content if isinstance(content, bytes) else content.encode())
+    def read(self, content: str | bytes) -> tuple[list[members.Member], list[Fault]]:
+        found, wrong = members.members_of(content if isinstance(content, bytes) else content.encode(), "members.csv")
+        return found, members.faults_of("members.csv", wrong)
 
     def assert_rows(self, content: str | bytes, *wanted: tuple[int, str, str, str]) -> None:
         """Line, name, who and addresses of each member, and no fault."""
-        found = self.read(content)
-        self.assertEqual([fault.words for fault in found.faults], [])
-        self.assertEqual([(row.line, row.name, row.who, " ".join(row.addresses)) for row in found.electors], list(wanted))
+        found, faults = self.read(content)
+        self.assertEqual([fault.words for fault in faults], [])
+        self.assertEqual([(row.line, row.name, row.who, " ".join(row.addresses)) for row in found], list(wanted))
 
     def assert_faults(self, content: str | bytes, *wanted: tuple[str, ...]) -> None:
         """The parts of each fault, all of which stop the run."""
         try:
-            faults = self.read(content).faults
+            _, faults = self.read(content)
         except Fault as fault:
-            faults = (fault, *fault.others)
+            faults = [fault, *fault.others]
         self.assertEqual([fault.status for fault in faults], [Status.DOUBT] * len(wanted), [fault.words for fault in faults])
         for fault, parts in zip(faults, wanted):
             for part in (*parts, "then run debvote-election roll again"):
@@ -92,9 +90,9 @@ class Read(MembersTest):
 
     def test_several_addresses(self) -> None:
         text = 'who,mail\nAda,a@x b@x\nBen,"b@x, c@x;d@x"\nCleo,"Lovelace, Cleo <c@x>; <d@x>"\nDan,mailto:d@x d@x\n'
-        self.assertEqual([row.addresses for row in self.read(text).electors], [("a@x", "b@x"), ("b@x", "c@x", "d@x"), ("c@x", "d@x"), ("d@x",)])
+        self.assertEqual([row.addresses for row in self.read(text)[0]], [("a@x", "b@x"), ("b@x", "c@x", "d@x"), ("c@x", "d@x"), ("d@x",)])
         # and the fingerprint of a key
-        self.assertEqual([row.key for row in self.read(f"who,mail,key\nAda,,{KEY[:20].lower()} {KEY[20:]}\nBen,,\n").electors], [KEY, ""])
+        self.assertEqual([row.key for row in self.read(f"who,mail,key\nAda,,{KEY[:20].lower()} {KEY[20:]}\nBen,,\n")[0]], [KEY, ""])
 
 class Unread(MembersTest):
     def test_faults_of_the_file(self) -> None:
@@ -128,16 +126,6 @@ class Unread(MembersTest):
         ]:
             self.assert_faults(text, (f"members.csv:{line}: ", "close each quotation mark"))
 
-    def test_a_folder_no_file_and_one_that_is_too_long(self) -> None:
-        folder = pathlib.Path(self.enterContext(tempfile.TemporaryDirectory()))
-        with open(folder / "long", "wb") as file:
-            file.truncate(TABLE_LIMIT + 1)
-        long = "it is longer than .* bytes; shorten it, then run debvote-election roll again"
-        for file, part in ((folder, f"{folder}: Is a directory"), (folder / "no", f"{folder}/no: No such file"), (folder / "long", long)):
-            with self.assertRaisesRegex(Fault, part) as caught:
-                members.members_in(file)
-            self.assertEqual(caught.exception.status, Status.BAD_WORDS)
-
 
 class Rows(MembersTest):
     def test_all_faults_are_found_at_once_with_their_lines(self) -> None:
@@ -159,7 +147,7 @@ class Rows(MembersTest):
             (":11: `g\\u202E@x` is not a mail address",),
         ]
         self.assert_faults(text, *wanted)
-        self.assertEqual([row.line for row in self.read(text).electors], [2, 3, 4, 6, 7, 9, 10, 11])
+        self.assertEqual([row.line for row in self.read(text)[0]], [2, 3, 4, 6, 7, 9, 10, 11])
 
     def test_a_row_with_semicolons_below_a_head_with_commas(self) -> None:
         said = ":2: `Ada;ada@x` has a semicolon, and the header line has commas", "put a comma between the cells of this line too"

@@ -21,7 +21,9 @@ class Options(unittest.TestCase):
             # punctuation
             ("fr", ["„Ja“ – 5 €…", "L’été\u00a0: «oui»", "a → b", "½ × 3"], ['"Ja" - 5 EUR...', "L'ete : \"oui\"", "a b", "1/2 x 3"]),
             # where nothing is left
-            ("en", ["Ja", "李", "—", "Да 2"], ["Ja", "Option 2", "Option 3", "2"]),
+            ("en", ["Ja", "李", "—", "Да 2"], ["Ja", "Option 2", "Option 3", "Option 4"]),
+            # digits alone are a name only as they stand
+            ("en", ["2027", "(№ 3)", "第3案", "(三 3)"], ["2027", "(No 3)", "Option 3", "Option 4"]),
             ("en", ["李", "Option 1", "王"], ["Option 1 2", "Option 1", "Option 3"]),
             # long names are cut, and made different where another has the rest
             ("en", ["x" * 41], ["x" * 40]),
@@ -105,7 +107,7 @@ class Electors(unittest.TestCase):
 class Refused(unittest.TestCase):
     def assert_bad(self, names: list[str], *wanted: tuple[int, str]) -> None:
         """Which options are refused, each with a part of the reason."""
-        found = bad_options(names, plain_options(names, "de"))
+        found = list(bad_options(names, plain_options(names, "de")))
         self.assertEqual([(number, name) for number, name, _ in found], [(number, names[number - 1]) for number, _ in wanted])
         for (_, _, why), (_, reason) in zip(found, wanted):
             self.assertIn(reason, why)
@@ -127,9 +129,9 @@ class Refused(unittest.TestCase):
     def test_characters_and_length(self) -> None:
         for odd in ("\u202e", "\u2066", "\x1b", "\n", "\u2028", "\x7f", "\ue000", "\ufff9"):
             self.assert_bad(["x", f"a{odd}b"], (2, f"the character U+{ord(odd):04X}"))
-            self.assertEqual(len(bad_title(f"a{odd}b")), 1)
+            self.assertEqual(len(list(bad_title(f"a{odd}b"))), 1)
         self.assert_bad(["ä" * 200, "b" * 201], (2, "it has 201 characters; at most 200 are allowed"))
         self.assert_bad(["\u200b\u3164", "\u200c", "x"], (1, "no visible character"), (2, "no visible character"))
-        self.assertEqual(([number for number, _, _ in bad_title("c" * 201)], bad_title("c" * 200)), ([0], []))
+        self.assertEqual(([number for number, _, _ in bad_title("c" * 201)], list(bad_title("c" * 200))), ([0], []))
         # a subject of the last vote that was copied: each answer would wait as one about that vote
-        self.assertEqual([len(bad_title(f"Budget [{mark}]")) for mark in ("0123456789abcdef", "01234567", "2026")], [1, 0, 0])
+        self.assertEqual([len(list(bad_title(f"Budget [{mark}]"))) for mark in ("0123456789abcdef", "01234567", "2026")], [1, 0, 0])

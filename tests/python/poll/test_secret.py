@@ -1,5 +1,6 @@
 """Secret votes by their parts: codes and aliases, what is published under aliases, the seal of the close, the slips and the table."""
 
+import base64
 import csv
 import dataclasses
 import hashlib
@@ -18,18 +19,18 @@ from debvote_tools.book.queries import Elector
 from debvote_tools.inbox.lines import has_code
 from debvote_tools.poll.call import CallData
 from debvote_tools.poll.sealed import read_plain
-from debvote_tools.poll.secret import BY_OPENSSL, BY_PYTHON, NUMBER, alias_of, aliased_ballots, aliased_poll, codes_csv, new_code, seal_line, sealed_checksum, slips
+from debvote_tools.poll.secret import BY_OPENSSL, BY_PYTHON, NUMBER, alias_of, aliased_ballots, aliased, codes_csv, new_code, seal_line, sealed_checksum, slips
 from debvote_tools.text.language import LANGUAGES, language_of
 
 from tests.support import calls
 from tests.support.at_browser import NEEDS_BROWSER, Window
-from tests.support.calls import ROLL
+from tests.support.calls import ROLL, alone
 
 CODES = {name: f"{number:x}" * 32 for number, name in enumerate(ROLL, start=10)}
 ALIASES = {name: alias_of(code, name) for name, code in CODES.items()}
 NAMES = {"options": ("At the lake", "72 Euro"), "ratios": (1, 3), "explanations": ("Nice", "")}
 POLL = dataclasses.replace(calls.POLL, **NAMES, address=None, secret=True)
-CALL = dataclasses.replace(calls.CALL, poll=POLL, to="v@example.org", at=None, has_aliases=True)
+CALL = dataclasses.replace(calls.CALL, questions=alone(POLL), to="v@example.org", at=None, has_aliases=True)
 
 
 def elector(name: str, who: str, mail: str, code: str, alias: str) -> Elector:
@@ -86,13 +87,13 @@ class Codes(unittest.TestCase):
 
 class Published(unittest.TestCase):
     def test_the_poll_has_aliases_in_an_order_that_tells_no_name(self) -> None:
-        poll = aliased_poll(POLL, ALIASES | {"eve": "0" * 32})
+        poll = aliased(alone(POLL), [*ELECTORS, elector("eve", "", "", "e" * 32, "0" * 32)])[""]
         self.assertEqual(poll.roll, tuple(sorted(ALIASES.values())))
         self.assertNotEqual(list(poll.roll), list(ALIASES.values()))
         self.assertEqual((dataclasses.replace(poll, roll=ROLL), read_plain(poll.as_bytes())), (POLL, poll))
         self.assertEqual([text for text in (*ROLL, *CODES.values()) if text in poll.as_bytes().decode()], [])
         with self.assertRaises(KeyError):
-            aliased_poll(POLL, {"ada": ALIASES["ada"]})
+            aliased(alone(POLL), ELECTORS[:1])
 
     def test_the_ballots_are_in_normal_form_and_in_the_order_of_aliases(self) -> None:
         standing = {"ada": "17,33,99", "dan": "2,-,2", "ben": "-,-,-", "cleo": "3,1,2"}
@@ -136,14 +137,14 @@ class Slips(unittest.TestCase):
         said = "Vote untilFriday, 4 December 2026, 18:00 (UTC+01:00) Send your ballot tov@example.org "
         options = "_,_,_ 1 is the best, - is last. Equal ranks are allowed. 1 At the lake 2 72 Euro 3 None of the above "
         for row, text in zip(ELECTORS, self.each(CALL), strict=True):
-            for part in (said, f"A rank for each _{row.name} {options}", "The code is no part of your ballot", "whoever sees it can see how you voted."):
+            for part in (said, f"A rank for each option{row.name} {options}", "The code is no part of your ballot", "whoever sees it can see how you voted."):
                 self.assertIn(part, text)
         for text in self.each(dataclasses.replace(CALL, at="https://example.org/vote/")):
             self.assertIn(f"{said}At the end of the subject{CALL.mark} The page of the votehttps://example.org/vote/ ", text)
         for text in self.each(dataclasses.replace(CALL, until=None, to=None)):
             self.assertIn("Vote untilas the call for votes says Send your ballot toas the call for votes says", text)
         shown = dataclasses.replace(POLL, shown_title="Wohin?", shown_options=("Am See", "72 \u20ac", "Keine"))
-        for text in self.each(dataclasses.replace(CALL, poll=shown)):
+        for text in self.each(dataclasses.replace(CALL, questions=alone(shown))):
             self.assertRegex(text, "L\\. Wohin\\? Name.* 1 Am See 2 72 \u20ac 3 Keine")
 
     def test_with_codes_on_the_roll_nobody_has_a_name(self) -> None:
@@ -161,7 +162,7 @@ class Slips(unittest.TestCase):
         texts = ["<script>alert(1)</script>", '" onload="x', "\u05d0\u05d1 & {title} %s </bdi></section>"]
         poll = dataclasses.replace(POLL, shown_title=texts[0], shown_options=tuple(texts))
         for code in LANGUAGES:
-            call = dataclasses.replace(CALL, language=language_of(code), poll=poll)
+            call = dataclasses.replace(CALL, language=language_of(code), questions=alone(poll))
             page = slips(call, [elector(name, who, "", CODES[name], "") for name, who in zip(ROLL, texts)]).decode()
             self.assertIn(f'<html lang="{code}">', page)
             self.assertNotRegex(page, r"<script| onload=\"x|%s </bdi></section>")
@@ -190,16 +191,39 @@ class Slips(unittest.TestCase):
                 file = pathlib.Path(folder) / f"{code}-paper.html"
                 file.write_bytes(slips(call, ELECTORS))
                 window.open(file)
-                heights = window.ask("[...document.querySelectorAll('.slip')].map((slip) => slip.getBoundingClientRect().height)")
-                self.assertLessEqual(max(heights) * 4, 287 / 25.4 * 96, (code, heights))
+                # a machine may have a wider font alone; last, the one that it has
+                for family in ("DejaVu Sans", "Verdana", ""):
+                    ask = f"[...document.querySelectorAll('.slip')].map((slip) => (slip.style.fontFamily = '{family}', slip.getBoundingClientRect().height))"
+                    heights = window.ask(ask)
+                    self.assertLessEqual(max(heights) * 4, 287 / 25.4 * 96, (code, family, heights))
                 sizes = "[...document.querySelectorAll('.slip *')].map((node) => parseFloat(getComputedStyle(node).fontSize))"
                 self.assertGreaterEqual(min(window.ask(sizes)), 12, code)
                 places = window.ask("[...document.querySelectorAll('.slip')].map((slip) => slip.getBoundingClientRect().top)")
                 self.assertEqual(places[0], places[1])
+                # the line stands in a row of its own below words without a gap, so that nothing is copied with it
+                above = "((words, line) => [words.textContent.includes('_'), line.getBoundingClientRect().top >= words.getBoundingClientRect().bottom])"
+                self.assertEqual(window.ask(f"{above}(...document.querySelectorAll('.slip dt:has(+ .line), .line'))"), [False, True], code)
             self.assertEqual(window.ask(f"{style}.breakInside"), "avoid")
+            self.check_sides(window, pathlib.Path(folder) / "sides.html")
             # the code is one word where it is copied
             copied = "(() => { getSelection().selectAllChildren(document.querySelector('.code')); return String(getSelection()); })()"
             self.assertEqual(window.ask(copied), CODES["ada"])
+
+
+    def check_sides(self, window: Window, file: pathlib.Path) -> None:
+        """An empty side follows each side of slips, however long their options are: none has the code of somebody else on its back."""
+        electors = [elector(f"e{number}", f"Person {number}", "", CODES["ada"], "") for number in range(20)]
+        for size, long, rows in ((3, 10, 4), (3, 35, 4), (6, 15, 4), (8, 30, 3), (8, 60, 2), (20, 44, 2), (31, 60, 1)):
+            names = tuple(("Ein Name " * 9)[:long] for _ in range(size))
+            poll = dataclasses.replace(POLL, options=tuple(map(str, range(1, size))), ratios=(1,) * (size - 1), shown_options=names)
+            call = dataclasses.replace(CALL, questions=alone(poll), at="https://example.org/vote/", language=language_of("de"), has_lapsed_codes=True)
+            file.write_bytes(slips(call, electors))
+            window.open(file)
+            sides = -(-len(electors) // (2 * rows))
+            self.assertEqual(window.ask("document.querySelectorAll('.slips').length"), sides, (size, long))
+            pages = base64.b64decode(window.tell("Page.printToPDF", preferCSSPageSize=True)["data"])
+            self.assertEqual(len(re.findall(rb"/Type /Page\b", pages)), 2 * sides, (size, long))
+        self.assertIn("Drucken Sie einseitig.", file.read_text())
 
 
 class Table(unittest.TestCase):

@@ -20,7 +20,7 @@ REFUSED_TEXTS = [
     f"line 10: {'x' * 100} (the first 100 of 381 characters): bad shape: column 33: \"x\"; a ballot has a space there: a name has at most 32 bytes",
     "line 11: ada 1,2: bad rank count: 2 ranks, the poll has 3 options",
     f"line 12: café\\u202E 1,2,3: bad shape: column 4: Latin letter beyond a to z; {MORE}",
-    *(f"line {n}: cleo 1,\\u00092,3: bad shape: column 8: tab; a ballot has a rank there: a number from 1 to 99, or a hyphen" for n in (13, 15)),
+    *(f"line {n}: cleo 1,\\u00092,3: bad shape: column 8: tab; a ballot has a rank there: a number from 1 to 99, or a hyphen for an option that is not ranked, and so last" for n in (13, 15)),
 ]
 
 
@@ -57,18 +57,25 @@ class GivenTest(publishing.PublishTest):
             self.expect(f"nobody can see: {start}", [check in row for row in rows if row.startswith(start)], [True])
         self.expect("nobody can see: how many", len(rows), 6)
         folded = "Options Votes Defeats Ballots Who-voted Refused-lines What-was-done What-nobody-can-see-from-here How-to-verify".split()
-        self.expect("the order of the parts", list(sections), ["Result", "Why", "Find-your-ballot", "Check-it", *folded])
+        self.expect("the order of the parts", list(sections), ["Result", "Who-had-enough-votes", "Find-your-ballot", "Check-it", *folded])
         heads = {name: [head.one("h3").attributes["id"] for head in part.all("summary") if list(head.all("h3"))] for name, part in sections.items()}
         self.expect("what is folded, under its heading", {name: head for name, head in heads.items() if head}, {name: [name] for name in folded})
         heads = [head.text() for head in sections["How-to-verify"].all("h4")]
         program = subprocess.run([PROGRAM, "--version"], capture_output=True, text=True).stdout.strip()
         self.expect("how to verify: its parts", heads, ["To count again", f"With the program {program}", "Without debvote"])
         rows = [" ".join(entry.text().split()) for entry in sections["Check-it"].one("ol").all("li")]
-        starts = ["Is your ballot as you sent it? Find your ballot shows it. If you did not vote"]
-        starts += ["Does your letter of the result name the same winner? ", "Does it have the checksums of SHA256SUMS and index.html, this page, "]
         poll_sum = hashlib.sha256((room / "result" / "poll.toml").read_bytes()).hexdigest()
-        starts += [f"Does your letter of the call have this checksum, the poll's? {poll_sum}"]
-        self.expect("check it: its rows", ([row[: len(start)] for row, start in zip(rows, starts)], len(rows)), (starts, 5))
+        wanted = [
+            "Is your ballot as you sent it? If you did not vote, are you among those who did not?",
+            "Does your letter of the result have the same result?",
+            "Does it have the checksums of SHA256SUMS and this page, once downloaded? How",
+            f"Does your letter of the call have the poll's checksum? {poll_sum[:16]}… all of it",
+        ]
+        self.expect("check it: its rows", (rows[:4], len(rows)), (wanted, 5))
+        again = "Count again here With another program, in your browser. Nothing is sent."
+        self.expect("check it: its last row", rows[4].startswith(again), True)
+        self.expect("check it: how many words it has", len(" ".join([*wanted, again]).split()) <= 70, True)
+        self.expect("the whole checksum", poll_sum in next(sections["How-to-verify"].all("ul", "checksums")).text(), True)
         loaded = [link.attributes["href"] for link in sections["Check-it"].all("a") if "download" in link.attributes]
         self.expect("check it: what is downloaded", loaded, ["SHA256SUMS", "index.html"])
         found = [said in pages.tree_of(page).text() for said in ("in the order in which they were entered", "they came", "announced")]

@@ -1,7 +1,6 @@
 """`publish`: the files, what was done, doubts, casting votes, secret votes, and the same bytes again."""
 
-import datetime
-import email.utils
+import email
 import hashlib
 import json
 import os
@@ -10,17 +9,14 @@ import re
 import shutil
 import signal
 import subprocess
-import time
 import tomllib
 import unittest
 from unittest import mock
 
 from debvote_tools import files
 from debvote_tools.book import queries
-from debvote_tools.inbox.letter import parse
-from debvote_tools.inbox.letter_lines import to_json
-from debvote_tools.inbox.mailbox import RawLetter
-from debvote_tools.result.folder import Made
+from debvote_tools.book.election import fixed_by
+from debvote_tools.result.folder import NewFolder
 
 from tests.support import elections, expecting, page_parts as pages
 from tests.support.called import CalledTest
@@ -83,20 +79,6 @@ class OfElections(CalledTest, expecting.Expecting):
         self.add(lines)
         self.say("close")
 
-    def late_letters(self, *letters):
-        """Letters that were entered late: how many seconds after the close each arrived, and its line."""
-        book = self.book
-        close = book.last_act().time
-        with book.act("add") as act:
-            for seconds, line in letters:
-                time = close + datetime.timedelta(seconds=seconds)
-                data = b"Received: by mx; %s\nFrom: x@x.example\n\n%s\n" % (email.utils.format_datetime(time).encode(), line)
-                letter = queries.keep_letter(act, "letter.eml", data, "", to_json(parse(RawLetter("letter.eml", data))))
-                queries.decide(act, letter, "entered")
-                elector = queries.elector_numbers(book, [line.decode().split()[0]]).values()
-                queries.add_envelopes(act, [queries.NewEnvelope(line, letter=letter, time=time)], elector, is_late=True)
-        return close
-
     def other_debvote(self, text):
         """A folder with a program debvote that does this first; what it does not end is done by the program itself."""
         (self.folder / "bin").mkdir(exist_ok=True)
@@ -138,7 +120,9 @@ class OfElections(CalledTest, expecting.Expecting):
         named = re.findall(r"(?m)^  ([0-9a-f]{64})  (\S+)$", self.letter())
         self.expect("the letter of the result", named, [(hashlib.sha256(files[name]).hexdigest(), name) for name in ("SHA256SUMS", "index.html")])
         self.expect("the letter of the call", set(called), {shown["poll.toml"]})
-        self.expect("the letter of the close", closed[:2], [shown["poll.toml"], shown[ballots]])
+        # a later one names the checksum of an earlier close, too
+        sums = [shown["poll.toml"], shown[ballots]]
+        self.expect("the letter of the close", [one for one in closed if one in sums], sums)
 
     def letter(self):
         return self.read("letters/result.txt").decode()
@@ -177,6 +161,8 @@ class OfOpenVotes(OfElections):
         self.expect("real names", self.items("Who-voted"), ["ada-lovelace Ada <Lovelace>", "cleo Cleo", "zoe-mueller Zoë Müller", "dan Dan"])
         refused = self.items("Refused-lines")
         self.expect("refused and late lines", (len(refused), refused[-1]), (2, "line 1: dan 3,2,1"))
+        facts = [entry.text() for entry in pages.tree_of(self.page()).one("ul", "facts").all("li")]
+        self.expect("the facts", facts, ["2 of 4 voted", "1 of 3 lines refused", "1 came late"])
         done = self.what_was_done()
         struck = "The secretary struck envelope 3: its line does not count. The reason, in the secretary's words: Zoë has sent it <b>twice</b>"
         self.expect("what was done", done[:2], ["The call was made; it named no time until which one could vote.", struck])
@@ -329,11 +315,11 @@ class OfOpenVotes(OfElections):
         self.say("strike", "1", "--because", "wrong hand")
         checksum = hashlib.sha256(b"zoe-mueller 1,2,3\ncleo 1,2,3\n").hexdigest()
         self.act("extend", {"keyring": "a checksum"})
-        self.act("close", {"lines": 2, "checksum": checksum, "early": True, "waiting": 2, "after_end": 1, "because": "in a hurry"})
+        self.act("close", {"questions": {"": {"lines": 2, "checksum": checksum}}, "early": True, "waiting": 2, "after_end": 1, "because": "in a hurry"})
         self.say("publish", "--language", "en")
         because = " The reason, in the secretary's words:"
         end = "one could vote until Friday, 4 December 2099, 18:00 (UTC+01:00)."
-        first = next(act.detail["checksum"] for act in self.acts() if act.name == "close")
+        first = next(fixed_by(act)[""].checksum for act in self.acts() if act.name == "close")
         early = "That was before the time until which one could vote."
         quiet = ["The call was made; it named no time until which one could vote.", "This call was taken back, before any ballot had come."]
         quiet += [f"The call was made; {end}", "The secretary took newer keys of the electors."]
@@ -358,29 +344,6 @@ class OfOpenVotes(OfElections):
         close = " ".join(acts[-1].split())
         words = ("2 rechtzeitig eingetroffene Schreiben", "1 Schreiben, das nach dem Ende", "(in a hurry)")
         self.expect(f"the close: {close}", [word in close for word in words], [True] * 3)
-
-    def test_late_letters(self):
-        self.closed()
-        # each is a doubt, also two of the same minute; the fourth arrives between the first close and the second
-        lines = [(-60, b"zoe-mueller 1,2,3"), (60, b"cleo 1,2,3"), (0, b"dan 2,1,3"), (1, b"ada-lovelace 3,2,1"), (-60, b"zoe-mueller 1,3,2")]
-        close = self.late_letters(*lines)
-        self.stops("publish", said=[f"the ballot of letter {number} is late" for number in (1, 3, 5)])
-        self.say("publish", "--force", "--because", "so be it", "--language", "en")
-        self.expect("doubts", [text.partition("before")[0].partition("on ")[0] for text in self.doubts()], ["A letter arrived "] * 3)
-        self.say("reopen", "--because", "they were in time", "--in-time", "2", "4", "6")
-        time.sleep(max(0, (close + datetime.timedelta(seconds=1) - datetime.datetime.now(datetime.UTC)).total_seconds()))
-        self.say("close")
-        self.expect("the close after that letter", self.acts()[-1].time > close, True)
-        self.replace("--language", "en")
-        self.expect("entered in time", (self.doubts(), (self.folder / "result" / "late.txt").read_text().count("\n")), ([], 5))
-
-    def test_a_late_letter_before_a_later_ballot(self):
-        """It would not count, and `reopen` would refuse it: so it is no doubt, as that of who has no ballot is, or a refused line."""
-        self.closed("ada-lovelace 1,2,3\ndan 9\n")
-        self.late_letters(*((-60, f"{name} 3,2,1".encode()) for name in ("ada-lovelace", "cleo", "dan")))
-        late = ["the ballot of letter 2 is late", "reopen --in-time 4 --because", "the ballot of letter 3 is late", "reopen --in-time 5 --because"]
-        self.stops("publish", said=late)
-        self.assertNotIn("letter 1", self.election("publish").faults)
 
     def test_what_comes_after_the_end(self):
         """Lines and ballots of a desk are told that came after the end; not those that were struck, nor letters, which wait."""
@@ -430,11 +393,21 @@ class OfOpenVotes(OfElections):
         self.say("publish", "--about", "about", "--language", "en")
         about = [text.text() for text in self.sections()["About-this-vote"].all("p", "about")]
         self.expect("the paragraphs of a text", about, ["One", "\u05d3 <i>two</i>"])
+        # as another program writes it
+        os.mkfifo(self.folder / "pipe")
+        with subprocess.Popen(["timeout", "20", "sh", "-c", f"echo Three > {self.folder}/pipe"]):
+            self.say("publish", "--about", "pipe", "--language", "en")
+        about = [text.text() for text in self.sections()["About-this-vote"].all("p", "about")]
+        self.expect("a text from a pipe", about, ["Three"])
         # a folder that is counted otherwise takes no place
         files = self.files()
-        for task, answer in [("verify", 'echo "differs at line 1"; exit 9'), ("standing", 'echo "ada-lovelace 3,2,1"; exit')]:
+        kept = "another thing than it keeps"
+        for task, answer, said in [
+            ("verify", 'echo "differs at line 1"; exit 9', "nothing was published"),
+            ("standing", 'echo "ada-lovelace 3,2,1"; exit', kept),
+        ]:
             path = self.other_debvote(f"case $1 in {task}) {answer} ;; esac")
-            self.stops("publish", "--language", "es", said=["nothing was published"], path=path)
+            self.stops("publish", "--language", "es", said=[said], path=path)
             self.expect(f"{task}: nothing was changed", self.files() == files, True)
         # and that the book was moved stands there, with its reason
         self.state = self.scratch / "other computer"
@@ -451,7 +424,7 @@ class OfOpenVotes(OfElections):
             (("--casting", "72 Euro", "--cast-by", "A", "--cast-on", "2999-01-01"), "2999-01-01 is in the future", 2),
             (("--casting", "72 Euro", "--cast-by", "A", "--cast-on", "1.1.2026"), "`1.1.2026` is not a day", 2),
             (("--casting", "72 Euro", "--cast-by", 'A "b', "--cast-on", "2026-01-01"), "without quotation marks", 2),
-            (cast, "give --casting too", 2),
+            *((words, "give --casting too", 2) for words in (cast, cast[:2], cast[2:])),
             (("--casting", "Größe", *cast), "no option has this name", 8),
             (("--casting", "Nichts davon", *cast), "no casting vote can choose Nichts davon, which is not left; left are 1 72 Euro", 8),
         ]:
@@ -496,8 +469,8 @@ class OfOpenVotes(OfElections):
             return [name for name in os.listdir(self.folder) if name.startswith(".")]
 
         for language, patch, status, is_there, how_many in [
-            ("de", mock.patch.object(Made, "take_place", kill), -signal.SIGKILL, False, 1),
-            ("en", mock.patch.object(Made, "take_place", kill), -signal.SIGKILL, True, 1),
+            ("de", mock.patch.object(NewFolder, "take_place", kill), -signal.SIGKILL, False, 1),
+            ("en", mock.patch.object(NewFolder, "take_place", kill), -signal.SIGKILL, True, 1),
             ("fr", at_second_rename(kill), -signal.SIGKILL, False, 2),
             ("es", at_second_rename(fail), 7, True, 1),
         ]:
@@ -538,13 +511,13 @@ class OfOpenVotes(OfElections):
         cast = ("--casting", plain, "--cast-by", f"by {hostile}", "--cast-on", "2026-11-20")
         self.say("publish", *cast, "--about", "about", "--force", "--because", f"force {hostile}", "--language", "en")
         pages.try_page(self.expect, "hostile", self.folder / "result")
-        seen = ["Result", "Why", "Find-your-ballot", "Check-it", "About-this-vote"]
+        seen = ["Result", "Who-had-enough-votes", "Find-your-ballot", "Check-it", "About-this-vote"]
         self.expect("the text about the vote stands above what is folded", list(self.sections())[: len(seen)], seen)
         shown = pages.tree_of(self.page()).one("main").text()
         for text in (f"{hostile} 1", f"ada {hostile}", *(f"{word} {hostile}" for word in ("text", "strike", "reopen", "about", "by", "force"))):
             self.expect(text, text in shown, True)
         about = [" ".join(text.text().split()) for text in self.sections()["Options"].all("div", "given")]
-        whose = f"About Option 1: {hostile} 1, in the words of those who publish this page. The program has not checked them:"
+        whose = f"About 1 {hostile} 1, in the words of those who publish this page. The program has not checked them:"
         self.expect("the text about an option", about, [f"{whose} text {hostile}"])
         self.expect("a refused line", hostile[:50] in self.items("Refused-lines")[0], True)
 
@@ -564,7 +537,7 @@ class OfSecretVotes(OfElections):
         # neither its words nor log and letters have the seal, or a checksum without it; the poll that is exported is that of the ballots
         said = self.say("close")
         self.say("export", "exported")
-        ballots, seal = (self.folder / "exported" / "ballots.txt").read_bytes(), self.acts()[-1].detail["seal"]
+        ballots, seal = (self.folder / "exported" / "ballots.txt").read_bytes(), fixed_by(self.acts()[-1])[""].seal
         electors = queries.electors(self.book)
         aliases = {elector.name: elector.alias for elector in electors}
         published = "".join(sorted([f"{aliases['ada-lovelace']} 1,2,3\n", f"{aliases['zoe-mueller']} 2,1,3\n"]))
@@ -583,6 +556,8 @@ class OfSecretVotes(OfElections):
         sealed = hashlib.sha256(files["seal.txt"] + files["ballots.txt"]).hexdigest()
         self.expect("what the close has sealed", sealed in files["closed.txt"].decode(), True)
         self.checksums_of_letters(files, "-")
+        letter = " ".join(self.read("letters/result.txt").decode().split())
+        self.expect("on a telephone", "to compare it, and until then type your code nowhere. The subject of each true letter" in letter, True)
         secrets = [*(elector.code for elector in electors), "lovelace", "müller", "zoe-mueller", "no-one", "1,2,x", "private reason"]
         for name, data in files.items():
             # guide and page have these ranks in an example
@@ -652,7 +627,7 @@ class OfSecretVotes(OfElections):
         self.say("close")
         # answers for the private files that are not theirs
         differs = "the sheet under aliases differs from the sheet of the votes as they came"
-        for task, change, said in (("standing", "s/2,1,3/1,2,3/", "the ballots have the checksum"), ("count", "s/Voters: 2/Voters: 3/", differs)):
+        for task, change, said in (("standing", "s/2,1,3/1,2,3/", "another thing than it keeps"), ("count", "s/Voters: 2/Voters: 3/", differs)):
             other = f'case "$*" in "{task} "*/dev/stdin*) {elections.PROGRAM} "$@" | sed "{change}"; exit ;; esac'
             self.stops("publish", path=self.other_debvote(other), said=[said])
         self.say("publish", status=1)
@@ -663,5 +638,11 @@ class OfSecretVotes(OfElections):
         self.stops("publish", "result-2", said=["a comparison with the earlier result shows how these voted: ada-lovelace, cleo"], folder="result-2")
         self.say("publish", "--yes", "result-2")
         self.expect("Cleo counts, too", len((self.folder / "result-2" / "ballots.txt").read_text().splitlines()), 3)
+        # what is gone is seen, too
+        self.say("reopen", "--because", "that of Cleo was forged")
+        [number] = [one.number for one in self.envelopes() if one.line.startswith(b"cleo ") and one.became == "counts"]
+        self.say("strike", str(number), "--because", "it was forged")
+        self.say("close")
+        self.stops("publish", "result-3", said=["a comparison with the earlier result shows how these voted: cleo"], folder="result-3")
         self.checksums_of_letters(self.files("result-2"), "-")
         self.expect("the reason stays in the log", "Cleo" in (self.folder / "result-2" / "index.html").read_text(), False)

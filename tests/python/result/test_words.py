@@ -1,14 +1,35 @@
-"""The words for a ballot and for a share, which are written down here one by one; and of which closes letters tell."""
+"""The words for a ballot and for a share, which are written down here one by one; of which closes letters tell; and the bars of the winner."""
 
+import collections
 import datetime
+import random
 
 from debvote_tools.result.facts import Act
 from debvote_tools.result.page import share
-from debvote_tools.text.ballots import ranks_in_words
+from debvote_tools.result.sheet import sheet_in
+from debvote_tools.result.why import Why
+from debvote_tools.text.ballots import answers_in, ballots_in_words, line_of, part_of
 from debvote_tools.text.language import ENGLISH, language_of
 from debvote_tools.text.rendering import templates_of
 
+from tests import reference
 from tests.support import expecting
+
+# elections in which options often beat each other in circles
+ELECTIONS = 1_000
+
+
+def random_election(seed):
+    """The poll and the ballots of a random election with few voters, who are of a few opinions."""
+    rng = random.Random(seed)
+    options, voters = rng.randint(2, 7), rng.randint(3, 30)
+    opinions = [[rng.choice([*range(1, options + 1), "-"]) for _ in range(options + 1)] for _ in range(rng.randint(3, 6))]
+    names = ", ".join(f'"{number}"' for number in range(1, options + 1))
+    ratios = [rng.choice([1, 1, 1, 2, 3]) for _ in range(options)]
+    roll = ", ".join(f'"v{voter}"' for voter in range(voters))
+    poll = f'title = "T"\noptions = [{names}]\nratios = {ratios}\ndefault = "N"\nquorum = {rng.choice([0, 1])}\nroll = [{roll}]\n'
+    ballots = "".join(f"v{voter} {','.join(map(str, rng.choice(opinions)))}\n" for voter in range(voters))
+    return poll.encode(), ballots.encode()
 
 
 class WordsTest(expecting.Expecting):
@@ -38,12 +59,53 @@ class WordsTest(expecting.Expecting):
             ("1,-,-,2", "At the lake, then Further discussion; not ranked, and so behind all others: In the town hall and Sell the house"),
             ("-,-,-,-", "no option is ranked, so nothing is preferred"),
         ]:
-            self.expect(f"{ranks} in words", ranks_in_words(ranks, names), wanted)
+            self.expect(f"{ranks} in words", ballots_in_words(names)(ranks), wanted)
+
+    def test_a_ballot_is_taken_apart_by_questions_and_put_together(self):
+        for answers, by_label in {
+            "1,2": {"": "1,2"},
+            "-,12,3": {"": "-,12,3"},
+            "A 1,2": {"A": "1,2"},
+            "A 1,2 C 2,-,3": {"A": "1,2", "C": "2,-,3"},
+        }.items():
+            self.expect(f"the answers in {answers}", answers_in(answers), by_label)
+            self.expect(f"the line of {by_label}", line_of("ada", by_label), f"ada {answers}")
+            parts = {label: part_of(f"ada {answers}".encode(), label) for label in by_label}
+            self.expect(f"the parts of {answers}", parts, {label: f"ada {ranks}".encode() for label, ranks in by_label.items()})
+            self.expect(f"no part of {answers}", part_of(f"ada {answers}".encode(), "B"), None)
 
     def test_who_is_for_an_option(self):
-        said = "For: how many prefer the option to {option}. Against: how many prefer {option} to it. The mark: how many it needs."
-        for code, before in {"de": "vor", "fr": "avant", "es": "delante de"}.items():
-            self.expect(f"in {code}", f" {before} Option 4: None. " in language_of(code).say(said, option="Option 4: None"), True)
+        said = "For: how many prefer the option to the default option, {option}. Against: the reverse. The mark: what it needs."
+        for code, before in {"de": "vor die Standardoption", "fr": "avant l'option par défaut", "es": "delante de la opción por defecto"}.items():
+            self.expect(f"in {code}", f" {before}, 4 None. " in language_of(code).say(said, option="4 None"), True)
+
+    def test_thousands_are_parted(self):
+        for code, wanted in {"en": "1,234,567", "de": "1.234.567", "fr": "1\u00a0234\u00a0567", "es": "1\u00a0234\u00a0567"}.items():
+            self.expect(f"in {code}", [language_of(code).number(number) for number in (1_234_567, 999)], [wanted, "999"])
+
+    def test_no_bar_of_the_winner_contradicts_the_result(self):
+        """Where the winner's bar is the shorter one, its row says that this defeat was set aside; each other option that was not dropped is
+        in one row, or is counted among those that the winner beats by chains."""
+        met, seed = collections.Counter(), 0
+        while met.total() < ELECTIONS:
+            seed += 1
+            sheet = sheet_in(reference.count(*random_election(seed))[0])
+            if sheet.winner is None:
+                continue
+            why, rivals = Why(sheet, {option: str(option) for option in sheet.names}), {*sheet.names} - {sheet.winner, *sheet.dropped}
+            rows, aside = why.beaten(sheet.winner), why.aside(sheet.winner)
+            others = [int(row["other"]) for row in (*rows, *aside)]
+            shorter = {int(row["other"]) for row in (*rows, *aside) if row["over"] < row["under"]}
+            beats = {over for over, under in sheet.defeats if under == sheet.winner}
+            found = [row["over"] > row["under"] for row in rows], shorter == beats, len(others) == len({*others} & rivals)
+            self.expect(f"seed {seed}: {rows} {aside}", found, ([True] * len(rows), True, True))
+            met["default" if sheet.winner == sheet.default else "circle" if aside else "chain" if rivals > {*others} else "plain"] += 1
+        self.expect(f"kinds of elections: {met}", len(met), 4)
+
+    def test_no_row_stands_for_one_other_alone(self):
+        rows = [{"over": number} for number in range(6)]
+        found = [(len(shown), more, shown == rows[: len(shown)]) for shown, more in (Why.few(rows[:number]) for number in range(6))]
+        self.expect("rows, and how many others", found, [(0, 0, True), (1, 0, True), (2, 0, True), (3, 0, True), (2, 2, True), (2, 3, True)])
 
     def test_shares(self):
         """How many have voted, in per cent: none alone is 0, all alone are 100, and it is rounded."""

@@ -1,9 +1,9 @@
-use Rattle.vote_explain_poll.proofs.Words.{refl, sym, table_view, SaysFault, SaysKey}
+use Rattle.vote_explain_poll.proofs.Words.{refl, sym, table_view, SaysKey}
 use Rattle.vote_explain_poll.proofs.Lines.{one_more}
 use Rattle.vote_explain_poll.proofs.explain.findings_of.Goals as goal
 
 pub loop-fault-preserved : goal.loop-fault-preserved
-loop-fault-preserved c = one_more SaysFault c.args.faults.now c.loop-fault.fault-index _ _ _ _ _ c.loop-fault-test.true refl c.loop-fault.invariant c.in_ok-push_fault_line.ensures
+loop-fault-preserved c = one_more _ c.args.faults.now c.loop-fault.fault-index _ _ _ _ _ c.loop-fault-test.true refl c.loop-fault.invariant c.in_ok-push_fault_line.ensures
 
 pub loop-key-preserved : goal.loop-key-preserved
 loop-key-preserved c =

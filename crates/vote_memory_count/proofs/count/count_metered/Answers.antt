@@ -1,11 +1,11 @@
--- By the clauses `sheet` and `no_input` of `answer`: the words ask for the sheet of the two files, which tell their bytes and their readings.
-use Rattle.std.proofs.Common.{arith, ap, sym, ◌∙◌, ◌≡◌, ◌<◌, ◌∷◌, [], codes, drop, length, List, map, ℕ, Some, string_bytes, Vec}
-use Rattle.std.specs.Prelude.{Bool}
+-- By the clauses `sheet`, `due` and `no_input` of `answer`: the words ask for the sheet of the two files, which tell their bytes and their readings.
+use Rattle.std.proofs.Common.{arith, ap, sym, ◌∙◌, ◌≡◌, ◌<◌, ◌∷◌, [], codes, drop, length, List, map, None, ℕ, Some, string_bytes, Vec}
+use Rattle.std.specs.Prelude.{Bool, if◌then◌else◌}
 use Rattle.std.specs.Global.{Global}
 use Rattle.std.specs.declared.string.String.{String}
 use Rattle.vote_program.specs.Outputs.{Written}
 use Rattle.vote_memory_count.specs.CountWords.{count_words}
-use Rattle.vote_memory_count.proofs.Asked.{sheet_of_memory}
+use Rattle.vote_memory_count.proofs.Asked.{asks_in_memory, sheet_of_memory}
 use Rattle.vote_memory_count.proofs.count.count_metered.Goals as goal
 
 many_words : {Z : Type 0} (casting : Bool) (words : List (String Z)) → map string_bytes words ≡ codes "debvote" ∷ count_words casting → 1 < length words
@@ -13,8 +13,8 @@ many_words casting [] is = omega (arith, ap length is)
 many_words casting (word ∷ []) is = omega (arith, ap length is)
 many_words casting (word ∷ next ∷ rest) is = omega arith
 
-pub returns : goal.returns
-returns g c few =
+pub returns-clause-sheet : goal.returns-clause-sheet
+returns-clause-sheet g c few =
     let before = c.new-sink.result in
     let after = c.answer-status.new.sink in
     let written : Written = record {
@@ -32,3 +32,9 @@ returns g c few =
     (c.answer-status.ensures.sheet many)
     few in
     (told.0, told.1, told.2, told.3, told.4, c.answer-status.ensures.no_input many ∙ c.new-input.ensures)
+
+pub returns-clause-due : goal.returns-clause-due
+returns-clause-due g c =
+    c.answer-status.ensures.due (many_words c.args._casting c.args.words.now c.requires.words)
+    c.args.files.poll c.args.files.ballots (if c.args._casting then Some (codes "B") else None)
+    (asks_in_memory c.args._casting c.args.files _ (ap (drop 1) c.requires.words))

@@ -3,6 +3,7 @@ use Rattle.std.proofs.lemmas.List.{drop-map}
 use Rattle.vote_files.specs.Sources.{HasRead}
 use Rattle.vote_command_line.specs.Words.{texts_of}
 use Rattle.vote_program.specs.ProgramAnswers.{words_in}
+use Rattle.vote_program.proofs.Ends.{due_of_words}
 use Rattle.vote_program.proofs.Sheets.{of_words}
 use Rattle.vote_program.proofs.answers.answer.Goals as goal
 
@@ -15,4 +16,8 @@ returns-in-Ok-clause-worded g c some =
 
 pub returns-in-Ok-clause-sheet : goal.returns-in-Ok-clause-sheet
 returns-in-Ok-clause-sheet g c some =
-    of_words _ (HasRead g.S.Sources.file_readings c.args.files.now c.answer_words.new.files) _ _ _ _ (returns-in-Ok-clause-worded g c some)
+    of_words _ (HasRead g.S.Sources.file_readings c.args.files.now c.answer_words.new.files) _ _ _ _ _ (returns-in-Ok-clause-worded g c some)
+
+pub returns-in-Ok-clause-due : goal.returns-in-Ok-clause-due
+returns-in-Ok-clause-due g c some =
+    due_of_words _ (HasRead g.S.Sources.file_readings c.args.files.now c.answer_words.new.files) _ _ _ _ _ (returns-in-Ok-clause-worded g c some)

@@ -1,0 +1,18 @@
+-- What became of each envelope: the one place that says which ballot counts now; `what_counted` in `queries.py` says which counted
+-- at an earlier act, and `by_time` which of two ballots is the later one. Each connection makes these views for itself, over `entered`
+-- and `ballot` as it sees them; the book has neither.
+
+-- The valid ballots, in time and not struck; and of each elector the one that counts: of these the one with the greatest number.
+CREATE TEMP VIEW valid AS SELECT * FROM ballot WHERE answer IS NULL;
+
+CREATE TEMP VIEW counting AS SELECT elector, max(envelope) AS envelope, line FROM valid GROUP BY elector;
+
+CREATE TEMP VIEW fate AS
+  SELECT *, CASE
+    WHEN struck IN (SELECT act FROM act WHERE name = 'undo') THEN 'taken back'
+    WHEN struck IS NOT NULL THEN 'struck'
+    WHEN late THEN 'late'
+    WHEN answer IS NOT NULL THEN 'refused'
+    WHEN envelope IN (SELECT envelope FROM counting) THEN 'counts'
+    ELSE 'replaced'
+  END AS became FROM entered;

@@ -1,0 +1,107 @@
+"""Whether the box of the web host was asked lately enough: the one answer for all commands that need
+it. What an asking brings is in `records.py`.
+"""
+
+import datetime
+
+from debvote_tools.book import queries
+from debvote_tools.book.book import Detail, from_text
+from debvote_tools.book.election import BOX_SCRIPT, Election, History
+from debvote_tools.cli.console import act_time, count_of
+from debvote_tools.cli.faults import NOTHING_CHANGED, Fault
+from debvote_tools.poll.box import list_digest
+from debvote_tools.text.times import now
+
+# how old an asking may be where ballots still come
+FRESH = datetime.timedelta(minutes=10)
+
+# what needs an asking: why it stops, and what can be forced
+FORCE = "with --force --because TEXT"
+WITHOUT_PAGE = f"write letters that say that the page takes no ballots, {FORCE}"
+CLOSE = f"close {FORCE} (the result page says so)"
+NEEDS = {
+    "call": (
+        "nobody has seen yet whether the box of the web host works, with the links of now",
+        WITHOUT_PAGE,
+    ),
+    "reminders": (
+        "who voted by a click in the last ten minutes would be told that they have not",
+        WITHOUT_PAGE,
+    ),
+    "at": ("ballots may lie on the page at the address of now", ""),
+    "close": ("the box of the web host was not asked since the end", CLOSE),
+    "early": ("the box of the web host was not asked in the last ten minutes", CLOSE),
+    "closed": (
+        "the box of the web host was not asked since the vote was closed early",
+        f"go on {FORCE}",
+    ),
+}
+
+
+def last_box(history: History) -> Detail:
+    """What the last asking noted; nothing if there was none."""
+    box: Detail = history.askings[-1].detail["box"] if history.askings else {}
+    return box
+
+
+def has_list_of_now(election: Election, digest: str) -> bool:
+    """Whether this is the digest of the electors in the script of now."""
+    return digest == list_digest(queries.sealed(election.book, BOX_SCRIPT) or b"")
+
+
+def asked_last(election: Election, history: History) -> Detail | None:
+    """What the box had when it was asked last, and whether it had the list of now."""
+    if not (box := last_box(history)):
+        return None
+    is_here = box["at"] == history.announced("at")
+    is_present = is_here and has_list_of_now(election, box["list"])
+    return {key: box[key] for key in ("time", "records", "behind")} | {"is_present": is_present}
+
+
+def asked_words(history: History) -> list[str]:
+    """What is told of it; nothing of a vote without a box."""
+    if box := last_box(history):
+        records, time = count_of(box["records"], "record"), act_time(history.askings[-1].time)
+        return [f"Box of the web host: {records} when it was asked last, {time}"]
+    return ["Box of the web host: not asked yet"] if history.announced("box") else []
+
+
+def is_unasked(history: History, since: datetime.datetime | None) -> bool:
+    """Whether a box was not asked since a time, by both clocks, which have whole seconds."""
+    if since is None or not history.announced("box"):
+        return False
+    last = [min(act.time, from_text(act.detail["box"]["time"])) for act in history.askings]
+    return not last or last[-1] <= since
+
+
+def is_unasked_since_close(history: History) -> bool:
+    """Whether the box was not asked since the end, or since the first close if that was early."""
+    if not history.closes:
+        return False
+    first = history.closes[0]
+    return is_unasked(history, first.time if first.detail["early"] else history.until)
+
+
+def unasked(
+    election: Election, history: History, what: str, done: str = NOTHING_CHANGED
+) -> Fault | None:
+    """Why something has to wait until the box is asked; None if it need not."""
+    closes, recently, last = history.closes, now() - FRESH, asked_last(election, history)
+    is_missing = {
+        "call": history.announced("box") and not (last and last["is_present"]),
+        "reminders": is_unasked(history, recently),
+        # before the first asking no letter has a link to the page
+        "at": last and is_unasked(history, recently),
+        # what comes after the first close is late
+        "close": not closes and is_unasked(history, history.until),
+        "early": not closes and is_unasked(history, recently),
+        "closed": closes and closes[0].detail["early"] and is_unasked_since_close(history),
+    }
+    if not is_missing[what]:
+        return None
+    words, force = NEEDS[what]
+    first = "upload the folder call, then " if what == "call" else ""
+    cure = f"{first}run {election.command('add', '--box')}"
+    if force:
+        cure += f"; if it does not answer any more, {force}"
+    return Fault("--box", words, cure, done=done)

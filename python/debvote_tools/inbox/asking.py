@@ -1,0 +1,146 @@
+"""Asks the box of a vote, on the web host, for all that it has. What becomes of its records is decided
+elsewhere: they are letters.
+"""
+
+import datetime
+import http.client
+import re
+import ssl
+import urllib.parse
+from typing import NamedTuple
+
+from debvote_tools.cli.console import shown_text
+from debvote_tools.cli.faults import Fault
+from debvote_tools.inbox.entering import doubtful
+from debvote_tools.patience import within
+from debvote_tools.poll.box import SCRIPT, script_address
+from debvote_tools.text import times
+
+# in seconds and in bytes: how long an answer may take and be
+PATIENCE, LONGEST_ANSWER = 60, 33_554_432
+
+# how an answer begins, with the version of the protocol; how each record begins and ends
+HEAD = re.compile(rb"box 1 ([0-9a-f]{16}) ([0-9a-f]{64}) (\d{4}-\d\d-\d\dT\d\d:\d\d:\d\dZ)\n")
+BEGIN, END = b"From box@page.invalid ", b"\n-- \n\n"
+# what a request may begin with, and an answer to one with another word
+FIELD, UNKNOWN = b"box=", b"unknown: "
+
+# as the page sends a ballot: many web hosts refuse other kinds, and who says not what it is
+FIELDS = {
+    "Content-Type": "application/x-www-form-urlencoded",
+    "User-Agent": "debvote-election",
+    "Accept": "text/plain",
+    "Connection": "close",
+}
+
+UPLOAD = f"upload {SCRIPT} of the folder call to where PHP 8.1 or later runs and may write; then run the command again"
+
+
+class Answer(NamedTuple):
+    """What a web host answers, and when it began to."""
+
+    status: int
+    moved_to: str
+    body: bytes
+    time: datetime.datetime
+
+
+class Asked(NamedTuple):
+    """What the box has. It was asked at this time by its own clock, which is `behind` that of this
+    computer by so many seconds at least; if that is less than 0, it is ahead.
+    """
+
+    time: datetime.datetime
+    behind: int
+    # of the electors that it knows; see `list_digest`
+    list_digest: str
+    # an mbox
+    records: bytes
+
+
+def ask(at: str | None, mark: str, word: str) -> Asked:
+    """Asks the box beside the page at this address. Stops unless it answers whole, and as the box of
+    the poll with this mark.
+    """
+    address, begin = script_address(at), times.now()
+    body = f"ask {word}\n".encode()
+    answer = answer_of(address, body)
+    if answer.status == http.HTTPStatus.FORBIDDEN and not answer.body.startswith(UNKNOWN):
+        # the firewall of a web host may take lines for the name of a field, and let no such name pass
+        answer = answer_of(address, FIELD + body)
+    demand_box(address, answer)
+    head = HEAD.match(answer.body)
+    try:
+        if head is None:
+            raise ValueError
+        found_mark, digest, said = (part.decode() for part in head.groups())
+        time = datetime.datetime.fromisoformat(said)
+    except ValueError:
+        raise doubtful(address, f"it does not answer as a box: {shown(answer)}", UPLOAD) from None
+    if found_mark != mark:
+        raise doubtful(address, f"it is the box of another vote, [{found_mark}]", UPLOAD)
+    records = answer.body[head.end() :]
+    if records and not (records.startswith(BEGIN) and records.endswith(END)):
+        raise cut_off(address)
+    # no more than is certain: it took its time between both of ours
+    _, behind, _ = sorted([begin - time, datetime.timedelta(), answer.time - time])
+    return Asked(time, int(behind.total_seconds()), digest, records)
+
+
+def answer_of(address: str, body: bytes) -> Answer:
+    """What is answered to a request. Stops if it does not come whole. No redirect is followed: the
+    word is for this address alone.
+    """
+    parts = urllib.parse.urlsplit(address)
+    connection = http.client.HTTPConnection(parts.netloc)
+    if parts.scheme == "https":
+        context = ssl.create_default_context()
+        connection = http.client.HTTPSConnection(parts.netloc, context=context)
+    try:
+        with within(PATIENCE):
+            connection.request("POST", parts.path, body, FIELDS)
+            response, time = connection.getresponse(), times.now()
+            data = response.read(LONGEST_ANSWER + 1)
+        if len(data) > LONGEST_ANSWER:
+            raise doubtful(address, f"it answers more than {LONGEST_ANSWER} bytes", UPLOAD)
+        # without a length nobody sees whether an answer was cut off
+        if response.length or not (response.headers["content-length"] or response.chunked):
+            raise cut_off(address)
+        return Answer(response.status, response.headers["location"] or "", data, time)
+    except ssl.SSLCertVerificationError as error:
+        cure = "ask who keeps the web host to put it right, or look whether the clock of this computer is right"
+        raise doubtful(
+            address, f"its certificate is not right: {error.verify_message}", cure
+        ) from None
+    except http.client.IncompleteRead:
+        raise cut_off(address) from None
+    except (OSError, http.client.HTTPException) as error:
+        said = (isinstance(error, OSError) and error.strerror) or str(error) or type(error).__name__
+        cure = "look whether it opens in a browser; then run the command again"
+        raise doubtful(address, f"it does not answer: {shown_text(said)}", cure) from None
+    finally:
+        connection.close()
+
+
+def demand_box(address: str, answer: Answer) -> None:
+    """Stops at what other servers answer, and a box that refuses."""
+    if 300 <= answer.status < 400:
+        reason = f"it sends on to {shown_text(answer.moved_to) or 'nowhere'}"
+        cure = "name the address that a browser shows in the end with --at of call"
+        raise doubtful(address, reason, cure)
+    if answer.body.lstrip().startswith(b"<?php"):
+        cure = (
+            f"take {SCRIPT} away from there until PHP 8.1 or later runs; then run the command again"
+        )
+        raise doubtful(address, "it shows the script as a text: PHP does not run there", cure)
+    if answer.status != http.HTTPStatus.OK:
+        raise doubtful(address, f"it answers {answer.status}: {shown(answer)}", UPLOAD)
+
+
+def shown(answer: Answer) -> str:
+    """The beginning of an answer, in words."""
+    return shown_text(answer.body[:1_000].decode("utf-8", "replace"))
+
+
+def cut_off(address: str) -> Fault:
+    return doubtful(address, "its answer was cut off", "run the command again")

@@ -1,0 +1,108 @@
+"""The box of a vote: `vote.php`, beside the page of the call, keeps the ballots that electors send by
+a click, and `add --box` asks it for them.
+
+The key of the box never leaves the book: whoever has it makes the link of each elector from name
+and own mark. The host gets digests alone; the word that asks makes no link.
+"""
+
+import hmac
+import secrets
+import urllib.parse
+from collections.abc import Mapping
+
+from debvote_tools.book import queries
+from debvote_tools.book.book import Book
+from debvote_tools.book.election import BOX_KEY, BOX_SCRIPT
+from debvote_tools.cli.faults import bad_words
+from debvote_tools.files import sha256_of
+from debvote_tools.poll.sealed import OWN_SIGNS
+from debvote_tools.text.language import marked
+from debvote_tools.text.rendering import resources
+
+# the script; what of it belongs to one vote follows this line
+SCRIPT, END_OF_CODE = "vote.php", b"\n__halt_compiler();\n"
+
+KEY_BYTES, LINK_LENGTH = 32, 16
+
+# of this computer
+LOOPBACK = ("localhost", "127.0.0.1", "::1")
+
+# the sentences of box.js, those of an answer by its first word
+SENTENCES = {
+    "sending": marked("It is being sent .."),
+    "received": marked(
+        "It has arrived, {time}. The secretary fetches it, and you get a receipt by e-mail that says how it was read. If none comes, or it says otherwise, tell the secretary."
+    ),
+    "unknown": marked(
+        "It was not taken: this page does not know your link. Open the newest letter of this vote, or send your ballot by e-mail."
+    ),
+    "many": marked(
+        "It was not taken: too many ballots came by your link. Send your ballot by e-mail."
+    ),
+    "lost": marked("It was not taken. Send your ballot by e-mail."),
+    "unsure": marked(
+        "Nobody knows whether it has arrived. Press the button again: it counts once. Or send your ballot by e-mail."
+    ),
+}
+
+
+# ---- the key, and what is made of it
+def new_key() -> bytes:
+    return secrets.token_bytes(KEY_BYTES)
+
+
+def asking_word(key: bytes) -> str:
+    """The word by which the box is asked."""
+    return hmac.digest(key, b"ask", "sha256").hex()
+
+
+def link_of(key: bytes, name: str, own: str) -> str:
+    """The third part of the personal link of an elector with this own mark. It stands in no subject,
+    as own marks do: who gets an answer of the elector in copy cannot vote.
+    """
+    number = int.from_bytes(hmac.digest(key, f"{name} {own}".encode(), "sha256"))
+    places = (len(OWN_SIGNS) ** place for place in range(LINK_LENGTH))
+    return "".join(OWN_SIGNS[number // place % len(OWN_SIGNS)] for place in places)
+
+
+# ---- the script
+def script_of(key: bytes, mark: str, owns: Mapping[str, str]) -> bytes:
+    """The script for the vote of a poll with this mark, and these own marks by names."""
+    digests = {
+        name: sha256_of(f"{mark} {name} {link_of(key, name, own)}".encode())
+        for name, own in owns.items()
+    }
+    rows = {mark: sha256_of(asking_word(key).encode())} | digests
+    lines = "".join(f"{name} {digest}\n" for name, digest in rows.items())
+    return f"{resources('debvote_tools.poll', SCRIPT)}{lines}".encode()
+
+
+def box_files(book: Book, mark: str, owns: Mapping[str, str]) -> dict[str, bytes]:
+    """What is sealed of the box: its key, which is the same for each call, so that its file on the web
+    host stays; and the script, if it is another one now.
+    """
+    key = queries.sealed(book, BOX_KEY) or new_key()
+    files = {BOX_KEY: key, BOX_SCRIPT: script_of(key, mark, owns)}
+    return {name: data for name, data in files.items() if data != queries.sealed(book, name)}
+
+
+def list_digest(script: bytes) -> str:
+    """The digest of what a script knows, as the box tells it."""
+    return sha256_of(script.partition(END_OF_CODE)[2])
+
+
+def records_file(key: bytes) -> str:
+    """The name of the file on the web host in which the box keeps its records."""
+    return f"box-{sha256_of(asking_word(key).encode())[:32]}.php"
+
+
+def script_address(at: str | None) -> str:
+    """Where the script lies, beside the page. Stops at an address beside which none can lie, or to
+    which ballots would go unencrypted.
+    """
+    parts = urllib.parse.urlsplit(at or "")
+    is_safe = parts.scheme == "https" or parts.scheme == "http" and parts.hostname in LOOPBACK
+    if at is None or not is_safe or parts.query or not parts.path.endswith(("/", ".html")):
+        reason = "the page needs an address by https that ends in / or .html"
+        raise bad_words("--box", reason, "give --at https://example.org/vote/ too")
+    return urllib.parse.urljoin(at, SCRIPT)

@@ -1,0 +1,904 @@
+"""`call --box` and `add --box`: what the web host gets, who may vote by a click, and what is taken of what it has."""
+
+import dataclasses
+import datetime
+import email
+import json
+import pathlib
+import re
+import resource
+import shutil
+import time
+import unittest
+from concurrent.futures import ThreadPoolExecutor
+
+from debvote_tools.inbox.judging import Ballot
+from debvote_tools.inbox.letter import ParsedLetter
+from debvote_tools.inbox.records import MOST
+from debvote_tools.poll.box import asking_word, link_of, list_digest
+
+from tests.support import at_browser, boxes, elections
+from tests.support.letters import OWN, at, judged, letter, mailbox, outcome, outcomes, parsed
+from tests.support.web_host import FIRST, NEEDS_PHP, Liar, ballot, passed_on, request_of, record
+
+HTTPS = ("--at", "https://club.example/vote/")
+
+
+class CallWithBox(elections.ElectionTest):
+    call_words = None
+
+    def test_what_stands_against_it_is_told_at_once(self) -> None:
+        before = self.contents()
+        for words, parts in (
+            ((), ["--box: the page needs an address by https"]),
+            (("--at", "http://club.example/vote/"), ["--box: the page needs"]),
+            (("--at", "https://club.example/vote"), ["--box: the page needs"]),
+            (("--at", "https://club.example/?a=/"), ["--box: the page needs"]),
+            (
+                ("--keyring", "x", "--at", "http://club.example/"),
+                ["--box: the page needs", "--box: letters have to be signed"],
+            ),
+        ):
+            with self.subTest(words=words):
+                ended = self.election("call", "--box", *words)
+                self.assertEqual(
+                    (ended.status, len(ended.faults.splitlines())), (2, len(parts)), ended
+                )
+                for part, line in zip(parts, ended.faults.splitlines()):
+                    self.assertIn(part, line)
+        self.assertEqual(self.contents(), before)
+        self.write("poll.toml", "secret = true\n" + elections.POLL)
+        self.done("codes")
+        ended = self.election("call", "--box", "--keyring", "x")
+        for part in (
+            "needs an address",
+            "have to be signed",
+            "the vote is secret, and whoever keeps",
+        ):
+            self.assertIn(part, ended.faults)
+
+    def test_the_folder_the_key_and_another_call(self) -> None:
+        ended = self.done("call", "--box", *HTTPS)
+        self.assertIn("0 * * * * XDG_STATE_HOME=", ended.output)
+        self.assertIn(f"debvote-election add --folder {self.folder} --box --yes", ended.output)
+        self.assertIn(
+            "upload the files of call to https://club.example/vote/, vote.php too, then run debvote-election add --box",
+            ended.output,
+        )
+        script = self.read("call/vote.php")
+        self.assertNotIn(b"vote.php", self.read("call/SHA256SUMS"))
+        [(key,)] = self.rows("SELECT data FROM sealed WHERE name = 'box key'")
+        assert isinstance(key, bytes)
+        self.assertEqual(len(key), 32)
+        # the same book makes the same bytes, and an extension changes none
+        (self.folder / "call/vote.php").unlink()
+        self.done("call")
+        self.assertEqual(self.read("call/vote.php"), script)
+        self.done("call", *boxes.UNTIL)
+        self.assertEqual(self.read("call/vote.php"), script)
+        self.assertEqual(
+            self.rows("SELECT count(*) FROM sealed WHERE name = 'call/vote.php'"), [(1,)]
+        )
+        # a new address makes another script, a new key for signatures none
+        self.write(
+            "members.csv", elections.members_of(elections.NAMES).replace("ben@club", "ben@new")
+        )
+        ended = self.done("roll", "--yes")
+        self.assertIn(
+            "Upload call/vote.php again, since these electors have new links", ended.output
+        )
+        self.assertNotEqual(self.read("call/vote.php"), script)
+        changed = [
+            old != new
+            for old, new in zip(
+                script.splitlines(), self.read("call/vote.php").splitlines(), strict=True
+            )
+        ]
+        self.assertEqual(sum(changed), 1)
+        # taken back: without --box there is no script, with it the key is the same
+        self.done("call", "--take-back")
+        self.done("call", *HTTPS)
+        self.assertFalse((self.folder / "call/vote.php").exists())
+        self.assertNotIn(b"fetch(", self.read("call/index.html"))
+        self.assert_fault(self.election("call", "--box"), 9, "--box: the call was made without it")
+        self.assert_fault(self.election("add", "--box"), 2, "--box: the call was made without it")
+        self.done("call", "--take-back")
+        self.done("call", "--box", *HTTPS)
+        self.assertEqual(
+            self.rows("SELECT DISTINCT data FROM sealed WHERE name = 'box key'"), [(key,)]
+        )
+        # the key is in nothing that leaves the book
+        self.done("export", self.scratch / "out")
+        files = [*self.folder.rglob("*"), *(self.scratch / "out").rglob("*")]
+        for file in (one for one in files if one.is_file() and one.name != "election.db"):
+            for secret in (key, key.hex().encode(), asking_word(key).encode()):
+                self.assertNotIn(secret, file.read_bytes(), file)
+
+
+@NEEDS_PHP
+class Clicks(boxes.BoxElectionTest):
+    def test_the_link_is_in_the_letters_to_its_elector_alone(self) -> None:
+        self.begun()
+        files = {
+            file: file.read_bytes()
+            for file in self.folder.rglob("*")
+            if file.is_file() and file.name != "election.db"
+        }
+        letters = {file: data for file, data in files.items() if file.suffix == ".eml"}
+        self.assertEqual(len(letters), len(elections.NAMES))
+        for file, data in letters.items():
+            name, own, link = boxes.link_in(data)
+            self.assertIn(f"-{own}]", data.partition(b"\n\n")[0].decode())
+            self.assertEqual(
+                [
+                    other
+                    for other, text in files.items()
+                    if link.encode() in text.replace(b"=\n", b"")
+                ],
+                [file],
+            )
+            self.assertNotIn(link.encode(), data.partition(b"\n\n")[0])
+
+    def test_clicks_letters_and_what_is_kept(self) -> None:
+        links = self.begun()
+        self.assertEqual(sorted(links), elections.NAMES)
+        for name, ranks in (("ada", "1,2,3,4"), ("ben", "2,1,-,4"), ("ada", "4,3,2,1")):
+            self.click(name, ranks, links[name])
+        self.assert_fault(self.election("add", "--box", "x"), 2, "--box: it takes no file")
+        # a look is no asking
+        before = self.rows("SELECT * FROM act")
+        ended = self.done("add", "--box", "--look")
+        self.assertIn(
+            "3 new letters; 0 came before.\n3 ballots of letters would go in; 0 letters wait.\nNothing was changed.",
+            ended.output,
+        )
+        self.assertEqual(self.rows("SELECT * FROM act"), before)
+        # letters wait for the secretary, and are not entered by what cron runs
+        box = mailbox(
+            self.of_this_vote(
+                letter(
+                    "cleo", "cleo 1,2,3,4\n", time=f"{time.strftime('%a, %d %b %Y %H:%M:%S')} +0000"
+                )
+            )
+        )
+        self.write("inbox.mbox", box)
+        self.assertEqual(self.election("add", "inbox.mbox").status, 9)
+        ended = self.done("add", "--box", "--yes")
+        self.assertIn("The box has 3 records.\n3 new letters; 0 came before.\n", ended.output)
+        self.assertNotIn("cleo", ended.output)
+        self.assertEqual(self.standing(), {"ada": "4,3,2,1", "ben": "2,1,-,4"})
+        self.assertEqual(
+            self.done("add", "--box", "--yes").output.splitlines()[:2],
+            ["The box has 3 records.", "0 new letters; 3 came before."],
+        )
+        first, second, third = self.boxes_kept()
+        self.assertEqual(
+            [(one["records"], one["gone"], one["others"]) for one in (first, second, third)],
+            [(0, 0, 0), (3, 0, 0), (3, 0, 0)],
+        )
+        self.assertEqual(first["list"], list_digest(self.read("call/vote.php")))
+        # taken back, and asked again: that waits for whoever took it back
+        self.done("undo")
+        self.done("add", "--box", "--yes")
+        self.assertEqual(self.standing(), {})
+        self.done("held", "1", "2", "3", "--enter", "--force")
+        self.assertEqual(self.standing()["ben"], "2,1,-,4")
+
+    def test_a_link_that_a_new_one_has_replaced_waits_and_both_addresses_are_told(self) -> None:
+        links = self.begun()
+        self.write(
+            "members.csv", elections.members_of(elections.NAMES).replace("ada@club", "ada@new")
+        )
+        self.done("roll", "--yes")
+        # the host has the older list
+        self.click("ada", "1,2,3,4", links["ada"])
+        ended = self.done("add", "--box", "--yes")
+        self.assertIn(
+            "Note: the web host has another vote.php than the folder call, as an older one: upload that of the folder",
+            ended.output,
+        )
+        self.assertIn("with a link that is not that of ada now", ended.output)
+        self.assertEqual(self.standing(), {})
+        self.done("letters", "receipts")
+        receipts = [file.read_text() for file in (self.folder / "letters/receipts").rglob("*.eml")]
+        self.assertEqual(sorted(re.search(r"^To: (\S+)", text, re.M)[1] for text in receipts), ["ada@club.example", "ada@new.example"])  # type: ignore[index]
+        self.upload()
+        self.assertNotIn("another vote.php", self.done("add", "--box", "--yes").output)
+        self.done("letters", "call")
+        new = self.links()
+        self.assertNotEqual(new["ada"], links["ada"])
+        self.assertEqual(self.host.send(ballot("ada", "1,2,3,4", 999, links["ada"])).status, 403)
+        self.click("ada", "2,1,3,4", new["ada"])
+        self.done("add", "--box", "--yes")
+        self.assertEqual(self.standing(), {"ada": "2,1,3,4"})
+
+    def test_a_backup_that_is_put_back(self) -> None:
+        """The book lacks the link of a ballot that came: it is kept, and waits for whoever knows why."""
+        links = self.begun()
+        self.click("ben", "1,2,3,4", links["ben"])
+        self.done("add", "--box", "--yes")
+        self.done("backup", self.scratch / "copy.db")
+        self.write(
+            "members.csv", elections.members_of(elections.NAMES).replace("ada@club", "ada@new")
+        )
+        self.done("roll", "--yes")
+        self.upload()
+        self.done("add", "--box")
+        self.done("letters", "call")
+        self.click("ada", "1,2,3,4", self.links()["ada"])
+        self.done("add", "--box", "--yes")
+        self.assertEqual(self.standing(), {"ada": "1,2,3,4", "ben": "1,2,3,4"})
+        shutil.copy(self.scratch / "copy.db", self.folder / "election.db")
+        self.assert_fault(self.election("add", "--box", "--yes"), 9, "it is an older copy")
+        ended = self.done("add", "--box", "--yes", "--moved", "--because", "The disk was put back.")
+        self.assertIn("another vote.php than the folder call", ended.output)
+        self.assertIn("a book that was put back lacks some", ended.output)
+        self.assertEqual(self.standing(), {"ben": "1,2,3,4"})
+        self.done("held", "2", "--enter")
+        self.assertEqual(self.standing(), {"ada": "1,2,3,4", "ben": "1,2,3,4"})
+
+    def test_by_ftp_and_then_by_key(self) -> None:
+        links = self.begun()
+        self.click("ada", "1,2,3,4", links["ada"])
+        self.click("ben", "1,2,3,4", links["ben"])
+        shutil.copy(self.file(), self.folder / "fetched.php")
+        self.assertTrue(self.read("fetched.php").startswith(FIRST))
+        ended = self.done("add", "--yes", "fetched.php")
+        self.assertIn("2 new letters", ended.output)
+        self.assertEqual(self.standing(), {})
+        self.done("held", "1", "--enter", "--force")
+        self.done("add", "--box", "--yes")
+        self.assertEqual(self.standing(), {"ada": "1,2,3,4", "ben": "1,2,3,4"})
+        self.assertEqual(self.rows("SELECT count(*) FROM envelope"), [(2,)])
+
+    def test_order_between_clicks_and_letters(self) -> None:
+        links = self.begun()
+        now = time.time()
+
+        def wrote(name: str, ranks: str, ago: int) -> bytes:
+            arrived = time.strftime("%a, %d %b %Y %H:%M:%S +0000", time.gmtime(now - ago))
+            return self.of_this_vote(
+                letter(name, f"{name} {ranks}\n", time=arrived, number=str(ago))
+            )
+
+        self.click("ada", "1,2,3,4", links["ada"])
+        self.click("ben", "1,2,3,4", links["ben"])
+        self.done("add", "--box", "--yes")
+        # an older letter is passed over, a later one counts
+        self.write(
+            "inbox.mbox", mailbox(wrote("ada", "4,3,2,1", 600), wrote("ben", "4,3,2,1", -20))
+        )
+        ended = self.done("add", "--yes", "inbox.mbox")
+        self.assertIn("Passed over, since a later letter of its elector went in", ended.output)
+        self.assertEqual(self.standing(), {"ada": "1,2,3,4", "ben": "4,3,2,1"})
+
+    def test_a_clock_that_is_off(self) -> None:
+        links = self.begun()
+        for seconds, side in ((180, "behind"), (-180, "ahead of")):
+            with self.subTest(seconds=seconds):
+                self.click("ada", "1,2,3,4", links["ada"])
+                self.off(seconds)
+                ended = self.done("add", "--box", "--look")
+                self.assertRegex(
+                    ended.output, rf"its clock is 1[78]\d seconds {side} that of this computer"
+                )
+        # a letter that came between: by which clock is it the later one? the one that is read second waits
+        self.off(180)
+        self.done("add", "--box", "--yes")
+        arrived = time.strftime("%a, %d %b %Y %H:%M:%S +0000", time.gmtime(time.time() + 100))
+        self.write(
+            "inbox.mbox", mailbox(self.of_this_vote(letter("ada", "ada 4,3,2,1\n", time=arrived)))
+        )
+        ended = self.done("add", "--yes", "inbox.mbox")
+        self.assertIn(
+            "the clock of the web host was off, so it may be earlier or later than another ballot of ada",
+            ended.output,
+        )
+        self.assertEqual(self.standing(), {"ada": "1,2,3,4"})
+
+    def test_a_clock_that_was_off_when_it_was_asked_before(self) -> None:
+        """What came between the two may have the time of either clock."""
+        links = self.begun()
+        for name, seconds in (("ada", 180), ("ben", -180)):
+            with self.subTest(seconds=seconds):
+                self.off(seconds)
+                self.done("add", "--box")
+                self.clock = {}
+                self.click(name, "1,2,3,4", links[name])
+                self.done("add", "--box", "--yes")
+                between = time.gmtime(time.time() + seconds / 2)
+                arrived = time.strftime("%a, %d %b %Y %H:%M:%S +0000", between)
+                data = self.of_this_vote(letter(name, f"{name} 4,3,2,1\n", time=arrived))
+                self.write("inbox.mbox", mailbox(data))
+                self.assertIn(
+                    f"may be earlier or later than another ballot of {name}",
+                    self.done("add", "--yes", "inbox.mbox").output,
+                )
+
+    def test_a_dishonest_host(self) -> None:
+        links = self.begun()
+        self.click("ada", "1,2,3,4", links["ada"])
+        self.done("add", "--box", "--yes")
+        mark = self.mark()
+        at = str(self.boxes_kept()[-1]["time"])
+        real = self.file().read_bytes()
+        drop, ago = FIRST, time.strftime("%Y-%m-%dT%H:%M:%S", time.gmtime(time.time() - 1800))
+        backdated = (
+            record("x", "ben 1,2,3,4", 99, ago, mark).replace("2" * 16, links["ben"]).encode()
+        )
+        unknown = b"".join(
+            record("x", "cleo 1,2,3,4", number, at[:19], mark).encode()
+            for number in range(100, 100 + MOST + 10)
+        )
+        nobody = record("x", "nobody 1,2,3,4", 999, at[:19], mark).encode()
+        odd = nobody.replace(b"nobody", b"dan").replace(
+            b"From: box@page.invalid\n", b"From: dan@club.example\n"
+        )
+        changed = real.replace(b"ada 1,2,3,4", b"ada 4,3,2,1")
+        replayed = re.sub(rb"\d\d:\d\d:\d\d", b"00:00:01", real)
+        for what, data, gone, others, records in (
+            ("dropped", drop, 1, 0, 0),
+            ("backdated", real + backdated, 0, 0, 2),
+            ("of who never came", real + backdated + unknown, 0, 10, MOST + 2),
+            ("of nobody, and of another form", real + backdated + nobody + odd, MOST, 2, 2),
+            ("changed", changed, MOST + 2, 0, 1),
+            ("replayed", replayed, MOST + 3, 0, 1),
+        ):
+            with self.subTest(what):
+                self.file().write_bytes(data)
+                ended = self.done("add", "--box", "--yes")
+                kept = self.boxes_kept()[-1]
+                self.assertEqual(
+                    (kept["gone"], kept["others"], kept["records"]),
+                    (gone, others, records),
+                    ended.output,
+                )
+                self.assertEqual(self.standing(), {"ada": "1,2,3,4"})
+        self.assertIn("it is older than", self.done("held").output + ended.output)
+
+    def test_no_request_has_the_key_and_two_ask_at_once(self) -> None:
+        with Liar(lambda request: [passed_on(request, self.host)]) as between:
+            self.done(
+                "call", *boxes.UNTIL, "--to", "vote@club.example", "--at", between.at, "--box"
+            )
+            self.upload()
+            time.sleep(1.1)
+            self.done("add", "--box")
+            self.done("letters", "call")
+            links = self.links()
+            for name in elections.NAMES:
+                self.click(name, "1,2,3,4", links[name])
+            with ThreadPoolExecutor() as pool:
+                [*pool.map(lambda number: self.done("add", "--box", "--yes"), range(3))]
+            [(key,)] = self.rows("SELECT data FROM sealed WHERE name = 'box key'")
+            assert isinstance(key, bytes)
+            self.assertEqual(len(between.requests), 4)
+            for request in between.requests:
+                self.assertNotIn(key.hex().encode(), request)
+                self.assertNotIn(key, request)
+                self.assertIn(b"\r\n\r\n" + request_of(f"ask {asking_word(key)}"), request)
+        self.assertEqual(self.standing(), dict.fromkeys(elections.NAMES, "1,2,3,4"))
+        self.assertEqual(self.rows("SELECT count(*) FROM letter"), [(len(elections.NAMES),)])
+        self.assertIn("from the page of the vote, ", self.done("show", "ada").output)
+
+    def test_no_link_is_shown_again(self) -> None:
+        links = self.begun()
+        self.click("ada", "1,2,3,5", links["ada"])
+        self.click("ben", "1,2,3", links["ben"])
+        self.done("add", "--box", "--yes")
+        arrived = time.strftime("%a, %d %b %Y %H:%M:%S +0000")
+        own = boxes.link_in(next((self.folder / "letters/call").rglob("*ada*.eml")).read_bytes())[1]
+        text = f"I opened {self.host.at}#ada/{own}/{links['ada']} and it says\nada 1,2,3\n"
+        self.write("inbox.mbox", mailbox(self.of_this_vote(letter("ada", text, time=arrived))))
+        said = self.election("add", "inbox.mbox").output + self.done("held").output
+        said += "".join(self.done("held", str(number)).output for number in (1, 2, 3))
+        self.assertIn(f"#ada/{own}/.. and it says", said)
+        self.done("letters", "receipts")
+        receipts = [
+            email.message_from_bytes(file.read_bytes())
+            for file in (self.folder / "letters/receipts").rglob("*.eml")
+        ]
+        texts = [receipt.get_payload(decode=True).decode() for receipt in receipts]  # type: ignore[union-attr]
+        # with the right line, and the page alone
+        self.assertEqual(
+            sum(f"{name} _,_,_,_" in text for name in ("ada", "ben") for text in texts), 2
+        )
+        for text in (said, *texts):
+            for link in links.values():
+                self.assertNotIn(link, text)
+        self.assertTrue(
+            any(
+                "A ballot of" in text
+                and "came by the page of the vote, with your link" in " ".join(text.split())
+                for text in texts
+            )
+        )
+
+    def test_what_is_gone_is_told_once(self) -> None:
+        links = self.begun()
+        self.click("ada", "1,2,3,4", links["ada"])
+        self.done("add", "--box", "--yes")
+        self.file().write_bytes(FIRST)
+        self.assertIn(
+            "1 record that it had it has no more", self.done("add", "--box", "--yes").output
+        )
+        self.assertNotIn("has no more", self.done("add", "--box", "--yes").output)
+
+    def test_a_record_of_the_second_of_an_asking_and_of_the_one_before(self) -> None:
+        links = self.begun()
+        asked, mark = str(self.boxes_kept()[-1]["time"])[:19], self.mark()
+        second = f"{asked[:17]}{int(asked[17:]) - 1:02}" if asked[17:] != "00" else asked
+        data = b"".join(
+            record("x", f"{name} 1,2,3,4", number, when, mark)
+            .replace("2" * 16, links[name])
+            .encode()
+            for number, (name, when) in enumerate((("ada", asked), ("ben", second)))
+        )
+        self.file().write_bytes(FIRST + data)
+        ended = self.done("add", "--box", "--yes")
+        self.assertEqual(
+            self.standing(), {"ada": "1,2,3,4"} | ({"ben": "1,2,3,4"} if second == asked else {})
+        )
+        self.assertIn("when the box of the web host was asked and did not have it", ended.output)
+
+
+@NEEDS_PHP
+class Asked(boxes.BoxElectionTest):
+    """What needs an asking that is fresh, and what is left to be forced."""
+
+    forced = ("--force", "--because", "The host is down.")
+
+    def test_letters(self) -> None:
+        self.done("call", "--to", "vote@club.example", "--at", self.host.at, "--box")
+        fault = "call: the call has a box, and says no end of the vote"
+        self.assert_fault(self.election("letters", "call"), 9, fault, "call --until TIME")
+        self.done("call", *boxes.UNTIL)
+        # a wrong address can be put right, as long as no letter has a link to it
+        self.done("call", "--at", self.host.at.replace("http:", "https:"))
+        self.done("call", "--at", self.host.at)
+        fault = "nobody has seen yet whether the box of the web host works, with the links of now; nothing was written: upload the folder call, then run debvote-election add --box"
+        self.assert_fault(self.election("letters", "call"), 9, fault)
+        self.assert_fault(
+            self.election("add", "--box"),
+            9,
+            f"{self.host.at}vote.php: it answers 404",
+            "nothing was added",
+        )
+        # what is written all the same says that the page takes none, and the log why
+        self.done("letters", "call", *self.forced)
+        letters = [
+            email.message_from_bytes(file.read_bytes())
+            for file in (self.folder / "letters/call").rglob("*.eml")
+        ]
+        texts = [letter.get_payload(decode=True).decode() for letter in letters]  # type: ignore[union-attr]
+        self.assertEqual(
+            {
+                (
+                    "The page takes no ballots now" in text,
+                    bool(boxes.LINK.search(text)),
+                    " _,_,_,_" in text,
+                )
+                for text in texts
+            },
+            {(True, False, True)},
+        )
+        self.assertIn('"because": "The host is down."', self.done("log").output)
+        self.upload()
+        self.done("add", "--box")
+        self.done("letters", "call", *self.forced)
+        # where nothing stops it is not told, and letters have the link
+        self.assertEqual(sorted(self.links()), elections.NAMES)
+        # an asking of an older list is none, nor is a look
+        self.write(
+            "members.csv", elections.members_of(elections.NAMES).replace("ada@club", "ada@new")
+        )
+        self.done("roll", "--yes")
+        for words in (("add", "--box"), ("add", "--box", "--look")):
+            self.done(*words)
+            self.assert_fault(self.election("letters", "call"), 9, "nobody has seen yet")
+            self.upload()
+        self.assertEqual(
+            json.loads(self.done("status", "--json").output)["box"]["is_present"], False
+        )
+        self.done("add", "--box")
+        self.assertEqual(
+            json.loads(self.done("status", "--json").output)["box"]["is_present"], True
+        )
+        self.done("letters", "call")
+
+    def test_status_says_when_it_was_asked_last(self) -> None:
+        self.call()
+        self.assertIn("\nBox of the web host: not asked yet\n", self.done("status").output)
+        for seconds in (100, 200):
+            self.off(seconds)
+            self.done("add", "--box")
+            said = r"Box of the web host: 0 records when it was asked last, (\S+ \S+) UTC\n"
+            [found] = re.findall(said, self.done("status").output)
+            ahead = datetime.datetime.fromisoformat(f"{found}+00:00") - datetime.datetime.now(
+                datetime.UTC
+            )
+            self.assertAlmostEqual(ahead.total_seconds(), seconds, delta=50)
+
+    def test_reminders_and_another_page(self) -> None:
+        self.begun()
+        self.done("letters", "reminders")
+        self.off(660)
+        fault = "who voted by a click in the last ten minutes would be told that they have not; nothing was written: run debvote-election add --box"
+        self.assert_fault(self.election("letters", "reminders", "--yes"), 9, fault)
+        self.assert_fault(
+            self.election("call", "--at", "https://club.example/moved/"),
+            9,
+            "ballots may lie on the page at the address of now",
+        )
+        ended = self.election("call", "--at", "http://club.example/moved/")
+        self.assertEqual((ended.status, len(ended.faults.splitlines())), (2, 2), ended)
+        self.assertIn("--box: the page needs an address by https", ended.faults)
+        self.done("letters", "reminders", "--yes", *self.forced)
+        # the clock of the host is behind, so that by both clocks ten minutes are past
+        self.assertIn("seconds behind", self.done("add", "--box").output)
+        self.assert_fault(self.election("letters", "reminders", "--yes"), 9, fault)
+
+    def test_close_and_after_it(self) -> None:
+        links = self.begun()
+        self.click("ada", "1,2,3,4", links["ada"])
+        self.done("add", "--box", "--yes")
+        self.assertIn(
+            "Box of the web host: 1 record when it was asked last",
+            self.done("count", "--force").faults,
+        )
+        self.off(700)
+        fault = "--box: the box of the web host was not asked in the last ten minutes; nothing was changed: run debvote-election add --box"
+        self.assert_fault(self.election("close", "--early"), 9, fault)
+        self.clock = {}
+        self.done("add", "--box", "--yes")
+        time.sleep(1.1)
+        ended = self.done("close", "--early")
+        self.assertIn(
+            "Note: the page still takes ballots, and says that they arrived: run debvote-election add --box.",
+            ended.output,
+        )
+        fault = "--box: the box of the web host was not asked since the vote was closed early"
+        for words, status in ((("count",), 9), (("letters", "closed"), 9)):
+            self.assert_fault(self.election(*words), status, fault)
+        ended = self.election("publish")
+        self.assertIn(
+            "the box of the web host was not asked since the end: run debvote-election add --box",
+            ended.faults,
+        )
+        self.done("letters", "closed", *self.forced)
+        self.assertEqual(self.election("count", "--force").status, 0)
+        self.done("publish", *self.forced)
+        self.assertIn(
+            b"Ballots may have been sent on the page of the vote that the secretary did not get.",
+            self.read("result/index.html"),
+        )
+        # a click after the close is acknowledged by the page, and waits; asked once, nothing stops
+        time.sleep(1.1)
+        self.click("ben", "1,2,3,4", links["ben"])
+        ended = self.done("add", "--box", "--yes")
+        self.assertIn("it arrived after the vote was closed", ended.output)
+        self.assertEqual(self.election("count").status, 0)
+        self.done("letters", "closed")
+        self.done("publish", "--language", "en", "result-2")
+        self.assertNotIn(b"that the secretary did not get", self.read("result-2/index.html"))
+        # a later close needs none
+        self.done("reopen", "--because", "A letter was found.")
+        self.off(5000)
+        self.done("close", "--early")
+
+    def test_the_end_by_both_clocks(self) -> None:
+        links = self.begun()
+        self.click("ada", "1,2,3,4", links["ada"])
+        self.done("add", "--box", "--yes")
+        self.set_clock("2099-12-04T18:00:01+01:00")
+        fault = "--box: the box of the web host was not asked since the end; nothing was changed: run debvote-election add --box; if it does not answer any more, close with --force --because TEXT (the result page says so)"
+        self.assert_fault(self.election("close"), 9, fault)
+        # by the clock of the host the end has not come
+        self.done("add", "--box", "--yes")
+        self.assert_fault(self.election("close"), 9, fault)
+        self.done("close", *self.forced)
+        self.assertEqual(self.election("count").status, 0)
+        self.done("publish")
+        self.assertIn(
+            b"Ballots may have been sent on the page of the vote that the secretary did not get.",
+            self.read("result/index.html"),
+        )
+
+    def test_an_asking_of_the_second_of_an_early_close_is_none(self) -> None:
+        """A ballot of that second may have come after it."""
+        self.call()
+        self.off(-1800)
+        self.done("add", "--box")
+        [(asked,)] = self.rows("SELECT time FROM act ORDER BY act DESC LIMIT 1")
+        self.set_clock(str(asked))
+        self.done("close", "--early")
+        fault = "--box: the box of the web host was not asked since the vote was closed early"
+        self.assert_fault(self.election("count"), 9, fault)
+
+    def test_asked_after_the_end_and_then_closed(self) -> None:
+        self.off(-3600)
+        until = datetime.datetime.now(datetime.UTC) - datetime.timedelta(minutes=2)
+        words = ("--until", f"{until:%Y-%m-%d %H:%M+00:00}", "--to", "vote@club.example")
+        self.done("call", *words, "--at", self.host.at, "--box")
+        self.upload()
+        self.done("desk", given="ada 1,2,3,4\n")
+        # by the clock of the host the end has come, by that of this computer it has not
+        self.done("add", "--box")
+        self.clock = {}
+        fault = "--box: the box of the web host was not asked since the end"
+        self.assert_fault(self.election("close"), 9, fault)
+        self.done("add", "--box")
+        time.sleep(1.1)
+        self.done("close")
+        self.assertNotIn("the box of the web host", self.election("count").faults)
+        self.done("publish")
+        self.assertNotIn(b"that the secretary did not get", self.read("result/index.html"))
+
+
+MEMBERS = [f"m{number:02}" for number in range(1, 41)]
+RANKS = {
+    name: ",".join(str((place * (number % 3 + 1) + number) % 4 + 1) for place in range(4))
+    for number, name in enumerate(MEMBERS)
+}
+OTHER = "4,4,1,-"
+
+
+@NEEDS_PHP
+class Forty(boxes.BoxElectionTest):
+    """A whole vote of 40 members: 30 click, 8 write, 2 are on paper."""
+
+    names = MEMBERS
+
+    def letter_of(self, name: str, ranks: str, seconds: int, own: str) -> bytes:
+        arrived = time.strftime("%a, %d %b %Y %H:%M:%S +0000", time.gmtime(time.time() + seconds))
+        subject = f"Re: Vote [{self.mark()}-{own}]"
+        return letter(
+            name, f"{name} {ranks}\n", time=arrived, subject=subject, number=f"{name}{seconds}"
+        )
+
+    def test_each_ballot_is_as_meant_and_each_receipt_true(self) -> None:
+        self.begun()
+        links = self.own_links()
+        meant, clicking, writing, on_paper = dict(RANKS), MEMBERS[:30], MEMBERS[30:38], MEMBERS[38:]
+        by_page = clicking[:4]
+        self.by_the_page(by_page, links)
+        for name in clicking[4:]:
+            self.click(name, RANKS[name], links[name][1])
+        # a click again, and one with the same number again
+        self.click("m05", OTHER, links["m05"][1])
+        meant["m05"] = OTHER
+        again = ballot("m06", OTHER, 999, links["m06"][1])
+        self.assertEqual({self.host.send(again).status for _ in range(3)}, {200})
+        meant["m06"] = OTHER
+        self.assertIn(
+            "32 ballots of letters went in; 0 letters wait",
+            self.done("add", "--box", "--yes").output,
+        )
+        # an extension, and the same script is uploaded again, with the box in place
+        self.done("call", "--until", "2099-12-06 18:00")
+        self.upload()
+        self.assertEqual(self.boxes_kept()[-1]["records"], 32)
+        # who clicked writes later, and who wrote clicks later
+        letters = [self.letter_of(name, RANKS[name], -300, links[name][0]) for name in writing]
+        letters.append(self.letter_of("m07", OTHER, -400, links["m07"][0]))
+        time.sleep(1.1)
+        letters.append(self.letter_of("m08", OTHER, 0, links["m08"][0]))
+        meant["m08"] = OTHER
+        self.click("m31", OTHER, links["m31"][1])
+        meant["m31"] = OTHER
+        self.write("inbox.mbox", mailbox(*letters))
+        self.done("add", "--box", "--yes")
+        self.done("add", "--yes", "inbox.mbox")
+        # a corrected address: a new link, and the older one is unknown
+        self.write("members.csv", elections.members_of(MEMBERS).replace("m09@club", "m09@new"))
+        self.done("roll", "--yes")
+        self.upload()
+        self.done("add", "--box", "--yes")
+        self.done("letters", "call")
+        new = self.own_links()["m09"][1]
+        self.assertNotEqual(new, links["m09"][1])
+        self.click("m09", OTHER, new)
+        meant["m09"] = OTHER
+        self.write("paper", "".join(f"{name} {RANKS[name]}\n" for name in on_paper))
+        self.done("add", "paper")
+        self.done("add", "--box", "--yes")
+        self.assertEqual(self.done("held").output.splitlines()[0], "No letter waits.")
+        self.assertEqual(self.standing(), meant)
+        time.sleep(1.1)
+        self.done("close", "--early")
+        # a late click: the page has it, and its elector is told that it does not count
+        time.sleep(1.1)
+        self.click("m10", OTHER, links["m10"][1])
+        self.done("add", "--box", "--yes")
+        self.assertEqual(self.standing(), meant)
+        self.assertIn("remove vote.php and box-", self.done("publish").output)
+        shown = [
+            file
+            for name in ("call", "result", "letters/closed.txt")
+            for file in [self.folder / name, *(self.folder / name).rglob("*")]
+        ]
+        for file in filter(pathlib.Path.is_file, shown):
+            self.assertEqual(
+                [link for _, link in links.values() if link in file.read_text()], [], file
+            )
+        self.assertEqual(
+            dict(
+                line.split(" ", 1) for line in self.read("result/ballots.txt").decode().splitlines()
+            ),
+            meant,
+        )
+        self.demand_receipts(
+            meant, {**dict.fromkeys(writing, False), **dict.fromkeys(clicking, True)}
+        )
+
+    def own_links(self) -> dict[str, tuple[str, str]]:
+        folders = sorted(
+            (self.folder / "letters/call").iterdir(), key=lambda one: one.stat().st_mtime
+        )
+        found = [
+            boxes.link_in(file.read_bytes())
+            for folder in folders
+            for file in sorted(folder.glob("*.eml"))
+        ]
+        return {name: (own, link) for name, own, link in found}
+
+    def by_the_page(self, names: list[str], links: dict[str, tuple[str, str]]) -> None:
+        """Their clicks, in a browser as wide as a telephone or a screen; without a browser as the page sends them."""
+        if not at_browser.BROWSER:
+            for name in names:
+                self.click(name, RANKS[name], links[name][1])
+            return
+        with at_browser.Window(360, 800) as window:
+            for number, name in enumerate(names):
+                window.resize((360, 1280)[number % 2], 800)
+                window.tell("Page.navigate", url="about:blank")
+                window.until("location.href === 'about:blank'")
+                window.tell("Page.navigate", url=f"{self.host.at}#{name}/{'/'.join(links[name])}")
+                window.until(
+                    "document.readyState === 'complete' && location.href !== 'about:blank'"
+                )
+                window.ballot(None, RANKS[name].replace(",", ""))
+                window.ask("document.getElementById('Vote').click()")
+                window.until(
+                    "document.getElementById('Sent').textContent.startsWith('It has arrived')"
+                )
+                self.assertEqual(window.faults, [])
+
+    def demand_receipts(self, meant: dict[str, str], came_by_page: dict[str, bool]) -> None:
+        self.done("letters", "receipts")
+        for file in (self.folder / "letters/receipts").rglob("*.eml"):
+            read = email.message_from_bytes(file.read_bytes())
+            text = " ".join(read.get_payload(decode=True).decode().split())  # type: ignore[union-attr]
+            name = re.search(r"You vote under the name (m\d\d)", text)[1]  # type: ignore[index]
+            self.assertIn(f"It was read as ({name} {meant[name]})", text)
+            if name in came_by_page and name not in ("m08", "m31"):
+                self.assertEqual(
+                    "It came by the page of the vote." in text, came_by_page[name], text
+                )
+            self.assertIsNone(boxes.LINK.search(text))
+        texts = b"".join(
+            file.read_bytes() for file in (self.folder / "letters/receipts").rglob("*.eml")
+        )
+        self.assertIn(b"The reason: it arrived after the vote was closed", b" ".join(texts.split()))
+
+
+@NEEDS_PHP
+class Many(boxes.BoxElectionTest):
+    names = [f"m{number}" for number in range(500)]
+
+    def test_ten_thousand_records(self) -> None:
+        """In less than 30 seconds of this computer, whatever else it does."""
+        links, mark = self.begun(), self.mark()
+        begin = datetime.datetime.now(datetime.UTC) + datetime.timedelta(seconds=1)
+        data = b"".join(
+            record("x", f"{name} {number % 4 + 1},2,3,4", 1000 * turn + number, (begin + datetime.timedelta(seconds=turn)).isoformat()[:19], mark)
+            .replace("2" * 16, links[name]).encode()
+            for turn in range(20) for number, name in enumerate(self.names)
+        )  # fmt: skip
+        self.file().write_bytes(FIRST + data)
+        before = resource.getrusage(resource.RUSAGE_CHILDREN)
+        self.assertIn(
+            "The box has 10000 records.\n10000 new letters; 0 came before.\n",
+            self.done("add", "--box", "--yes").output,
+        )
+        after = resource.getrusage(resource.RUSAGE_CHILDREN)
+        self.assertLess(after.ru_utime + after.ru_stime - before.ru_utime - before.ru_stime, 30)
+        self.assertEqual(
+            self.standing(),
+            {name: f"{number % 4 + 1},2,3,4" for number, name in enumerate(self.names)},
+        )
+
+
+class Clocks(unittest.TestCase):
+    """A host whose clock was off, near the end and beside other ballots, by the rules alone."""
+
+    KEY = bytes(range(32))
+
+    def record_at(
+        self, name: str, ranks: str, when: datetime.datetime, behind: int, link: str | None = None
+    ) -> ParsedLetter:
+        data = record(
+            "x", f"{name} {ranks}", int(f"{when:%H%M}{ranks[0]}"), f"{when:%Y-%m-%dT%H:%M:%S}"
+        ).partition("\n")[2]
+        own = link_of(self.KEY, name, OWN[name]) if link is None else link
+        return dataclasses.replace(
+            parsed(data.encode().removesuffix(b"\n")), link=own, behind=behind
+        )
+
+    def outcomes(self, *letters: ParsedLetter | bytes, **how: object) -> list[str]:
+        return outcomes(*letters, box_key=self.KEY, **how)
+
+    def test_a_record_goes_in_by_its_link_alone(self) -> None:
+        for is_marked in (False, True):
+            self.assertEqual(
+                self.outcomes(self.record_at("ada", "1,2,3,4", at(10), 0), is_marked=is_marked),
+                ["in: ada 1,2,3,4"],
+            )
+        for link in (
+            link_of(self.KEY, "ben", OWN["ben"]),
+            "2" * 16,
+            link_of(self.KEY, "ada", OWN["ben"]),
+        ):
+            self.assertEqual(
+                self.outcomes(self.record_at("ada", "1,2,3,4", at(10), 0, link)),
+                ["waits: other link"],
+            )
+        # the same bytes without the asking are a letter of a stranger
+        plain = dataclasses.replace(self.record_at("ada", "1,2,3,4", at(10), 0), link="")
+        self.assertEqual(self.outcomes(plain), ["waits: other sender"])
+
+    def test_what_a_clock_could_take_across_the_end_waits_on_either_side(self) -> None:
+        for minutes, behind, wanted in (
+            (-1, 0, "in: ada 1,2,3,4"), (1, 0, "waits: after the end"),
+            (-1, 180, "waits: clock at the end"), (-4, 180, "in: ada 1,2,3,4"), (1, 180, "waits: after the end"),
+            (1, -180, "waits: clock at the end"), (-1, -180, "in: ada 1,2,3,4"), (4, -180, "waits: after the end"),
+        ):  # fmt: skip
+            with self.subTest(minutes=minutes, behind=behind):
+                one = self.record_at(
+                    "ada", "1,2,3,4", at(12) + datetime.timedelta(minutes=minutes), behind
+                )
+                for end in ("end", "first_close"):
+                    found = judged(one, box_key=self.KEY, **{end: at(12)})
+                    said = (
+                        wanted.replace("after the end", "after the close")
+                        if end == "first_close"
+                        else wanted
+                    )
+                    self.assertEqual(outcome(found[0]), said)
+                    # what may be in time stops the close
+                    self.assertEqual(found[0].arrived_in_time, "after" not in wanted)
+
+    def test_two_ballots_whose_order_it_could_turn(self) -> None:
+        first = self.record_at("ada", "1,2,3,4", at(10), 180)
+        for minutes, wanted in ((1, "waits: clocks"), (4, "in: ada 4,3,2,1")):
+            later = letter("ada", "ada 4,3,2,1", time=f"Mon, 23 Nov 2026 10:0{minutes}:00 +0000")
+            self.assertEqual(self.outcomes(first, later), ["in: ada 1,2,3,4", wanted])
+        # the same ballot, or two by the same clock, can't be turned
+        self.assertEqual(
+            self.outcomes(
+                first, letter("ada", "ada 1,2,3,4", time="Mon, 23 Nov 2026 10:01:00 +0000")
+            )[1],
+            "in: ada 1,2,3,4",
+        )
+        self.assertEqual(
+            self.outcomes(first, self.record_at("ada", "4,3,2,1", at(10, 1), 180))[1],
+            "in: ada 4,3,2,1",
+        )
+        # one that was entered before
+        for behind, wanted in ((180, "waits: clocks"), (0, "older: later ballot")):
+            entered = {"ada": [Ballot(at(10, 2), "ada 1,2,3,4", True, -behind)]}
+            self.assertEqual(
+                self.outcomes(letter("ada", "ada 4,3,2,1"), ballots=entered, is_marked=False)[:1],
+                [wanted],
+            )
+
+    def test_what_an_asking_before_should_have_brought_waits(self) -> None:
+        for minutes, wanted in ((0, "in: ada 1,2,3,4"), (1, "waits: not there before")):
+            one = dataclasses.replace(
+                self.record_at("ada", "1,2,3,4", at(10), 0), asked_before=at(10, minutes)
+            )
+            self.assertEqual(self.outcomes(one), [wanted])
+
+
+if __name__ == "__main__":
+    unittest.main()

@@ -1,0 +1,139 @@
+"""What the book tells the web host of a vote with a box: no secret, and always the same."""
+
+import hashlib
+import hmac
+import itertools
+import math
+import re
+import unittest
+
+from debvote_tools.cli.faults import Fault
+from debvote_tools.inbox.records import MOST
+from debvote_tools.poll.box import (
+    SCRIPT,
+    asking_word,
+    link_of,
+    list_digest,
+    new_key,
+    records_file,
+    script_address,
+    script_of,
+)
+from debvote_tools.poll.sealed import OWN_LENGTH, OWN_SIGNS, new_own_mark
+
+MARK, KEY = "1ac5041b936c7fc1", bytes(range(32))
+OWNS = {"ada": "23456789ab", "ben-lee": "3456789abc", "m.12": "456789abcd"}
+
+
+def by_hand(key: bytes, name: str, own: str) -> str:
+    """The link, as the rule says it: the digits of the number to the base 31, the last first."""
+    number, signs = int(hmac.new(key, f"{name} {own}".encode(), hashlib.sha256).hexdigest(), 16), ""
+    while len(signs) < 16:
+        signs += OWN_SIGNS[number % 31]
+        number //= 31
+    return signs
+
+
+class Links(unittest.TestCase):
+    def test_a_link_has_79_bits_and_each_of_key_name_and_own_mark_makes_a_new_one(self) -> None:
+        self.assertEqual((len(OWN_SIGNS), math.floor(16 * math.log2(len(OWN_SIGNS)))), (31, 79))
+        others = {**OWNS, "ada-lee": "23456789ab", "ada2": "3456789ab2"}
+        links = [
+            link_of(key, name, own) for key in (KEY, b"x" * 32) for name, own in others.items()
+        ]
+        links += [link_of(KEY, "ada", "z" * OWN_LENGTH), link_of(KEY, "ben-lee", OWNS["ada"])]
+        self.assertEqual(len({*links}), len(links))
+        for link in links:
+            self.assertRegex(link, rf"\A[{OWN_SIGNS}]{{16}}\Z")
+        self.assertEqual(
+            {link_of(KEY, *one) for one in others.items()},
+            {by_hand(KEY, *one) for one in others.items()},
+        )
+        # no link is the word that asks, or a part of it
+        self.assertNotEqual(link_of(KEY, "ask", "")[:8], asking_word(KEY)[:8])
+        # each sign comes in each place
+        many = [link_of(KEY, "ada", new_own_mark()) for _ in range(2_000)]
+        self.assertEqual({len({*signs}) for signs in zip(*many)}, {len(OWN_SIGNS)})
+
+    def test_the_word_and_the_key(self) -> None:
+        self.assertEqual(asking_word(KEY), hmac.new(KEY, b"ask", hashlib.sha256).hexdigest())
+        keys = {new_key() for _ in range(9)}
+        self.assertEqual((len(keys), {len(key) for key in keys}), (9, {32}))
+        self.assertEqual(
+            records_file(KEY),
+            f"box-{hashlib.sha256(asking_word(KEY).encode()).hexdigest()[:32]}.php",
+        )
+
+
+class Scripts(unittest.TestCase):
+    def test_the_same_book_makes_the_same_bytes_and_anything_new_makes_others(self) -> None:
+        script = script_of(KEY, MARK, OWNS)
+        self.assertEqual(script_of(KEY, MARK, dict(OWNS)), script)
+        others = [
+            script_of(b"x" * 32, MARK, OWNS),
+            script_of(KEY, "f" * 16, OWNS),
+            script_of(KEY, MARK, OWNS | {"ada": "zzzzzzzzzz"}),
+            script_of(KEY, MARK, {"ada": OWNS["ada"]}),
+            script_of(KEY, MARK, {}),
+        ]
+        self.assertEqual(len({script, *others}), 6)
+        self.assertEqual(len({list_digest(one) for one in (script, *others)}), 6)
+
+    def test_what_is_below_the_code(self) -> None:
+        script = script_of(KEY, MARK, OWNS)
+        _, _, lines = script.decode("ascii").rpartition("__halt_compiler();\n")
+        self.assertEqual(list_digest(script), hashlib.sha256(lines.encode()).hexdigest())
+        rows = [line.split(" ") for line in lines.removesuffix("\n").split("\n")]
+        wanted = {MARK: hashlib.sha256(asking_word(KEY).encode()).hexdigest()}
+        wanted |= {
+            name: hashlib.sha256(f"{MARK} {name} {by_hand(KEY, name, own)}".encode()).hexdigest()
+            for name, own in OWNS.items()
+        }
+        self.assertEqual(rows, [list(row) for row in wanted.items()])
+        # no secret is in it, in no form
+        for secret in (
+            KEY,
+            KEY.hex().encode(),
+            asking_word(KEY).encode(),
+            *(own.encode() for own in OWNS.values()),
+        ):
+            self.assertNotIn(secret, script)
+        for name, own in OWNS.items():
+            self.assertNotIn(link_of(KEY, name, own).encode(), script)
+
+    def test_as_many_records_of_a_link_are_kept_as_the_script_takes(self) -> None:
+        """More would be acknowledged, and passed over."""
+        found = re.search(rb"PER_LINK = (\d+),", script_of(KEY, MARK, OWNS))
+        self.assertEqual(found and int(found[1]), MOST)
+
+    def test_ten_thousand_electors(self) -> None:
+        owns = {"-".join(name): "23456789ab" for name in itertools.product("abcdefghij", repeat=4)}
+        self.assertEqual(
+            script_of(KEY, MARK, owns).count(b"\n"), script_of(KEY, MARK, {}).count(b"\n") + 10_000
+        )
+
+    def test_it_lies_beside_the_page(self) -> None:
+        for at, address in {
+            "https://club.example/vote/": "https://club.example/vote/vote.php",
+            "https://club.example/vote/2026.html": "https://club.example/vote/vote.php",
+            "https://club.example/": "https://club.example/vote.php",
+            "http://127.0.0.1:8080/": "http://127.0.0.1:8080/vote.php",
+            "http://localhost/a.html": "http://localhost/vote.php",
+            "http://[::1]:80/": "http://[::1]:80/vote.php",
+        }.items():
+            self.assertEqual(script_address(at), address)
+        for at in (
+            None,
+            "https://club.example",
+            "https://club.example/vote",
+            "http://club.example/",
+            "https://club.example/?a=/",
+        ):
+            with self.assertRaises(Fault) as caught:
+                script_address(at)
+            self.assertRegex(caught.exception.words, re.escape("--box: ") + ".*https")
+        self.assertEqual(SCRIPT, "vote.php")
+
+
+if __name__ == "__main__":
+    unittest.main()

@@ -1,0 +1,618 @@
+"""The box of a vote on a real server of PHP: what each request is answered, what the file has then,
+and that nothing that was acknowledged is lost, whatever fails.
+"""
+
+import concurrent.futures
+import datetime
+import fcntl
+import pathlib
+import re
+import subprocess
+import tempfile
+import time
+import unittest
+
+from debvote_tools.poll.box import END_OF_CODE, SCRIPT, asking_word, link_of, list_digest, script_of
+from debvote_tools.poll.questions import LABELS
+from debvote_tools.text.rendering import resources
+
+from tests.support.web_host import END, FILE, FIRST, KEY, LINKS, MARK, NEEDS_PHP, OWNS, STRACE, WORD
+from tests.support.web_host import ASK, HOST_OFF, Answer, BoxTest, Host
+from tests.support.web_host import ballot, clock_of_php, record, request_of
+
+LIMIT, OF_A_LINK, FULL = 4_000, 20, 30_000_000
+TIME = re.compile(r"received (\d{4}-\d\d-\d\dT\d\d:\d\d:\d\dZ)\n")
+
+# settings with which PHP compiles a script once
+CACHE = ["-d", "zend_extension=opcache"]
+for one in ("enable=1", "enable_cli=1", "validate_timestamps=0", "file_update_protection=0"):
+    CACHE += ["-d", f"opcache.{one}"]
+
+# bodies that are no request of the page
+BAD = [
+    b"",
+    b"\n",
+    request_of("ada 1,2"),
+    request_of("ask"),
+    request_of("ask "),
+    ASK[:-1],
+    ASK + b"\n",
+    b"a=" + ASK,
+    b"box=box=" + ballot("ada", "1,2", 77),
+    request_of(f"ASK {WORD}"),
+    request_of(f"ask {WORD.upper()}"),
+    request_of(f"ask {WORD[:-1]}"),
+    request_of(f"ask {WORD}0"),
+    request_of(f" ask {WORD}"),
+    ballot("ada", "1,2", 77)[:-1],
+    ballot("ada", "1,2", 77) + b"\n",
+    ballot("ada", "1,2", 77).replace(b"\n", b"\r\n"),
+    ballot("Ada", "1,2", 77, LINKS["ada"]),
+    ballot("a" * 33, "1,2", 77, LINKS["ada"]),
+    ballot("ada", "1,2\x00", 77),
+    ballot("ada", "1;2", 77),
+    ballot("ada", "a 1,2", 77),
+    ballot("ada", "1,2\n\nben 1,2", 77),
+    ballot("ada", "1,2<?php phpinfo(); ?>", 77),
+    ballot("ada", "\u00b9,2", 77),
+    ballot("ada", "1,2", 77, LINKS["ada"].upper()),
+    ballot("ada", "1,2", 77, LINKS["ada"] + "2"),
+    ballot("ada", "1,2", 77, "../../etc/passwd"),
+    ballot("ada", "1,2", 77).replace(b"0" * 30, b"g" * 30),
+    ballot("ada", "", 77),
+    b"\xef\xbb\xbf" + ballot("ada", "1,2", 77),
+    b"line=ada+1,2&link=" + LINKS["ada"].encode(),
+    b'{"line": "ada 1,2"}',
+    b"\xff" * 40,
+]
+
+
+@NEEDS_PHP
+class Requests(BoxTest):
+    def received(self, answer: Answer) -> str:
+        """The time of an answer that says that the ballot arrived."""
+        found = TIME.fullmatch(answer.text)
+        self.assertEqual((answer.status, found is not None), (200, True), answer)
+        return found[1] if found else ""
+
+    def test_the_script_is_short_and_the_same_for_each_vote(self) -> None:
+        code = resources("debvote_tools.poll", SCRIPT).encode()
+        self.assertLessEqual(len(code), 4_500)
+        self.assertTrue(code.endswith(END_OF_CODE) and code.count(END_OF_CODE) == 1)
+        other = script_of(b"x" * 32, "0" * 16, {})
+        for script in (self.script, other):
+            self.assertEqual(script[: len(code)], code)
+        self.assertEqual(
+            subprocess.run(
+                ["php", "-n", "-l", self.folder / SCRIPT], capture_output=True
+            ).returncode,
+            0,
+        )
+
+    def test_each_row_of_the_protocol(self) -> None:
+        host = self.host()
+        before = datetime.datetime.now(datetime.UTC).replace(microsecond=0)
+        head = f"box 1 {MARK} {list_digest(self.script)} "
+        # the first asking makes the file, and tells the time
+        self.assertFalse(self.file.exists())
+        answer = host.ask()
+        self.assertEqual((answer.status, answer.text[: len(head)]), (200, head))
+        said = datetime.datetime.fromisoformat(answer.text.removeprefix(head).rstrip("\n"))
+        self.assertTrue(before <= said <= datetime.datetime.now(datetime.UTC))
+        self.assertEqual((self.file.read_bytes(), self.file.stat().st_mode & 0o777), (FIRST, 0o600))
+        # a ballot, of one question and of several
+        first = self.received(host.send(ballot("ada", "1,2,-,10", 1)))
+        second = self.received(host.send(ballot("ben-lee", "A 1,2 B 2,1,3", 2)))
+        wanted = record("ada", "ada 1,2,-,10", 1, first) + record(
+            "ben-lee", "ben-lee A 1,2 B 2,1,3", 2, second
+        )
+        self.assertEqual(self.file.read_text(), FIRST.decode() + wanted)
+        self.assertEqual(host.ask().text.partition("\n")[2], wanted)
+        for word, status, bodies in (
+            (
+                "unknown:",
+                403,
+                [
+                    request_of("ask " + "0" * 64),
+                    ballot("ada", "1,2", 3, "2" * 16),
+                    ballot("ada", "1,2", 3, LINKS["ben-lee"]),
+                ],
+            ),
+            (
+                "unknown:",
+                403,
+                [ballot("zoe", "1,2", 3, LINKS["ada"]), ballot(MARK, "1,2", 3, "2" * 16)],
+            ),
+            ("bad:", 413, [b"x" * (LIMIT + 1), ballot("ada", "1," * 2_000, 3), b"x" * 9_000_000]),
+            ("bad:", 400, BAD),
+        ):
+            for body in bodies:
+                with self.subTest(body=body[:100]):
+                    answer = host.send(body)
+                    self.assertEqual((answer.status, answer.word), (status, word))
+                    # nothing of a request is echoed
+                    self.assertRegex(answer.text, r"\A[a-z]+: [a-z ]+\n\Z")
+        for method in ("GET", "HEAD", "PUT", "DELETE", "OPTIONS", "PATCH"):
+            answer = host.send(ballot("ada", "1,2", 3), method, path="/vote.php?ada")
+            self.assertEqual(
+                (answer.status, answer.word, answer.headers.get("allow")),
+                (405, "" if method == "HEAD" else "bad:", "POST"),
+                method,
+            )
+        for answer in (
+            answer,
+            host.ask(),
+            host.send(b"x"),
+            host.send(ballot("ada", "1,2,-,10", 1)),
+        ):
+            of_heads = {
+                name: answer.headers.get(name)
+                for name in (
+                    "x-content-type-options",
+                    "cache-control",
+                    "access-control-allow-origin",
+                )
+            }
+            self.assertEqual(
+                of_heads,
+                {
+                    "x-content-type-options": "nosniff",
+                    "cache-control": "no-store",
+                    "access-control-allow-origin": None,
+                },
+            )
+            self.assertEqual(int(answer.headers["content-length"]), len(answer.text))
+            self.assertTrue(answer.headers["content-type"].startswith("text/plain"))
+        # no refused request changed anything
+        self.assertEqual(host.ask().text.partition("\n")[2], wanted)
+        self.assertEqual(
+            sorted(file.name for file in self.folder.iterdir()), sorted([SCRIPT, FILE])
+        )
+        # whoever opens the file or the script in a browser sees nothing of it
+        self.assertEqual(
+            (host.send(b"", "GET", f"/{FILE}").text, host.send(b"", "GET").text),
+            ("", "bad: only POST\n"),
+        )
+
+    def test_the_longest_ballot(self) -> None:
+        host, rest = self.host(), len(ballot("ada", "", 1))
+        self.assertEqual(host.send(ballot("ada", "1" * (LIMIT - rest), 1)).word, "received")
+        self.assertEqual(host.send(ballot("ada", "1" * (LIMIT - rest + 1), 2)).status, 413)
+        self.assertEqual(
+            host.send(ballot("ada", ("1," * LIMIT)[: LIMIT - rest], 3)).word, "received"
+        )
+        self.assertEqual(len(host.lines()), 2)
+
+    def test_a_ballot_of_several_questions_is_one_record(self) -> None:
+        """Also the longest one, of each question with as many options as there can be."""
+        longest = " ".join(f"{label} {','.join(['32'] * 32)}" for label in LABELS)
+        host, ballots = self.host(), ["A 1,2", "A 1,2 C 2,1,3,-", longest]
+        for number, answers in enumerate(ballots, start=1):
+            self.assertEqual(host.send(ballot("ada", answers, number)).word, "received")
+        self.assertEqual(host.lines(), [f"ada {answers}" for answers in ballots])
+
+    def test_other_kinds_of_content_and_a_request_that_names_a_file(self) -> None:
+        host = self.host()
+        kinds = [
+            "application/x-www-form-urlencoded",
+            "application/json",
+            "text/plain;charset=UTF-8",
+            "application/octet-stream",
+        ]
+        for number, kind in enumerate(kinds):
+            self.assertEqual(
+                host.send(
+                    ballot("ada", "1,2", number), Content_Type=kind, Origin="https://else.example"
+                ).word,
+                "received",
+            )
+        self.assertEqual(
+            host.send(
+                ballot("ada", "1,2", 9), Content_Type="multipart/form-data; boundary=x"
+            ).status,
+            400,
+        )
+        # what stands in the address changes nothing
+        for path in (
+            "/vote.php?file=/tmp/x&ask=1",
+            "/vote.php/box.php",
+            "/vote.php?/../../etc/passwd",
+        ):
+            self.assertEqual(host.send(ballot("ben-lee", "1,2", 7), path=path).word, "received")
+        self.assertEqual(len(host.lines()), len(kinds) + 1)
+        self.assertEqual(
+            sorted(file.name for file in self.folder.iterdir()), sorted([SCRIPT, FILE])
+        )
+
+    def test_what_is_sent_again_is_one_record(self) -> None:
+        host = self.host()
+        first = self.received(host.send(ballot("ada", "1,2", 1)))
+        later = self.received(host.send(ballot("ada", "2,1", 2)))
+        self.assertLess(first, later)
+        self.assertEqual(self.received(host.send(ballot("ada", "1,2", 1))), first)
+        self.assertEqual(self.received(host.send(ballot("ada", "2,1", 2))), later)
+        for name, ranks in (("ada", "2,1"), ("ada", "1,"), ("ben-lee", "1,2")):
+            answer = host.send(ballot(name, ranks, 1))
+            self.assertEqual((answer.status, answer.word), (400, "bad:"))
+        self.assertEqual(host.lines(), ["ada 1,2", "ada 2,1"])
+
+    def test_a_hundred_records_of_a_link(self) -> None:
+        host = self.host()
+        times = [
+            self.received(host.send(ballot("ada", "1,2", number))) for number in range(OF_A_LINK)
+        ]
+        # each in a second of its own, in the order in which they came
+        self.assertEqual(times, sorted(set(times)))
+        answer = host.send(ballot("ada", "1,2", 999))
+        self.assertEqual((answer.status, answer.word), (429, "many:"))
+        # what it has is told again, and others may send
+        self.assertEqual(self.received(host.send(ballot("ada", "1,2", 3))), times[3])
+        self.received(host.send(ballot("ben-lee", "1,2", 100)))
+        self.assertEqual(len(host.lines()), OF_A_LINK + 1)
+
+    def test_a_request_may_be_a_field_of_a_form(self) -> None:
+        host, fields = self.host(), b"box="
+        sent = ballot("ada", "1,2", 1)
+        times = {self.received(host.send(body)) for body in (fields + sent, sent, fields + sent)}
+        self.assertEqual(len(times), 1)
+        self.assertEqual(host.send(fields + ASK).text, host.send(ASK).text)
+        self.assertEqual(host.lines(), ["ada 1,2"])
+
+    def test_a_clock_that_is_put_back(self) -> None:
+        """Of one link what comes later has a later time, and is not kept if that would be far ahead;
+        others have the time of the clock.
+        """
+        room = pathlib.Path(self.enterContext(tempfile.TemporaryDirectory(prefix="debvote-clock-")))
+        host, times = self.host(*clock_of_php(room)), []
+        for name, ahead in (("ada", 300), ("ada", 0), ("ben-lee", 0), ("ada", 150), ("ada", 600)):
+            (room / HOST_OFF).write_text(str(ahead))
+            said = self.received(host.send(ballot(name, "1,2", len(times))))
+            times.append(datetime.datetime.fromisoformat(said))
+        first, second, of_ben, third, last = ((one - times[0]).total_seconds() for one in times)
+        self.assertEqual((first, second, third), (0, 1, 2))
+        self.assertTrue(-300 <= of_ben < -150 and 300 <= last < 450, times)
+        before = self.file.read_bytes()
+        (room / HOST_OFF).write_text("-60")
+        answer = host.send(ballot("ada", "1,2", 9))
+        self.assertEqual((answer.status, answer.word), (503, "lost:"))
+        self.received(host.send(ballot("ada", "1,2", 4)))
+        self.assertEqual(self.file.read_bytes(), before)
+        self.received(host.send(ballot("cleo.x", "1,2", 10)))
+
+    def test_each_request_has_the_file_alone(self) -> None:
+        """Who only reads it holds a ballot up, too: two that write at once would lose one."""
+        host = self.host()
+        self.received(host.send(ballot("ada", "1,2", 1)))
+        with (self.folder / FILE).open() as file, concurrent.futures.ThreadPoolExecutor(1) as pool:
+            fcntl.flock(file, fcntl.LOCK_SH)
+            sent = pool.submit(host.send, ballot("ada", "2,1", 2))
+            with self.assertRaises(TimeoutError):
+                sent.result(timeout=1)
+            fcntl.flock(file, fcntl.LOCK_UN)
+            self.received(sent.result())
+        self.assertEqual(host.lines(), ["ada 1,2", "ada 2,1"])
+
+    def test_several_at_once_by_one_link(self) -> None:
+        host = self.host(workers=4)
+        with concurrent.futures.ThreadPoolExecutor(6) as pool:
+            for number in range(0, 18, 6):
+                bodies = [
+                    ballot("ada", f"{one % 3 + 1},2", one) for one in range(number, number + 3)
+                ]
+                # one of them twice, and an asking between
+                sent = list(
+                    pool.map(
+                        host.send,
+                        [
+                            *bodies,
+                            bodies[0],
+                            ASK,
+                            ballot("cleo.x", "1,2", 100 + number),
+                        ],
+                    )
+                )
+                self.assertEqual([one.status for one in sent], [200] * 6)
+                self.assertEqual((sent[0].text, sent[4].word), (sent[3].text, "box"))
+        records = [record for record in host.records() if LINKS["ada"] in record]
+        times = [re.findall(r"Received: by box; (.*) \+0000", record)[0] for record in records]
+        read = [datetime.datetime.strptime(one, "%a, %d %b %Y %H:%M:%S") for one in times]
+        self.assertEqual((len(read), read), (9, sorted(set(read))))
+
+    def test_bad_requests_refuse_no_good_one(self) -> None:
+        host, many = self.host(), 2_000
+        bad = [*BAD, b"x" * 5_000, ballot("ada", "1,2", 1, "2" * 16), request_of("ask " + "1" * 64)]
+        for number in range(many):
+            self.assertIn(host.send(bad[number % len(bad)]).status, (400, 403, 413))
+            if number % 100 == 0:
+                name = list(OWNS)[number // 100 % 3]
+                self.received(host.send(ballot(name, "2,1", number)))
+        self.assertEqual(len(host.lines()), many // 100)
+
+    def test_a_click_takes_no_time_in_a_large_box(self) -> None:
+        host = self.host()
+        host.ask()
+        many = "".join(
+            record("ben-lee", "ben-lee 1,2", number, "2026-11-28T12:00:00Z")
+            for number in range(10_000, 20_000)
+        )
+        self.file.write_text(FIRST.decode() + many.replace(LINKS["ben-lee"], "z" * 16))
+        begin = time.monotonic()
+        for number in range(OF_A_LINK):
+            self.received(host.send(ballot("ada", "1,2", number)))
+        self.assertLess((time.monotonic() - begin) / OF_A_LINK, 0.5)
+
+
+@NEEDS_PHP
+class Votes(BoxTest):
+    def test_another_script_over_it_is_asked_at_once(self) -> None:
+        """A host keeps compiled code, and has to see at once what is new below it."""
+        for settings in ([], CACHE):
+            with self.subTest(settings=settings), Host(self.folder, *settings) as host:
+                (self.folder / SCRIPT).write_bytes(self.script)
+                self.assertEqual(host.send(ballot("ada", "1,2", 1)).word, "received")
+                if settings:
+                    # new code is not seen: so the code has to be the same
+                    changed = self.script.replace(b"bad: only POST", b"bad: only HEAD")
+                    (self.folder / SCRIPT).write_bytes(changed)
+                    self.assertEqual(host.send(b"", "GET").text, "bad: only POST\n")
+                # a new own mark: the old link is unknown, its record stays, and it can be asked for
+                other = script_of(KEY, MARK, OWNS | {"ada": "zzzzzzzzzz"})
+                (self.folder / SCRIPT).write_bytes(other)
+                self.assertEqual(host.send(ballot("ada", "1,2", 1)).status, 403)
+                self.assertEqual(
+                    host.send(ballot("ada", "2,1", 2, link_of(KEY, "ada", "zzzzzzzzzz"))).word,
+                    "received",
+                )
+                self.assertIn(f" {list_digest(other)} ", host.ask().text)
+                self.assertEqual(host.lines(), ["ada 1,2", "ada 2,1"])
+                # another call of the same book, whose own marks are new; and one of another book,
+                # which has a file of its own
+                (self.folder / SCRIPT).write_bytes(
+                    script_of(KEY, "f" * 16, {name: own[::-1] for name, own in OWNS.items()})
+                )
+                self.assertEqual(host.send(ballot("ada", "1,2", 3)).status, 403)
+                self.assertTrue(host.ask().text.startswith(f"box 1 {'f' * 16} "))
+                (self.folder / SCRIPT).write_bytes(script_of(b"x" * 32, MARK, OWNS))
+                self.assertEqual(
+                    (host.ask().status, host.ask(asking_word(b"x" * 32)).text.count("\n")), (403, 1)
+                )
+                self.file.unlink()
+
+    def test_a_script_without_its_list(self) -> None:
+        host = self.host()
+        for cut in (len(resources("debvote_tools.poll", SCRIPT)), 1_000):
+            (self.folder / SCRIPT).write_bytes(self.script[:cut])
+            for body in (ASK, ballot("ada", "1,2", 1)):
+                self.assertNotIn(host.send(body).word, ("box", "received"))
+        self.assertFalse(self.file.exists())
+
+    def test_the_key_is_in_no_request_and_in_no_file(self) -> None:
+        host = self.host()
+        host.send(ballot("ada", "1,2", 1))
+        for text in (self.script, self.file.read_bytes(), WORD.encode()):
+            self.assertNotIn(KEY, text)
+            self.assertNotIn(KEY.hex().encode(), text)
+        for secret in (WORD, *LINKS.values(), *OWNS.values()):
+            self.assertNotIn(secret.encode(), self.script)
+
+
+@NEEDS_PHP
+class Broken(BoxTest):
+    """The file was cut off, the disk is full or broken."""
+
+    def test_a_record_that_was_cut_off_is_written_over(self) -> None:
+        host = self.host()
+        for number in (1, 2):
+            host.send(ballot("ada", "1,12", number))
+        whole = self.file.read_bytes()
+        begin = len(whole) - len(whole.split(END)[1]) - len(END)
+        kept = whole[:begin]
+        self.assertTrue(kept.endswith(END))
+        for cut in (*range(len(FIRST)), *range(begin, len(whole) + 1)):
+            with self.subTest(cut=cut):
+                self.file.write_bytes(whole[:cut])
+                known = whole if cut == len(whole) else kept if cut >= begin else FIRST
+                # an asking, a click, and again
+                count = known.count(END)
+                self.assertEqual(len(host.records()), count)
+                answer = host.send(ballot("ben-lee", "2,1", 3))
+                new = record("ben-lee", "ben-lee 2,1", 3, answer.text.split()[1]).encode()
+                self.assertEqual((answer.word, self.file.read_bytes()), ("received", known + new))
+                # the one that was cut off is sent again
+                self.file.write_bytes(whole[:cut])
+                self.assertEqual(host.send(ballot("ada", "1,12", 2)).word, "received")
+                self.assertEqual(host.lines(), ["ada 1,12"] * max(count + (cut < len(whole)), 1))
+
+    def test_what_is_no_file_of_a_box_is_left_as_it_is(self) -> None:
+        host = self.host()
+        for data in (
+            b"<?php exit; ?>\r\nFrom x\r\n",
+            b"x" * 100,
+            b"From box@page.invalid\n-- \n\n",
+            b"\xef\xbb\xbf" + FIRST + b"From",
+        ):
+            self.file.write_bytes(data)
+            for answer in (host.ask(), host.send(ballot("ada", "1,2", 1))):
+                self.assertEqual((answer.status, answer.word), (503, "lost:"))
+            self.assertEqual(self.file.read_bytes(), data)
+        self.file.unlink()
+        self.file.mkdir()
+        self.assertEqual(host.ask().status, 503)
+
+    def test_a_full_disk(self) -> None:
+        """A write that fails at each byte is taken back, and the next one is whole."""
+        with Host(self.folder) as host:
+            host.send(ballot("ada", "1,2", 1))
+        whole = self.file.read_bytes()
+        for missing in (1, 2, 3, 100, len(whole) - len(FIRST)):
+            with self.subTest(missing=missing):
+                self.file.write_bytes(whole)
+                with Host(self.folder, most_bytes=2 * len(whole) - len(FIRST) - missing) as host:
+                    answer = host.send(ballot("ada", "2,1", 2))
+                    self.assertEqual((answer.status, answer.word), (503, "lost:"))
+                    self.assertEqual(self.file.read_bytes(), whole)
+                    self.assertEqual(
+                        (host.lines(), host.send(ballot("ada", "1,2", 1)).word),
+                        (["ada 1,2"], "received"),
+                    )
+        # not even the first line
+        self.file.unlink()
+        with Host(self.folder, most_bytes=len(FIRST) - 1) as host:
+            self.assertEqual(
+                (host.ask().word, host.send(ballot("ada", "1,2", 1)).word), ("lost:", "lost:")
+            )
+            self.assertEqual(self.file.read_bytes(), b"")
+        with Host(self.folder) as host:
+            self.assertEqual(
+                (host.send(ballot("ada", "1,2", 1)).word, len(host.lines())), ("received", 1)
+            )
+
+    def test_a_php_without_fsync(self) -> None:
+        """PHP 8.0 compiles all but that: it kept ballots, failed before the answer, and was asked well."""
+        host = self.host("-d", "disable_functions=fsync")
+        for body in (ASK, ballot("ada", "1,2", 1)) * 2:
+            answer = host.send(body)
+            self.assertEqual((answer.status, answer.word), (503, "lost:"))
+        self.assertFalse(self.file.exists())
+
+    def test_a_box_that_is_full(self) -> None:
+        host = self.host()
+        length = len(record("ada", "ada 1,2", 1, "2026-11-28T12:00:00Z"))
+        one = (
+            record("ben-lee", "ben-lee " + "1" * 3_500, 5, "2026-11-28T12:00:00Z")
+            .replace(LINKS["ben-lee"], "z" * 16)
+            .encode()
+        )
+        many = FULL // len(one) - 1
+        for left, word in ((length, "received"), (length - 1, "lost:")):
+            fill = b"1" * (FULL - left - len(FIRST) - many * len(one) - len(END))
+            self.file.write_bytes(FIRST + one * many + fill + END)
+            self.assertEqual(self.file.stat().st_size, FULL - left)
+            self.assertEqual(host.send(ballot("ada", "1,2", 1)).word, word)
+            answer = host.ask()
+            self.assertEqual(
+                (answer.status, len(answer.text.partition("\n")[2])),
+                (200, self.file.stat().st_size - len(FIRST)),
+            )
+        self.assertEqual(self.file.stat().st_size, FULL - length + 1)
+
+
+@NEEDS_PHP
+@unittest.skipUnless(STRACE, "strace is not installed")
+class Killed(BoxTest):
+    """Calls of the system fail, and PHP is killed before each of them."""
+
+    def traced(self, *how: object) -> Host:
+        return Host(self.folder, tracer=[str(STRACE), "-f", *how])
+
+    def calls_of(self, body: bytes) -> list[tuple[str, int, str]]:
+        """The calls of a request by their names and numbers since the start, each with its line."""
+        with tempfile.NamedTemporaryFile("r", prefix="debvote-trace-") as trace:
+            with self.traced("-y", "-o", trace.name) as host:
+                self.assertEqual(host.send(body).status, 200)
+                host.send(b"")
+            lines = [line for line in trace.read().splitlines() if re.match(r"\d+ +\w+\(", line)]
+        counts: dict[str, int] = {}
+        calls = []
+        for line in lines:
+            name = line.split()[1].partition("(")[0]
+            counts[name] = counts.get(name, 0) + 1
+            calls.append((name, counts[name], line))
+        begins = [place for place, (name, _, _) in enumerate(calls) if name.startswith("accept")]
+        return calls[begins[0] : begins[1]]
+
+    def test_it_is_on_the_disk_before_it_is_acknowledged(self) -> None:
+        for name, body in (
+            ("a first one", ballot("ada", "1,2", 1)),
+            ("one more", ballot("ada", "1,2", 2)),
+            ("again", ballot("ada", "1,2", 2)),
+        ):
+            with self.subTest(name):
+                calls = [
+                    f"{call} {FILE in line or str(self.folder) + '>' in line}"
+                    for call, _, line in self.calls_of(body)
+                ]
+                of_file = [
+                    call
+                    for call in calls
+                    if call
+                    in ("write True", "fsync True", "sendto False", "ftruncate True", "flock True")
+                ]
+                kept = ["ftruncate True", "write True", "fsync True"]
+                wanted = {
+                    "a first one": [*kept, "fsync True", *kept],
+                    "one more": kept,
+                    "again": ["fsync True"],
+                }[name]
+                answered = of_file.index("sendto False")
+                self.assertEqual(of_file[:answered], ["flock True", *wanted])
+                self.assertEqual(set(of_file[answered:]), {"sendto False"})
+
+    def test_nothing_that_was_acknowledged_is_lost_by_a_kill(self) -> None:
+        """After each kill the same ballot is sent again by another process: it is there once."""
+        other, kills = self.host(), 0
+        for is_new in (True, False):
+            calls = self.calls_of(ballot("ada", "1,2", int(is_new)))
+            self.assertGreater(len([call for call, _, line in calls if FILE in line]), 10)
+            there: list[int] = []
+            for call, count, _ in calls:
+                if is_new or len(there) in (0, OF_A_LINK):
+                    self.file.unlink(missing_ok=True)
+                    there = []
+                if not is_new:
+                    other.ask()
+                kills += 1
+                body = ballot("ada", f"{kills % 3 + 1},2", kills)
+                with self.traced(
+                    "-o",
+                    "/dev/null",
+                    "-e",
+                    f"trace={call}",
+                    "-e",
+                    f"inject={call}:signal=KILL:when={count}",
+                ) as host:
+                    answer = host.send(body)
+                    host.process.wait(60)
+                self.assertIn(answer.word, ("", "received"))
+                known = [*there, kills] if answer.status else there
+                data = self.file.read_text() if self.file.exists() else ""
+                for number in known:
+                    self.assertEqual(data.count(f"<{number:032x}@page.invalid>"), 1, (call, count))
+                self.assertEqual(other.send(body).word, "received", (call, count))
+                there.append(kills)
+                self.assertEqual(
+                    other.lines(), [f"ada {number % 3 + 1},2" for number in there], (call, count)
+                )
+        self.assertGreater(kills, 100)
+
+    def test_a_disk_that_breaks(self) -> None:
+        with Host(self.folder) as host:
+            host.send(ballot("ada", "1,2", 1))
+        others = record("ben-lee", "ben-lee 1,2", 7, "2026-11-28T12:00:00Z").encode() * 100
+        whole = self.file.read_bytes().replace(FIRST, FIRST + others)
+        only = ["-P", self.file, "-o", "/dev/null", "-e"]
+        for fault, word in (
+            ("write:error=EIO", "lost:"),
+            ("write:error=ENOSPC", "lost:"),
+            ("fsync:error=EIO:when=1", "lost:"),
+            ("fsync:error=EIO", "unsure:"),
+            ("ftruncate:error=EIO", "unsure:"),
+            ("read:error=EIO", "lost:"),
+            ("read:error=EIO:when=2+", "lost:"),
+            ("flock:error=ENOLCK", "lost:"),
+            ("openat:error=EACCES", "lost:"),
+        ):
+            with self.subTest(fault), self.traced(*only, f"inject={fault}") as host:
+                self.file.write_bytes(whole)
+                answer = host.send(ballot("ada", "2,1", 2))
+                self.assertEqual(
+                    (answer.word, answer.status), (word, 503 if word == "lost:" else 500)
+                )
+                self.assertEqual(self.file.read_bytes(), whole)
+        with self.traced(*only, "inject=fsync:error=EIO") as host:
+            self.assertEqual(host.send(ballot("ada", "1,2", 1)).word, "unsure:")
+        self.assertEqual(self.file.read_bytes(), whole)
+
+
+if __name__ == "__main__":
+    unittest.main()

@@ -1,0 +1,109 @@
+"""A member answers several questions by the page of the call, on a telephone, and reads a receipt of each click."""
+
+import json
+import pathlib
+
+from tests.support import boxes
+from tests.support.at_browser import NEEDS_BROWSER, Window
+from tests.support.web_host import NEEDS_PHP
+
+FEE = 'title = "Raise the fee to 72 Euro"\noptions = ["Yes"]\nratios = [1]\ndefault = "No"\nquorum = 1\nmotion = true\n'
+CHAIR = 'title = "The chair"\noptions = ["Ada Lovelace", "Mary Somerville"]\nratios = [1, 1]\ndefault = "None of these"\nquorum = 1\n'
+STATUTES = 'title = "The new statutes"\noptions = ["Yes"]\nratios = [2]\ndefault = "No"\nquorum = 1\nmotion = true\n'
+# its options have lists in place of buttons
+PLACES = "123456789"
+WHERE = f'title = "Where we meet"\noptions = {list(PLACES[1:])}\nratios = [1, 1, 1, 1, 1, 1, 1, 1]\ndefault = "Nowhere"\nquorum = 1\n'
+POLLS = {"A": FEE, "B": CHAIR, "C": STATUTES, "D": WHERE}
+
+
+@NEEDS_PHP
+@NEEDS_BROWSER
+class Clicks(boxes.BoxElectionTest):
+    new_words = ("--questions", "4")
+    poll = "".join(POLLS.values())
+
+    def fill_in(self, folder: pathlib.Path) -> None:
+        super().fill_in(folder)
+        (folder / "poll.toml").unlink()
+        (folder / "polls" / "title.txt").write_text("General assembly 2026\n")
+        for label, poll in POLLS.items():
+            (folder / "polls" / f"{label}.toml").write_text(poll)
+
+    def setUp(self) -> None:
+        super().setUp()
+        self.begun()
+        self.window = self.enterContext(Window(360, 640))
+
+    def open(self, name: str) -> None:
+        files = (self.folder / "letters/call").rglob("*.eml")
+        [place] = [
+            "/".join(found)
+            for found in map(boxes.link_in, (file.read_bytes() for file in files))
+            if found[0] == name
+        ]
+        self.window.tell("Page.navigate", url="about:blank")
+        self.window.until("location.href === 'about:blank'")
+        self.window.tell("Page.navigate", url=f"{self.host.at}#{place}")
+        self.window.until("document.readyState === 'complete' && document.getElementById('Vote')")
+
+    def answer(self, label: str, *ranks: str) -> None:
+        """Touches the buttons of a question, or chooses in its lists."""
+        self.window.ask(
+            f"""(() => {{
+          const fields = document.querySelectorAll("[data-label={label}] .rank");
+          {json.dumps(ranks)}.forEach((rank, place) => {{
+            const field = fields[place];
+            if (field.tagName !== "SELECT") return field.querySelector(`[value="${{rank}}"]`).click();
+            field.value = rank;
+            return field.dispatchEvent(new Event("input", {{ bubbles: true }}));
+          }});
+        }})()"""
+        )
+
+    def vote(self) -> None:
+        self.window.ask("document.getElementById('Vote').click()")
+        self.window.until(
+            "document.getElementById('Sent').textContent.startsWith('It has arrived')"
+        )
+
+    def test_some_answers_and_one_of_them_again(self) -> None:
+        self.open("ada")
+        self.answer("A", "1,2")
+        self.answer("D", *PLACES)
+        self.assertEqual(self.shown("Missing"), "Not answered: B, C")
+        self.assertEqual(self.window.ask("document.documentElement.scrollWidth"), 360)
+        self.vote()
+        # more is answered on the same page: it is sent with what was answered before
+        self.answer("B", "2", "1", "-")
+        self.vote()
+        self.done("add", "--box", "--yes")
+        places = ",".join(PLACES)
+        [told] = self.receipts().values()
+        first, second = told.split("Your ballot of ")[1:]
+        self.assertIn("Another ballot of yours, which was entered after it, counts instead.", first)
+        self.assertIn(f"It was read as ada (A 1,2) (D {places}),", first)
+        self.assertIn(
+            "It counts unless you send a later one. It came by the page of the vote.", second
+        )
+        self.assertIn(f"It was read as ada (A 1,2) (B 2,1,-) (D {places}),", second)
+        # opened again the page has no answers: one alone is sent, and others stay
+        self.open("ada")
+        self.answer("A", "1,1")
+        self.vote()
+        self.done("add", "--box", "--yes")
+        [told] = self.receipts().values()
+        second, third = told.split("Your ballot of ")[1:]
+        self.assertIn(
+            "These of its answers do not count; others of yours, which were entered after them, count instead: A (Raise the fee to 72 Euro).",
+            second,
+        )
+        self.assertIn(
+            "It counts unless you send a later one. It came by the page of the vote. It was read as ada (A 1,1),",
+            third,
+        )
+        self.assertIn(
+            f"The current ballot: ada A 1,1 B 2,1,- D {places}: ", self.done("show", "ada").output
+        )
+
+    def shown(self, place: str) -> str:
+        return str(self.window.ask(f"document.getElementById('{place}').textContent"))

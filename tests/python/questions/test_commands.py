@@ -1,0 +1,209 @@
+"""What the secretary types and reads where several questions are asked: a desk, letters that wait, what `undo` and `strike` take away, and receipts."""
+
+import email
+import json
+
+from tests.support.letters import TEN, letter
+from tests.support.questions import QuestionsTest
+from tests.support.terminal import Terminal
+
+YES, NO = "A (Raise the fee to 72 Euro): Yes, 72 Euro, then No, as it is", "A (Raise the fee to 72 Euro): No, as it is, then Yes, 72 Euro"
+CHAIR = "B (The chair of the board): Ada Lovelace, then Mary Somerville, then None of these"
+ASKED = "Enter it? [y/n] "
+
+
+def at(hour: int) -> str:
+    return TEN.replace("10:", f"{hour}:")
+
+
+class Desk(QuestionsTest):
+    def test_of_all_questions(self) -> None:
+        self.add_lines("ada A 2,1 C 1,2,3,4")
+        desk = Terminal(self)
+        shown = desk.until("Ballot: ")
+        self.assertIn("A Raise the fee to 72 Euro\n  1 Yes, 72 Euro\n  2 No, as it is\nB The chair of the board\n  1 Ada Lovelace\n", shown)
+        self.assertIn("Type a ballot as ada A 1,2 B 1,2,3 C 1,2,3,4 (the elector, then for each question that is answered its label", shown)
+        shown = desk.after("Ada a: 1;2 b) 1, 2,3\n", ASKED)
+        self.assertIn(f"ada: {YES}; {CHAIR}\nada has a ballot: {NO}. It will be replaced.\nThese earlier answers of ada stay: C (A new roof): Slate", shown)
+        self.assertIn(f"2 A replaced, B counted  ada: {YES}; {CHAIR}\n", desk.after("y\n", "Ballot: "))
+        # a line that has not the form of a ballot is not asked about
+        self.assertIn("`ada 1,2` is no ballot: a ballot is a name, and for each question", desk.after("ada 1,2\n", "Ballot: "))
+        # what is refused is an envelope of its own
+        shown = desk.after("ben A 1,2,3 B 1,2,3\n", ASKED)
+        self.assertIn(f"ben: {CHAIR}\nIt would be refused: ben A 1,2,3: bad rank count: 3 ranks, the poll has 2 options\n", shown)
+        self.assertIn(f"3 counted  ben: {CHAIR}\n4 bad rank count  ben A 1,2,3: ", desk.after("y\n", "Ballot: "))
+        # a part of a name is completed, as ever
+        self.assertIn("`cl` was completed to `cleo`\n", desk.after("cl A 1,2\n", ASKED))
+        desk.after("n\n", "Ballot: ")
+        desk.type("q\n")
+        self.assertEqual(self.lines(), ["ada A 2,1 C 1,2,3,4", "ada A 1,2 B 1,2,3", "ben B 1,2,3", "ben A 1,2,3"])
+
+    def test_of_one_question(self) -> None:
+        desk = Terminal(self, "desk", "--question", "b")
+        shown = desk.until("Ballot: ")
+        self.assertIn("B The chair of the board\n  1 Ada Lovelace\n  2 Mary Somerville\n  3 None of these\nType a ballot as ada 1,2,3 (", shown)
+        self.assertNotIn("new roof", shown)
+        self.assertIn(f"ada: {CHAIR}\n", desk.after("Ada: 1, 2, 3\n", ASKED))
+        self.assertIn(f"1 counted  ada: {CHAIR}\n", desk.after("y\n", "Ballot: "))
+        for other in ("ada A 1,2", "ada A 1,2,3", "ada B 1,2,3"):
+            self.assertIn(f"`{other}` is no ballot: ", desk.after(f"{other}\n", "Ballot: "))
+        desk.type("q\n")
+        self.assertEqual(self.lines(), ["ada B 1,2,3"])
+        # nobody types a label there, so no words speak of labels that are missing
+        said = self.done("desk", "--question", "a", given="ben 1\nben\nben A yes\nben A 1,2\n").output
+        self.assertIn("`ben` is no ballot: a ballot here is a name and its ranks, without a label; it was not entered.\n", said)
+        self.assertIn("`ben A 1,2` is no ballot: a ballot here is a name and its ranks, without a label; it was not entered.\n", said)
+        self.assertIn("A valid line in this poll: ada 1,2 (an elector of the roll, a space, and 2 ranks with commas between", said)
+        self.assertNotIn("its label", said)
+        for label in ("D", "AB"):
+            self.assert_refused(["desk", "--question", label], 2, "--question: the labels are A, B, C; nothing was entered: ")
+
+
+class Held(QuestionsTest):
+    def test_answers_with_later_ones_are_left_out(self) -> None:
+        """All that are left are entered; if none is, it stops, and by force all are."""
+        self.add(letter("ada", "ada A 1,2\n", number=1, time=at(11)), letter("ben", "ben A 2,1 B 3,2,1\n", number=2, time=at(11)))
+        self.add(letter("ada", "ada A 2,1 B 1,2,3\n", number=3, time=at(9)), letter("ben", "ben A 1,2\n", number=4, time=at(9)))
+        self.assertIn("line 1: ada B 1,2,3\n", self.told("held"))
+        shown = self.told("held", "3", "--enter", "--yes", "--force")
+        self.assertIn("Left out of letter 3: A, since ada has a later answer\n", shown)
+        self.assertIn("3 counted  ada: B (", shown)
+        # one of which all are older is passed over, and typed it stops
+        self.assertEqual(self.numbers()["waiting"], 0)
+        self.done("held", "4", "--wait")
+        typed = ["held", "4", "--as", "ben B 1,2,3", "--yes"]
+        self.assert_refused(typed, 9, "its elector has voted since")
+        self.assertIn("4 replaced  ben: B (", self.told(*typed, "--force"))
+        self.assertEqual(self.lines(), ["ada A 1,2", "ben A 2,1 B 3,2,1", "ada B 1,2,3", "ben B 1,2,3"])
+
+    def test_who_has_voted_since_answered_the_same_question(self) -> None:
+        self.add(letter("ada", "A 1,2\n", number=1, time=at(9)), letter("ada", "B 1,2,3\n", number=2, time=at(9)), letter("ada", "ada A 2,1\n", number=3, time=at(11)))
+        shown = self.told("held")
+        self.assertEqual(shown.count("has voted since"), 1)
+        self.assertRegex(shown, r"has voted since\n +line 1: ada A 1,2\n")
+
+    def test_no_answer_is_left_out_for_a_late_one(self) -> None:
+        """It would count for nothing, as the late one does: it stops, and by force the whole letter is entered."""
+        self.done("close", "--early", "--force", "--because", "x", "--yes")
+        self.done("desk", given="ada B 3,2,1\n")
+        self.add(letter("ada", "ada A 1,2 B 1,2,3\n", number=1, time=at(9)))
+        self.done("reopen", "--because", "x")
+        self.assert_refused(["held", "1", "--enter", "--yes"], 9, "letter 1: its elector has voted since")
+        self.done("held", "1", "--enter", "--force", "--yes")
+        self.assertIn("The current ballot: ada A 1,2 B 1,2,3: ", self.told("show", "ada"))
+
+    def test_no_force_is_offered_for_what_was_entered(self) -> None:
+        """Half of a letter was left out, since a later answer is there: the other half is entered, and that is all."""
+        self.add_lines("ada B 1,2,3")
+        self.add(letter("ada", "ada A 2,1 B 2,1,3\n", number=1, time=at(9)))
+        self.done("held", "1", "--enter", "--yes")
+        for words in (["--enter"], ["--as", "ada A 2,1 B 1,2,3"]):
+            ended = self.election("held", "1", *words, "--yes")
+            self.assertEqual((ended.status, ended.faults.count("\n")), (9, 1), ended)
+            self.assertIn("letter 1: its ballot of ada was entered; nothing was changed: there is nothing to do", ended.faults)
+
+    def test_what_is_typed_has_the_form_of_a_ballot_and_only_valid_answers(self) -> None:
+        self.add(letter("ada", "I say yes\n", number=1))
+        for typed, why in {"ada 1,2": "bad shape", "ada A 1,2 B 1,2": "bad rank count: 2 ranks, the poll has 3 options", "ada A 1,2 A 1,2": "bad shape"}.items():
+            self.assert_refused(["held", "1", "--as", typed, "--yes"], 9, f"`{typed}` is no ballot of this poll: {why}")
+        self.done("held", "1", "--as", "Ada: a 1,2", "--yes")
+        self.assertEqual(self.lines(), ["ada A 1,2"])
+
+
+class Sums(QuestionsTest):
+    def test_whole_ballots_come_first(self) -> None:
+        """Then those of which the answers differ, with how many answers to each question are what."""
+        self.add_lines("ada A 1,2", "ben B 1,2,3")
+        self.write("more", "ada A 2,1 B 1,2,3\ncleo A 1,2,3 B 1,2,3\nben A 1,2 B 2,1,3\nada A 1,2 B 2,1,3 C 1,2,3,4\n")
+        said = self.told("add", "more")
+        self.assertIn("3 A replaced, B counted  ada: ", said)
+        sums = "1 counted, 1 bad rank count, 3 replaced in part: A counted 1, A replaced 2, B counted 1, B replaced 2, C counted 1"
+        self.assertIn(f"Added 5 lines ({sums}).\n", said)
+        self.assertIn("This desk has entered 2 lines (1 counted, 1 replaced in part: A replaced 1, C counted 1).\n", self.told("desk", given="cleo A 1,2\ncleo A 2,1 C 1,2,3,4\n"))
+
+
+    def test_several_ballots_of_an_elector_in_a_file(self) -> None:
+        """Only where a question is answered more than once there is a last answer."""
+        for more, is_told in (("ada B 1,2,3", False), ("ada A 2,1", True)):
+            self.write("more", f"ada A 1,2\nben A 1,2\n{more}\n")
+            told = "Note: more has 2 ballots of ada (1, 3); the last answer to each question counts.\n"
+            self.assertEqual(told in self.told("add", "--look", "more"), is_told, more)
+
+
+class TakenAway(QuestionsTest):
+    def test_undo_takes_back_both_envelopes_of_a_line(self) -> None:
+        self.add_lines("ada A 1,2")
+        self.add_lines("ada A 2,1 B 1,2,3 C 1,2")
+        self.assertEqual(self.lines(), ["ada A 1,2", "ada A 2,1 B 1,2,3", "ada C 1,2"])
+        said = self.told("undo", "--yes")
+        self.assertIn("Took back 2 lines (", said)
+        self.assertIn(f"\n  ada: {YES}, as before\n", said)
+        self.assertEqual(self.lines(), ["ada A 1,2"])
+        self.assertIn(f"The current ballot: ada A 1,2: {YES}\n", self.told("show", "ada"))
+
+    def test_a_strike_brings_back_what_it_had_replaced(self) -> None:
+        self.add_lines("ada A 1,2 B 1,2,3", "ada A 2,1")
+        self.assertIn("(A replaced)\n", self.told("show", "ada"))
+        said = self.told("strike", "2", "--because", "it was ben's", "--yes")
+        self.assertIn(f"The current ballot of ada: {YES}; {CHAIR}\n", said)
+
+    def test_an_answer_that_was_left_out_comes_back(self) -> None:
+        """The later answer of another letter is struck: the strike names the older one, and `held` enters it alone."""
+        self.add(letter("ada", "ada B 3,2,1\n", number=1, time=at(11)))
+        self.add(letter("ada", "ada A 1,2 B 1,2,3\n", number=2, time=at(9)))
+        self.done("held", "2", "--enter", "--yes")
+        self.assert_refused(["held", "2", "--enter", "--force", "--yes"], 9, "its ballot of ada was entered")
+        said = self.told("strike", "2", "--because", "wrong", "--yes")
+        self.assertNotIn("left out", said)
+        self.done("held", "2", "--enter", "--yes")
+        said = self.told("strike", "1", "--because", "forged", "--yes")
+        self.assertIn("letter 2 has an answer that was left out, `ada B 1,2,3`: debvote-election held 2 --enter\n", said)
+        said = self.told("held", "2", "--enter", "--yes")
+        self.assertIn("Left out of letter 2: A, since it was entered\n4 counted  ada: B (", said)
+        self.assert_refused(["held", "2", "--as", "ada B 1,2,3", "--yes"], 9, "its ballot of ada was entered")
+        self.assertIn("The current ballot: ada A 1,2 B 1,2,3: ", self.told("show", "ada"))
+
+    def test_a_file_that_comes_again(self) -> None:
+        """What came before is passed over, and of an answer that was replaced since it is told."""
+        self.write("first", "ada A 1,2 B 1,2,3\nben C 1,2\n")
+        self.done("add", "--force", "first")
+        self.assertIn("first: 2 lines are ignored, since they came before; 0 are new\nThere is nothing new", self.told("add", "first"))
+        self.add_lines("ada B 3,2,1")
+        self.assertIn("first:1: `ada A 1,2 B 1,2,3` came before, and ada has voted since (envelope 3)", self.told("add", "first"))
+
+
+class Told(QuestionsTest):
+    def letters(self, kind: str) -> dict[str, str]:
+        self.done("letters", kind)
+        texts = {}
+        for file in sorted((self.folder / "letters" / kind).rglob("*.eml")):
+            data = email.message_from_bytes(file.read_bytes()).get_payload(decode=True)
+            assert isinstance(data, bytes)
+            texts[file.stem] = " ".join(data.decode().split())
+        return texts
+
+    def test_receipts_say_what_of_a_ballot_does_not_count(self) -> None:
+        self.add_lines("ada A 1,2 B 1,2,3", "ada A 2,1", "ben A 1,2 B 1,2", words=["--force"])
+        texts = self.letters("receipts")
+        self.assertEqual(sorted(texts), ["ada", "ben"])
+        not_all = "These of its answers do not count; others of yours, which were entered after them, count instead: A (Raise the fee to 72 Euro)."
+        self.assertIn(f"It counts unless you send a later one. {not_all} It was read as ada (A 1,2) (B 1,2,3), in words: {YES}; {CHAIR}.", texts["ada"])
+        self.assertIn(f"It was read as ada (A 2,1), in words: {NO}.", texts["ada"])
+        self.assertIn("It is not a valid ballot of this vote, so it does not count. It has 2 ranks, and the vote has 3 options. |ben |B 1,2", texts["ben"])
+
+    def test_who_has_answered_one_question_is_not_reminded(self) -> None:
+        self.add_lines("ada B 1,2,3", "ben B 1,2", words=["--force"])
+        self.assertEqual({*self.letters("reminders")}, {*self.names} - {"ada"})
+
+    def test_status(self) -> None:
+        self.add_lines("ada A 1,2 B 1,2,3", "ada A 2,1", "ben A 1,2 B 1,2", words=["--force"])
+        said = self.told("status")
+        self.assertIn("Question A: Raise the fee to 72 Euro: 2 electors answered\n", said)
+        self.assertIn("Question B: The chair of the board: 1 elector answered\n", said)
+        self.assertIn("Question C: A new roof: 0 electors answered\n", said)
+        # ben has a ballot, but none of the question whose answer was refused
+        self.assertIn("  envelope 4: ben B 1,2\n    bad rank count: 2 ranks, the poll has 3 options\n", said)
+        state = json.loads(self.told("status", "--json"))
+        self.assertEqual([state[key] for key in ("lines", "valid", "refused", "voters")], [4, 3, 1, 2])
+        b = {"title": "The chair of the board", "stage": "called", "lines": 2, "valid": 1, "refused": 1, "voters": 1, "late": 0}
+        self.assertEqual(state["questions"]["B"], b)

@@ -1,0 +1,273 @@
+"""Labels that are missing, unknown, twice, small, or part of a name: none is counted wrongly, none is lost in silence. And labels that are exchanged between files."""
+
+import email
+import hashlib
+import pathlib
+import re
+import shutil
+from collections.abc import Callable
+
+from tests.support import terminal
+from tests.support.letters import TEN, letter
+from tests.support.questions import QuestionsTest, answering
+from tests.support.terminal import Terminal
+
+# who can be taken for a label, or for the name of somebody else with one
+MEMBERS = "name,who,mail\na,A. Adams,a@club.example\nben,Ben,ben@club.example\nben-b,Ben B,benb@club.example\ncleo,Cleo,cleo@club.example\n"
+
+# lines that say one thing, and what is entered of them
+RIGHT = {
+    "cleo A 1,2": "cleo A 1,2",
+    "Cleo: a) 1;2 b. 3, 2, 1": "cleo A 1,2 B 3,2,1",
+    "cleo B 1,2,3 A 2,1": "cleo A 2,1 B 1,2,3",
+    "cleo c1,2,3,4": "cleo C 1,2,3,4",
+    "a A 1,2": "a A 1,2",
+    # whichever of the two is the name
+    "A a 2,1": "a A 2,1",
+    "A. Adams A: 2,1": "a A 2,1",
+    "Ben B B 1,2,3": "ben-b B 1,2,3",
+    "ben-b b 3,2,1": "ben-b B 3,2,1",
+    "Ben A 1,2": "ben A 1,2",
+    # nobody forgot a label: it is written as it is entered, the name has a colon, or another label follows
+    "ben B 1,2,3": "ben B 1,2,3",
+    "Ben: B 3,2,1": "ben B 3,2,1",
+    "Ben A 2,1 B 2,1,3": "ben A 2,1 B 2,1,3",
+}
+# lines that are no ballot of this vote, or could be one of two people
+WRONG = [
+    "cleo 1,2", "cleo 1,2,3", "cleo: 1,2,3,4", "a 1,2", "ben-b 1,2,3",  # no question
+    "cleo D 1,2", "cleo A 1,2 D 1,2", "cleo AB 1,2", "cleo I 1,2",  # a question that there is not
+    "cleo A 1,2 A 2,1", "cleo A 1,2 a 1,2", "cleo A 1,2 B 1,2,3 A 1,2",  # twice
+    "cleo A B 1,2", "cleo A 1,2 B", "cleo A 1,2 1,2,3", "cleo 1,2 A",  # a label or ranks too many
+    "A 1,2", "A cleo 1,2", "B 1,2,3 C 1,2,3,4",  # no name in front
+    "Ben B 1,2,3", "ben b 1,2,3",  # Ben, who answers B, or Ben B, who forgot the label
+]  # fmt: skip
+
+
+class LabelsTest(QuestionsTest):
+    members = MEMBERS
+
+    def demand_entered(self, *lines: str) -> None:
+        """The book has these lines, and the sheet of each question is that of their parts."""
+        self.assertEqual(self.lines(), list(lines))
+        for label, sheet in self.sheets().items():
+            self.assertEqual(sheet, self.sheet_of(label, answering(label, lines)))
+
+
+class Lines(LabelsTest):
+    def test_in_a_file(self) -> None:
+        """Each stops the whole file, which is named with its line, also by force."""
+        for text in WRONG:
+            with self.subTest(text):
+                self.write("lines", f"cleo A 1,2\n{text}\n")
+                for words in ((), ("--yes", "--force", "--because", "so be it")):
+                    before = self.last_act()
+                    ended = self.election("add", *words, "lines")
+                    self.assertNotEqual(ended.status, 0, ended)
+                    self.assertIn("lines:2: ", ended.faults)
+                    self.assertEqual((self.lines(), self.last_act()), ([], before))
+        self.write("lines", "".join(f"{text}\n" for text in RIGHT))
+        said = self.done("add", "lines").output
+        for number, (text, entered) in enumerate(RIGHT.items(), start=1):
+            if text != entered:
+                self.assertIn(f"lines:{number}: `{text}` was changed to `{entered}`", said)
+        self.demand_entered(*RIGHT.values())
+
+    def test_at_a_desk(self) -> None:
+        for text in WRONG:
+            with self.subTest(text):
+                said = self.done("desk", given=f"{text}\n").output
+                self.assertIn("it was not entered", said)
+                self.assertIn("desk:1: ", said)
+        self.demand_entered()
+        self.done("desk", given="".join(f"{text}\n" for text in RIGHT))
+        self.demand_entered(*RIGHT.values())
+
+    def test_at_a_terminal(self) -> None:
+        """What is no ballot is asked for again; which earlier answers stay is said before it is entered."""
+        self.add_lines("cleo A 1,2 C 1,2,3,4")
+        desk = terminal.Terminal(self)
+        desk.until("Ballot: ")
+        desk.after("cleo 2,1\n", "Ballot: ")
+        said = desk.after("cleo a 2,1 b 1,2,3\n", "Enter it?")
+        self.assertIn("A (Raise the fee to 72 Euro): No, as it is, then Yes, 72 Euro; B (The chair of the board): Ada Lovelace, then", said)
+        self.assertIn("C (A new roof): Slate, then Tiles, then Straw, then As it is", said)
+        self.assertIn("stay", said)
+        desk.after("y\n", "Ballot: ")
+        desk.type("q\n")
+        self.assertEqual(desk.end()[1], 0)
+        self.demand_entered("cleo A 1,2 C 1,2,3,4", "cleo A 2,1 B 1,2,3")
+
+    def test_what_status_says_of_a_refused_answer(self) -> None:
+        """Cleo has a ballot, but none to B; Ben has one to B, too."""
+        self.done("desk", given="cleo A 1,2 B 1\nben B 1,2,3\nben B 1,2,3,4\nzoe C 1\na B 1\n")
+        said = self.done("status").output
+        parts = re.findall(r"(?m)^Refused lines (.*):\n((?:  .*\n)+)", said)
+        self.assertEqual([(who, re.findall(r"envelope \d+: (.*)", its)) for who, its in parts], [
+            ("of electors without a ballot (1)", ["a B 1"]),
+            ("of electors without another answer to the question (1)", ["cleo B 1"]),
+            ("with no known elector (1)", ["zoe C 1"]),
+        ])  # fmt: skip
+
+    def test_at_a_terminal(self) -> None:
+        """A whole name, on the roll or really, is asked about only if it may be another's."""
+        desk = Terminal(self)
+        desk.until("Ballot: ")
+        for typed, number in (("Ben A 1,2", ""), ("Ben B B 1,2,3", ""), ("Ben B 3,2,1", "1"), ("ben b 2,1,3", "2")):
+            shown = desk.after(f"{typed}\n", "Type the number of one, or n for none: " if number else "Enter it? [y/n] ")
+            self.assertEqual("`ben` is part of 2 names:\n  1 ben (Ben)\n  2 ben-b (Ben B)\n" in shown, bool(number), shown)
+            if number:
+                desk.after(f"{number}\n", "Enter it? [y/n] ")
+            desk.after("y\n", "Ballot: ")
+        desk.type("q\n")
+        self.demand_entered("ben A 1,2", "ben-b B 1,2,3", "ben B 3,2,1", "ben-b B 2,1,3")
+
+    def test_at_a_desk_of_one_question(self) -> None:
+        self.done("desk", "--question", "B", given="Ben 1,2,3\nben 3,2,1\nben-b 1,2,3\n")
+        self.demand_entered("ben B 1,2,3", "ben B 3,2,1", "ben-b B 1,2,3")
+
+    def test_a_refused_answer_is_an_envelope_of_its_own(self) -> None:
+        """The ranks of A are too many: B counts, and `undo` takes back both."""
+        said = self.done("desk", given="cleo A 1,2,3 B 1,2,3\n").output
+        self.assertRegex(said, r"(?m)^\d counted  cleo: B ")
+        self.assertRegex(said, r"(?m)^\d bad rank count  cleo A 1,2,3")
+        self.assertEqual(sorted(self.lines()), ["cleo A 1,2,3", "cleo B 1,2,3"])
+        sheets = self.sheets()
+        for label, numbers in (("A", ("1", "0", "1")), ("B", ("1", "1", "0")), ("C", ("0", "0", "0"))):
+            self.assertEqual(tuple(re.findall(r"(?m)^(?:Lines|Valid|Refused): (\d)$", sheets[label])), numbers)
+        self.done("undo", "--yes")
+        self.assertEqual(self.lines(), [])
+
+
+class Letters(LabelsTest):
+    def test_letters(self) -> None:
+        """Each waits, and is shown by `held`; what is right goes in."""
+        texts = [*WRONG, "cleo\nA 1,2\nand for the roof\nC 1,2,3,4", "cleo\nA 1,2\n-- \nB 1,2,3", "A 1,2\nB 1,2,3", "cleo A 1,2\n\nB 1,2", "cleo\nA 1,2 B", "B 1,2,3\ncleo\nA 1,2"]
+        senders = {"a": ["a 1,2"], "ben-b": ["ben-b 1,2,3"], "benb": ["Ben B 1,2,3", "ben b 1,2,3"]}
+        sender = {text: name for name, own in senders.items() for text in own}
+        made = [letter(sender.get(text, "cleo").replace("ben-b", "benb"), f"{text}\n", number=number, time=TEN.replace("10:00:00", f"10:00:{number:02}")) for number, text in enumerate(texts)]
+        self.assertIn(f"0 ballots of letters went in; {len(made)} letters wait", self.add(*made))
+        self.demand_entered()
+        held = self.done("held").output
+        for number in range(1, len(made) + 1):
+            self.assertRegex(held, rf"(?m)^ +{number}  ")
+        self.assertEqual(self.numbers()["waiting"], len(made))
+        # what is right goes in, in the order of the letters, each later than the one before
+        mails = {"a": "a", "ben": "ben", "ben-b": "benb", "cleo": "cleo"}
+        right = [
+            letter(mails[entered.partition(" ")[0]], f"{text}\n", number=f"r{number}", time=TEN.replace("10:00", f"11:{number:02}"))
+            for number, (text, entered) in enumerate(RIGHT.items())
+        ]
+        self.assertIn(f"{len(right)} ballots of letters went in", self.add(*right))
+        self.demand_entered(*RIGHT.values())
+
+    def test_a_name_that_is_part_of_another(self) -> None:
+        """Ben answers B although there is a Ben B: by the form, the letter or with a colon."""
+        texts = ["ben\nA 1,2\nB 2,1,3", "ben B 1,2,3", "Ben\nB 3,2,1", "Ben: B 1,2,3", "Ben C 1,2,3,4\nB 3,2,1"]
+        made = [letter("ben", f"{text}\n", number=number, time=TEN.replace("10:00:00", f"10:00:{number:02}")) for number, text in enumerate(texts, start=1)]
+        self.assertIn("5 ballots of letters went in; 0 letters wait", self.add(*made))
+        self.demand_entered("ben A 1,2 B 2,1,3", "ben B 1,2,3", "ben B 3,2,1", "ben B 1,2,3", "ben B 3,2,1 C 1,2,3,4")
+
+    def test_as(self) -> None:
+        self.add(letter("cleo", "I am for the slate.\n"))
+        for text in WRONG:
+            with self.subTest(text):
+                ended = self.election("held", "1", "--as", text, "--force", "--yes")
+                self.assertNotEqual(ended.status, 0, ended)
+                self.assertEqual(self.lines(), [])
+        # a refused answer among the others stops here
+        ended = self.election("held", "1", "--as", "cleo A 1,2,3 B 1,2,3", "--force", "--yes")
+        self.assertNotEqual(ended.status, 0, ended)
+        self.done("held", "1", "--as", "cleo c) 1;2;3;4 A 1,2", "--yes")
+        self.demand_entered("cleo A 1,2 C 1,2,3,4")
+
+
+class Names(LabelsTest):
+    call_words = None
+
+    def test_who_can_be_taken_for_a_label(self) -> None:
+        [note] = [line for line in self.done("check").output.splitlines() if line.startswith("Note: ")]
+        self.assertIn("a (A. Adams)", note)
+        self.assertIn("ben-b (Ben B)", note)
+        self.assertNotIn("cleo", note)
+
+
+class Exchanged(QuestionsTest):
+    """Files of one question in the place of another one: the checksums of the letters say it, and so do the pages."""
+
+    def setUp(self) -> None:
+        super().setUp()
+        self.add_lines("ada A 1,2 B 1,2,3 C 1,2,3,4", "ben A 1,2 C 1,2,3,4", "cleo B 1,2,3")
+        self.done("letters", "call")
+        self.done("close", "--early")
+        self.done("publish", "--force", "--because", "it was early")
+        self.announced = self.letter("call")
+        self.result = self.read("letters/result.txt").decode()
+
+    def letter(self, kind: str) -> str:
+        [file] = (self.folder / "letters" / kind).rglob("*ada*.eml")
+        read = email.message_from_bytes(file.read_bytes()).get_payload(decode=True)
+        assert isinstance(read, bytes)
+        return read.decode()
+
+    def is_whole(self, folder: pathlib.Path, lists: list[str], letter: str) -> bool:
+        """Whether the files of a folder are those of a letter, by `sha256sum`: the list has the checksum of the letter, and each file that of the list."""
+        for name in lists:
+            if hashlib.sha256((folder / name).read_bytes()).hexdigest() not in letter:
+                return False
+            if self.run_program("sha256sum", "--strict", "-c", name, cwd=folder).status:
+                return False
+        return True
+
+    def changes(self) -> dict[str, Callable[[pathlib.Path], object]]:
+        """What a change does to the files of a folder, by what it changes."""
+
+        def exchange(folder: pathlib.Path, one: str, other: str) -> None:
+            (folder / one).rename(folder / "aside")
+            (folder / other).rename(folder / one)
+            (folder / "aside").rename(folder / other)
+
+        sums = self.read("call/polls.sha256").decode()
+        exchanged = sums.replace("A/", "x/").replace("B/", "A/").replace("x/", "B/")
+        return {
+            "two polls": lambda folder: exchange(folder, "A/poll.toml", "B/poll.toml"),
+            "two questions": lambda folder: exchange(folder, "A", "B"),
+            "the title and a poll": lambda folder: exchange(folder, "title.txt", "C/poll.toml"),
+            "the title": lambda folder: (folder / "title.txt").write_text("Another assembly\n"),
+            "a poll less": lambda folder: shutil.rmtree(folder / "C"),
+            "a poll less in the list": lambda folder: (folder / "polls.sha256").write_text(re.sub(r".*C/.*\n", "", sums)),
+            "two labels of the list": lambda folder: (folder / "polls.sha256").write_text(exchanged),
+        }
+
+    def test_in_the_call_and_in_the_result(self) -> None:
+        for kind, lists, letter in (("call", ["polls.sha256"], self.announced), ("result", ["polls.sha256"], self.announced), ("result", ["SHA256SUMS"], self.result)):
+            self.assertTrue(self.is_whole(self.folder / kind, lists, letter), (kind, lists))
+            for name, change in self.changes().items():
+                with self.subTest(f"{kind}: {name}, {lists}"):
+                    copy = self.scratch / "copy"
+                    shutil.copytree(self.folder / kind, copy)
+                    change(copy)
+                    self.assertFalse(self.is_whole(copy, lists, letter))
+                    shutil.rmtree(copy)
+
+    def test_a_question_more_and_a_folder_of_another_assembly(self) -> None:
+        """Each is seen in the list of all files, and by the page, which names the checksum of its poll and of the list."""
+        result = self.folder / "result"
+        listed = {line.split("  ", 1)[1] for line in (result / "SHA256SUMS").read_text().splitlines()}
+        self.assertEqual({str(file.relative_to(result)) for file in result.rglob("*") if file.is_file()} - listed, {"SHA256SUMS"})
+        pages = {label: (result / label / "index.html").read_text() for label in self.polls}
+        digests = dict(line.split("  ")[::-1] for line in self.read("call/polls.sha256").decode().splitlines())
+        checksum = hashlib.sha256(self.read("call/polls.sha256")).hexdigest()
+        for label, page in pages.items():
+            self.assertIn(checksum, page)
+            self.assertEqual([other for other in self.polls if digests[f"{other}/poll.toml"] in page.partition("<script")[0]], [label])
+        # another assembly with the same polls, but for its title
+        self.folder = self.scratch / "other"
+        type(self).title, before = "Another assembly", type(self).title
+        try:
+            shutil.copytree(self.made(), self.folder)
+        finally:
+            type(self).title = before
+        self.assertNotEqual(self.read("call/polls.sha256"), (result / "polls.sha256").read_bytes())
+        self.assertEqual(self.read("call/A/poll.toml"), (result / "A/poll.toml").read_bytes())
+        self.assertNotEqual(hashlib.sha256(self.read("call/polls.sha256")).hexdigest(), checksum)

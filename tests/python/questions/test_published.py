@@ -1,0 +1,426 @@
+"""The closing letter, the count and the published folder of several questions."""
+
+import csv
+import io
+import json
+import pathlib
+import re
+import subprocess
+import sys
+
+from debvote_tools.poll.secret import alias_of
+
+from tests.support import at_browser
+from tests.support.elections import PUBLISH
+from tests.support.program import PROGRAM
+from tests.support.questions import FEE, QuestionsTest, answering
+
+# A is won, B and C are ties
+BALLOTS = ["ada A 1,2 B 1,2,3 C 1,2,3,4", "ben A 1,2 B 2,1,3", "cleo A 2,1 C 2,1,3,4", "ben C 1,1,3,2", "cleo C 2,1,4,3"]
+TIES = {"B": "'Ada Lovelace', 'Mary Somerville'", "C": "Slate, Tiles"}
+CAST = ("--cast-by", "The chair", "--cast-on", "2026-11-24")
+
+# what a folder of one question has
+FILES = "READING-A-SHEET.md SHA256SUMS ballots.txt closed.txt index.html poll.toml recount.js recount.py result.json sheet.txt standing.txt votes.csv".split()
+ABOVE = ["SHA256SUMS", "index.html", "polls.sha256", "result.json", "title.txt"]
+
+# the lines of a text that begin with checksums
+SUM = re.compile(r"(?m)^ *([0-9a-f]{64})(?:  (\S+))?$")
+
+
+class PublishedTest(QuestionsTest):
+    secret = False
+
+    def setUp(self) -> None:
+        super().setUp()
+        self.add_lines(*BALLOTS)
+
+    def in_shell(self, command: str, folder: str = "result") -> str:
+        """What a command answers in a folder, in which no line is a fault."""
+        ended = subprocess.run(["bash", "-c", f"set -o pipefail; {command}"], cwd=self.folder / folder, capture_output=True, text=True)
+        self.assertEqual((ended.returncode, ended.stderr), (0, ""), (command, ended))
+        return ended.stdout
+
+    def sums_in(self, name: str) -> list[tuple[str, str]]:
+        return SUM.findall(self.read(name).decode())
+
+    def last_command(self, name: str) -> str:
+        """The last line of a letter that is to be copied."""
+        return [line for line in self.read(name).decode().splitlines() if line.startswith("  ")][-1].strip()
+
+    def listed(self) -> list[str]:
+        folder = self.folder / "result"
+        return sorted(str(file.relative_to(folder)) for file in folder.rglob("*") if file.is_file() and file.name not in ("late.txt", "seal.txt", "picture.svg"))
+
+    def publish(self, *words: str, status: int = 0) -> str:
+        ended = self.election("publish", *words)
+        self.assertEqual(ended.status, status, ended)
+        return ended.output + ended.faults
+
+
+class OpenTest(PublishedTest):
+    def test_what_is_counted_and_closed(self) -> None:
+        sheets = self.sheets()
+        for label in self.polls:
+            with self.subTest(label):
+                alone = self.election("count", "--question", label.lower())
+                self.assertEqual((alone.output, alone.status), (sheets[label], label != "A"))
+                self.assertEqual(sheets[label], self.sheet_of(label, answering(label, BALLOTS)))
+        ended = self.done("close", "--early")
+        self.assertIn("Closed: 3 lines of question A, 2 lines of question B, 4 lines of question C came in time.", ended.output)
+        # by the letter, which comes before the count, each file of the result can be checked
+        listed = self.sums_in("letters/closed.txt")
+        names = ["polls.sha256", "A/ballots.txt", "B/ballots.txt", "C/ballots.txt", ""]
+        self.assertEqual([name for _, name in listed], names)
+        self.assertEqual(listed[-1][0], self.book.last_act().digest)
+        self.assertEqual(self.sums_in("call/polls.sha256"), SUM.findall(self.in_shell("sha256sum ?/poll.toml title.txt", "call")))
+        self.assertIn("Lines in time, by question: A 3, B 2, C 4.", self.read("letters/closed.txt").decode())
+        for label in self.polls:
+            said = f"Checksum of the ballots of question {label}: {dict(map(reversed, listed))[f'{label}/ballots.txt']}\n"
+            self.assertIn(said, ended.output)
+        self.publish(status=1)
+        self.assertEqual(SUM.findall(self.in_shell(self.last_command("letters/closed.txt"))), listed[:-1])
+        for label in self.polls:
+            self.assertEqual(self.read(f"result/{label}/closed.txt"), self.read("letters/closed.txt"))
+            self.assertEqual(self.read(f"result/{label}/sheet.txt").decode(), sheets[label])
+
+    def test_names_of_questions_and_casting_votes(self) -> None:
+        self.assert_fault(self.election("count", "--question", "D"), 2, "there is no question D; nothing was counted: name one of A, B, C")
+        for casting in ("Slate", "D=Slate", "=Slate", "Ada Lovelace=B"):
+            ended = self.election("count", "--casting", casting)
+            self.assert_fault(ended, 8, "no question has this label; nothing was counted: write it as A=NAME; the labels are A, B, C")
+        self.assert_fault(self.election("publish", "--casting", "B=Slate", *CAST), 8, "--casting=B=Slate: no option has this name", "'Ada Lovelace'")
+        for command in ("count", "publish"):
+            twice = self.election(command, "--casting", "B=Ada Lovelace", "--casting", "b=Mary Somerville", *CAST * (command == "publish"))
+            self.assert_fault(twice, 8, "--casting='b=Mary Somerville': question B has the casting vote 'Ada Lovelace' already", "was counted: give one of them")
+        both = "; ".join(f"question {label} is a tie between {names}" for label, names in TIES.items())
+        chosen = "the holder of the casting vote chooses one of them: debvote-election publish --casting B=NAME --casting C=NAME --cast-by WHO --cast-on DATE"
+        self.done("close", "--early")
+        self.assertEqual(self.election("count").faults, f"Next: {both}; {chosen}\n")
+        said = self.election("count", "--casting", "C=Tiles").faults
+        ways = [f"debvote-election publish --casting C=Tiles --casting {name} --cast-by WHO --cast-on DATE" for name in ("'B=Ada Lovelace'", "'B=Mary Somerville'")]
+        self.assertEqual(said, f"Next: question B is a tie between {TIES['B']}; the holder of the casting vote chooses one of them: {' or '.join(ways)}\n")
+        ended = self.election("count", "--casting", "c=Tiles", "--casting", "B=Mary Somerville")
+        self.assertEqual((ended.status, ended.output.count("by casting vote")), (0, 2))
+
+    def test_the_folder(self) -> None:
+        self.done("close", "--early")
+        self.write("about.txt", "Certified by the board.")
+        said = self.publish("--casting", "B=Mary Somerville", "--about", "about.txt", *CAST, status=1)
+        self.assertIn("A: Winner: 1 Yes, 72 Euro\nverified\nB: Winner: 2 Mary Somerville by casting vote\nverified, casting vote 2 Mary Somerville\nC: Tie: 1 2", said)
+        self.assertIn("publish --casting C=NAME --cast-by WHO", said)
+        self.assertEqual(self.listed(), sorted([*ABOVE, *(f"{label}/{name}" for label in self.polls for name in FILES)]))
+        for name in ("title.txt", "polls.sha256", "A/poll.toml", "B/poll.toml", "C/poll.toml"):
+            self.assertEqual(self.read(f"result/{name}"), self.read(f"call/{name}"), name)
+        # the letter names two files, which bind all others
+        letter = self.read("letters/result.txt").decode()
+        command = next(line for line in letter.splitlines() if line.startswith("  sha256sum"))
+        answered = self.in_shell(command)
+        self.assertEqual(SUM.findall(answered), SUM.findall(letter))
+        everything = [str(file.relative_to(self.folder / "result")) for file in (self.folder / "result").rglob("*") if file.is_file()]
+        self.assertEqual(sorted([*re.findall("(?m)^(.*): OK$", answered), "SHA256SUMS"]), sorted(everything))
+        self.assertEqual(self.in_shell("sha256sum -c polls.sha256").count("OK"), 4)
+        for part in ("Question A: Raise the fee to 72 Euro\nWinner: Option 1: Yes, 72 Euro.", "Question C: A new roof\nNo option has won yet:", 'that of "The chair"'):
+            self.assertIn(part, letter)
+        data = json.loads(self.read("result/result.json"))
+        self.assertEqual((data["title"], list(data["questions"])), (self.title, list(self.polls)))
+        for label, winner, left in (("A", 1, [1]), ("B", 2, [1, 2]), ("C", None, [1, 2])):
+            outcome = data["questions"][label]["outcome"]
+            self.assertEqual((outcome["winner"], outcome["left"]), (winner, left))
+            self.assertEqual(data["questions"][label]["checksum"], self.in_shell(f"sha256sum {label}/SHA256SUMS").split()[0])
+            self.assertEqual(outcome, json.loads(self.read(f"result/{label}/result.json"))["outcome"])
+        # what those who publish say of the whole is told once
+        told = [file.parent.name for file in (self.folder / "result").rglob("index.html") if "Certified by the board." in file.read_text()]
+        self.assertEqual(told, ["result"])
+        self.assert_each_counts()
+
+    def assert_each_counts(self) -> None:
+        """The folder of each question is that of a vote: all programs count it."""
+        for label in self.polls:
+            files = "--poll poll.toml --ballots ballots.txt"
+            casting = ["--casting", "Mary Somerville"] if label == "B" else []
+            words = f"{files} --sheet sheet.txt"
+            for command in (
+                f"{PROGRAM} verify {words}",
+                f"python3 -I recount.py standing {files} | cmp - standing.txt",
+                f"node - verify {words} < recount.js",
+                "sha256sum --quiet -c SHA256SUMS",
+            ):
+                self.in_shell(command, f"result/{label}")
+            given = [f"--{kind}={self.folder}/result/{label}/{name}" for kind, name in (("poll", "poll.toml"), ("ballots", "ballots.txt"))]
+            made = self.scratch / f"given-{label}"
+            self.run_program(sys.executable, PUBLISH, *given, *casting, made)
+            for name in ("sheet.txt", "standing.txt", "votes.csv", "result.json"):
+                self.assertEqual((made / name).read_bytes(), self.read(f"result/{label}/{name}"), (label, name))
+
+    def test_again_and_another_casting_vote(self) -> None:
+        self.done("close", "--early")
+        self.publish("--casting", "B=Mary Somerville", "--casting", "C=Slate", *CAST)
+        before, act = self.contents(), self.last_act()
+        self.assertIn("as it was published before", self.publish())
+        self.assertEqual((self.contents(), self.last_act()), (before, act))
+        # a casting vote that was another one is doubtful where it was
+        ended = self.election("publish", "--casting", "B=Mary Somerville", "--casting", "C=Tiles", *CAST)
+        self.assert_fault(ended, 9, "question C: an earlier publication has a casting vote for Slate")
+        self.publish("--casting", "B=Mary Somerville", "--casting", "C=Tiles", *CAST, "--force", "--because", "it was noted wrongly")
+        self.assertEqual(self.doubted(), ["C"])
+        self.assertIn("Made the folder", self.publish())
+        for name in ("B/ballots.txt", "C/late.txt", "A/more.txt", "D/poll.toml", "more.txt"):
+            with self.subTest(name):
+                file, kept = self.folder / "result" / name, None
+                file.parent.mkdir(exist_ok=True)
+                kept = file.read_bytes() if file.is_file() else None
+                file.write_bytes(b"other\n")
+                self.assert_fault(self.election("publish"), 2, "is not what this election has published last")
+                file.unlink()
+                if kept is not None:
+                    file.write_bytes(kept)
+                if name.startswith("D/"):
+                    self.assert_fault(self.election("publish"), 2, "is not what this election has published last")
+                    file.parent.rmdir()
+        self.assertIn("as it was published before", self.publish())
+
+    def doubted(self) -> list[str]:
+        """The questions with a doubt, by the first page; the page of each has it, too."""
+        page = self.read("result/index.html").decode()
+        parts = dict(re.findall(r'(?s)<h2 id="Question-(.)">(.*?)</section>', page))
+        found = [label for label, part in parts.items() if 'class="doubts"' in part]
+        for label in self.polls:
+            self.assertEqual('class="doubts"' in self.read(f"result/{label}/index.html").decode(), label in found)
+        return found
+
+    def test_doubts_stand_at_their_question(self) -> None:
+        self.add_lines(*(f"{name} B 1,2" for name in ("dan", "eve", "fay")), words=["--force", "--because", "as they came"])
+        self.done("close", "--early")
+        ended = self.election("publish")
+        self.assert_fault(ended, 9, "question B: more than half of the lines are refused, 3 of 5", "nothing was published")
+        self.publish("--force", "--because", "they were asked", status=1)
+        # the close before the end is told of each
+        detail = self.acts()[-1][1]
+        kinds = [(doubt["question"], doubt["kind"]) for doubt in detail["doubts"]]
+        self.assertEqual(kinds, [("B", "mostly refused")])
+        self.assertEqual(self.doubted(), ["B"])
+        letter = self.read("letters/result.txt").decode()
+        self.assertLess(letter.index("Question B:"), letter.index("More than half of the lines"))
+        self.assertLess(letter.index("More than half of the lines"), letter.index("Question C:"))
+        # it is made again with these words, and no doubt is new
+        self.assertIn("as it was published before", self.publish(status=1))
+
+    def test_a_doubt_about_the_whole_vote_is_told_once(self) -> None:
+        self.add_lines(*(f"{name} B 1,2" for name in ("dan", "eve", "fay")), words=["--force", "--because", "as they came"])
+        ended = self.election("publish")
+        self.assertEqual(ended.faults.count("the vote is not closed"), 1, ended.faults)
+        self.assertEqual(re.findall("question (.): ", ended.faults), ["B"], ended.faults)
+        ended = self.election("publish", "--force", "--because", "they were asked")
+        self.assertEqual((ended.status, ended.faults.count("the vote is not closed")), (1, 1), ended.faults)
+        self.assertEqual(re.findall("Note: question (.): ", ended.faults), ["B"], ended.faults)
+        page, letter = self.read("result/index.html").decode(), self.read("letters/result.txt").decode()
+        self.assertEqual(page.count('class="doubts"'), 2)
+        self.assertLess(page.index('class="doubts"'), page.index('id="Question-A"'))
+        [doubt, _] = re.findall("- (The vote was not closed|More than half)", letter)
+        self.assertEqual(doubt, "The vote was not closed")
+        self.assertLess(letter.index(doubt), letter.index("Question A: "))
+        for label in self.polls:
+            self.assertIn("was not closed when this page was made", self.read(f"result/{label}/index.html").decode(), label)
+
+    def test_what_was_done_is_told_once(self) -> None:
+        self.done("strike", "5", "--because", "it was a joke")
+        self.done("close", "--early")
+        first = self.sums_in("letters/closed.txt")
+        self.done("reopen", "--because", "a letter was forgotten")
+        self.done("desk", "--came-before-close", "yes", given="dan A 2,1\n")
+        self.done("close", "--early")
+        second = self.sums_in("letters/closed.txt")
+        # the last four are of the close before; A alone has another line
+        self.assertEqual(second[5:], first[1:4])
+        self.assertEqual([one == other for one, other in zip(first, second)][:4], [True, False, True, True])
+        self.publish(status=1)
+        letter = " ".join(self.read("letters/result.txt").decode().split())
+        self.assertEqual(letter.count("The vote was opened again"), 1)
+        self.assertEqual(letter.count("struck envelope 5"), 1)
+        sums = ", ".join(f"{label} {digest}" for label, (digest, _) in zip(self.polls, second[1:]))
+        self.assertEqual(letter.count(f"The vote was closed. Lines in time: A 4, B 2, C 3. Checksum: {sums}."), 1)
+        self.assertIn("lines that came in: A 1, B 0, C 0; lines that were struck: A 0, B 0, C 0.", letter)
+        times = [letter.index(text) for text in ("struck envelope 5", "The vote was opened again", "The vote was closed.")]
+        self.assertEqual(times, sorted(times))
+        for label in self.polls:
+            text = self.read(f"result/{label}/index.html").decode()
+            self.assertEqual("struck envelope 5" in text, label == "C", label)
+
+
+class EndedTest(PublishedTest):
+    call_words = ("--to", "vote@club.example", "--until", "2026-12-04 18:00", "--zone", "UTC")
+
+    def test_a_note_about_each_question_is_said_once(self) -> None:
+        """That there are no pictures, and in the letter how many lines came after the end, of which each answers some questions."""
+        self.set_clock("2026-12-05T00:00:00+00:00")
+        self.add_lines("dan A 1,2 B 1,2,3", "eve A 1,2")
+        self.done("close")
+        self.clock |= {"PATH": str(PROGRAM.parent)}
+        said = self.publish(status=1)
+        self.assertEqual(said.count("Note: no picture"), 1, said)
+        told = "came after the end, and "
+        self.assertEqual(re.findall(f"(\\d+) lines? {told}", " ".join(self.read("letters/result.txt").decode().split())), ["2"])
+        pages = [re.findall(f"(\\d+) lines? {told}", self.read(f"result/{label}/index.html").decode()) for label in self.polls]
+        self.assertEqual(pages, [["2"], ["1"], []])
+
+
+class SecretTest(PublishedTest):
+    polls = {label: f"{poll}secret = true\n" for label, poll in PublishedTest.polls.items()}
+    poll = "".join(polls.values())
+
+    def codes(self) -> dict[str, str]:
+        file = next((self.folder / "private").glob("*.csv"))
+        return {row["name"]: row["code"] for row in csv.DictReader(io.StringIO(file.read_text()))}
+
+    def test_no_folder_tells_of_another(self) -> None:
+        ended = self.election("count")
+        self.assert_fault(ended, 9, "the vote is secret, and can be counted only after the close")
+        self.done("close", "--early")
+        listed = self.sums_in("letters/closed.txt")
+        self.publish("--yes", status=1)
+        self.assertEqual(SUM.findall(self.in_shell(self.last_command("letters/closed.txt").replace("sha256sum; done", "sha256sum | tr -d ' -'; done"))), [(digest, name if at == 0 else "") for at, (digest, name) in enumerate(listed[:-1])])
+        codes, rolls = self.codes(), dict[str, set[str]]()
+        for label in self.polls:
+            poll = self.read(f"result/{label}/poll.toml").decode()
+            rolls[label] = {*re.findall('"([0-9a-f]{32})"', poll)}
+            self.assertEqual(rolls[label], {alias_of(code, f"{label} {name}") for name, code in codes.items()})
+            ballots = self.read(f"result/{label}/ballots.txt").decode().splitlines()
+            self.assertEqual(ballots, sorted(ballots))
+            self.assertEqual(len(ballots), {"A": 3, "B": 2, "C": 3}[label])
+        self.assertEqual(len(set.union(*rolls.values())), 3 * len(codes))
+        seals = [self.read(f"result/{label}/seal.txt") for label in self.polls]
+        self.assertEqual(len({*seals}), 3)
+        for file in (self.folder / "result").rglob("*"):
+            data = file.read_bytes() if file.is_file() else b""
+            for name, code in codes.items():
+                self.assertNotIn(code.encode(), data)
+            if file.name not in ("READING-A-SHEET.md", "recount.py", "recount.js"):
+                self.assertIsNone(re.search(rb"\b(cleo|gus) ", data), file)
+        self.assertEqual(self.told("log").count("seal"), 0)
+
+    def test_a_second_close_asks_once(self) -> None:
+        self.done("close", "--early")
+        self.publish("--yes", status=1)
+        self.done("reopen", "--because", "a letter was forgotten")
+        self.done("desk", "--came-before-close", "yes", given="dan A 2,1 B 1,2,3\n")
+        self.done("close", "--early")
+        ended = self.election("publish", "result-2")
+        self.assert_fault(ended, 9, "a comparison with the earlier result shows how these voted: dan")
+        self.publish("result-2", "--yes", status=1)
+
+    @at_browser.NEEDS_BROWSER
+    def test_finding_ballots_in_a_browser(self) -> None:
+        """One code finds the ballots of all questions, and those of one on its own page."""
+        self.done("close", "--early")
+        self.publish("--yes", status=1)
+        codes = self.codes()
+        with at_browser.Window(800, 900) as window:
+            window.open(self.folder / "result" / "index.html")
+            said = window.find("Ben", codes["ben"])
+            a, b, c = (alias_of(codes["ben"], f"{label} ben") for label in "ABC")
+            chair = ["Mary Somerville", "Ada Lovelace", "None of these", f"The line: {b} 2,1,3"]
+            fee = ["Yes, 72 Euro", "No, as it is", f"The line: {a} 1,2"]
+            roof = ["Slate and Tiles equally", "As it is", "Straw", f"The line: {c} 1,1,3,2"]
+            counted = "ben: counted"
+            self.assertEqual(said, [counted, *fee, counted, *chair, counted, *roof])
+            # no address has an alias
+            links = "[...document.querySelectorAll('#Answer a')].map((link) => link.getAttribute('href'))"
+            self.assertEqual(window.ask(links), [f"{label}/index.html" for label in "ABC"])
+            said = window.find("cleo", codes["cleo"])
+            self.assertIn(f"Your alias is {alias_of(codes['cleo'], 'B cleo')}. It is on the roll, and no ballot counts under it.", said)
+            [none] = window.find("cleo", codes["ben"])
+            self.assertIn("No elector of this vote has the alias", none)
+            window.open(self.folder / "result" / "B" / "index.html")
+            self.assertEqual(window.find("Ben", codes["ben"]), [counted, *chair])
+            self.assertTrue(window.count_again()[0].startswith("The same, line for line"))
+        page = self.read("result/B/index.html").decode()
+        [command] = re.findall("<code>(python3 -I -c .*?)</code>", page)
+        command = command.replace("&#39;", "'").replace("&#34;", '"')
+        ended = subprocess.run(["sh", "-c", command], input=f"{codes['ben']}\nben\n", capture_output=True, text=True)
+        self.assertEqual(ended.stdout, f"Code: Name: {b}\n")
+        [command] = re.findall("<code>(printf %s .*?)</code>", page)
+        command = command.replace("&#39;", "'").replace("NAME", "ben").replace("CODE", codes["ben"])
+        self.assertEqual(self.in_shell(command), f"{b}\n")
+        self.assertIn("Here the message is the label of the question, a blank and the name: <code>B NAME</code>.", page)
+
+
+@at_browser.NEEDS_BROWSER
+class PagesTest(PublishedTest):
+    """The first of the questions is a motion."""
+
+    polls = {**PublishedTest.polls, "A": f"{FEE}motion = true\n"}
+    poll = "".join(polls.values())
+    call_words = ("--to", "vote@club.example", "--names")
+
+    def test_the_pages_in_a_browser(self) -> None:
+        self.done("close", "--early")
+        self.publish("--casting", "B=Mary Somerville", *CAST, status=1)
+        result = self.folder / "result"
+        with at_browser.Window(360, 800) as window:
+            window.open(result / "index.html")
+            self.assertEqual(window.ask("document.documentElement.scrollWidth"), 360)
+            heads = "[...document.querySelectorAll('.outcome')].map((part) => [part.querySelector('h2').textContent, part.querySelector('b').textContent])"
+            self.assertIn("2 yes, 1 no, 0 abstained", window.ask("document.querySelector('.facts').textContent"))
+            self.assertEqual(
+                window.ask(heads),
+                [["A Raise the fee to 72 Euro", "Yes, 72 Euro"], ["B The chair of the board", "Mary Somerville"], ["C A new roof", "1\xa0Slate and 2\xa0Tiles"]],
+            )
+            roof = ["Tiles", "Slate", "As it is", "Straw", "The line: cleo 2,1,4,3"]
+            wanted = ["cleo: counted", "No", "The line: cleo 2,1", "cleo is on the roll, and no ballot counts for this name.", "cleo: counted", *roof]
+            for typed in ("cleo", " CLEO"):
+                self.assertEqual(window.find(typed), wanted)
+            links = "[...document.querySelectorAll('#Answer h4 a')].map((link) => [link.textContent, link.getAttribute('href')])"
+            self.assertEqual(window.ask(links)[0], ["A Raise the fee to 72 Euro", "A/index.html#cleo"])
+            self.assertEqual(window.find("nobody"), ["No elector has the name nobody. Type it as it is on the roll."])
+            self.assertEqual(window.find("a-d-a"), ["Do you mean ada (Ada)?"])
+            # the address names an elector
+            window.ask("location.hash = '#cleo/23456789ab'")
+            window.until("document.getElementById('Answer').textContent.includes('cleo 2,1,4,3')")
+            window.tell("Page.navigate", url="about:blank")
+            window.until("location.href === 'about:blank'")
+            window.open(result / "index.html", "#ben")
+            window.until("document.getElementById('Answer').textContent.includes('ben 1,1,3,2')")
+            for label in self.polls:
+                window.open(result / label / "index.html")
+                self.assertTrue(window.count_again()[0].startswith("The same, line for line"), label)
+                self.assertEqual(window.found() if label == "B" else [], [])
+            self.assertEqual(window.find("cleo"), ["cleo: counted", *roof])
+            self.assertEqual(window.faults, [])
+
+    def test_the_page_of_one_names_both_checksums(self) -> None:
+        self.done("close", "--early")
+        self.publish(status=1)
+        listed = dict(map(reversed, self.sums_in("call/polls.sha256")))
+        of_list = self.in_shell("sha256sum polls.sha256").split()[0]
+        for label in self.polls:
+            page = self.read(f"result/{label}/index.html").decode()
+            self.assertIn(listed[f"{label}/poll.toml"], page)
+            self.assertIn(of_list, page)
+            self.assertIn(f'<a href="../index.html">{self.title}</a> · <b>{label}</b>', page)
+        self.assertIn(of_list, self.read("result/index.html").decode())
+        self.assertIn(f"[{of_list[:16]}]", self.read("call/call.txt").decode())
+
+
+class ManyTest(PublishedTest):
+    """More than six questions are a line each, which opens."""
+
+    polls = {label: FEE.replace("72", f"7{at}") for at, label in enumerate("ABCDEFG")}
+    poll = "".join(polls.values())
+    new_words = ("--questions", "7")
+
+    def setUp(self) -> None:
+        QuestionsTest.setUp(self)
+        self.add_lines("ada A 1,2 G 2,1", "ben A 1,2 B 1,2")
+
+    def test_each_is_a_line(self) -> None:
+        self.done("close", "--early")
+        ended = self.election("publish")
+        self.assertEqual((ended.status, re.findall("question (.): no elector has a ballot that counts", ended.faults)), (9, list("CDEF")))
+        self.publish("--force", "--because", "nobody wanted them")
+        page = self.read("result/index.html").decode()
+        lines = re.findall(r'<details>\n<summary><h2 id="Question-(.)">.*?</h2> .*?<b><bdi>(.*?)</bdi></b></summary>', page)
+        self.assertEqual(lines, [("A", "Yes, 70 Euro"), *((label, "No, as it is") for label in "BCDEFG")])
+        # a doubt is not folded
+        self.assertEqual(len(re.findall('</details>\n<p class="doubts">.*no ballot counts</p>\n</section>', page)), 4)
+        self.assertEqual(pathlib.Path(self.folder / "result" / "G" / "ballots.txt").read_text(), "ada 2,1\n")

@@ -1,0 +1,316 @@
+"""A web host on this computer with the box of a vote, by PHP's own server; and one that lies."""
+
+import contextlib
+import datetime
+import http.client
+import os
+import pathlib
+import re
+import resource
+import shutil
+import signal
+import socket
+import ssl
+import subprocess
+import tempfile
+import threading
+import time
+import unittest
+import unittest.mock
+from collections.abc import Callable, Iterable, Mapping, Sequence
+from typing import NamedTuple
+
+from debvote_tools.poll.box import asking_word, link_of, records_file, script_of
+
+PHP, STRACE = shutil.which("php"), shutil.which("strace")
+NEEDS_PHP = unittest.skipUnless(PHP, "php is not installed")
+
+# without php.ini it has no extension but those that are built in
+START = [PHP, "-n", "-d", "memory_limit=128M"]
+SECONDS = 60
+
+MARK, KEY = "1ac5041b936c7fc1", bytes(range(32))
+OWNS = {"ada": "23456789ab", "ben-lee": "3456789abc", "cleo.x": "456789abcd"}
+WORD, FILE = asking_word(KEY), records_file(KEY)
+LINKS = {name: link_of(KEY, name, own) for name, own in OWNS.items()}
+# the first line of the file, and the end of each record
+FIRST, END = b"<?php exit; ?>\n", b"\n-- \n\n"
+
+
+# by how many seconds the clock of a host is ahead
+HOST_OFF = "host-off"
+CLOCK = "<?php function time(): int { return (int) microtime(true) + (int) file_get_contents(__DIR__ . '/%s'); }"
+
+
+def clock_of_php(folder: pathlib.Path) -> list[str]:
+    """Settings with which PHP has the clock that this folder says: PHP's own `time` is taken away, and
+    made anew before each script.
+    """
+    (folder / HOST_OFF).write_text("0")
+    (folder / "clock.php").write_text(CLOCK % HOST_OFF)
+    return ["-d", "disable_functions=time", "-d", f"auto_prepend_file={folder}/clock.php"]
+
+
+class Answer(NamedTuple):
+    """What the host answered; status 0 if it did not."""
+
+    status: int
+    text: str = ""
+    headers: Mapping[str, str] = {}
+
+    @property
+    def word(self) -> str:
+        return self.text.partition(" ")[0]
+
+
+def request_of(*lines: str) -> bytes:
+    """That of a request with these lines."""
+    return "".join(f"{line}\n" for line in lines).encode()
+
+
+ASK = request_of(f"ask {WORD}")
+
+
+def ballot(name: str, ranks: str, number: int, link: str | None = None) -> bytes:
+    """What the page sends; `number` makes the Message-ID."""
+    return request_of(
+        f"{name} {ranks}", LINKS.get(name, "") if link is None else link, f"{number:032x}"
+    )
+
+
+def record(name: str, line: str, number: int, time_: str, mark: str = MARK) -> str:
+    """The record of a ballot that arrived at this time, as FORMATS has it."""
+    when = datetime.datetime.fromisoformat(time_)
+    return (
+        f"From box@page.invalid {when:%a %b %d %H:%M:%S %Y}\n"
+        f"Received: by box; {when:%a, %d %b %Y %H:%M:%S} +0000\n"
+        f"X-Link: {LINKS.get(name, '2' * 16)}\n"
+        f"From: box@page.invalid\nSubject: [{mark}]\n"
+        f"Message-ID: <{number:032x}@page.invalid>\n\n{line}\n-- \n\n"
+    )
+
+
+def free_port() -> int:
+    with socket.create_server(("127.0.0.1", 0)) as probe:
+        return int(probe.getsockname()[1])
+
+
+class Host:
+    """PHP's server with a folder, until the `with` ends. A `tracer` is strace, which does to its
+    system calls what it is told.
+    """
+
+    def __init__(
+        self,
+        folder: pathlib.Path,
+        *settings: str,
+        tracer: Sequence[object] = (),
+        workers: int = 1,
+        most_bytes: int | None = None,
+    ) -> None:
+        self.folder, self.port = folder, free_port()
+        self.words = [*tracer, *START, *settings, "-S", f"127.0.0.1:{self.port}", "-t", folder]
+        self.workers, self.most_bytes = workers, most_bytes
+
+    def __enter__(self) -> "Host":
+        self.log = tempfile.NamedTemporaryFile("ab", prefix="debvote-box-")
+        environment = {"PHP_CLI_SERVER_WORKERS": str(self.workers)} if self.workers > 1 else {}
+        # a file that would be longer is an error then, and no signal
+        self.process = subprocess.Popen(
+            [str(word) for word in self.words],
+            stdin=subprocess.DEVNULL,
+            stdout=self.log,
+            stderr=self.log,
+            env=environment | {"PATH": "/usr/bin:/bin"},
+            restore_signals=self.most_bytes is None,
+            preexec_fn=None if self.most_bytes is None else self.limit,
+            start_new_session=True,
+        )
+        end = time.monotonic() + SECONDS
+        while not self.has_started():
+            if self.process.poll() is not None or time.monotonic() > end:
+                said = self.said()
+                self.__exit__()
+                raise AssertionError(f"no server: {said!r}")
+            time.sleep(0.005)
+        return self
+
+    def has_started(self) -> bool:
+        if self.most_bytes is None:
+            return b"started" in self.said()
+        # where no file may be long, the log is none either
+        with contextlib.suppress(OSError), socket.create_connection(("127.0.0.1", self.port)):
+            return True
+        return False
+
+    def limit(self) -> None:
+        resource.setrlimit(resource.RLIMIT_FSIZE, (self.most_bytes or 0,) * 2)
+
+    def __exit__(self, *_: object) -> None:
+        # its workers, too
+        with contextlib.suppress(ProcessLookupError):
+            os.killpg(self.process.pid, signal.SIGKILL)
+        self.process.wait()
+        self.log.close()
+
+    def said(self) -> bytes:
+        """What the server wrote."""
+        return pathlib.Path(self.log.name).read_bytes()
+
+    @property
+    def at(self) -> str:
+        return f"http://127.0.0.1:{self.port}/"
+
+    def send(
+        self, body: bytes, method: str = "POST", path: str = "/vote.php", **headers: str
+    ) -> Answer:
+        connection = http.client.HTTPConnection("127.0.0.1", self.port, timeout=SECONDS)
+        fields, parts = {name.replace("_", "-"): text for name, text in headers.items()}, list[
+            bytes
+        ]()
+        try:
+            # in one piece, so that the server's calls are the same each time
+            connection.connect()
+            with unittest.mock.patch.object(connection, "send", parts.append):
+                connection.request(method, path, body, fields)
+            connection.send(b"".join(parts))
+            response = connection.getresponse()
+            text = response.read().decode("utf-8", "replace")
+            return Answer(
+                response.status,
+                text,
+                {name.lower(): value for name, value in response.getheaders()},
+            )
+        except (OSError, http.client.HTTPException):
+            return Answer(0)
+        finally:
+            connection.close()
+
+    def ask(self, word: str = WORD) -> Answer:
+        return self.send(request_of(f"ask {word}"))
+
+    def records(self) -> list[str]:
+        """The records as it answers them, each with its end."""
+        answer = self.ask()
+        assert answer.status == 200, answer
+        parts = answer.text.partition("\n")[2].split(END.decode())
+        assert parts.pop() == "", answer
+        return parts
+
+    def lines(self) -> list[str]:
+        """The lines of the ballots that it has."""
+        return [record.rpartition("\n")[2] for record in self.records()]
+
+
+class Liar:
+    """A web host that answers as a test says: `lie` gets each request as bytes, and yields what is
+    sent, or for how many seconds it waits. `context` is for TLS.
+    """
+
+    def __init__(
+        self, lie: Callable[[bytes], Iterable[bytes | float]], context: ssl.SSLContext | None = None
+    ) -> None:
+        self.lie, self.context = lie, context
+        self.requests: list[bytes] = []
+
+    def __enter__(self) -> "Liar":
+        self.socket = socket.create_server(("127.0.0.1", 0))
+        self.port = self.socket.getsockname()[1]
+        threading.Thread(target=self.serve, daemon=True).start()
+        return self
+
+    def __exit__(self, *_: object) -> None:
+        # what waits for a request would take one more
+        self.socket.shutdown(socket.SHUT_RDWR)
+        self.socket.close()
+
+    @property
+    def at(self) -> str:
+        return f"http{'s' if self.context else ''}://127.0.0.1:{self.port}/"
+
+    def serve(self) -> None:
+        with contextlib.suppress(OSError):
+            while True:
+                threading.Thread(
+                    target=self.converse, args=self.socket.accept()[:1], daemon=True
+                ).start()
+
+    def converse(self, connection: socket.socket) -> None:
+        with contextlib.suppress(OSError), connection:
+            wrapped = (
+                self.context.wrap_socket(connection, server_side=True)
+                if self.context
+                else connection
+            )
+            with wrapped:
+                request = request_in(wrapped)
+                self.requests.append(request)
+                for part in self.lie(request):
+                    if isinstance(part, bytes):
+                        wrapped.sendall(part)
+                    else:
+                        time.sleep(part)
+                # what it has sent arrives, also if it did not read all
+                wrapped.shutdown(socket.SHUT_WR)
+                wrapped.recv(1)
+
+
+def request_in(connection: socket.socket) -> bytes:
+    data = b""
+    while True:
+        head, end, body = data.partition(b"\r\n\r\n")
+        length = re.search(rb"(?i)\r\ncontent-length: (\d+)", head)
+        if end and len(body) >= int(length[1] if length else 0):
+            return data
+        part = connection.recv(65_536)
+        if not part:
+            return data
+        data += part
+
+
+def passed_on(request: bytes, host: Host) -> bytes:
+    """What an honest host answers to a request."""
+    with socket.create_connection(("127.0.0.1", host.port)) as connection:
+        connection.sendall(request)
+        return b"".join(iter(lambda: connection.recv(65_536), b""))
+
+
+def firewall(host: Host) -> Callable[[bytes], Iterable[bytes]]:
+    """A web firewall before a host, which refuses lines that are in no field of a form."""
+
+    def lie(request: bytes) -> Iterable[bytes]:
+        body = request.partition(b"\r\n\r\n")[2]
+        is_good = b"\n" not in body or b"=" in body.partition(b"\n")[0]
+        yield passed_on(request, host) if is_good else answered(b"<h1>Forbidden</h1>", 403)
+
+    return lie
+
+
+def answered(body: bytes, status: int = 200, *fields: str) -> bytes:
+    """An answer with this body."""
+    lines = [
+        f"HTTP/1.1 {status} x",
+        *fields,
+        f"Content-Length: {len(body)}",
+        "Connection: close",
+        "",
+        "",
+    ]
+    return "\r\n".join(lines).encode() + body
+
+
+class BoxTest(unittest.TestCase):
+    """A test with a folder of a web host that has the script of a vote."""
+
+    maxDiff = None
+
+    def setUp(self) -> None:
+        self.folder = pathlib.Path(
+            self.enterContext(tempfile.TemporaryDirectory(prefix="debvote-box-"))
+        )
+        self.script = script_of(KEY, MARK, OWNS)
+        (self.folder / "vote.php").write_bytes(self.script)
+        self.file = self.folder / FILE
+
+    def host(self, *settings: str, **how: object) -> Host:
+        return self.enterContext(Host(self.folder, *settings, **how))  # type: ignore[arg-type]
