@@ -19,6 +19,9 @@ PYTEST = f"/usr/bin/python3 -m pytest -q -n {len(os.sched_getaffinity(0))}"
 
 COUNT = re.compile(r"(\d+) passed, (\d+) failed")
 SKIPPED = re.compile(r"skipped: (.*?)(?: \((\d+)\))?")
+# how each part, and rt ci, begin the line of a failure
+FAILED = re.compile(r"(rt: )?FAILED\b")
+WIDTH = 300
 # what `rt try --test` says
 COUNT_OF_TRY = re.compile(r"test result: \w+\. (\d+) passed; (\d+) failed;.*")
 
@@ -70,6 +73,12 @@ class Part:
         whole = sum([*counts, *skipped], Count(0, 0))
         return whole if whole.failed or (counts and status == 0) else whole + Count(0, 1)
 
+    def failures(self) -> list[str]:
+        """Once it has ended, its lines of failures; of one that failed without any, how it ended."""
+        if not self.count().failed:
+            return []
+        return [line[:WIDTH] for line in self.text().splitlines() if FAILED.match(line)] or [f"it ended with status {self.process.returncode}"]
+
 
 def tell(parts: Iterable[Part]) -> Count:
     """Waits for the parts, prints the output and the time of each, and returns their sum."""
@@ -81,3 +90,10 @@ def tell(parts: Iterable[Part]) -> Count:
     for part in parts:
         print(part.seconds.read_text().rstrip("\n") if part.seconds.exists() else f"{part.name}: it was killed", flush=True)
     return sum(counts, Count(0, 0))
+
+
+def tell_failures(parts: Iterable[Part]) -> None:
+    """Prints what failed once more, below all other output: of a long log often the end alone is at hand."""
+    for part in parts:
+        for line in part.failures():
+            print(f"{part.name}: {line}")
