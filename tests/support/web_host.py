@@ -157,6 +157,14 @@ class Host:
         """What the server wrote."""
         return pathlib.Path(self.log.name).read_bytes()
 
+    def requests(self) -> list[str]:
+        """The requests of pages until now. The server writes of one after it has answered it, and before it
+        answers the next.
+        """
+        self.send(b"", "GET", "/now")
+        found = re.findall(r"\]: (\w+ \S+)", self.said().decode())
+        return [request for request in found if request not in ("GET /now", "GET /favicon.ico")]
+
     @property
     def at(self) -> str:
         return f"http://127.0.0.1:{self.port}/"
