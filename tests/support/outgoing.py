@@ -99,7 +99,7 @@ class MailServer:
         with socket.socket() as probe:
             probe.bind(("127.0.0.1", 0))
             self.port = probe.getsockname()[1]
-        self.controller = Controller(self, hostname="127.0.0.1", port=self.port, **how)  # type: ignore[arg-type]
+        self.controller = Controller(self, hostname="127.0.0.1", port=self.port, ready_timeout=60, **how)  # type: ignore[arg-type]
         self.controller.start()
 
     @property
