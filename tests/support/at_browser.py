@@ -143,9 +143,9 @@ class Window:
         return found["result"].get("value")
 
     def until(self, script: str) -> None:
-        """Waits until a script returns true, for 20 seconds at most."""
+        """Waits until a script returns true, for two minutes at most."""
         end = "performance.now() > end ? done(false) : setTimeout(look, 10)"
-        look = f"const end = performance.now() + 20000; const look = () => ({script}) ? done(true) : {end}; look();"
+        look = f"const end = performance.now() + 120000; const look = () => ({script}) ? done(true) : {end}; look();"
         if not self.ask(f"new Promise((done) => {{ {look} }})"):
             raise AssertionError(f"it does not become true: {script}")
 

@@ -11,7 +11,7 @@ import time
 from tests.support import elections
 
 # words that have not come by then do not come, and a program that has not ended hangs
-SECONDS = 20
+SECONDS = 120
 
 
 class Terminal:
