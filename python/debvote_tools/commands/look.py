@@ -40,7 +40,7 @@ from debvote_tools.inbox.fates import Fate, fates_of
 from debvote_tools.inbox.lines import has_code
 from debvote_tools.inbox.pending import Pending, pending_letters
 from debvote_tools.inbox.vote import IS_CODE, Vote
-from debvote_tools.outbox.reached import reached_by_call
+from debvote_tools.outbox.reached import unreached_and_printed
 from debvote_tools.poll.questions import Questions, place_of, quorums_in
 from debvote_tools.text import times
 from debvote_tools.text.ballots import answers_in, ballot_file, part_of
@@ -84,7 +84,7 @@ def state_of(election: Election, history: History) -> tuple[State, list[Refused]
     pending = Pending() if history.call is None else pending_letters(election, history)
     numbers, voters = queries.numbers(book), queries.what_counts(book)
     answered = {name: {*answers_in(answers)} for name, answers in voters.items()}
-    unreached, printed = reached_by_call(election, history)
+    unreached, printed = unreached_and_printed(election, history)
     state = {
         "stage": history.stage,
         "electors": len(roll),

@@ -15,7 +15,7 @@ from debvote_tools.grouping import grouped
 from debvote_tools.inbox.asked import unasked
 from debvote_tools.inbox.fates import NOBODY, Became, Fate, fates_of
 from debvote_tools.inbox.rules import Outcome
-from debvote_tools.outbox.reached import CAME_BACK, reached_by_call, unreached
+from debvote_tools.outbox.reached import CAME_BACK, unreached_and_printed, unreached
 from debvote_tools.outbox.words import Composer
 from debvote_tools.poll.announced import address_in
 from debvote_tools.poll.call import CallData, current_call
@@ -168,7 +168,7 @@ def letters_due(
     typed = {act.number for act in history.acts if act.is_typed}
     records = queries.records_since(book, called)
     composer = Composer(call_data, is_over, on_list, typed, records)
-    not_reached, _ = reached_by_call(election, history)
+    not_reached, _ = unreached_and_printed(election, history)
     back = {elector.number for elector, why, _ in not_reached if why == CAME_BACK}
     present = [one for one in noted_before if one.elector in back and is_present(one, electors)]
     returned_ids = {letter.elector: letter.message_id for letter in present}.values()
