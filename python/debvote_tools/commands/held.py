@@ -16,7 +16,7 @@ from debvote_tools.cli.faults import Fault, bad_words, kept_in, stop_at
 from debvote_tools.grouping import grouped
 from debvote_tools.inbox import letter_words
 from debvote_tools.inbox.letter_words import name_of, who_and_when, why
-from debvote_tools.inbox.judging import Box, answered_by, ballots_in, judged
+from debvote_tools.inbox.judging import BallotsByElector, answered_by, ballots_in, judged
 from debvote_tools.inbox.reasons import Reason
 from debvote_tools.inbox.rules import BallotLine, LetterCase, Outcome
 from debvote_tools.inbox.taking import LetterEntry, envelope_of
@@ -171,11 +171,13 @@ class Chosen(NamedTuple):
         names = dict.fromkeys([*(line.elector for line in self.letter.ballots), *sharing])
         return [name for name in names if name not in having]
 
-    def left_of(self, line: BallotLine, box: Box) -> tuple[str, dict[str, set[str]]]:
+    def left_of(
+        self, line: BallotLine, by_elector: BallotsByElector
+    ) -> tuple[str, dict[str, set[str]]]:
         """A ballot without the answers to which its elector has later ones, and without those that were
         entered; and the labels of both, by why.
         """
-        there = queries.later(box.get(line.elector, []), self.letter.time)
+        there = queries.later(by_elector.get(line.elector, []), self.letter.time)
         later, entered = answered_by(line.ballot, there), self.entered
         done = {one for one in answers_of(line.ballot) if (line.elector, one) in entered} - later
         left = without(line.ballot, later | done)
@@ -259,13 +261,15 @@ def entry_of(
     )
 
 
-def without_answered(chosen: Sequence[Chosen], box: Box) -> tuple[list[Chosen], list[str]]:
+def without_answered(
+    chosen: Sequence[Chosen], by_elector: BallotsByElector
+) -> tuple[list[Chosen], list[str]]:
     """The ballots without the answers that are left out, unless none is left; and what is said of these."""
     found, said = list[Chosen](), list[str]()
     for one in chosen:
         kept = list[BallotLine]()
         for line in one.lines:
-            left, left_out = one.left_of(line, box)
+            left, left_out = one.left_of(line, by_elector)
             said += (
                 f"Left out of {name_of(one.letter)}: {ENGLISH.joined(sorted(labels))}, since {why}"
                 for why, labels in left_out.items()
@@ -282,14 +286,14 @@ def left_out(vote: Vote, electors: Collection[str]) -> Iterator[str]:
     """
     if not vote.names.labels:
         return
-    entered, box = entered_in(vote.book), ballots_in(vote, electors, IN_TIME)
+    entered, by_elector = entered_in(vote.book), ballots_in(vote, electors, IN_TIME)
     for letter in all_letters(vote):
         one = Chosen(letter, (*letter.ballots, *letter.offered), entered.get(letter.number, ()))
         partly = (
             {elector for elector, _ in one.entered} if letter.outcome is Outcome.ENTERED else ()
         )
         for line in one.lines:
-            left, _ = one.left_of(line, box)
+            left, _ = one.left_of(line, by_elector)
             if left and line.elector in electors and line.elector in partly:
                 enter = vote.election.command("held", str(letter.number), "--enter")
                 yield f"{name_of(letter)} has an answer that was left out, `{left}`: {enter}"
@@ -392,7 +396,7 @@ def why_not_now(vote: Vote, history: History, chosen: Sequence[Chosen]) -> Again
             yield letter, Fault(name, words, "name the one that counts")
 
 
-def why_not_unforced(chosen: Sequence[Chosen], box: Box) -> Against:
+def why_not_unforced(chosen: Sequence[Chosen], by_elector: BallotsByElector) -> Against:
     """The letter is of another vote; nothing ties the elector of a typed ballot to it; or the
     elector has a later ballot, or another one of its time.
     """
@@ -404,7 +408,7 @@ def why_not_unforced(chosen: Sequence[Chosen], box: Box) -> Against:
             yield letter, Fault(name, words, f"add it to that vote; {cure}")
         tied = {*letter.electors, *letter.sharing, letter.marked_elector}
         for line in lines:
-            there = box.get(line.elector, [])
+            there = by_elector.get(line.elector, [])
             if not line.number and line.elector not in tied:
                 words = f"neither its sender nor a line of {name} is of {line.elector}"
                 yield letter, Fault("--as", words, f"check the name; {cure}")

@@ -33,7 +33,7 @@ DECIDED = {
 # what becomes of a letter, and why it waits or was set aside
 Judgement = tuple[Outcome, ReasonWithValues | None]
 # the ballots of each elector, in the order `queries.by_time`
-Box = dict[str, list[Ballot]]
+BallotsByElector = dict[str, list[Ballot]]
 TIME, IS_BY_LETTER = operator.attrgetter("time"), operator.attrgetter("is_by_letter")
 
 
@@ -88,13 +88,15 @@ def check_again(
         found[index] = read
 
 
-def ballots_in(vote: Vote, names: Collection[str], condition: str = queries.A_BALLOT) -> Box:
+def ballots_in(
+    vote: Vote, names: Collection[str], condition: str = queries.A_BALLOT
+) -> BallotsByElector:
     """The ballots of some electors that were entered and are not struck, also late ones, unless a
     condition says otherwise.
     """
     numbers = queries.elector_numbers(vote.book, names)
     by_number = {number: name for name, number in numbers.items()}
-    box: Box = collections.defaultdict(list)
+    by_elector: BallotsByElector = collections.defaultdict(list)
     clocks = queries.letter_clocks(vote.book)
     there = queries.envelopes_of(vote.book, by_number, condition)
     for envelope in sorted(there, key=queries.by_time):
@@ -102,8 +104,8 @@ def ballots_in(vote: Vote, names: Collection[str], condition: str = queries.A_BA
         behind, line = clocks.get(envelope.letter or 0), envelope.line.decode("ascii")
         is_by_letter = behind is not None and not envelope.is_late
         ballot = Ballot(envelope.time, line, is_by_letter, behind or 0, envelope.number)
-        box[by_number[envelope.elector or 0]].append(ballot)
-    return box
+        by_elector[by_number[envelope.elector or 0]].append(ballot)
+    return by_elector
 
 
 def circumstances_now(
@@ -154,9 +156,9 @@ def judge_all(
     cases = [LetterCase(letter, circumstances) for letter in letters]
     cases.sort(key=lambda case: (case.time is None, case.time or circumstances.now))
     electors = {elector for case in cases for elector in case.electors}
-    box: Box = collections.defaultdict(list)
+    by_elector: BallotsByElector = collections.defaultdict(list)
     for elector, ballots in ballots_of(electors).items():
-        box[elector] = sorted(ballots, key=queries.by_time)
+        by_elector[elector] = sorted(ballots, key=queries.by_time)
     for case in cases:
         case.outcome, case.reason = (
             (Outcome.WAITS, case.first_broken_rule)
@@ -165,12 +167,13 @@ def judge_all(
         )
     groups = grouped((case.read.identity, case) for case in cases).values()
     originals = set(filter(None, map(original_of, groups)))
-    judge_originals(cases, originals, box)
+    judge_originals(cases, originals, by_elector)
     for group in groups:
-        judge_copies(group, originals, box)
+        judge_copies(group, originals, by_elector)
     # of each elector the last ballot that answers a question
     last = {
-        elector: {label: one for one in its for label in one.labels} for elector, its in box.items()
+        elector: {label: one for one in its for label in one.labels}
+        for elector, its in by_elector.items()
     }
     for case in cases:
         if case.decision is None and case.outcome is Outcome.WAITS and case.other_vote:
@@ -202,10 +205,10 @@ def original_of(group: Sequence[LetterCase]) -> LetterCase | None:
 
 
 def judge_originals(
-    cases: Sequence[LetterCase], originals: Collection[LetterCase], box: Box
+    cases: Sequence[LetterCase], originals: Collection[LetterCase], by_elector: BallotsByElector
 ) -> None:
-    """Judges the letters that break no rule, by their times, and puts into the box the ballots of those
-    that do not wait.
+    """Judges the letters that break no rule, by their times, and puts the ballots of those that do
+    not wait to the others of their electors.
     """
     in_order = [case for case in cases if case in originals]
     ballots = (((case.elector, case.time), case.ballots[0].ballot) for case in in_order)
@@ -219,16 +222,16 @@ def judge_originals(
         own = Ballot(case.time, case.ballots[0].ballot, True, case.read.behind)
         at_once = at_its_time[case.elector, case.time]
         case.outcome, case.reason = outcome_of_original(
-            case, own, box[case.elector], at_once, unchecked_ballots
+            case, own, by_elector[case.elector], at_once, unchecked_ballots
         )
         if case.outcome is not Outcome.WAITS:
-            bisect.insort(box[case.elector], own, key=queries.by_time)
+            bisect.insort(by_elector[case.elector], own, key=queries.by_time)
 
 
 def outcome_of_original(
     case: LetterCase,
     own: Ballot,
-    its_box: Sequence[Ballot],
+    its_ballots: Sequence[Ballot],
     at_once: Sequence[str],
     unchecked_ballots: Collection[str],
 ) -> Judgement:
@@ -238,7 +241,7 @@ def outcome_of_original(
     """
     elector, time = case.elector, own.time
     # those that answer one of its questions
-    there = [one for one in its_box if not own.labels.isdisjoint(one.labels)]
+    there = [one for one in its_ballots if not own.labels.isdisjoint(one.labels)]
     if turned := next(filter(own.may_turn, there), None):
         return Outcome.WAITS, Reason.CLOCKS(elector=elector, time=turned.time)
     if later := queries.later(there, time):
@@ -263,7 +266,9 @@ def answered_by(ballot: str, later: Iterable[Ballot]) -> set[str]:
     return answers_of(ballot).keys() & {label for one in later for label in one.labels}
 
 
-def judge_copies(group: Sequence[LetterCase], originals: Collection[LetterCase], box: Box) -> None:
+def judge_copies(
+    group: Sequence[LetterCase], originals: Collection[LetterCase], by_elector: BallotsByElector
+) -> None:
     """Which letters of one identity are ignored as copies: of one that went in, though it was
     taken back or struck since, or that breaks no rule. One that breaks a rule, and never went in,
     hides only those with the same reason and body.
@@ -285,10 +290,12 @@ def judge_copies(group: Sequence[LetterCase], originals: Collection[LetterCase],
         if original is not None and (is_done or case.first_broken_rule is None):
             before = original
         if case in others and before is not case:
-            case.outcome, case.reason = outcome_of_copy(case, before, box)
+            case.outcome, case.reason = outcome_of_copy(case, before, by_elector)
 
 
-def outcome_of_copy(case: LetterCase, original: LetterCase, box: Box) -> Judgement:
+def outcome_of_copy(
+    case: LetterCase, original: LetterCase, by_elector: BallotsByElector
+) -> Judgement:
     """A copy of a letter is ignored, unless another ballot lies between: which of the two copies was
     read first depends on the order of the mailboxes, and may not decide which ballot is the last.
     """
@@ -296,7 +303,7 @@ def outcome_of_copy(case: LetterCase, original: LetterCase, box: Box) -> Judgeme
         return Outcome.COPY, None
     begin, end = sorted((original.time, case.time))
     for line in (*case.ballots, *case.offered):
-        there = box[line.elector]
+        there = by_elector[line.elector]
         places = (bisect.bisect_left(there, time, key=TIME) for time in (begin, end))
         others = (one.time for one in there[slice(*places)] if differ(one.line, line.ballot))
         if between := next(others, None):
