@@ -14,7 +14,7 @@ from debvote_tools.inbox.letter import ParsedLetter, parse
 from debvote_tools.inbox.letter_lines import Names, ReadLetter, from_json, to_json, with_lines
 from debvote_tools.inbox.mailbox import NotRead, RawLetter
 from debvote_tools.inbox.reasons import ReasonWithValues, for_secretary
-from debvote_tools.inbox.rules import Circumstances, LetterCase, Outcome
+from debvote_tools.inbox.rules import Circumstances, LetterCase, LetterOutcome
 from debvote_tools.poll.questions import LONGEST_LINE
 
 from tests.support import elections
@@ -161,7 +161,7 @@ def label(why: ReasonWithValues) -> str:
 
 def outcome(one: LetterCase) -> str:
     """What becomes of a letter, in a word and the ballot or the reason, which has all values that its sentence needs."""
-    if one.outcome is Outcome.GOES_IN:
+    if one.outcome is LetterOutcome.GOES_IN:
         return f"in: {one.ballots[0].ballot}"
     if one.reason is None:
         return one.outcome.value
@@ -175,7 +175,7 @@ def outcomes(*letters: bytes | ParsedLetter, **other: object) -> list[str]:
 
 
 def lines_in(*letters: bytes | ParsedLetter, **other: object) -> list[str]:
-    return [one.ballots[0].ballot for one in judged(*letters, **other) if one.outcome is Outcome.GOES_IN]
+    return [one.ballots[0].ballot for one in judged(*letters, **other) if one.outcome is LetterOutcome.GOES_IN]
 
 
 def read_in(found: Sequence[RawLetter]) -> list[RawLetter]:

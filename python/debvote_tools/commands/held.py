@@ -18,7 +18,7 @@ from debvote_tools.inbox import letter_words
 from debvote_tools.inbox.letter_words import name_of, who_and_when, why
 from debvote_tools.inbox.judging import BallotsByElector, answered_by, ballots_in, judged
 from debvote_tools.inbox.reasons import Reason
-from debvote_tools.inbox.rules import BallotLine, LetterCase, Outcome
+from debvote_tools.inbox.rules import BallotLine, LetterCase, LetterOutcome
 from debvote_tools.inbox.taking import LetterEntry, envelope_of
 from debvote_tools.inbox.lines import Line, lines_in, name_in
 from debvote_tools.inbox.vote import Vote, said_of
@@ -76,9 +76,11 @@ def run(election: Election, arguments: Arguments) -> None:
         tell(*letter_words.whole(letter))
     if not (is_act or shown):
         tell(*letter_words.table(pending))
-        if aside := [str(letter.number) for letter in found if letter.outcome is Outcome.SET_ASIDE]:
+        if aside := [
+            str(letter.number) for letter in found if letter.outcome is LetterOutcome.SET_ASIDE
+        ]:
             tell(f"Set aside: {', '.join(aside)}")
-    others = (letter.other_vote for letter in found if letter.outcome is Outcome.OTHER_VOTE)
+    others = (letter.other_vote for letter in found if letter.outcome is LetterOutcome.OTHER_VOTE)
     tell(*other_votes_words(others))
     if not pending:
         tell("No letter waits.", f"Next: {election.command('status')}")
@@ -121,7 +123,7 @@ def chosen_letters(found: Sequence[LetterCase], numbers: Sequence[int]) -> list[
 def what_is_decided(vote: Vote, arguments: Arguments) -> Change:
     """The act that sets letters aside, or has them wait again."""
     chosen = chosen_letters(all_letters(vote), arguments.numbers)
-    if entered := [letter for letter in chosen if letter.outcome is Outcome.ENTERED]:
+    if entered := [letter for letter in chosen if letter.outcome is LetterOutcome.ENTERED]:
         cure = "strike takes out one envelope, undo takes back the last act"
         raise Fault(name_of(entered[0]), "its ballot was entered", cure)
     state: ActName = queries.SET_ASIDE if arguments.set_aside else queries.PUT_BACK
@@ -290,7 +292,9 @@ def left_out(vote: Vote, electors: Collection[str]) -> Iterator[str]:
     for letter in all_letters(vote):
         one = Chosen(letter, (*letter.ballots, *letter.offered), entered.get(letter.number, ()))
         partly = (
-            {elector for elector, _ in one.entered} if letter.outcome is Outcome.ENTERED else ()
+            {elector for elector, _ in one.entered}
+            if letter.outcome is LetterOutcome.ENTERED
+            else ()
         )
         for line in one.lines:
             left, _ = one.left_of(line, by_elector)
@@ -384,7 +388,7 @@ def why_not_now(vote: Vote, history: History, chosen: Sequence[Chosen]) -> Again
                 words = f"{words}, and is late"
                 cure = f"if it came before the first close, have the vote closed, then run {reopen}"
             yield letter, Fault(name, words, cure)
-        elif letter.outcome is Outcome.COPY:
+        elif letter.outcome is LetterOutcome.COPY:
             cure = "to enter its ballot once more, have the letter wait first with --wait"
             yield letter, Fault(name, "it is a copy of another letter", cure)
         elif history.is_closed and letter.arrived_in_time:

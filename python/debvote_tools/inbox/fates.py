@@ -9,7 +9,7 @@ from debvote_tools.book.election import Election, History
 from debvote_tools.book.queries import Elector, Envelope
 from debvote_tools.grouping import grouped
 from debvote_tools.inbox.judging import judged
-from debvote_tools.inbox.rules import LetterCase, Outcome
+from debvote_tools.inbox.rules import LetterCase, LetterOutcome
 from debvote_tools.inbox.vote import Vote
 
 # what belongs to no elector has this in place of a name
@@ -34,7 +34,7 @@ class Fate(NamedTuple):
     """
 
     time: datetime.datetime
-    became: Became | Outcome
+    became: Became | LetterOutcome
     envelope: Envelope | None = None
     letter: LetterCase | None = None
     is_own: bool = False

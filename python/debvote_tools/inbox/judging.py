@@ -15,7 +15,7 @@ from debvote_tools.inbox.letter import Body
 from debvote_tools.inbox.letter_lines import ReadLetter, from_json, read_letters
 from debvote_tools.inbox.mailbox import RawLetter
 from debvote_tools.inbox.reasons import Reason, ReasonWithValues
-from debvote_tools.inbox.rules import WENT_IN, Circumstances, LetterCase, Outcome
+from debvote_tools.inbox.rules import WENT_IN, Circumstances, LetterCase, LetterOutcome
 from debvote_tools.inbox.vote import Vote
 from debvote_tools.poll.call import SUBJECT, call_letter, current_call
 from debvote_tools.text import times
@@ -23,15 +23,15 @@ from debvote_tools.text.ballots import answers_of, differ, without
 
 # what an act decided holds, whatever the rules say
 DECIDED = {
-    queries.ENTERED: (Outcome.ENTERED, None),
-    queries.SET_ASIDE: (Outcome.SET_ASIDE, Reason.SET_ASIDE()),
-    queries.STRUCK: (Outcome.SET_ASIDE, Reason.STRUCK()),
-    queries.TAKEN_BACK: (Outcome.WAITS, Reason.TAKEN_BACK()),
-    queries.PUT_BACK: (Outcome.WAITS, Reason.PUT_BACK()),
+    queries.ENTERED: (LetterOutcome.ENTERED, None),
+    queries.SET_ASIDE: (LetterOutcome.SET_ASIDE, Reason.SET_ASIDE()),
+    queries.STRUCK: (LetterOutcome.SET_ASIDE, Reason.STRUCK()),
+    queries.TAKEN_BACK: (LetterOutcome.WAITS, Reason.TAKEN_BACK()),
+    queries.PUT_BACK: (LetterOutcome.WAITS, Reason.PUT_BACK()),
 }
 
 # what becomes of a letter, and why it waits or was set aside
-Judgement = tuple[Outcome, ReasonWithValues | None]
+Judgement = tuple[LetterOutcome, ReasonWithValues | None]
 # the ballots of each elector, in the order `queries.by_time`
 BallotsByElector = dict[str, list[Ballot]]
 TIME, IS_BY_LETTER = operator.attrgetter("time"), operator.attrgetter("is_by_letter")
@@ -161,7 +161,7 @@ def judge_all(
         by_elector[elector] = sorted(ballots, key=queries.by_time)
     for case in cases:
         case.outcome, case.reason = (
-            (Outcome.WAITS, case.first_broken_rule)
+            (LetterOutcome.WAITS, case.first_broken_rule)
             if case.decision is None
             else DECIDED[case.decision]
         )
@@ -176,8 +176,10 @@ def judge_all(
         for elector, its in by_elector.items()
     }
     for case in cases:
-        if case.decision is None and case.outcome is Outcome.WAITS and case.other_vote:
-            case.outcome, case.reason = Outcome.OTHER_VOTE, Reason.OTHER_MARK(mark=case.other_vote)
+        if case.decision is None and case.outcome is LetterOutcome.WAITS and case.other_vote:
+            case.outcome, case.reason = LetterOutcome.OTHER_VOTE, Reason.OTHER_MARK(
+                mark=case.other_vote
+            )
         case.has_voted_since = any(has_voted_since(case, one, last) for one in case.electors)
     return cases
 
@@ -224,7 +226,7 @@ def judge_originals(
         case.outcome, case.reason = outcome_of_original(
             case, own, by_elector[case.elector], at_once, unchecked_ballots
         )
-        if case.outcome is not Outcome.WAITS:
+        if case.outcome is not LetterOutcome.WAITS:
             bisect.insort(by_elector[case.elector], own, key=queries.by_time)
 
 
@@ -243,22 +245,22 @@ def outcome_of_original(
     # those that answer one of its questions
     there = [one for one in its_ballots if not own.labels.isdisjoint(one.labels)]
     if turned := next(filter(own.may_turn, there), None):
-        return Outcome.WAITS, Reason.CLOCKS(elector=elector, time=turned.time)
+        return LetterOutcome.WAITS, Reason.CLOCKS(elector=elector, time=turned.time)
     if later := queries.later(there, time):
         case.answered_since = answered_by(own.line, later)
         # this one can count in no case; the time of a line is only when somebody entered it
         is_older = not without(own.line, answered_by(own.line, filter(IS_BY_LETTER, later)))
         reason = Reason.LATER_BALLOT(elector=elector, time=later[-1].time)
-        return Outcome.OLDER if is_older else Outcome.WAITS, reason
+        return LetterOutcome.OLDER if is_older else LetterOutcome.WAITS, reason
     since = (one.line for one in there[bisect.bisect_left(there, time, key=TIME) :])
     if any(differ(own.line, one) for one in (*at_once, *since)):
-        return Outcome.WAITS, Reason.SAME_TIME(elector=elector, time=time)
+        return LetterOutcome.WAITS, Reason.SAME_TIME(elector=elector, time=time)
     if own.line in unchecked_ballots:
-        return Outcome.WAITS, Reason.PERHAPS_COPY()
+        return LetterOutcome.WAITS, Reason.PERHAPS_COPY()
     if case.circumstances.is_closed:
         # it would become late, and the plainer a ballot is, the less would that be noticed
-        return Outcome.WAITS, Reason.CLOSED()
-    return Outcome.GOES_IN, None
+        return LetterOutcome.WAITS, Reason.CLOSED()
+    return LetterOutcome.GOES_IN, None
 
 
 def answered_by(ballot: str, later: Iterable[Ballot]) -> set[str]:
@@ -281,7 +283,7 @@ def judge_copies(
     hiding.sort(key=lambda case: (case.decision not in WENT_IN, case.decision is None))
     original = next(iter(hiding), None)
     is_done = original is not None and (
-        original.decision is not None or original.outcome is not Outcome.WAITS
+        original.decision is not None or original.outcome is not LetterOutcome.WAITS
     )
     waiting: dict[tuple[ReasonWithValues | None, Body, bool], LetterCase] = {}
     for case in sorted(group, key=lambda case: case.decision is None):
@@ -300,7 +302,7 @@ def outcome_of_copy(
     read first depends on the order of the mailboxes, and may not decide which ballot is the last.
     """
     if original.time is None or case.time is None:
-        return Outcome.COPY, None
+        return LetterOutcome.COPY, None
     begin, end = sorted((original.time, case.time))
     for line in (*case.ballots, *case.offered):
         there = by_elector[line.elector]
@@ -310,5 +312,5 @@ def outcome_of_copy(
             reason = Reason.CAME_BEFORE(
                 elector=line.elector, time=case.time, first=original.time, between=between
             )
-            return Outcome.WAITS, reason
-    return Outcome.COPY, None
+            return LetterOutcome.WAITS, reason
+    return LetterOutcome.COPY, None

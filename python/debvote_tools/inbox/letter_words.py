@@ -9,7 +9,7 @@ from collections.abc import Iterator, Sequence
 from debvote_tools.cli.console import act_time, count_of, listed, shown_line, shown_text
 from debvote_tools.inbox.letter import is_quoted
 from debvote_tools.inbox.letter_lines import Near
-from debvote_tools.inbox.rules import LetterCase, Outcome, above_end
+from debvote_tools.inbox.rules import LetterCase, LetterOutcome, above_end
 from debvote_tools.inbox.reasons import for_secretary
 from debvote_tools.inbox.vote import IS_CODE, Vote
 from debvote_tools.text.ballots import without
@@ -129,7 +129,7 @@ def attachment_words(letter: LetterCase) -> Iterator[str]:
 def why(letter: LetterCase) -> str:
     """Why a letter waits, or what became of it."""
     said = letter.outcome.value if letter.reason is None else for_secretary(letter.reason)
-    if letter.outcome is Outcome.GOES_IN:
+    if letter.outcome is LetterOutcome.GOES_IN:
         # nobody has agreed to it yet
         said = "it goes in with the next add of letters"
     return said + ("; has voted since" if letter.is_pending and letter.has_voted_since else "")
@@ -145,9 +145,9 @@ def near_words(letter: LetterCase) -> Iterator[str]:
 
 
 def counts(letters: Sequence[LetterCase], entered: int) -> str:
-    copies = sum(letter.outcome is Outcome.COPY for letter in letters)
+    copies = sum(letter.outcome is LetterOutcome.COPY for letter in letters)
     passed_over = f"; {count_of(copies, 'copy', 'copies')} passed over" if copies else ""
-    waits = sum(letter.outcome is Outcome.WAITS for letter in letters)
+    waits = sum(letter.outcome is LetterOutcome.WAITS for letter in letters)
     return f"{count_of(entered, 'ballot')} of letters went in; {wait_words(waits)}{passed_over}."
 
 
@@ -172,7 +172,7 @@ def whole(letter: LetterCase) -> Iterator[str]:
             continue
         for number in numbers:
             yield f"{number:4}  {shown_line(LINK.sub(LEFT_OUT, lines[number - 1]).encode())}"
-    if letter.outcome is Outcome.ENTERED:
+    if letter.outcome is LetterOutcome.ENTERED:
         yield "It was entered."
     elif letter.reason is not None:
         waits = "waits" if letter.is_pending else "does not wait"

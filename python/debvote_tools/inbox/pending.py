@@ -53,7 +53,7 @@ def pending_letters(election: Election, history: History) -> Pending:
     if not kept:
         return Pending()
     from debvote_tools.inbox.judging import judged
-    from debvote_tools.inbox.rules import Outcome
+    from debvote_tools.inbox.rules import LetterOutcome
     from debvote_tools.inbox.vote import Vote
 
     # where letters have to be signed, what was signed says which are copies, which the book may not
@@ -72,7 +72,7 @@ def pending_letters(election: Election, history: History) -> Pending:
         [number for number in arrived_in_time if number not in left_by(history.closes[-1:])],
         after_end,
         len(found) - len(arrived_in_time) - after_end,
-        [one.other_vote for one in letters if one.outcome is Outcome.OTHER_VOTE],
+        [one.other_vote for one in letters if one.outcome is LetterOutcome.OTHER_VOTE],
     )
 
 

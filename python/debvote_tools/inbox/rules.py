@@ -50,7 +50,7 @@ PICTURES = re.compile("[\u2600-\u2767\u2794-\u27bf\U0001f300-\U0001faff]")
 OPENING, COLONS, LIKE_COLONS = ("¡", "¿"), (":", "：", "﹕"), "\u02d0\u0903\ua4fd"
 
 
-class Outcome(enum.Enum):
+class LetterOutcome(enum.Enum):
     # by itself, once the secretary agrees in `add`; until then it waits with the others
     GOES_IN = "goes in"
     WAITS = "waits"
@@ -179,7 +179,7 @@ class LetterCase:
     waits or was set aside.
     """
 
-    outcome = Outcome.WAITS
+    outcome = LetterOutcome.WAITS
     reason: ReasonWithValues | None = None
     has_voted_since = False
     # the labels of the questions to which its elector has a later answer, if not to all
@@ -338,7 +338,7 @@ class LetterCase:
         """Whether the secretary still has to look at it, since it waits, or to agree in `add` that it
         goes in.
         """
-        return self.outcome in (Outcome.GOES_IN, Outcome.WAITS)
+        return self.outcome in (LetterOutcome.GOES_IN, LetterOutcome.WAITS)
 
     @property
     def arrived_before_call(self) -> bool:

@@ -21,7 +21,7 @@ from debvote_tools.inbox.judging import judged
 from debvote_tools.inbox.letter_lines import ReadLetter, read_letters, to_json
 from debvote_tools.inbox.mailbox import RawLetter, letters_of_file, letters_of_folder
 from debvote_tools.inbox.records import Asking, asked_box
-from debvote_tools.inbox.rules import LetterCase, Outcome
+from debvote_tools.inbox.rules import LetterCase, LetterOutcome
 from debvote_tools.inbox.vote import Vote
 from debvote_tools.inbox.pending import other_votes_words
 
@@ -136,7 +136,7 @@ def envelope_of(letter: LetterCase, ballot: str) -> NewEnvelope:
 
 
 def going_in(found: Iterable[LetterCase]) -> list[LetterCase]:
-    return [letter for letter in found if letter.outcome is Outcome.GOES_IN]
+    return [letter for letter in found if letter.outcome is LetterOutcome.GOES_IN]
 
 
 @dataclasses.dataclass(frozen=True, kw_only=True)
@@ -188,16 +188,16 @@ def what_goes_in(
 def tell_next(election: Election, change: GoingIn) -> None:
     undo = f"; {election.command('undo')} takes back what was entered last"
     waiting = f"{election.command('held')}, which lists the letters that wait"
-    is_waiting = any(letter.outcome is Outcome.WAITS for letter in change.found)
+    is_waiting = any(letter.outcome is LetterOutcome.WAITS for letter in change.found)
     following = waiting if is_waiting else election.command("status")
     tell(f"Next: {following}{'' if change.history.is_closed else undo}")
 
 
 def tell_letters(vote: Vote, found: Sequence[LetterCase]) -> None:
     tell(*letter_words.going_in_words(going_in(found), vote))
-    tell(*letter_words.table([one for one in found if one.outcome is Outcome.WAITS]))
-    if older := [letter_words.name_of(one) for one in found if one.outcome is Outcome.OLDER]:
+    tell(*letter_words.table([one for one in found if one.outcome is LetterOutcome.WAITS]))
+    if older := [letter_words.name_of(one) for one in found if one.outcome is LetterOutcome.OLDER]:
         numbers = listed(older, MOST_NAMED)
         tell(f"Passed over, since a later letter of its elector went in: {numbers}")
-    of_others = (one.other_vote for one in found if one.outcome is Outcome.OTHER_VOTE)
+    of_others = (one.other_vote for one in found if one.outcome is LetterOutcome.OTHER_VOTE)
     tell(*other_votes_words(of_others))

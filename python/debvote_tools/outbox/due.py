@@ -14,7 +14,7 @@ from debvote_tools.cli.faults import Fault, bad_words
 from debvote_tools.grouping import grouped
 from debvote_tools.inbox.asked import unasked
 from debvote_tools.inbox.fates import NOBODY, Became, Fate, fates_of
-from debvote_tools.inbox.rules import Outcome
+from debvote_tools.inbox.rules import LetterOutcome
 from debvote_tools.outbox.reached import CAME_BACK, unreached_and_printed, unreached
 from debvote_tools.outbox.words import Composer
 from debvote_tools.poll.announced import address_in
@@ -293,7 +293,7 @@ def reminders_due(run: Run) -> LettersDue:
 
     def text_of(elector: Elector, letter: OutgoingLetter) -> str:
         told = told_of(fates[elector.name]).values()
-        left = [one for one in told if one.became is not Outcome.SET_ASIDE]
+        left = [one for one in told if one.became is not LetterOutcome.SET_ASIDE]
         return run.composer.reminder(elector, left)
 
     return LettersDue(
@@ -333,7 +333,7 @@ def receipts_due(run: Run) -> LettersDue:
         in_no_receipt=[
             one.letter.number
             for one in fates[NOBODY]
-            if one.letter and one.became is Outcome.WAITS and not one.letter.is_automatic
+            if one.letter and one.became is LetterOutcome.WAITS and not one.letter.is_automatic
         ],
         letters_pending=letters_pending_in(fates),
     )
@@ -421,7 +421,12 @@ def is_told(fate: Fate) -> bool:
     if letter is None:
         return True
     is_automatic = letter.is_automatic and (fate.is_own or not letter.ballots)
-    told = (Outcome.WAITS, Outcome.GOES_IN, Outcome.SET_ASIDE, Outcome.OLDER)
+    told = (
+        LetterOutcome.WAITS,
+        LetterOutcome.GOES_IN,
+        LetterOutcome.SET_ASIDE,
+        LetterOutcome.OLDER,
+    )
     return fate.became in told and not is_automatic
 
 

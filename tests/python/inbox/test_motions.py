@@ -11,7 +11,7 @@ from collections.abc import Sequence
 
 from debvote_tools.inbox.judging import judge_all
 from debvote_tools.inbox.letter import is_quoted
-from debvote_tools.inbox.rules import LetterCase, Outcome
+from debvote_tools.inbox.rules import LetterCase, LetterOutcome
 from debvote_tools.text.language import LANGUAGES
 from debvote_tools.text.motions import RANKS, WORDS, Words, may_answer, words_of
 
@@ -265,7 +265,7 @@ def compare(test: unittest.TestCase, letters: list[bytes]) -> dict[str, int]:
     """Nothing goes in that does not without a motion, and of what goes in no other line may be an answer; how many go in and are offered."""
     found = {"in": 0, "held back": 0, "offered": 0}
     for data, plain, one in zip(letters, judged_by(letters, words={}), judged_by(letters)):
-        is_in, was_in = one.outcome is Outcome.GOES_IN, plain.outcome is Outcome.GOES_IN
+        is_in, was_in = one.outcome is LetterOutcome.GOES_IN, plain.outcome is LetterOutcome.GOES_IN
         found["offered"] += bool({line.ballot for line in one.offered} - {line.ballot for line in plain.offered})
         found["held back"] += was_in and not is_in
         if not is_in:

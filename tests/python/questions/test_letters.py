@@ -11,7 +11,7 @@ from unittest import mock
 from debvote_tools.inbox import rules
 from debvote_tools.inbox.judging import Ballot, judge_all
 from debvote_tools.inbox.letter_lines import ReadLetter, from_json, to_json, with_lines
-from debvote_tools.inbox.rules import LetterCase, Outcome
+from debvote_tools.inbox.rules import LetterCase, LetterOutcome
 from debvote_tools.text.motions import Words, words_of
 
 from tests.python.inbox import test_forgeries
@@ -345,7 +345,7 @@ def that_go_in(count: int, *, has_words: bool = False, words: Words = {}) -> Ite
     known = circumstances(no_answers=OURS, words=words)
     for (data, stands), one in zip(given, read(*(data for data, _ in given), words=words)):
         [case] = judge_all([one], known, lambda _: {})
-        if case.outcome is Outcome.GOES_IN:
+        if case.outcome is LetterOutcome.GOES_IN:
             name, *parts = case.ballots[0].ballot.split(" ")
             assert name == "ada", data
             yield data, stands, set(zip(parts[::2], parts[1::2]))
