@@ -95,6 +95,11 @@ class History(NamedTuple):
         return self.since_call("close")
 
     @property
+    def was_closed_early(self) -> bool:
+        """Whether the first close came before the end that was announced then."""
+        return bool(self.closes and self.closes[0].detail["early"])
+
+    @property
     def is_closed(self) -> bool:
         acts = self.since_call("close", "reopen")
         return bool(acts) and acts[-1].name == "close"

@@ -78,8 +78,9 @@ def is_unasked_since_close(history: History) -> bool:
     """Whether the box was not asked since the end, or since the first close if that was early."""
     if not history.closes:
         return False
-    first = history.closes[0]
-    return is_unasked(history, first.time if first.detail["early"] else history.until)
+    return is_unasked(
+        history, history.closes[0].time if history.was_closed_early else history.until
+    )
 
 
 def unasked(
@@ -95,7 +96,7 @@ def unasked(
         # what comes after the first close is late
         "close": not closes and is_unasked(history, history.until),
         "early": not closes and is_unasked(history, recently),
-        "closed": closes and closes[0].detail["early"] and is_unasked_since_close(history),
+        "closed": history.was_closed_early and is_unasked_since_close(history),
     }
     if not is_missing[what]:
         return None

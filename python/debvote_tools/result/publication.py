@@ -102,7 +102,7 @@ def early_end(history: History) -> datetime.datetime | None:
     """Until when one should have been able to vote, if the first close came before; after it nobody
     could.
     """
-    return history.until if history.closes and history.closes[0].detail.get("early") else None
+    return history.until if history.was_closed_early else None
 
 
 def closing_letter(history: History, questions: Questions, language: Language) -> bytes:
@@ -194,8 +194,8 @@ def doubts_of(
         # `close --early` has agreed to it
         yield Doubt("closed early", {"closed": closed, "until": until}, stops=False)
     if is_unasked_since_close(history):
-        # `close --force` has agreed to it
-        yield Doubt("box not asked", stops=history.closes[0].detail["early"])
+        # as in `unasked`: at the end `close --force` has agreed to it
+        yield Doubt("box not asked", stops=history.was_closed_early)
     names = dict(zip(poll.plain_names, poll.names))
     earlier = dict.fromkeys(
         castings_kept(act.detail["casting"]).get(label) for act in history.named("publish")
