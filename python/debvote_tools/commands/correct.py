@@ -6,7 +6,7 @@ from collections.abc import Iterator, Mapping, Sequence
 
 from debvote_tools.book import outgoing, queries
 from debvote_tools.book.book import Book, Detail, DoneAct
-from debvote_tools.book.change import Change, asked, carried_out
+from debvote_tools.book.change import Change, carried_out, terminal_question
 from debvote_tools.book.election import Election, History
 from debvote_tools.book.queries import Envelope, NewEnvelope
 from debvote_tools.cli.arguments import Acting, demand_reason, flag, option, positional
@@ -77,7 +77,7 @@ def what_is_taken_back(vote: Vote, arguments: UndoArguments) -> TakenBack:
         after = queries.what_counted(book, history.last.number, electors, without=number)
     act, struck = history.act(number), [envelope.number for envelope in envelopes]
     letters = sorted({one.letter for one in envelopes if one.letter is not None})
-    question = asked(f"Take back {what(act, struck)}?", arguments.yes)
+    question = terminal_question(f"Take back {what(act, struck)}?", arguments.yes)
     none = "no ballot would be left" if question else "no ballot is left"
     ballots = standing_words(vote, before, after, none)
     others = [*what_else_changes(book, struck, letters)]
@@ -173,7 +173,9 @@ def what_is_struck(vote: Vote, arguments: StrikeArguments, because: str) -> Chan
     return Change(
         "strike",
         {"envelope": envelope.number, "because": because},
-        question=asked(f"Strike {in_words(envelope, vote)}? This cannot be undone.", arguments.yes),
+        question=terminal_question(
+            f"Strike {in_words(envelope, vote)}? This cannot be undone.", arguments.yes
+        ),
         struck=[envelope.number],
         letters=dict.fromkeys(done, queries.STRUCK),
     )

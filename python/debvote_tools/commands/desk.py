@@ -136,7 +136,7 @@ class Casting(Entry):
         there = queries.envelope_states(self.vote.book, self.elector)
         return (self.desk.history().timing, there) == (self.timing, self.there)
 
-    def refused(self, answer: bool | None) -> None:
+    def declined(self, answer: bool | None) -> None:
         self.desk.is_over = answer is None
         tell(*([] if answer is None else [NOT_ENTERED]))
 

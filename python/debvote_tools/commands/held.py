@@ -8,7 +8,7 @@ from typing import NamedTuple
 from debvote_tools.cli.arguments import Acting, flag, given, option, positional
 from debvote_tools.book import queries
 from debvote_tools.book.book import ActName, Book, Detail
-from debvote_tools.book.change import Change, asked, carried_out
+from debvote_tools.book.change import Change, carried_out, terminal_question
 from debvote_tools.book.election import Election, History
 from debvote_tools.book.queries import Envelope
 from debvote_tools.cli.console import count_of, shown_line, shown_text, tell
@@ -248,7 +248,7 @@ def entry_of(
             ),
             *left,
         ],
-        question=asked(f"Enter {count_of(len(lines), 'ballot')}?", is_agreed),
+        question=terminal_question(f"Enter {count_of(len(lines), 'ballot')}?", is_agreed),
         letters={
             one.letter.number: queries.PUT_BACK if one.letter in waits else queries.ENTERED
             for one in chosen

@@ -155,7 +155,7 @@ class GoingIn(LetterEntry):
             cure, done = "agree with --yes, or run it at a terminal", "and the letters are kept"
             raise Fault(None, f"{ballots} would go in", cure, done=f"{NOTHING_ADDED}, {done}")
 
-    def refused(self, _: bool | None) -> None:
+    def declined(self, _: bool | None) -> None:
         waits = letter_words.wait_words(sum(letter.is_pending for letter in self.found))
         tell(f"Nothing was entered. The letters are kept, and wait: {waits}.")
 
