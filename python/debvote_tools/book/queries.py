@@ -206,8 +206,8 @@ NOT_UNDONE = "act NOT IN (SELECT json_extract(detail, '$.act') FROM act WHERE na
 ANEW = f"SELECT value FROM act, json_each(act.detail, '$.in_time') WHERE act.name = 'reopen' AND act.{NOT_UNDONE}"
 LEFT_LATE = f"{LATE} AND envelope NOT IN ({ANEW})"
 
-# those that came in files of lines and tables; a line that was entered anew came once, and is known
-# by its new envelope
+# those that came in files of lines; a line that was entered anew came once, and is known by its new
+# envelope
 IN_FILES = f"source IS NOT NULL AND letter IS NULL AND {NOT_UNDONE} AND envelope NOT IN ({ANEW})"
 
 COLUMNS = "envelope, act, elector, line, source, letter, place, time, late, struck, answer, became"
@@ -402,7 +402,7 @@ def refused_lines(book: Book) -> list[tuple[int, bytes, str]]:
 
 
 def lines_that_came(book: Book) -> collections.Counter[bytes]:
-    """How often each line came in a file of lines or a table that no `undo` took back."""
+    """How often each line came in a file of lines that no `undo` took back."""
     words = f"SELECT line, count(*) FROM entered WHERE {IN_FILES} GROUP BY line"
     return collections.Counter(dict(book.rows(words)))
 

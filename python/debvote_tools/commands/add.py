@@ -21,7 +21,7 @@ from debvote_tools.inbox import entering
 from debvote_tools.inbox.given_files import GivenFile, read_files
 from debvote_tools.inbox.lines import MARK, Line, lines_in
 from debvote_tools.inbox.entering import NOTHING_ADDED, Entry, doubtful
-from debvote_tools.inbox.tables import OptionNames
+from debvote_tools.inbox.option_names import OptionNames
 from debvote_tools.inbox.vote import IN_ORDER, CheckedLine, Vote, replies_to, summary
 from debvote_tools.text.ballots import answers_in, part_of
 

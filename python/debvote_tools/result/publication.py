@@ -224,7 +224,7 @@ def acts_of(book: Book, history: History, *, is_secret: bool) -> tuple[Act, ...]
 
 
 def after_end(book: Book, history: History) -> list[Collection[str]]:
-    """Of each line, row and ballot of a desk that came after the end, and is in time, valid or not, the
+    """Of each line of a file or a desk that came after the end, and is in time, valid or not, the
     labels of the questions that it answers. What was entered after the first close is left out: whoever
     entered it said that it came before that close.
     """
