@@ -415,7 +415,7 @@ def came_in_files(book: Book) -> dict[bytes, list[Envelope]]:
     return grouped((envelope.line, envelope) for envelope in found)
 
 
-def counting(book: Book) -> dict[tuple[int, str], tuple[int, bytes]]:
+def counting_envelopes(book: Book) -> dict[tuple[int, str], tuple[int, bytes]]:
     """Number and line of the envelope that counts, of each elector who has one, by question."""
     words = "SELECT elector, envelope, line FROM counting"
     return {

@@ -213,28 +213,28 @@ def without_duplicates(book: Book, files: Sequence[FileLines], history: History)
     n copies in this file are duplicates, whether those were counted, refused, struck or late. Files
     that an `undo` took back do not count. A file that goes in now is an earlier one for the next.
     """
-    counts = queries.lines_that_came(book)
-    is_known = any(line.as_entered in counts for file in files for line in file.lines)
+    copies_before = queries.lines_that_came(book)
+    is_known = any(line.as_entered in copies_before for file in files for line in file.lines)
     if not is_known and len(files) == 1:
         return [files[0]._replace(new=files[0].lines)]
     before = queries.came_in_files(book) if is_known else {}
-    counting = queries.counting(book) if is_known else {}
+    counting = queries.counting_envelopes(book) if is_known else {}
     copies = [list(copies_of(file.lines, before)) for file in files]
     own = {envelope.number for lines in copies for _, _, envelope in lines if envelope}
     # what counts now; a later line of these files did not come since
     since = {answered: now for answered, now in counting.items() if now[0] not in own}
     going_in, found = set[bytes](), []
     for file, lines in zip(files, copies):
-        new = [line for line, nth, _ in lines if nth > counts[line.as_entered]]
+        new = [line for line, nth, _ in lines if nth > copies_before[line.as_entered]]
         repeated = [
             (
                 line,
                 None if line.as_entered in going_in else change_since(line, came, since, history),
             )
             for line, nth, came in lines
-            if nth <= counts[line.as_entered]
+            if nth <= copies_before[line.as_entered]
         ]
-        counts.update(line.as_entered for line in new)
+        copies_before.update(line.as_entered for line in new)
         going_in.update(line.as_entered for line in new)
         found.append(file._replace(new=new, repeated=repeated))
     return found
@@ -244,10 +244,10 @@ def copies_of(
     lines: Iterable[CheckedLine], before: Mapping[bytes, Sequence[Envelope]]
 ) -> Iterator[tuple[CheckedLine, int, Envelope | None]]:
     """Each line with its number among its copies, and with its envelope if it came before."""
-    counts: collections.Counter[bytes] = collections.Counter()
+    so_far: collections.Counter[bytes] = collections.Counter()
     for line in lines:
-        counts[line.as_entered] += 1
-        nth, envelopes = counts[line.as_entered], before.get(line.as_entered, ())
+        so_far[line.as_entered] += 1
+        nth, envelopes = so_far[line.as_entered], before.get(line.as_entered, ())
         yield line, nth, envelopes[nth - 1] if nth <= len(envelopes) else None
 
 
@@ -292,11 +292,11 @@ def look(vote: Vote, files: Sequence[FileLines], arguments: Arguments) -> None:
     """Says what would become of the lines, and stops if `add` would."""
     with vote.book.snapshot():
         new = new_lines(vote, files)
-        voters, first = queries.what_counts(vote.book), queries.last_envelope(vote.book) + 1
+        counting, first = queries.what_counts(vote.book), queries.last_envelope(vote.book) + 1
     is_late = new.history.is_late(arguments.came_before_close != "no")
     lines = [(line.as_entered, line.answer) for line in new.lines]
     numbers = range(first, first + len(lines))
-    replies = [*replies_to(lines, voters, is_late=is_late)]
+    replies = [*replies_to(lines, counting, is_late=is_late)]
     if new.history.is_reopened and arguments.came_before_close is None:
         asks = "Note: add will ask whether these lines came before the close"
         tell(f"{asks}; this preview assumes that they did.")

@@ -82,8 +82,8 @@ def state_of(election: Election, history: History) -> tuple[State, list[Refused]
     book, has_codes = election.book, history.has_codes_on_roll
     roll = [elector.name for elector in queries.electors(book)]
     pending = Pending() if history.call is None else pending_letters(election, history)
-    numbers, voters = queries.numbers(book), queries.what_counts(book)
-    answered = {name: {*answers_in(answers)} for name, answers in voters.items()}
+    numbers, counting = queries.numbers(book), queries.what_counts(book)
+    answered = {name: {*answers_in(answers)} for name, answers in counting.items()}
     unreached, printed = unreached_and_printed(election, history)
     state = {
         "stage": history.stage,
@@ -92,7 +92,7 @@ def state_of(election: Election, history: History) -> tuple[State, list[Refused]
         "late": len(queries.late_lines(book)),
         "waiting": pending.count,
         "stopping": pending.stopping,
-        "without_ballot": None if has_codes else [name for name in roll if name not in voters],
+        "without_ballot": None if has_codes else [name for name in roll if name not in counting],
         "box": asked_last(election, history),
         "not_reached": {elector.name: why for elector, why, _ in unreached},
         "printed": printed,

@@ -144,7 +144,7 @@ def near_words(letter: LetterCase) -> Iterator[str]:
         yield f"line {near.number}, `{shown_text(near.ballot)}`{within}: {why}"
 
 
-def counts(letters: Sequence[LetterCase], entered: int) -> str:
+def went_in_words(letters: Sequence[LetterCase], entered: int) -> str:
     copies = sum(letter.outcome is LetterOutcome.COPY for letter in letters)
     passed_over = f"; {count_of(copies, 'copy', 'copies')} passed over" if copies else ""
     waits = sum(letter.outcome is LetterOutcome.WAITS for letter in letters)

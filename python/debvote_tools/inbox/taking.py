@@ -56,8 +56,8 @@ def take_letters(
     if is_look:
         would = plan(read)
         tell_letters(vote, would.found)
-        counts = (words.replace("went in", "would go in") for words in would.end)
-        tell(came_before, *counts, "Nothing was changed.")
+        said = (words.replace("went in", "would go in") for words in would.end)
+        tell(came_before, *said, "Nothing was changed.")
         return
     tell(came_before)
     tell_next(vote.election, carried_out(vote.book, plan))
@@ -179,7 +179,7 @@ def what_goes_in(
         envelopes=[envelope_of(letter, letter.ballots[0].ballot) for letter in new],
         # what is late breaks a rule, and does not go in
         is_late=False,
-        end=[letter_words.counts(every, len(new))],
+        end=[letter_words.went_in_words(every, len(new))],
         history=history,
         found=found,
     )
