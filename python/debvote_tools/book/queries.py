@@ -85,7 +85,7 @@ def labels_of(book: Book) -> list[str]:
     return [""] if book.label or not rows else [label for label, in rows]
 
 
-def by_question(book: Book) -> Iterator[str]:
+def each_question_alone(book: Book) -> Iterator[str]:
     """The labels of the questions, each while the book shows that question alone."""
     for label in labels_of(book):
         with book.question(label):
@@ -223,7 +223,7 @@ def envelopes(book: Book, condition: str = "1", *values: object) -> list[Envelop
     if labels_of(book) == [""]:
         return found
     became: dict[int, dict[str, str]] = collections.defaultdict(dict)
-    for label in by_question(book):
+    for label in each_question_alone(book):
         words = f"SELECT envelope, became FROM fate WHERE {condition}"
         for number, its in book.rows(words, *values):
             became[number][label] = its
@@ -369,7 +369,7 @@ def what_counted(
 def of_all_questions(book: Book, ballots: Callable[[], Iterable[bytes]]) -> dict[str, str]:
     """By name the answers to all questions, of the ballots of one that is seen alone."""
     found: dict[str, dict[str, str]] = collections.defaultdict(dict)
-    for label in by_question(book):
+    for label in each_question_alone(book):
         its = dict(line.decode("ascii").split(" ", 1) for line in ballots())
         if not label:
             return its
@@ -420,7 +420,7 @@ def counting_envelopes(book: Book) -> dict[tuple[int, str], tuple[int, bytes]]:
     words = "SELECT elector, envelope, line FROM counting"
     return {
         (elector, label): (number, line)
-        for label in by_question(book)
+        for label in each_question_alone(book)
         for elector, number, line in book.rows(words)
     }
 

@@ -120,7 +120,7 @@ def questions_in(election: Election, history: History, *, has_late: bool) -> Sta
             **queries.numbers(book)._asdict(),
             "late": len(queries.late_lines(book)) if has_late else 0,
         }
-        for label in queries.by_question(book)
+        for label in queries.each_question_alone(book)
     }
 
 

@@ -283,7 +283,7 @@ def close_of(act: DoneAct, book: Book, history: History) -> dict[str, Any]:
     for place, column in (("came", "act"), ("struck", "struck")) if earlier else ():
         places[place] = {
             label: len(queries.lines(book, between.format(column), earlier[-1], act.number))
-            for label in queries.by_question(book)
+            for label in queries.each_question_alone(book)
         }
     return places
 
