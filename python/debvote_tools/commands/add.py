@@ -186,7 +186,7 @@ def file_lines(vote: Vote, files: Sequence[GivenFile]) -> list[FileLines]:
     stop_at([doubtful(file.name, what, cure) for file in empty])
     checked = vote.checked_lines([line for lines in lists for line in lines if not line.is_empty])
     cure = f"write it as `{vote.right_line}`, or take it out"
-    no_form = [line for line in checked if not line.has_form][:MAX_REFUSED]
+    no_form = [line for line in checked if not line.can_be_entered][:MAX_REFUSED]
     stop_at([doubtful(line.original.where, vote.why_not_entered(line), cure) for line in no_form])
     by_file, found = grouped((line.original.file_name, line) for line in checked), []
     for file, lines in zip(files, lists):

@@ -261,7 +261,7 @@ def ask_and_cast(desk: Desk, line: Line) -> None:
         tell(NOT_ENTERED)
         return
     checked = desk.vote.checked_lines([meant])
-    if no_form := [one for one in checked if not one.has_form]:
+    if no_form := [one for one in checked if not one.can_be_entered]:
         tell(desk.vote.why_not_entered(no_form[0]), NOT_ENTERED)
         return
     [elector] = desk.vote.electors_of([checked[0].as_entered])

@@ -102,7 +102,7 @@ class ReadLine:
         return (self.number, *self.more)
 
     @property
-    def is_ballot(self) -> bool:
+    def reads_as_ballot(self) -> bool:
         """Whether it is a ballot by itself, valid or not, if somebody is known by its name."""
         return bool(self.ranks) and self.offered_for is None
 
@@ -211,7 +211,7 @@ def read_line(number: int, line: str, names: Names) -> ReadLine | None:
         if why is None or way != text
     )
     found = next(filter(None, readings), None)
-    if found is not None and found.elector and found.is_ballot:
+    if found is not None and found.elector and found.reads_as_ballot:
         return found
     near = near_in(number, line, text, names) if ranked == text else None
     if found is None and near is None:
@@ -260,7 +260,7 @@ def read_answers(letter: ParsedLetter, names: Names) -> tuple[list[ReadLine], tu
     apart = [one for line in others for one in ballots_written([line], names)]
     quoted = [one for line in bare for one in ballots_written([line], names)]
     found = [(one, read_written(one, names)) for one in (*ballots_written(own, names), *apart)]
-    named = [one for one, line in found if line and line.is_ballot]
+    named = [one for one, line in found if line and line.reads_as_ballot]
     answers = {answer for one in named for answer in one.answers.items()}
     repeated = (one for one in (*apart, *quoted) if one.answers.items() <= answers)
     belonging = {number for one in (*named, *repeated) for number in one.numbers}

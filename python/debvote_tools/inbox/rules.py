@@ -204,11 +204,11 @@ class LetterCase:
         asked_for = filter(self.is_asked_for, letter.read_lines)
         self.sent = [SentLine(line, self.elector_of(line)) for line in asked_for]
         # the ballots of an elector who is known, also those that debvote refuses
-        self.named = [one for one in self.sent if one.elector and one.read.is_ballot]
+        self.named = [one for one in self.sent if one.elector and one.read.reads_as_ballot]
         valid = [one.as_ballot for one in self.named if one.read.answer is None]
         # beside these those with the real name of somebody else, as in the letter of a family
         unknown = [
-            one for one in self.sent if self.named and one.read.is_ballot and not one.elector
+            one for one in self.sent if self.named and one.read.reads_as_ballot and not one.elector
         ]
         others = [one.as_ballot for one in unknown if one.read.real and one.read.answer is None]
         # the ballot that may go in, and the indices of its lines

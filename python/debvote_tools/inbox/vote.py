@@ -68,8 +68,10 @@ class CheckedLine(NamedTuple):
         return self.finding is None
 
     @property
-    def has_form(self) -> bool:
-        """Whether it can be entered, valid or not."""
+    def can_be_entered(self) -> bool:
+        """As a ballot or as refused. Of several answers a line can't that has not their form, or has the
+        name of several electors.
+        """
         return self.finding is not NO_FORM
 
     @property
@@ -170,8 +172,8 @@ class Vote:
         return words if len(line.as_it_came) > self.questions.longest_line else None
 
     def why_not_entered(self, line: CheckedLine) -> str:
-        """Why a line is not entered, neither as a ballot nor as refused; empty if it is."""
-        if line.has_form:
+        """Why a line is not entered unless somebody forces it, or at all; empty if it is."""
+        if line.can_be_entered:
             return line.why_unclear
         is_none = f"`{shown_line(line.original.as_reported)}` is no ballot"
         hint = NO_FORM.hint if self.poll is None else WITHOUT_LABEL
