@@ -163,7 +163,7 @@ def whole(letter: LetterCase) -> Iterator[str]:
     yield who_and_when(letter)
     yield f"  subject: {shown_text(letter.read.subject)}"
     lines = letter.read.shown_lines
-    hidden = {index + 1 for index in quoted_of_ours(letter)} - letter.strays
+    hidden = {index + 1 for index in quoted_of_ours(letter)} - letter.other_answers
     for is_hidden, its in itertools.groupby(range(1, len(lines) + 1), hidden.__contains__):
         numbers = list(its)
         if is_hidden:

@@ -220,15 +220,15 @@ class LetterCase:
         self.ballots = tuple(dict.fromkeys([*filter(None, [self.ballot]), *valid, *others]))
 
     @functools.cached_property
-    def strays(self) -> set[int]:
+    def other_answers(self) -> set[int]:
         """The lines that may be answers and are in no valid ballot, unless they stand so in our letter.
         What is quoted is none, since the elector may have written it before, but in our letter.
         """
         shown, ours = self.read.shown_lines, self.circumstances.no_answers
         bare = {number: without_marks(shown[number - 1]).strip() for number in self.read.strays}
-        strays = {number for number, line in bare.items() if line not in ours}
-        quoted = {number for number in strays if is_quoted(shown[number - 1])}
-        kept = strays if quoted and self.fills_in_our_letter else strays - quoted
+        others = {number for number, line in bare.items() if line not in ours}
+        quoted = {number for number in others if is_quoted(shown[number - 1])}
+        kept = others if quoted and self.fills_in_our_letter else others - quoted
         return kept | self.read.refused_answers
 
     @property
@@ -282,7 +282,7 @@ class LetterCase:
         lines = () if self.named else self.sent
         found = {one.as_ballot: why for one in lines if (why := self.why_offered(one))}
         has_labels = any(one.read.has_labels for one in lines)
-        is_all = len(found) == 1 and self.strays.issubset(*(line.numbers for line in found))
+        is_all = len(found) == 1 and self.other_answers.issubset(*(line.numbers for line in found))
         return found if is_all or not has_labels else {}
 
     @functools.cached_property
@@ -488,7 +488,7 @@ def why_another_answer(case: LetterCase) -> ReasonWithValues | None:
     now = case.circumstances
     for number, line in enumerate(case.read.shown_lines if case.ballot else (), start=1):
         is_own = is_quoted(line) or line.strip() in now.no_answers or number - 1 in case.lines
-        if number in case.strays or (not is_own and may_answer(line, now.words)):
+        if number in case.other_answers or (not is_own and may_answer(line, now.words)):
             return Reason.ANOTHER_ANSWER(number=number)
     return None
 
