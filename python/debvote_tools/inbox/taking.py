@@ -20,7 +20,7 @@ from debvote_tools.inbox.entering import NOTHING_ADDED, Entry, bad_ballots
 from debvote_tools.inbox.judging import judged
 from debvote_tools.inbox.letter_lines import ReadLetter, read_letters, to_json
 from debvote_tools.inbox.mailbox import RawLetter, letters_of_file, letters_of_folder
-from debvote_tools.inbox.records import Asking, asked_box
+from debvote_tools.inbox.records import asked_box
 from debvote_tools.inbox.rules import LetterCase, LetterOutcome
 from debvote_tools.inbox.vote import Vote
 from debvote_tools.inbox.pending import other_votes_words
@@ -40,15 +40,15 @@ def take_letters(
     """Keeps new letters, and enters the ballots that go in; or tells what would become of them. Those
     `of_box` are its records: the others that wait stay as they are.
     """
-    asking = asked_box(vote) if of_box else Asking(split_letters(given))
-    raws = [raw for raw in asking.letters if raw.why_not_read is None]
+    came, detail, words = asked_box(vote) if of_box else (split_letters(given), {}, [])
+    raws = [raw for raw in came if raw.why_not_read is None]
     new = new_of(vote, raws)
     read = read_letters(vote, new)
-    if asking.words:
-        tell(*asking.words)
+    if words:
+        tell(*words)
     if not is_look:
-        keep(vote, new, read, asking.detail)
-    for raw in asking.letters:
+        keep(vote, new, read, detail)
+    for raw in came:
         if why := raw.why_not_read:
             tell(f"{shown_text(raw.where)}: {why.what}, and was passed over; {why.cure}")
     came_before = f"{count_of(len(new), 'new letter')}; {len(raws) - len(new)} came before."
@@ -56,7 +56,7 @@ def take_letters(
     if is_look:
         would = plan(read)
         tell_letters(vote, would.found)
-        said = (words.replace("went in", "would go in") for words in would.end)
+        said = (one.replace("went in", "would go in") for one in would.end)
         tell(came_before, *said, "Nothing was changed.")
         return
     tell(came_before)
