@@ -162,7 +162,7 @@ def label(why: ReasonWithValues) -> str:
 def outcome(one: LetterCase) -> str:
     """What becomes of a letter, in a word and the ballot or the reason, which has all values that its sentence needs."""
     if one.outcome is LetterOutcome.GOES_IN:
-        return f"in: {one.ballots[0].ballot}"
+        return f"in: {one.ballots[0].as_entered}"
     if one.reason is None:
         return one.outcome.value
     for_secretary(one.reason)
@@ -175,7 +175,7 @@ def outcomes(*letters: bytes | ParsedLetter, **other: object) -> list[str]:
 
 
 def lines_in(*letters: bytes | ParsedLetter, **other: object) -> list[str]:
-    return [one.ballots[0].ballot for one in judged(*letters, **other) if one.outcome is LetterOutcome.GOES_IN]
+    return [one.ballots[0].as_entered for one in judged(*letters, **other) if one.outcome is LetterOutcome.GOES_IN]
 
 
 def read_in(found: Sequence[RawLetter]) -> list[RawLetter]:

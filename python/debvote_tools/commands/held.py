@@ -158,7 +158,9 @@ class Chosen(NamedTuple):
     def again(self) -> list[Envelope]:
         """The envelopes in which answers of these ballots were entered already."""
         there = self.entered
-        answered = ((line.elector, one) for line in self.lines for one in answers_of(line.ballot))
+        answered = (
+            (line.elector, one) for line in self.lines for one in answers_of(line.as_entered)
+        )
         return [there[answer] for answer in answered if answer in there]
 
     def waits_for(self, history: History) -> list[str]:
@@ -180,9 +182,11 @@ class Chosen(NamedTuple):
         entered; and the labels of both, by why.
         """
         there = queries.later(by_elector.get(line.elector, []), self.letter.time)
-        later, entered = answered_by(line.ballot, there), self.entered
-        done = {one for one in answers_of(line.ballot) if (line.elector, one) in entered} - later
-        left = without(line.ballot, later | done)
+        later, entered = answered_by(line.as_entered, there), self.entered
+        done = {
+            one for one in answers_of(line.as_entered) if (line.elector, one) in entered
+        } - later
+        left = without(line.as_entered, later | done)
         return left, {f"{line.elector} has a later answer": later, "it was entered": done}
 
 
@@ -243,7 +247,7 @@ def entry_of(
         detail | {"lines": [line.number for _, line in lines if line.number]},
         shown=[
             *(
-                f"{who_and_when(letter)}: {vote.ballot_in_words(line.ballot)}\n  {why(letter)}"
+                f"{who_and_when(letter)}: {vote.ballot_in_words(line.as_entered)}\n  {why(letter)}"
                 for letter, line in lines
             ),
             *left,
@@ -254,7 +258,7 @@ def entry_of(
             for one in chosen
         },
         vote=vote,
-        envelopes=[envelope_of(letter, line.ballot) for letter, line in lines],
+        envelopes=[envelope_of(letter, line.as_entered) for letter, line in lines],
         is_late=would_be_late(history, chosen[0].letter),
         end=[
             f"{name_of(letter)} waits on, for a ballot of {ENGLISH.joined(names)}"
@@ -277,7 +281,7 @@ def without_answered(
                 for why, labels in left_out.items()
                 if labels and left
             )
-            kept.append(BallotLine(line.numbers, left or line.ballot))
+            kept.append(BallotLine(line.numbers, left or line.as_entered))
         found.append(one._replace(lines=kept))
     return found, said
 
@@ -352,7 +356,7 @@ def named_lines(letter: LetterCase, enter: Sequence[str], *, is_one: bool) -> li
     name = name_of(letter)
     there = {str(line.number): line for line in (*letter.offered, *letter.ballots)}
     if [*enter] == [THE_ONE]:
-        if len({line.ballot for line in there.values()}) != 1:
+        if len({line.as_entered for line in there.values()}) != 1:
             words = f"it has {count_of(len(there), 'line')} that can be entered"
             cure = "name its lines with --enter LINE, or type the ballot with --as LINE"
             raise Fault(name, words, cure)
@@ -416,9 +420,9 @@ def why_not_unforced(chosen: Sequence[Chosen], by_elector: BallotsByElector) -> 
             if not line.number and line.elector not in tied:
                 words = f"neither its sender nor a line of {name} is of {line.elector}"
                 yield letter, Fault("--as", words, f"check the name; {cure}")
-            if answered_by(line.ballot, queries.later(there, time)):
+            if answered_by(line.as_entered, queries.later(there, time)):
                 yield letter, Fault(name, "its elector has voted since", cure)
-            elif any(one.time == time and differ(one.line, line.ballot) for one in there):
+            elif any(one.time == time and differ(one.line, line.as_entered) for one in there):
                 words = "another ballot of its elector with the same time was entered"
                 yield letter, Fault(name, words, cure)
 
@@ -431,7 +435,7 @@ def demand_one_order(chosen: Sequence[Chosen]) -> None:
         itertools.combinations(one, 2) for one in at_once.values()
     )
     for (letter, line), (other, other_line) in pairs:
-        if differ(line.ballot, other_line.ballot):
+        if differ(line.as_entered, other_line.as_entered):
             name = f"letters {letter.number} and {other.number}"
             words = f"they have different ballots of {line.elector}, and the same time"
             raise Fault(name, words, "enter the one that counts")

@@ -191,7 +191,7 @@ def has_voted_since(
     that answers one of the same questions.
     """
     its = last.get(elector, {})
-    lines = (line.ballot for line in (*case.ballots, *case.offered) if line.elector == elector)
+    lines = (line.as_entered for line in (*case.ballots, *case.offered) if line.elector == elector)
     labels = {label for ballot in lines for label in answers_of(ballot)} or its.keys()
     return any(queries.later([its[label]], case.time) for label in labels & its.keys())
 
@@ -213,15 +213,15 @@ def judge_originals(
     not wait to the others of their electors.
     """
     in_order = [case for case in cases if case in originals]
-    ballots = (((case.elector, case.time), case.ballots[0].ballot) for case in in_order)
+    ballots = (((case.elector, case.time), case.ballots[0].as_entered) for case in in_order)
     # each once: of a thousand letters of one time each is compared with all
     at_its_time = grouped(dict.fromkeys(ballots))
     # copies of these are not known as such, while gpgv does not answer
     unchecked = [case for case in cases if case.decision is not None and case.read.is_slow]
-    unchecked_ballots = {line.ballot for case in unchecked for line in case.ballots}
+    unchecked_ballots = {line.as_entered for case in unchecked for line in case.ballots}
     for case in in_order:
         assert case.time is not None
-        own = Ballot(case.time, case.ballots[0].ballot, True, case.read.behind)
+        own = Ballot(case.time, case.ballots[0].as_entered, True, case.read.behind)
         at_once = at_its_time[case.elector, case.time]
         case.outcome, case.reason = outcome_of_original(
             case, own, by_elector[case.elector], at_once, unchecked_ballots
@@ -307,7 +307,7 @@ def outcome_of_copy(
     for line in (*case.ballots, *case.offered):
         there = by_elector[line.elector]
         places = (bisect.bisect_left(there, time, key=TIME) for time in (begin, end))
-        others = (one.time for one in there[slice(*places)] if differ(one.line, line.ballot))
+        others = (one.time for one in there[slice(*places)] if differ(one.line, line.as_entered))
         if between := next(others, None):
             reason = Reason.CAME_BEFORE(
                 elector=line.elector, time=case.time, first=original.time, between=between

@@ -84,8 +84,8 @@ def going_in_words(letters: Sequence[LetterCase], vote: Vote) -> Iterator[str]:
 def ballot_words(letter: LetterCase, vote: Vote) -> str:
     line = letter.ballots[0]
     written = " ".join(letter.read.shown_lines[number - 1].strip() for number in line.numbers)
-    as_written = "" if written == line.ballot else f", written `{shown_line(written.encode())}`"
-    answers = vote.answers_in_words(line.ballot.partition(" ")[2])
+    as_written = "" if written == line.as_entered else f", written `{shown_line(written.encode())}`"
+    answers = vote.answers_in_words(line.as_entered.partition(" ")[2])
     return f"{line.elector} ({name_of(letter)}{as_written}): {answers}"
 
 
@@ -137,7 +137,7 @@ def why(letter: LetterCase) -> str:
 
 def near_words(letter: LetterCase) -> Iterator[str]:
     for line in (*letter.ballots, *letter.offered):
-        yield f"line {line.number}: {without(line.ballot, letter.answered_since) or line.ballot}"
+        yield f"line {line.number}: {without(line.as_entered, letter.answered_since) or line.as_entered}"
     for near in letter.near:
         within = ", within other words" if near.is_within else ""
         why = near.answer or "a ballot, but not alone on its line"

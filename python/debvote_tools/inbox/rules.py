@@ -139,7 +139,7 @@ class BallotLine:
     """
 
     numbers: tuple[int, ...]
-    ballot: str
+    as_entered: str
 
     @property
     def number(self) -> int:
@@ -148,14 +148,14 @@ class BallotLine:
 
     @property
     def elector(self) -> str:
-        return self.ballot.partition(" ")[0]
+        return self.as_entered.partition(" ")[0]
 
     @property
     def high_rank(self) -> int:
         """The number of options of the first answer with a rank above it, else 0: `Lars Winter 12,50`
         may be money.
         """
-        for ranks in (text.split(",") for text in answers_of(self.ballot).values()):
+        for ranks in (text.split(",") for text in answers_of(self.as_entered).values()):
             if any(rank != "-" and int(rank) > len(ranks) for rank in ranks):
                 return len(ranks)
         return 0
@@ -216,7 +216,8 @@ class LetterCase:
         self.ballot = next((line for line in valid if max(line.numbers) <= end), None)
         self.lines = tuple(number - 1 for number in self.ballot.numbers) if self.ballot else ()
         self.elector = "" if self.ballot is None else self.ballot.elector
-        # all lines that read as ballots, first that one. Each can be entered by its number
+        # all lines that read as ballots, first that one, which a letter that breaks no rule has. Each can
+        # be entered by its number
         self.ballots = tuple(dict.fromkeys([*filter(None, [self.ballot]), *valid, *others]))
 
     @functools.cached_property
@@ -288,7 +289,9 @@ class LetterCase:
     @functools.cached_property
     def every_near(self) -> list[Near]:
         """What is near to a ballot; beside ballots that is what debvote refuses."""
-        refused = grouped((one.as_ballot.ballot, one.read) for one in self.named if one.read.answer)
+        refused = grouped(
+            (one.as_ballot.as_entered, one.read) for one in self.named if one.read.answer
+        )
         near = [Near(its[0].number, of, False, its[0].answer) for of, its in refused.items()]
         if not self.named:
             near = [one.read.near for one in self.sent if one.read.near]
@@ -475,7 +478,7 @@ def why_not_signed_by_its_elector(case: LetterCase) -> ReasonWithValues | None:
 
 def why_several_ballots(case: LetterCase) -> ReasonWithValues | None:
     """No other line reads as a ballot that differs. The next rule would say less of such a letter."""
-    if len({line.ballot for line in case.ballots}) <= 1:
+    if len({line.as_entered for line in case.ballots}) <= 1:
         return None
     electors = sorted({line.elector for line in case.ballots})
     if len(electors) == 1:

@@ -55,7 +55,7 @@ def judged_by(data: Sequence[bytes], words: Words = WORDS_EN, **other: object) -
 def becomes(data: bytes, **other: object) -> str:
     """What becomes of a letter, and what is offered of it."""
     [one] = judged_by([data], **other)
-    return "; ".join([outcome(one), *(line.ballot for line in one.offered)])
+    return "; ".join([outcome(one), *(line.as_entered for line in one.offered)])
 
 
 class OfLines(unittest.TestCase):
@@ -266,7 +266,7 @@ def compare(test: unittest.TestCase, letters: list[bytes]) -> dict[str, int]:
     found = {"in": 0, "held back": 0, "offered": 0}
     for data, plain, one in zip(letters, judged_by(letters, words={}), judged_by(letters)):
         is_in, was_in = one.outcome is LetterOutcome.GOES_IN, plain.outcome is LetterOutcome.GOES_IN
-        found["offered"] += bool({line.ballot for line in one.offered} - {line.ballot for line in plain.offered})
+        found["offered"] += bool({line.as_entered for line in one.offered} - {line.as_entered for line in plain.offered})
         found["held back"] += was_in and not is_in
         if not is_in:
             continue

@@ -35,7 +35,7 @@ def entered(*letters: LetterCase) -> dict[str, object]:
     ballots: dict[str, list[Ballot]] = {}
     for one in going:
         assert one.time is not None
-        ballots.setdefault(one.electors[0], []).append(Ballot(one.time, one.ballots[0].ballot, True))
+        ballots.setdefault(one.electors[0], []).append(Ballot(one.time, one.ballots[0].as_entered, True))
     return {"ballots": ballots, "decisions": {one.read.digest: queries.ENTERED for one in going}}
 
 
@@ -273,7 +273,7 @@ class World:
                 for one in found if minute == MINUTES or self.chance.random() < 0.8 else ():
                     if one.outcome is LetterOutcome.GOES_IN and one.time is not None:
                         decisions[one.read.key] = queries.ENTERED
-                        box.append(Ballot(one.time, one.ballots[0].ballot, True))
+                        box.append(Ballot(one.time, one.ballots[0].as_entered, True))
                         lines.append(box[-1].line)
         found = judge_all(kept, circumstances(decisions=decisions), lambda _: {"ada": box})
         assert not any(one.outcome is LetterOutcome.GOES_IN for one in found)

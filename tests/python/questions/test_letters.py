@@ -60,7 +60,7 @@ def judged(*given: bytes, ballots: Mapping[str, Sequence[Ballot]] | None = None,
 def becomes(text: str, how: object = letter, words: Words = {}) -> str:
     """What becomes of a letter of ada with this text, or what it is offered as."""
     [case] = judged(how("ada", text), words=words)  # type: ignore[operator]
-    offered = "".join(f" ({line.number}: {line.ballot})" for line in case.offered)
+    offered = "".join(f" ({line.number}: {line.as_entered})" for line in case.offered)
     return f"{outcome(case)}{offered}"
 
 
@@ -346,7 +346,7 @@ def that_go_in(count: int, *, has_words: bool = False, words: Words = {}) -> Ite
     for (data, stands), one in zip(given, read(*(data for data, _ in given), words=words)):
         [case] = judge_all([one], known, lambda _: {})
         if case.outcome is LetterOutcome.GOES_IN:
-            name, *parts = case.ballots[0].ballot.split(" ")
+            name, *parts = case.ballots[0].as_entered.split(" ")
             assert name == "ada", data
             yield data, stands, set(zip(parts[::2], parts[1::2]))
 
