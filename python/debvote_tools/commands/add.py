@@ -5,7 +5,6 @@ import dataclasses
 import operator
 import re
 from collections.abc import Iterable, Iterator, Mapping, Sequence
-from typing import NamedTuple
 
 from debvote_tools.cli.arguments import demand_reason, flag, given, has_reason, positional
 from debvote_tools.book import queries
@@ -72,21 +71,29 @@ def run(election: Election, arguments: Arguments) -> None:
 
 
 # ---- lines
-class FileLines(NamedTuple):
-    """A file and its lines in the order of entering, the new ones, and those that came before."""
+@dataclasses.dataclass(frozen=True)
+class FileLines:
+    """A file and its lines in the order of entering."""
 
     file: GivenFile
     lines: Sequence[CheckedLine]
     empty: Sequence[Line]
     # its columns may stand in another order than the options
     is_table: bool
-    new: Sequence[CheckedLine] = ()
-    # each with what has happened since, if it no longer counts
-    repeated: Sequence[tuple[CheckedLine, str | None]] = ()
 
     @property
     def name(self) -> str:
         return self.file.name
+
+
+@dataclasses.dataclass(frozen=True)
+class ComparedLines(FileLines):
+    """The same, compared with the book as it is now: the lines that are new, and those that came before,
+    each with what has happened since, if it no longer counts.
+    """
+
+    new: Sequence[CheckedLine]
+    repeated: Sequence[tuple[CheckedLine, str | None]]
 
 
 @dataclasses.dataclass(frozen=True)
@@ -95,7 +102,7 @@ class NewLines:
 
     history: History = dataclasses.field(compare=False)
     timing: Sequence[DoneAct]
-    files: Sequence[FileLines]
+    files: Sequence[ComparedLines]
 
     @property
     def lines(self) -> list[CheckedLine]:
@@ -106,7 +113,7 @@ def new_lines(vote: Vote, files: Sequence[FileLines]) -> NewLines:
     """It asks nothing of debvote, so it is found again within the act."""
     history = vote.election.history()
     vote.demand_same_call(history, NOTHING_ADDED)
-    found = without_duplicates(vote.book, files, history)
+    found = compared_with_book(vote.book, files, history)
     return NewLines(history, history.timing, found)
 
 
@@ -208,7 +215,9 @@ def is_right(line: CheckedLine) -> bool:
     return line.is_ballot and line.as_entered == line.original.unframed
 
 
-def without_duplicates(book: Book, files: Sequence[FileLines], history: History) -> list[FileLines]:
+def compared_with_book(
+    book: Book, files: Sequence[FileLines], history: History
+) -> list[ComparedLines]:
     """The files, each with its new lines and those that came before. If n copies of a line came in earlier files, its first
     n copies in this file are duplicates, whether those were counted, refused, struck or late. Files
     that an `undo` took back do not count. A file that goes in now is an earlier one for the next.
@@ -216,7 +225,7 @@ def without_duplicates(book: Book, files: Sequence[FileLines], history: History)
     copies_before = queries.lines_that_came(book)
     is_known = any(line.as_entered in copies_before for file in files for line in file.lines)
     if not is_known and len(files) == 1:
-        return [files[0]._replace(new=files[0].lines)]
+        return [ComparedLines(**vars(files[0]), new=files[0].lines, repeated=())]
     before = queries.came_in_files(book) if is_known else {}
     counting = queries.counting_envelopes(book) if is_known else {}
     copies = [list(copies_of(file.lines, before)) for file in files]
@@ -236,7 +245,7 @@ def without_duplicates(book: Book, files: Sequence[FileLines], history: History)
         ]
         copies_before.update(line.as_entered for line in new)
         going_in.update(line.as_entered for line in new)
-        found.append(file._replace(new=new, repeated=repeated))
+        found.append(ComparedLines(**vars(file), new=new, repeated=repeated))
     return found
 
 
@@ -331,7 +340,7 @@ def doubts(vote: Vote, new: NewLines, arguments: Arguments) -> Iterator[Fault]:
             yield doubtful(file.name, words, f"take the older ballot out, or {FORCE}")
 
 
-def odd_lines(vote: Vote, file: FileLines) -> Iterator[Fault]:
+def odd_lines(vote: Vote, file: ComparedLines) -> Iterator[Fault]:
     """A fault for the first line that is longer than any ballot, and for those with a name that
     several electors have.
     """
@@ -359,7 +368,7 @@ def under_other_names(vote: Vote, files: Sequence[FileLines]) -> Iterator[Fault]
                 break
 
 
-def new_one_above(file: FileLines) -> tuple[CheckedLine, CheckedLine] | None:
+def new_one_above(file: ComparedLines) -> tuple[CheckedLine, CheckedLine] | None:
     """A new ballot, and one of its elector below it that came before, which it would replace."""
     new = {line.original.number for line in file.new} if file.repeated else set()
     above: dict[tuple[str, str], tuple[str, CheckedLine]] = {}
@@ -381,7 +390,7 @@ def few_ballots(vote: Vote, files: Sequence[FileLines]) -> Iterator[Fault]:
     all_lines = tuple(line for file in files for line in file.lines)
     few = [file for file in files if has_few_ballots(file.lines)]
     if not few and len(files) > 1 and has_few_ballots(all_lines):
-        few = [files[0]._replace(lines=all_lines)]
+        few = [dataclasses.replace(files[0], lines=all_lines)]
     for file in few:
         refused = [line for line in file.lines if not line.is_ballot]
         lines, count = lines_and_ballots(file.lines)
@@ -440,7 +449,7 @@ def report_of_files(
         yield from several_ballots_words(file)
 
 
-def repeated_words(file: FileLines) -> Iterator[str]:
+def repeated_words(file: ComparedLines) -> Iterator[str]:
     if not (count := len(file.repeated)):
         return
     ignored = "is ignored, since it" if count == 1 else "are ignored, since they"
@@ -455,7 +464,7 @@ def repeated_words(file: FileLines) -> Iterator[str]:
         yield "  To enter such a line again, type it at a desk."
 
 
-def several_ballots_words(file: FileLines) -> Iterator[str]:
+def several_ballots_words(file: ComparedLines) -> Iterator[str]:
     by_voter = several((one.voter, one) for one in filter(is_ballot, file.new))
     for voter, ballots in by_voter.items():
         answered = collections.Counter(label for one in ballots for label in answers_in(one.ranks))
