@@ -155,14 +155,14 @@ def what_is_added(vote: Vote, files: Sequence[FileLines], arguments: Arguments) 
         nothing = "There is nothing new, and nothing was added."
         shown = [*report_of_files(vote, new, (), ()), nothing]
         return Addition("add", {}, shown=shown, is_nothing=True, vote=vote, given=files, new=new)
-    came_in_time = entering.came_before_close(
+    came_before_close = entering.came_before_close(
         new.history, arguments.came_before_close, NOTHING_ADDED
     )
     return Addition(
         "add",
-        detail_of_act(vote, new, arguments, came_in_time),
+        detail_of_act(vote, new, arguments, came_before_close),
         vote=vote,
-        is_late=new.history.is_late(came_in_time),
+        is_late=new.history.is_late(came_before_close),
         given=files,
         new=new,
     )
@@ -282,15 +282,15 @@ def change_since(
 
 
 def detail_of_act(
-    vote: Vote, new: NewLines, arguments: Arguments, came_in_time: bool | None
+    vote: Vote, new: NewLines, arguments: Arguments, came_before_close: bool | None
 ) -> Detail:
     detail: Detail = {
         "files": [file.file.kept_name for file in new.files],
         "lines": len(new.lines),
         "passed_over": sum(len(file.repeated) for file in new.files),
     }
-    if came_in_time is not None:
-        detail["came_before_close"] = came_in_time
+    if came_before_close is not None:
+        detail["came_before_close"] = came_before_close
     if vote.is_signed:
         detail["unsigned"] = True
         detail["because"] = demand_reason(arguments.because, "--force")
