@@ -90,7 +90,7 @@ def run(election: Election, arguments: Arguments) -> int:
     again = before if given == Words(is_forced=arguments.force) else None
     words = given if again is None else Words(**again.detail["words"])
     pending = pending_letters(election, history) if history.is_closed else Pending()
-    facts = facts_again(publication.facts_of(election, words, pending), again)
+    facts = without_old_force(publication.facts_of(election, words, pending), again)
     agreed = agreed_in_secret(history, sealed.public, facts.values(), is_agreed=arguments.yes)
     with folder.beside(target) as new:
         filled = folder.filled(new.folder, facts, election.program_folder)
@@ -128,9 +128,9 @@ def detail_of(words: Words, filled: folder.Filled) -> Detail:
     }
 
 
-def facts_again(facts: dict[str, Facts], again: DoneAct | None) -> dict[str, Facts]:
-    """The facts of a result that is made again, with its own words, if the command line has none, or
-    --force alone: the reason of then is not one for what came since.
+def without_old_force(facts: dict[str, Facts], again: DoneAct | None) -> dict[str, Facts]:
+    """The facts. Those of a result that is made again, with its words of then, are not forced if a doubt
+    that stops is new: the reason of then is not one for what came since.
     """
     stopping = (
         doubt

@@ -66,14 +66,16 @@ def facts_of(election: Election, words: Words, pending: Pending) -> dict[str, Fa
             label=label,
             poll=poll,
             doubts=tuple(doubts_of(history, label, poll, words.castings.get(label), pending)),
-            **cast_in(election, history, label, words),
+            **facts_of_ballots(election, history, label, words),
             **shared,
         )
         for label, poll in sealed.public.items()
     }
 
 
-def cast_in(election: Election, history: History, label: str, words: Words) -> dict[str, Any]:
+def facts_of_ballots(
+    election: Election, history: History, label: str, words: Words
+) -> dict[str, Any]:
     """The facts about the ballots of a question. Stops if debvote does not find them as they are kept."""
     poll, book = election.sealed().counted[label], election.book
     with book.question(label), book.snapshot():
