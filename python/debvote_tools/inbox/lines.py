@@ -109,6 +109,7 @@ class Line(NamedTuple):
     as_it_came: bytes
     # without them
     unframed: bytes
+    # with the changes that are allowed, once `Vote.as_meant` has it with those of name and words, too
     repaired: bytes
 
     @property

@@ -211,11 +211,11 @@ class Vote:
         its = {"": NO_FORM} if why and self.names.labels else refused[line.repaired]
         if not its:
             yield CheckedLine(line, line.repaired)
-        elif changed := its.get(""):
-            now = refused[line.unframed].get("", changed)
-            is_same = (now.word, now.hint) == (changed.word, changed.hint)
-            others = self.other_names(now)
-            yield CheckedLine(line, line.unframed, now, None if is_same else changed, others, why)
+        elif repaired := its.get(""):
+            came = refused[line.unframed].get("", repaired)
+            is_same = (came.word, came.hint) == (repaired.word, repaired.hint)
+            others = self.other_names(came)
+            yield CheckedLine(line, line.unframed, came, None if is_same else repaired, others, why)
         else:
             name, _, answers = line.repaired.decode("ascii").partition(" ")
             by_finding = grouped(
@@ -241,7 +241,7 @@ class Vote:
             new: dict[bytes, dict[str, Finding]] = {
                 line: {} if self.has_form(line) else {"": NO_FORM} for line in part
             }
-            for label, its, found in self.asked(part):
+            for label, its, found in self.findings_by_question(part):
                 for finding in found.refused:
                     bare = finding._replace(line=0)
                     if self.has_codes:
@@ -261,9 +261,13 @@ class Vote:
     def are_table(self, lines: Sequence[Line]) -> bool:
         """Whether lines look like a table to debvote, as they came; one line alone is none."""
         given = [line.unframed for line in lines]
-        return len(lines) > 1 and any(found.are_table for *_, found in self.asked(given))
+        return len(lines) > 1 and any(
+            found.are_table for *_, found in self.findings_by_question(given)
+        )
 
-    def asked(self, lines: Sequence[bytes]) -> Iterator[tuple[str, Sequence[bytes], Findings]]:
+    def findings_by_question(
+        self, lines: Sequence[bytes]
+    ) -> Iterator[tuple[str, Sequence[bytes], Findings]]:
         """What debvote says of the answers to each question: its label, and the lines with one."""
         right = [line for line in lines if self.has_form(line)]
         for label, poll in self.questions.items():
