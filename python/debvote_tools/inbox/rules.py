@@ -175,8 +175,8 @@ class SentLine(NamedTuple):
 
 # ---- a letter
 class LetterCase:
-    """A letter with all that it is judged by. `judging.py` sets `outcome` and `reason`, why it
-    waits or was set aside.
+    """A letter with all that it is judged by. `judging.py` sets what has a value here already, such as
+    `reason`, why it waits or was set aside.
     """
 
     outcome = LetterOutcome.WAITS
@@ -214,7 +214,7 @@ class LetterCase:
         # the ballot that may go in, and the indices of its lines
         end = above_end(letter.body.lines)
         self.ballot = next((line for line in valid if max(line.numbers) <= end), None)
-        self.lines = tuple(number - 1 for number in self.ballot.numbers) if self.ballot else ()
+        self.indices = tuple(number - 1 for number in self.ballot.numbers) if self.ballot else ()
         self.elector = "" if self.ballot is None else self.ballot.elector
         # all lines that read as ballots, first that one, which a letter that breaks no rule has. Each can
         # be entered by its number
@@ -407,7 +407,7 @@ def why_not_readable(case: LetterCase) -> ReasonWithValues | None:
     if letter.crowd:
         what = "lines that may be ballots"
         return Reason.TOO_LONG(length=letter.crowd, what=what, limit=MAX_BALLOTS)
-    is_odd = body.is_html and any(index >= body.plain_lines for index in case.lines)
+    is_odd = body.is_html and any(index >= body.plain_lines for index in case.indices)
     return Reason.HTML(element=body.first_other) if is_odd else None
 
 
@@ -490,7 +490,7 @@ def why_another_answer(case: LetterCase) -> ReasonWithValues | None:
     """No other line that is not quoted may be an answer in a word, or one of several answers."""
     now = case.circumstances
     for number, line in enumerate(case.read.shown_lines if case.ballot else (), start=1):
-        is_own = is_quoted(line) or line.strip() in now.no_answers or number - 1 in case.lines
+        is_own = is_quoted(line) or line.strip() in now.no_answers or number - 1 in case.indices
         if number in case.other_answers or (not is_own and may_answer(line, now.words)):
             return Reason.ANOTHER_ANSWER(number=number)
     return None
@@ -505,7 +505,7 @@ def why_not_first(case: LetterCase) -> ReasonWithValues | None:
         return next(iter(case.offered.values()), Reason.NO_BALLOT)()
     if ballot is None and not flowing:
         return Reason.ELSEWHERE(number=case.ballots[0].number)
-    if ballot is None or not {*flowing}.isdisjoint(case.lines):
+    if ballot is None or not {*flowing}.isdisjoint(case.indices):
         return Reason.JOINED()
     if ballot.high_rank:
         return Reason.HIGH_RANK(number=ballot.number, options=ballot.high_rank)
@@ -575,12 +575,12 @@ def is_subject_of_page(case: LetterCase) -> bool:
 
 def why_not_first_in(case: LetterCase, joined: Collection[int]) -> ReasonWithValues | None:
     """Why the ballot is not the first line, with these lines joined to others; None if it is."""
-    letter, lines, ballot = case.read, case.read.body.lines, case.lines
+    letter, lines, own = case.read, case.read.body.lines, case.indices
     ours = case.circumstances.our_letters.get(case.elector, ())
     is_answer = case.has_own_mark and letter.in_reply_to in ours
     is_by_page = case.has_own_mark and letter.is_new and is_subject_of_page(case)
     paragraphs = paragraphs_of(case, joined)
-    places = [at for at, own in enumerate(paragraphs) if not {*own}.isdisjoint(ballot)]
+    places = [at for at, one in enumerate(paragraphs) if not {*one}.isdisjoint(own)]
     place, last = places[0], places[-1]
     quoted = [any(is_quoted(lines[index]) for index in one) for one in paragraphs]
     first = quoted.index(True) if True in quoted[:place] else -1
@@ -589,18 +589,18 @@ def why_not_first_in(case: LetterCase, joined: Collection[int]) -> ReasonWithVal
     if first >= 0 and not has_only_a_head(lines, paragraphs[: first + 1]):
         return Reason.MUCH_QUOTED()
     between = [one for one in range(first + 1, last + 1) if not quoted[one]]
-    others = [index for one in between for index in paragraphs[one] if index not in ballot]
+    others = [index for one in between for index in paragraphs[one] if index not in own]
     # in an answer, what is beside the ballot below it is free, unless it may be the head of a
     # quotation
     if is_answer and True not in quoted[last + 1 : last + 2]:
-        others = [index for index in others if index < ballot[0]]
+        others = [index for index in others if index < own[0]]
     for index in others:
         line = lines[index] if index in joined else lines[index].rstrip()
-        if (is_answer or is_by_page) and index < ballot[0] and line.endswith(COLONS):
+        if (is_answer or is_by_page) and index < own[0] and line.endswith(COLONS):
             line = line[:-1]
         if not is_greeting(line) or case.circumstances.words.keys() & words_in(line):
             return Reason.NOT_FIRST(number=index + 1)
-    above = [lines[index].strip() for index in others if index < ballot[0]]
+    above = [lines[index].strip() for index in others if index < own[0]]
     most = 0 if letter.body.is_html and not case.has_own_mark else MAX_ABOVE
     is_much = len(above) > most or len("".join(above)) > MAX_CHARACTERS
     return Reason.MUCH_ABOVE() if is_much else None
