@@ -105,7 +105,7 @@ def state_of(election: Election, history: History) -> tuple[State, list[Refused]
     refused = [
         (number, line, answer)
         for number, line, answer in queries.refused_lines(book)
-        if has_codes or not labels_in(line, labels) <= answered.get(name_in(line) or "", set())
+        if has_codes or not labels_in(line, labels) <= answered.get(whose_line(line) or "", set())
     ]
     return state, refused
 
@@ -129,7 +129,7 @@ def labels_in(line: bytes, labels: Sequence[str]) -> set[str]:
     return {label for label in labels if part_of(line, label) is not None}
 
 
-def name_in(line: bytes) -> str | None:
+def whose_line(line: bytes) -> str | None:
     """Whose a line may be: its first word in small letters."""
     word = FIRST_WORD.match(line)
     return word[1].decode("ascii").lower() if word else None
@@ -209,7 +209,7 @@ def refused_words(
         nobody := "with no known elector",
     )
     whose = dict.fromkeys(roll, no_answer) | dict.fromkeys(without_ballot, no_ballot)
-    found = grouped((whose.get(name_in(one[1]) or "", nobody), one) for one in refused)
+    found = grouped((whose.get(whose_line(one[1]) or "", nobody), one) for one in refused)
     for who in groups:
         if who in found:
             yield f"Refused lines {who} ({len(found[who])}):"
