@@ -52,7 +52,7 @@ def facts_of(election: Election, words: Words, pending: Pending) -> dict[str, Fa
         "words": words,
         "language": election.language if words.language is None else language_of(words.language),
         "acts": acts_of(book, history, is_secret=sealed.counted.is_secret),
-        "after_end": after_end(book, history),
+        "labels_after_end": labels_after_end(book, history),
         "closed": closing_letter(history, sealed.public, election.language)
         if history.closes
         else None,
@@ -225,7 +225,7 @@ def acts_of(book: Book, history: History, *, is_secret: bool) -> tuple[Act, ...]
     )
 
 
-def after_end(book: Book, history: History) -> list[Collection[str]]:
+def labels_after_end(book: Book, history: History) -> list[Collection[str]]:
     """Of each line of a file or a desk that came after the end, and is in time, valid or not, the
     labels of the questions that it answers. What was entered after the first close is left out: whoever
     entered it said that it came before that close.
