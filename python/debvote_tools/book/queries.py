@@ -502,7 +502,7 @@ def source_of(book: Book, source: int) -> bytes:
     return bytes(book.value("SELECT data FROM source WHERE source = ?", source))
 
 
-def unsettled(kept: list[KeptLetter]) -> list[KeptLetter]:
+def unsettled_and_copies(kept: list[KeptLetter]) -> list[KeptLetter]:
     """The unsettled letters, and their copies."""
     identities = {letter.identity for letter in kept if letter.is_unsettled}
     return [letter for letter in kept if letter.identity in identities]

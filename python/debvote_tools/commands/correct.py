@@ -108,7 +108,7 @@ def what_else_changes(book: Book, struck: Sequence[int], letters: Sequence[int])
 
 def judged_now(vote: Vote) -> dict[int, LetterCase]:
     """The letters as they are judged now, by number."""
-    kept = queries.unsettled(queries.kept_letters(vote.book))
+    kept = queries.unsettled_and_copies(queries.kept_letters(vote.book))
     return {one.number: one for one in judged(vote, vote.election.history(), kept)}
 
 

@@ -59,7 +59,7 @@ def pending_letters(election: Election, history: History) -> Pending:
     # where letters have to be signed, what was signed says which are copies, which the book may not
     # have known when they came
     if not history.announced("signed"):
-        kept = queries.unsettled(kept)
+        kept = queries.unsettled_and_copies(kept)
     letters = judged(Vote(election), history, kept)
     found = [letter for letter in letters if letter.is_pending]
     arrived_in_time = sorted(letter.number for letter in found if letter.arrived_in_time)
