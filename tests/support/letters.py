@@ -89,7 +89,7 @@ def circumstances(
     }
     usual: dict[str, object] = {
         "mark": MARK, "subject": BY_PAGE, "electors": electors, "is_marked": False, "is_signed": keys is not None,
-        "called": at(9, day=20), "end": None, "first_close": None, "is_closed": False, "now": at(9, day=25), "our_letters": OURS, "decisions": {},
+        "called": at(9, day=20), "end": None, "first_close": None, "is_closed": False, "now": at(9, day=25), "our_ids": OURS, "decisions": {},
         "marks": {MARK}, "own_marks": {*filter(None, own_marks.values()), *own_marks_before},
     }  # fmt: skip
     return Circumstances(**{**usual, **other})  # type: ignore[arg-type]

@@ -134,12 +134,12 @@ def circumstances_now(
         first_close=history.closes[0].time if history.closes else None,
         is_closed=history.is_closed,
         now=times.now(),
-        our_letters={elector.name: ids.get(elector.number, []) for elector in electors},
+        our_ids={elector.name: ids.get(elector.number, []) for elector in electors},
         decisions={key: state for key, state in states if state != queries.NEVER_DECIDED},
         box_key=queries.sealed(election.book, BOX_KEY) or b"",
         words=vote.names.words,
         no_answers=no_answers,
-        asking=queries.ids_that_ask(election.book),
+        asking_ids=queries.ids_that_ask(election.book),
     )
 
 

@@ -219,7 +219,7 @@ def quoted_of_ours(letter: LetterCase) -> set[int]:
     """
     lines, circumstances = letter.read.body.lines, letter.circumstances
     answered = letter.read.in_reply_to
-    is_answer = answered and any(answered in ids for ids in circumstances.our_letters.values())
+    is_answer = answered and any(answered in ids for ids in circumstances.our_ids.values())
     shown = indices_of_ballots(letter, letter.near)
     return {
         index

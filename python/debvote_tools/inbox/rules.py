@@ -93,7 +93,7 @@ class Circumstances:
     is_closed: bool
     now: datetime.datetime
     # the Message-IDs of the letters that were written to each elector
-    our_letters: Mapping[str, Collection[str]]
+    our_ids: Mapping[str, Collection[str]]
     # what acts decided, by the keys of the letters: states of the book
     decisions: Mapping[str, str]
     # the key of the box of the web host
@@ -102,7 +102,7 @@ class Circumstances:
     # they look like one; and the Message-IDs of the letters that ask to vote
     words: Words = dataclasses.field(default_factory=dict)
     no_answers: Collection[str] = ()
-    asking: Collection[str] = ()
+    asking_ids: Collection[str] = ()
 
     @property
     def ends(self) -> list[datetime.datetime]:
@@ -247,7 +247,7 @@ class LetterCase:
         if line.offered_for is not Reason.WORD_ALONE or line.has_labels:
             return True
         is_first = not any(map(str.strip, self.read.shown_lines[: line.number - 1]))
-        is_answer = self.read.in_reply_to in self.circumstances.asking
+        is_answer = self.read.in_reply_to in self.circumstances.asking_ids
         return is_first and (is_answer or is_subject_of_page(self))
 
     def elector_of(self, line: ReadLine) -> str | None:
@@ -576,7 +576,7 @@ def is_subject_of_page(case: LetterCase) -> bool:
 def why_not_first_in(case: LetterCase, joined: Collection[int]) -> ReasonWithValues | None:
     """Why the ballot is not the first line, with these lines joined to others; None if it is."""
     letter, lines, own = case.read, case.read.body.lines, case.indices
-    ours = case.circumstances.our_letters.get(case.elector, ())
+    ours = case.circumstances.our_ids.get(case.elector, ())
     is_answer = case.has_own_mark and letter.in_reply_to in ours
     is_by_page = case.has_own_mark and letter.is_new and is_subject_of_page(case)
     paragraphs = paragraphs_of(case, joined)

@@ -47,7 +47,7 @@ def judged_by(data: Sequence[bytes], words: Words = WORDS_EN, **other: object) -
     """What becomes of letters, each alone."""
     found = read(*data, reader=MotionReader(), words=words, real_names=REAL, roll=frozenset(ROLL))
     usual: dict[str, object] = {"addresses": {name: [f"{name}@club.example"] for name in ROLL}, "own_marks": {**OWN, "kim-no": "kmn2345678"}, "roll": ROLL}
-    usual |= {"words": words, "no_answers": {*REAL.values(), "Option 1: Yes"}, "asking": ASKING}
+    usual |= {"words": words, "no_answers": {*REAL.values(), "Option 1: Yes"}, "asking_ids": ASKING}
     now = circumstances(**{**usual, **other})
     return [judge_all([one], now, lambda _: {})[0] for one in found]
 
