@@ -72,7 +72,9 @@ def status(election: Election, arguments: StatusArguments) -> None:
     if arguments.json:
         tell(json.dumps(state, ensure_ascii=False))
     else:
-        tell(*stage_words(election, history, state), *words_of(election, history, state, refused))
+        tell(
+            *stage_words(election, history, state), *state_words(election, history, state, refused)
+        )
 
 
 def state_of(election: Election, history: History) -> tuple[State, list[Refused]]:
@@ -160,7 +162,7 @@ def stage_words(election: Election, history: History, state: State) -> Iterator[
         yield f"{'  ' if label else ''}{quorum_words(poll.quorum, quorums[label])}"
 
 
-def words_of(
+def state_words(
     election: Election, history: History, state: State, refused: list[Refused]
 ) -> Iterator[str]:
     yield f"Lines: {state['lines']} ({state['valid']} valid, {state['refused']} refused)"

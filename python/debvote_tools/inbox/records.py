@@ -48,7 +48,7 @@ def asked_box(vote: Vote) -> tuple[list[RawLetter], Detail, list[str]]:
         "behind": asked.behind,
         "list": asked.list_digest,
     }
-    words = [*words_of(box, before)]
+    words = [*box_words(box, before)]
     if not has_list_of_now(vote.election, asked.list_digest):
         older = (
             "as an older one: upload that of the folder, since who has a new link cannot vote there"
@@ -57,7 +57,7 @@ def asked_box(vote: Vote) -> tuple[list[RawLetter], Detail, list[str]]:
     return letters, {"box": box}, words
 
 
-def words_of(box: Detail, before: Detail) -> Iterator[str]:
+def box_words(box: Detail, before: Detail) -> Iterator[str]:
     """What is said of an asking, beside the one before."""
     yield f"The box has {count_of(box['records'], 'record')}."
     if abs(off := box["behind"]) > MOST_OFF:

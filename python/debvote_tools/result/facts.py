@@ -54,7 +54,7 @@ class Told:
 
 
 @dataclasses.dataclass(frozen=True)
-class Words:
+class PublishedWords:
     """What the secretary says of a publication. The act keeps it, so that the same folder can be
     made again.
     """
@@ -162,7 +162,7 @@ class Facts:
     # the lines in time; in a secret vote the ballots that stand, under aliases
     ballots: bytes
     language: Language = ENGLISH
-    words: Words = Words()
+    words: PublishedWords = PublishedWords()
     desks: int = 1
     # of two files: the checksum of the file that was given as the poll
     given_checksum: str | None = None

@@ -22,7 +22,7 @@ from debvote_tools.poll.call import zone_of
 from debvote_tools.poll.secret import alias_in, aliased_ballots, sealed_checksum
 from debvote_tools.poll.questions import Questions, place_of
 from debvote_tools.poll.sealed import SealedPoll
-from debvote_tools.result.facts import Act, Doubt, Facts, Words
+from debvote_tools.result.facts import Act, Doubt, Facts, PublishedWords
 from debvote_tools.result.file_names import BALLOTS
 from debvote_tools.result.sheet import castings_kept, sheet_in
 from debvote_tools.text.ballots import ballot_file, in_normal_form
@@ -42,7 +42,7 @@ def last_publication(history: History) -> DoneAct | None:
 
 
 # ---- the facts
-def facts_of(election: Election, words: Words, pending: Pending) -> dict[str, Facts]:
+def facts_of(election: Election, words: PublishedWords, pending: Pending) -> dict[str, Facts]:
     """The facts of each question, by its label."""
     history, sealed, book = election.history(), election.sealed(), election.book
     demand_own_lines(election)
@@ -74,7 +74,7 @@ def facts_of(election: Election, words: Words, pending: Pending) -> dict[str, Fa
 
 
 def facts_of_ballots(
-    election: Election, history: History, label: str, words: Words
+    election: Election, history: History, label: str, words: PublishedWords
 ) -> dict[str, Any]:
     """The facts about the ballots of a question. Stops if debvote does not find them as they are kept."""
     poll, book = election.sealed().counted[label], election.book
