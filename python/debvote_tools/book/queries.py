@@ -128,7 +128,7 @@ class Envelope(NamedTuple):
     # the act that struck it: a `strike`, or the `undo` that took its act back
     struck: int | None
     # why debvote refuses the line; None of a ballot
-    answer: str | None = None
+    why_refused: str | None = None
     # what became of it, as the view `fate` says: it counts if any of its answers does
     became: str = "counts"
     # the same of each answer, by the label of its question
@@ -272,7 +272,7 @@ class NewEnvelope(NamedTuple):
     source: int | None = None
     letter: int | None = None
     time: datetime.datetime | None = None
-    answer: str | None = None
+    why_refused: str | None = None
 
 
 def add_envelopes(
@@ -281,20 +281,20 @@ def add_envelopes(
     """Enters lines, each with the elector with whose name it begins."""
     now = as_text(act.time)
     rows = (
-        (elector, line, place, source, letter, as_text(time) if time else now, int(is_late), answer)
-        for elector, (line, place, source, letter, time, answer) in zip(electors, new)
+        (elector, line, place, source, letter, as_text(time) if time else now, int(is_late), why)
+        for elector, (line, place, source, letter, time, why) in zip(electors, new)
     )
     act.insert_all("envelope", "elector, line, place, source, letter, time, late, answer", rows)
 
 
 def entered_by(book: Book, act: int) -> tuple[int, set[int], list[tuple[bytes, str | None]]]:
-    """What an act entered: the number of its first envelope, the electors, and the lines, each with
-    debvote's answer.
+    """What an act entered: the number of its first envelope, the electors, and the lines, each with why
+    debvote refuses it.
     """
     words = "SELECT envelope, elector, line, answer FROM envelope WHERE act = ? ORDER BY 1"
     rows = book.rows(words, act)
     electors = {elector for _, elector, *_ in rows if elector is not None}
-    return rows[0][0] if rows else 0, electors, [(line, answer) for _, _, line, answer in rows]
+    return rows[0][0] if rows else 0, electors, [(line, why) for _, _, line, why in rows]
 
 
 def last_envelope(book: Book) -> int:

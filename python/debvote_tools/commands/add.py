@@ -137,7 +137,9 @@ class Addition(Entry):
         self.enter(
             act,
             [
-                NewEnvelope(line.as_entered, line.original.place, source, answer=line.answer)
+                NewEnvelope(
+                    line.as_entered, line.original.place, source, why_refused=line.why_refused
+                )
                 for source, lines in files
                 for line in lines
             ],
@@ -303,7 +305,7 @@ def look(vote: Vote, files: Sequence[FileLines], arguments: Arguments) -> None:
         new = new_lines(vote, files)
         counting, first = queries.what_counts(vote.book), queries.last_envelope(vote.book) + 1
     is_late = new.history.is_late(arguments.came_before_close != "no")
-    lines = [(line.as_entered, line.answer) for line in new.lines]
+    lines = [(line.as_entered, line.why_refused) for line in new.lines]
     numbers = range(first, first + len(lines))
     replies = [*replies_to(lines, counting, is_late=is_late)]
     if new.history.is_reopened and arguments.came_before_close is None:

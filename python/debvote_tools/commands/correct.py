@@ -273,7 +273,7 @@ def what_is_reopened(
         detail,
         vote=vote,
         envelopes=[
-            NewEnvelope(one.line, one.place, one.source, one.letter, one.time, one.answer)
+            NewEnvelope(one.line, one.place, one.source, one.letter, one.time, one.why_refused)
             for one in offered
         ],
         offered=offered,

@@ -160,7 +160,8 @@ def what_is_cast(desk: Desk, lines: list[CheckedLine], elector: int | None, asks
         question=asked,
         vote=desk.vote,
         envelopes=[
-            NewEnvelope(one.as_entered, one.original.place, answer=one.answer) for one in lines
+            NewEnvelope(one.as_entered, one.original.place, why_refused=one.why_refused)
+            for one in lines
         ],
         is_late=history.is_late(desk.came_before_close),
         desk=desk,

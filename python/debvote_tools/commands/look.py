@@ -298,7 +298,7 @@ def fate_words(vote: Vote, history: History, fate: Fate) -> Iterator[str]:
 def refused_line(vote: Vote, fate: Fate) -> str:
     line = b"" if fate.envelope is None else fate.envelope.line
     is_code = has_code(line.decode("utf-8", "replace")) and not vote.has_codes
-    return f"{shown_line(line)}: {fate.answer}{IS_CODE if is_code else ''}"
+    return f"{shown_line(line)}: {fate.why_refused}{IS_CODE if is_code else ''}"
 
 
 # ---- log, export and backup

@@ -40,9 +40,9 @@ class Fate(NamedTuple):
     is_own: bool = False
 
     @property
-    def answer(self) -> str | None:
+    def why_refused(self) -> str | None:
         """Why debvote refuses the line of an envelope; None of a ballot."""
-        return None if self.envelope is None else self.envelope.answer
+        return None if self.envelope is None else self.envelope.why_refused
 
     @property
     def replaced(self) -> list[str]:
@@ -55,7 +55,7 @@ class Fate(NamedTuple):
     @property
     def answers(self) -> str:
         """What a valid ballot has behind the name."""
-        if self.envelope is None or self.answer is not None:
+        if self.envelope is None or self.why_refused is not None:
             return ""
         return self.envelope.line.decode().partition(" ")[2]
 

@@ -141,7 +141,7 @@ def read_letters(vote: Vote, raws: Sequence[RawLetter]) -> list[ReadLetter]:
     if found and vote.is_signed:
         keyring = queries.sealed(vote.book, KEYRING) or b""
         found = verified(raws, found, keyring, find_gpgv())
-    return with_lines(found, vote.names, vote.answers)
+    return with_lines(found, vote.names, vote.why_each_refused)
 
 
 def with_lines(letters: Sequence[ParsedLetter], names: Names, ask: Ask) -> list[ReadLetter]:

@@ -87,7 +87,7 @@ class CheckedLine(NamedTuple):
         )
 
     @property
-    def answer(self) -> str | None:
+    def why_refused(self) -> str | None:
         """What the book keeps of what debvote says, without its remark on other lines."""
         return None if self.finding is None else said_of(self.finding)
 
@@ -225,7 +225,7 @@ class Vote:
                 text = line_of(name, dict(by_finding[finding])).encode()
                 yield CheckedLine(line, text, finding, None, self.other_names(finding))
 
-    def answers(self, lines: Sequence[bytes]) -> dict[bytes, str | None]:
+    def why_each_refused(self, lines: Sequence[bytes]) -> dict[bytes, str | None]:
         """What debvote says of each line, such as `bad rank count: ..`; None for a valid ballot. What
         it remarks on other lines is left out.
         """
@@ -348,13 +348,13 @@ IN_PART = f"{REPLACED} in part"
 def replies_to(
     lines: Iterable[tuple[bytes, str | None]], counting: Mapping[str, str], *, is_late: bool
 ) -> Iterator[str]:
-    """The reply to each line, with debvote's answer to it, unless it is late: the word with which it
+    """The reply to each line, given with why debvote refuses it, unless it is late: the word with which it
     is refused; or whether a ballot is counted, or has replaced one of its elector, by what counts of
     electors and the lines above. If that differs by question, it says so: `A replaced, B counted`.
     """
     having = {name: {*answers_in(answers)} for name, answers in counting.items()}
-    for line, answer in lines:
-        if refused := LATE_REPLY if is_late else (answer or "").partition(":")[0]:
+    for line, why_refused in lines:
+        if refused := LATE_REPLY if is_late else (why_refused or "").partition(":")[0]:
             yield refused
             continue
         name, _, answers = line.decode("ascii").partition(" ")

@@ -227,7 +227,7 @@ class Composer:
             )
             sentences += dict.fromkeys(near)
         elif fate.became is Became.REFUSED:
-            sentences += faults_of(fate.answer, name, language)
+            sentences += faults_of(fate.why_refused, name, language)
         return " ".join(sentences)
 
     def more_of(self, fate: Fate) -> Iterator[str]:
@@ -243,7 +243,7 @@ class Composer:
 
     def quotation_of(self, fate: Fate) -> str:
         """A refused line behind a bar, with which it is no ballot; empty if it may have words."""
-        line = fate.envelope.line if fate.envelope is not None and fate.answer is not None else b""
+        line = fate.envelope.line if fate.envelope and fate.why_refused is not None else b""
         is_quoted = self.call_data.questions.is_several or QUOTED.fullmatch(line)
         return f"|{line.decode()}" if line and is_quoted else ""
 
