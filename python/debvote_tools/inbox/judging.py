@@ -213,7 +213,7 @@ def judge_originals(
     not wait to the others of their electors.
     """
     in_order = [case for case in cases if case in originals]
-    ballots = (((case.elector, case.time), case.ballots[0].as_entered) for case in in_order)
+    ballots = (((case.elector, case.time), case.sole_ballot.as_entered) for case in in_order)
     # each once: of a thousand letters of one time each is compared with all
     at_its_time = grouped(dict.fromkeys(ballots))
     # copies of these are not known as such, while gpgv does not answer
@@ -221,7 +221,7 @@ def judge_originals(
     unchecked_ballots = {line.as_entered for case in unchecked for line in case.ballots}
     for case in in_order:
         assert case.time is not None
-        own = Ballot(case.time, case.ballots[0].as_entered, True, case.read.behind)
+        own = Ballot(case.time, case.sole_ballot.as_entered, True, case.read.behind)
         at_once = at_its_time[case.elector, case.time]
         case.outcome, case.reason = outcome_of_original(
             case, own, by_elector[case.elector], at_once, unchecked_ballots

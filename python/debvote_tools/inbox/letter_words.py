@@ -82,7 +82,7 @@ def going_in_words(letters: Sequence[LetterCase], vote: Vote) -> Iterator[str]:
 
 
 def ballot_words(letter: LetterCase, vote: Vote) -> str:
-    line = letter.ballots[0]
+    line = letter.sole_ballot
     written = " ".join(letter.read.shown_lines[number - 1].strip() for number in line.numbers)
     as_written = "" if written == line.as_entered else f", written `{shown_line(written.encode())}`"
     answers = vote.answers_in_words(line.as_entered.partition(" ")[2])

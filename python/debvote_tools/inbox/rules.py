@@ -216,9 +216,14 @@ class LetterCase:
         self.ballot = next((line for line in valid if max(line.numbers) <= end), None)
         self.indices = tuple(number - 1 for number in self.ballot.numbers) if self.ballot else ()
         self.elector = "" if self.ballot is None else self.ballot.elector
-        # all lines that read as ballots, first that one, which a letter that breaks no rule has. Each can
-        # be entered by its number
+        # all lines that read as ballots, first that one. Each can be entered by its number
         self.ballots = tuple(dict.fromkeys([*filter(None, [self.ballot]), *valid, *others]))
+
+    @property
+    def sole_ballot(self) -> BallotLine:
+        """`ballot`, of a letter that breaks no rule: it has one, and none that differs."""
+        assert self.ballot is not None
+        return self.ballot
 
     @functools.cached_property
     def other_answers(self) -> set[int]:
@@ -308,7 +313,7 @@ class LetterCase:
     @property
     def has_own_mark(self) -> bool:
         """Whether its subject has the own mark of the elector on its ballot."""
-        return self.ballot is not None and self.marked_elector == self.elector
+        return self.marked_elector == self.elector
 
     @property
     def other_vote(self) -> str:

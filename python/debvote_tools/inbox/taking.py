@@ -176,7 +176,7 @@ def what_goes_in(
         letters={letter.number: queries.ENTERED for letter in new},
         vote=vote,
         # by their times, as they are judged: of an elector's ballots the one that is entered last counts
-        envelopes=[envelope_of(letter, letter.ballots[0].as_entered) for letter in new],
+        envelopes=[envelope_of(letter, letter.sole_ballot.as_entered) for letter in new],
         # what is late breaks a rule, and does not go in
         is_late=False,
         end=[letter_words.went_in_words(every, len(new))],
