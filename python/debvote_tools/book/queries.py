@@ -345,7 +345,7 @@ def envelopes_of(book: Book, electors: Collection[int], condition: str = "1") ->
 
 def what_counts(book: Book, electors: Collection[int] | None = None) -> dict[str, str]:
     """What counts now of each elector who has a valid ballot, or of some: by name the answers, as
-    `answers_in` reads them.
+    `ranks_by_label` reads them.
     """
     some = "" if electors is None else f" WHERE elector IN ({', '.join('?' * len(electors))})"
     words = f"SELECT line FROM counting{some}"

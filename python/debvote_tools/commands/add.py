@@ -22,7 +22,7 @@ from debvote_tools.inbox.lines import MARK, Line, lines_in
 from debvote_tools.inbox.entering import NOTHING_ADDED, Entry, doubtful
 from debvote_tools.inbox.option_names import OptionNames
 from debvote_tools.inbox.vote import IN_ORDER, CheckedLine, Vote, replies_to, summary
-from debvote_tools.text.ballots import answers_in, part_of
+from debvote_tools.text.ballots import part_of, ranks_by_label
 
 FORCE = "add it anyway with --force"
 
@@ -375,7 +375,7 @@ def new_one_above(file: ComparedLines) -> tuple[CheckedLine, CheckedLine] | None
     new = {line.original.number for line in file.new} if file.repeated else set()
     above: dict[tuple[str, str], tuple[str, CheckedLine]] = {}
     for line in filter(is_ballot, file.lines if new else ()):
-        for label, ranks in answers_in(line.ranks).items():
+        for label, ranks in ranks_by_label(line.ranks).items():
             last, ballot = above.get((line.voter, label), (ranks, line))
             if line.original.number in new:
                 above[line.voter, label] = ranks, line
@@ -469,7 +469,9 @@ def repeated_words(file: ComparedLines) -> Iterator[str]:
 def several_ballots_words(file: ComparedLines) -> Iterator[str]:
     by_voter = several((one.voter, one) for one in filter(is_ballot, file.new))
     for voter, ballots in by_voter.items():
-        answered = collections.Counter(label for one in ballots for label in answers_in(one.ranks))
+        answered = collections.Counter(
+            label for one in ballots for label in ranks_by_label(one.ranks)
+        )
         if max(answered.values()) > 1:
             places = [one.original.number for one in ballots]
             listed = ", ".join(map(str, places[:5])) + (", .." if places[5:] else "")

@@ -24,7 +24,7 @@ from debvote_tools.inbox.entering import Entry
 from debvote_tools.inbox.lines import Line, Names, lines_in
 from debvote_tools.inbox.vote import IN_ORDER, CheckedLine, Vote, change_words, summary
 from debvote_tools.poll.plain_names import alike
-from debvote_tools.text.ballots import answers_in, answers_text
+from debvote_tools.text.ballots import answers_text, ranks_by_label
 
 QUIT = b"q"
 NOTHING_CAST, NOT_ENTERED = "nothing was entered", "It was not entered."
@@ -337,7 +337,7 @@ def question(
 def earlier_words(vote: Vote, ballot: CheckedLine, elector: int) -> Iterator[str]:
     """What a ballot would replace, and which answers to other questions stay."""
     counting = queries.what_counts(vote.book, {elector})
-    earlier, new = answers_in(counting.get(ballot.voter, "")), answers_in(ballot.ranks)
+    earlier, new = ranks_by_label(counting.get(ballot.voter, "")), ranks_by_label(ballot.ranks)
     goes, stays = (
         answers_text({label: earlier[label] for label in earlier if (label in new) == is_new})
         for is_new in (True, False)

@@ -43,7 +43,7 @@ from debvote_tools.inbox.vote import IS_CODE, Vote
 from debvote_tools.outbox.reached import unreached_and_printed
 from debvote_tools.poll.questions import Questions, place_of, quorums_in
 from debvote_tools.text import times
-from debvote_tools.text.ballots import answers_in, ballot_file, part_of
+from debvote_tools.text.ballots import ballot_file, part_of, ranks_by_label
 
 # ---- status
 # how many characters the bar of those who have voted has
@@ -85,7 +85,7 @@ def state_of(election: Election, history: History) -> tuple[State, list[Refused]
     roll = [elector.name for elector in queries.electors(book)]
     pending = Pending() if history.call is None else pending_letters(election, history)
     numbers, counting = queries.numbers(book), queries.what_counts(book)
-    answered = {name: {*answers_in(answers)} for name, answers in counting.items()}
+    answered = {name: {*ranks_by_label(answers)} for name, answers in counting.items()}
     unreached, printed = unreached_and_printed(election, history)
     state = {
         "stage": history.stage,

@@ -22,7 +22,7 @@ from debvote_tools.inbox.lines import (
     has_code,
     name_in,
 )
-from debvote_tools.text.ballots import answers_in, ballot_file, line_of, part_of
+from debvote_tools.text.ballots import ballot_file, line_of, part_of, ranks_by_label
 from debvote_tools.text.language import ENGLISH
 
 # the cure where lines look like a table
@@ -219,7 +219,7 @@ class Vote:
         else:
             name, _, answers = line.repaired.decode("ascii").partition(" ")
             by_finding = grouped(
-                (its.get(label), (label, one)) for label, one in answers_in(answers).items()
+                (its.get(label), (label, one)) for label, one in ranks_by_label(answers).items()
             )
             for finding in sorted(by_finding, key=lambda finding: finding is not None):
                 text = line_of(name, dict(by_finding[finding])).encode()
@@ -352,17 +352,17 @@ def replies_to(
     is refused; or whether a ballot is counted, or has replaced one of its elector, by what counts of
     electors and the lines above. If that differs by question, it says so: `A replaced, B counted`.
     """
-    having = {name: {*answers_in(answers)} for name, answers in counting.items()}
+    having = {name: {*ranks_by_label(answers)} for name, answers in counting.items()}
     for line, why_refused in lines:
         if refused := LATE_REPLY if is_late else (why_refused or "").partition(":")[0]:
             yield refused
             continue
         name, _, answers = line.decode("ascii").partition(" ")
         there = having.setdefault(name, set())
-        said = {label: REPLACED if label in there else COUNTED for label in answers_in(answers)}
+        said = {label: REPLACED if label in there else COUNTED for label in ranks_by_label(answers)}
         is_same = len({*said.values()}) == 1
         yield said.popitem()[1] if is_same else ", ".join(map(" ".join, said.items()))
-        there.update(answers_in(answers))
+        there.update(ranks_by_label(answers))
 
 
 def said_of(finding: Finding) -> str:
