@@ -82,8 +82,8 @@ def facts_of_ballots(
         ballots, late = map(ballot_file, (queries.lines_to_count(book), queries.late_lines(book)))
         # what was entered anew as in time came in time
         late_number = len(queries.lines(book, queries.LEFT_LATE))
-        public, standing = public_ballots(book, label, poll, ballots), queries.what_counts(book)
-    demand_kept(election, election.debvote.standing(poll.as_bytes(), ballots), standing)
+        public, counting = public_ballots(book, label, poll, ballots), queries.what_counts(book)
+    demand_kept(election, election.debvote.standing(poll.as_bytes(), ballots), counting)
     demand_as_closed(history, label, public)
     if not poll.secret:
         return {"ballots": public, "late": late, "late_number": late_number}
@@ -96,7 +96,7 @@ def facts_of_ballots(
         "private": sheet_in(
             election.debvote.answer("count", poll.as_bytes(), ballots, *casting).text
         ),
-        "compared": shown_by_comparison(election, history, label, standing, public),
+        "compared": shown_by_comparison(election, history, label, counting, public),
     }
 
 
@@ -165,7 +165,7 @@ def demand_as_closed(history: History, label: str, ballots: bytes) -> None:
 
 
 def shown_by_comparison(
-    election: Election, history: History, label: str, standing: Mapping[str, str], ballots: bytes
+    election: Election, history: History, label: str, counting: Mapping[str, str], ballots: bytes
 ) -> list[str]:
     """The electors of a secret vote whose ballots differ from those of the last publication: a
     comparison shows theirs alone.
@@ -177,7 +177,7 @@ def shown_by_comparison(
         before = queries.what_counted(election.book, earlier[-1].number)
     then, now = (
         {name: in_normal_form(ranks) for name, ranks in votes.items()}
-        for votes in (before, standing)
+        for votes in (before, counting)
     )
     roll = election.sealed().counted.roll
     return [name for name in roll if then.get(name) != now.get(name)]
