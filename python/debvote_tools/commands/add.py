@@ -152,7 +152,7 @@ class Addition(Entry):
 
 def what_is_added(vote: Vote, files: Sequence[FileLines], arguments: Arguments) -> Addition:
     new = new_lines(vote, files)
-    stop_at(list(doubts(vote, new, arguments)))
+    stop_at(list(faults_of_lines(vote, new, arguments)))
     if not new.lines:
         nothing = "There is nothing new, and nothing was added."
         shown = [*report_of_files(vote, new, (), ()), nothing]
@@ -201,7 +201,7 @@ def file_lines(vote: Vote, files: Sequence[GivenFile]) -> list[FileLines]:
     for file, lines in zip(files, lists):
         its_lines = by_file[file.name]
         # of a table no ranks are repaired
-        if is_table := not is_right(its_lines[0]) and vote.are_table(lines):
+        if is_table := not is_right_as_it_came(its_lines[0]) and vote.are_table(lines):
             unrepaired = (line.original for line in its_lines)
             its_lines = vote.checked_lines(
                 [one._replace(repaired=one.unframed) for one in unrepaired]
@@ -210,9 +210,9 @@ def file_lines(vote: Vote, files: Sequence[GivenFile]) -> list[FileLines]:
     return found
 
 
-def is_right(line: CheckedLine) -> bool:
-    """Whether a line is a ballot as it came: below one no line is the head of a table, and the lines of a
-    table are none.
+def is_right_as_it_came(line: CheckedLine) -> bool:
+    """Whether a line is a ballot without a change: below one no line is the head of a table, and the lines
+    of a table are none.
     """
     return line.is_ballot and line.as_entered == line.original.unframed
 
@@ -312,12 +312,12 @@ def look(vote: Vote, files: Sequence[FileLines], arguments: Arguments) -> None:
         asks = "Note: add will ask whether these lines came before the close"
         tell(f"{asks}; this preview assumes that they did.")
     tell_many(report_of_files(vote, new, numbers, replies))
-    stop_at(list(doubts(vote, new, arguments)))
+    stop_at(list(faults_of_lines(vote, new, arguments)))
     tell(f"These would be {summary(replies)}. Nothing was changed.")
 
 
 # ---- what a person has to look at first
-def doubts(vote: Vote, new: NewLines, arguments: Arguments) -> Iterator[Fault]:
+def faults_of_lines(vote: Vote, new: NewLines, arguments: Arguments) -> Iterator[Fault]:
     """All that stands against entering these lines."""
     is_reasoned = arguments.force and has_reason(arguments.because)
     if new.lines and vote.is_signed and not is_reasoned:
