@@ -1,6 +1,6 @@
 """Whom the call has reached, and who gets it printed: the one answer for `status`, for each kind of
 letters and for what a letter after an extension says. `status` asks it, so nothing is imported here
-that reads letters or makes pages.
+that judges letters or makes pages.
 """
 
 from collections.abc import Sequence
