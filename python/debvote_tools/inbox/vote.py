@@ -115,7 +115,7 @@ class Vote:
         self.label, self.poll = label, questions.get(label)
         self.roll = questions.roll
         # the roll has codes: none is printed that was not typed
-        self.has_codes = bool(history.announced("codes_on_roll"))
+        self.has_codes = history.has_codes_on_roll
         self.is_signed = bool(history.announced("signed"))
         # what debvote has said of lines
         self.known = dict[bytes, Mapping[str, Finding]]()
