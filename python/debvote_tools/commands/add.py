@@ -121,12 +121,12 @@ def new_lines(vote: Vote, files: Sequence[FileLines]) -> NewLines:
 class Addition(Entry):
     """An act that enters the new lines of files."""
 
-    given: Sequence[FileLines]
+    files: Sequence[FileLines]
     new: NewLines
 
     def is_same_now(self) -> bool:
         """Else desks that go on casting could keep it from its act: it takes a while to plan."""
-        return new_lines(self.vote, self.given) == self.new
+        return new_lines(self.vote, self.files) == self.new
 
     def write(self, act: NewAct) -> None:
         """Keeps each file whole, and enters its lines."""
@@ -156,7 +156,7 @@ def what_is_added(vote: Vote, files: Sequence[FileLines], arguments: Arguments) 
     if not new.lines:
         nothing = "There is nothing new, and nothing was added."
         shown = [*report_of_files(vote, new, (), ()), nothing]
-        return Addition("add", {}, shown=shown, is_nothing=True, vote=vote, given=files, new=new)
+        return Addition("add", {}, shown=shown, is_nothing=True, vote=vote, files=files, new=new)
     came_before_close = entering.came_before_close(
         new.history, arguments.came_before_close, NOTHING_ADDED
     )
@@ -165,7 +165,7 @@ def what_is_added(vote: Vote, files: Sequence[FileLines], arguments: Arguments) 
         detail_of_act(vote, new, arguments, came_before_close),
         vote=vote,
         is_late=new.history.is_late(came_before_close),
-        given=files,
+        files=files,
         new=new,
     )
 
