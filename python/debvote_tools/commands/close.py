@@ -11,7 +11,7 @@ from debvote_tools.book.change import Change, carried_out, terminal_question
 from debvote_tools.cli.console import act_time, count_of, tell
 from debvote_tools.book.election import LETTERS, Election, Fixed, History, Sealed, fixed_by
 from debvote_tools.files import OWN, sha256_of, write_made
-from debvote_tools.inbox.asked import unasked
+from debvote_tools.inbox.asked import unasked_fault
 from debvote_tools.inbox.pending import other_votes_words, pending_letters
 from debvote_tools.result.publication import (
     closing_letter,
@@ -138,7 +138,7 @@ def what_is_closed(election: Election, sealed: Sealed, arguments: Arguments) -> 
         how = f"{election.command('close', '--early')} (the result page says so)"
         faults.append(Fault(None, words, f"close after that time, or now with {how}"))
     is_forced = arguments.force and has_reason(arguments.because)
-    not_asked = unasked(election, history, "early" if is_early else "close")
+    not_asked = unasked_fault(election, history, "early" if is_early else "close")
     if not_asked is not None and not is_forced:
         faults.append(not_asked)
     if pending.stopping and not is_forced:

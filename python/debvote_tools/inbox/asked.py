@@ -15,7 +15,8 @@ from debvote_tools.text.times import now
 # how old an asking may be where ballots still come
 FRESH = datetime.timedelta(minutes=10)
 
-# what needs an asking: why it stops, and what can be forced
+# what needs an asking, as kinds of letters, a new address (`at`), a close at the end, one that is `early`,
+# and what follows an early one (`closed`): why it stops, and what can be forced
 FORCE = "with --force --because TEXT"
 WITHOUT_PAGE = f"write letters that say that the page takes no ballots, {FORCE}"
 CLOSE = f"close {FORCE} (the result page says so)"
@@ -83,7 +84,7 @@ def is_unasked_since_close(history: History) -> bool:
     )
 
 
-def unasked(
+def unasked_fault(
     election: Election, history: History, what: str, done: str = NOTHING_CHANGED
 ) -> Fault | None:
     """Why something has to wait until the box is asked; None if it need not."""

@@ -12,7 +12,7 @@ from debvote_tools.book.outgoing import REFUSED, TAKEN, WRITTEN, About, Outgoing
 from debvote_tools.cli.arguments import demand_reason, has_reason
 from debvote_tools.cli.faults import Fault, bad_words
 from debvote_tools.grouping import grouped
-from debvote_tools.inbox.asked import unasked
+from debvote_tools.inbox.asked import unasked_fault
 from debvote_tools.inbox.fates import NOBODY, Became, Fate, fates_of
 from debvote_tools.inbox.rules import LetterOutcome
 from debvote_tools.outbox.reached import CAME_BACK, unreached_and_printed, unreached
@@ -207,7 +207,7 @@ def call_data_of(
         if (code := publication.detail["words"]["language"]) is not None:
             call = dataclasses.replace(call, language=language_of(code))
     needs_asking = kind in ("call", "reminders", "closed")
-    fault = unasked(election, history, kind, NOTHING_WRITTEN) if needs_asking else None
+    fault = unasked_fault(election, history, kind, NOTHING_WRITTEN) if needs_asking else None
     if fault is None:
         return call, {}
     if not has_reason(because):

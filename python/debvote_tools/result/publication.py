@@ -196,7 +196,7 @@ def doubts_of(
         # `close --early` has agreed to it
         yield Doubt("closed early", {"closed": closed, "until": until}, stops=False)
     if is_unasked_since_close(history):
-        # as in `unasked`: at the end `close --force` has agreed to it
+        # as in `unasked_fault`: at the end `close --force` has agreed to it
         yield Doubt("box not asked", stops=history.was_closed_early)
     names = dict(zip(poll.plain_names, poll.names))
     earlier = dict.fromkeys(
