@@ -86,7 +86,7 @@ def run(election: Election, arguments: Arguments) -> int:
     target = pathlib.Path(arguments.target) if arguments.target else election.path(RESULT)
     given = published_words(arguments, sealed.public)
     demand_place(target, history)
-    before = publication.last_publication(history)
+    before = history.last_publication
     again = before if given == PublishedWords(is_forced=arguments.force) else None
     words = given if again is None else PublishedWords(**again.detail["words"])
     pending = pending_letters(election, history) if history.is_closed else Pending()
@@ -190,7 +190,7 @@ def demand_place(target_folder: pathlib.Path, history: History) -> None:
     folder.demand_outside(target_folder)
     if folder.is_free(place):
         return
-    sums = [act.detail["checksums"][CHECKSUMS] for act in publication.publications(history)]
+    sums = [act.detail["checksums"][CHECKSUMS] for act in history.publications]
     was_killed = sums and any(
         folder.is_publication(beside, sums[-1]) for beside in folder.left_beside(place)
     )

@@ -19,7 +19,7 @@ from debvote_tools.outbox.reached import CAME_BACK, unreached_and_printed, unrea
 from debvote_tools.outbox.words import Composer
 from debvote_tools.poll.announced import address_in
 from debvote_tools.poll.call import CallData, current_call
-from debvote_tools.result.publication import closing_letter, last_publication
+from debvote_tools.result.publication import closing_letter
 from debvote_tools.text.language import language_of
 from debvote_tools.text.times import now
 
@@ -186,7 +186,7 @@ def demand_time(election: Election, history: History, kind: str, *, is_over: boo
         cure = f"say it: {election.command('call', '--until', 'TIME')}"
     elif kind == "closed" and not history.is_closed:
         words, cure = "the vote is not closed", f"run {election.command('close')} first"
-    elif kind == "result" and not (history.is_closed and last_publication(history)):
+    elif kind == "result" and not (history.is_closed and history.last_publication):
         words, cure = "nothing is published", f"run {election.command('publish')} first"
     else:
         return
@@ -199,7 +199,7 @@ def call_data_of(
     """What the letters say of the call, and the reason for which they go out although the box was not
     asked, if they do: then they say that the page takes no ballots. Stops if it has to be asked.
     """
-    call, publication = current_call(election, history), last_publication(history)
+    call, publication = current_call(election, history), history.last_publication
     if kind == "result" and publication is not None:
         if call.at is None:
             why, cure = "the letter must say where the result is published", "give it: --at URL"
@@ -395,7 +395,7 @@ def letters_of_close_due(run: Run) -> LettersDue:
 
 def results_due(run: Run) -> LettersDue:
     """The letter of the last publication to each elector, with the ballot of theirs that counts."""
-    act = run.history.since_call("publish")[-1].number
+    act = run.history.publications[-1].number
     name = f"{LETTERS}/{RESULT_LETTER}"
     letter = (queries.sealed(run.election.book, name, act) or b"").decode()
     # since the close no other ballot counts than in the publication

@@ -30,17 +30,6 @@ from debvote_tools.text.language import Language, language_of
 from debvote_tools.text.rendering import render_letter
 
 
-# ---- publications
-def publications(history: History) -> list[DoneAct]:
-    """The publications since the last close."""
-    close = history.closes[-1].number if history.closes else 0
-    return [act for act in history.named("publish") if act.number > close]
-
-
-def last_publication(history: History) -> DoneAct | None:
-    return next(reversed(publications(history)), None)
-
-
 # ---- the facts
 def facts_of(election: Election, words: PublishedWords, pending: Pending) -> dict[str, Facts]:
     """The facts of each question, by its label."""
