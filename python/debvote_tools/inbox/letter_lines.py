@@ -49,9 +49,9 @@ from debvote_tools.text.motions import may_answer, with_ranks
 BALLOT = re.compile(rf"[a-z0-9.-]{{1,32}} {RANKS}")
 RANKS_ALONE, RANK_ALONE = re.compile(RANKS), re.compile(ONE_RANK)
 # a name and at least two ranks, within other words
-RANK = rf"(?:\d{{1,2}}|[{DASHES}-])"
-WITHIN = re.compile(
-    rf"(?<![\w.-])([A-Za-z0-9.-]{{1,32}})[\s:*\"'`]+({RANK}(?:\s*[,;]\s*{RANK})+)(?!\w|\s*[,;]\s*[\d{DASHES}-]|[,;]\S)"
+RANK_WITHIN = rf"(?:\d{{1,2}}|[{DASHES}-])"
+BALLOT_WITHIN = re.compile(
+    rf"(?<![\w.-])([A-Za-z0-9.-]{{1,32}})[\s:*\"'`]+({RANK_WITHIN}(?:\s*[,;]\s*{RANK_WITHIN})+)(?!\w|\s*[,;]\s*[\d{DASHES}-]|[,;]\S)"
 )
 # in characters: a ballot within other words is searched for up to here
 MAX_LOOKED_THROUGH = 200
@@ -335,7 +335,7 @@ def with_commas(text: str) -> str:
 
 def near_in(number: int, line: str, text: str, names: Names) -> Near | None:
     """A line shaped as a ballot, with a name of the roll at its start, or with a ballot in it."""
-    for found in WITHIN.finditer(line[:MAX_LOOKED_THROUGH]):
+    for found in BALLOT_WITHIN.finditer(line[:MAX_LOOKED_THROUGH]):
         ballot = repaired_text(f"{found[1]} {found[2]}", names)
         has_words = re.search(r"\w", line[: found.start()] + line[found.end() :]) is not None
         if has_words and ballot.partition(" ")[0] in names.roll:
