@@ -274,8 +274,8 @@ def completed(desk: Desk, line: Line) -> Line | None:
     one, or else parts of one; of several electors one is chosen by a number, or none. Codes are never
     looked for.
     """
-    line, meant = desk.vote.as_meant(line)
-    name, answers = typed_parts(desk, line)
+    as_meant, meant = desk.vote.as_meant(line)
+    name, answers = typed_parts(desk, as_meant)
     if desk.vote.has_codes or not name or (name in desk.vote.names_on_roll and not meant):
         return line
     words = [alike(word) for word in name.split()]
@@ -305,9 +305,9 @@ def chosen_of(found: Sequence[Elector], name: str) -> Elector | None:
     return found[number - 1] if 0 < number <= len(found[:MAX_NAMES]) else None
 
 
-def typed_parts(desk: Desk, line: Line) -> tuple[str, str]:
+def typed_parts(desk: Desk, line: bytes) -> tuple[str, str]:
     """The words that were typed in the place of a name, and what is behind them; empty of no ballot."""
-    text, names = line.repaired.decode("utf-8", "replace"), desk.vote.names
+    text, names = line.decode("utf-8", "replace"), desk.vote.names
     if names.labels:
         return names.taken_apart(text) or ("", "")
     found = TYPED.fullmatch(text)

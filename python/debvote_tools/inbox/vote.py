@@ -52,7 +52,9 @@ class CheckedLine(NamedTuple):
     """
 
     original: Line
-    # with the changes that are allowed if debvote takes it so, and otherwise without them
+    # with the changes that are allowed
+    as_meant: bytes
+    # the same if debvote takes it so, and otherwise without them
     as_entered: bytes
     # why debvote refuses it; None if it is a ballot
     finding: Finding | None = None
@@ -82,9 +84,7 @@ class CheckedLine(NamedTuple):
     @property
     def changed(self) -> bytes:
         """The whole line with what was changed of it."""
-        return (
-            self.as_entered if self.as_entered == self.original.unframed else self.original.repaired
-        )
+        return self.as_entered if self.as_entered == self.original.unframed else self.as_meant
 
     @property
     def why_refused(self) -> str | None:
@@ -144,9 +144,9 @@ class Vote:
         longest, words = questions.longest_line, questions.words(language)
         return Names(self.names_on_roll, language.code, real_names, longest, words, labels, motions)
 
-    def as_meant(self, line: Line) -> tuple[Line, list[str]]:
-        """A line with the name on the roll of the elector who is meant by its name, and with ranks in place
-        of words; and those who may be meant, if they are several.
+    def as_meant(self, line: Line) -> tuple[bytes, list[str]]:
+        """A line as it was repaired, with the name on the roll of the elector who is meant by its name, and
+        with ranks in place of words; and those who may be meant, if they are several.
         """
         names, labels = self.names, self.names.labels
         # of several answers each is repaired by itself: the first label may be part of the name
@@ -155,7 +155,7 @@ class Vote:
         name, _, answers = text.partition(" ")
         is_right = name in names.roll and (self.has_form(given) if labels else " " not in answers)
         if is_right and not names.words:
-            return line, []
+            return line.repaired, []
         is_read = not (is_right or self.has_codes or self.why_too_long(line))
         found, unclear = names.taken_apart(text) if is_read else None, list[str]()
         if found and found[0]:
@@ -164,7 +164,7 @@ class Vote:
             unclear = sorted({*meant, *longer}) if longer or len(meant) > 1 else []
             if labels or len(meant) == 1:
                 text = f"{meant[0] if len(meant) == 1 else name.lower()} {answers}"
-        return line._replace(repaired=text.encode("utf-8", "surrogateescape")), unclear
+        return text.encode("utf-8", "surrogateescape"), unclear
 
     def why_too_long(self, line: Line) -> str | None:
         """Why a line is no ballot, if it is longer than any."""
@@ -195,35 +195,38 @@ class Vote:
         mark and carriage return. It is refused too, since repairs leave a right line as it is; the
         reason may be another one.
         """
-        meant = [self.as_meant(line) for line in lines]
-        texts = [line.repaired for line, _ in meant]
-        texts += [line.unframed for line, _ in meant if line.unframed != line.repaired]
+        meant = [(line, *self.as_meant(line)) for line in lines]
+        texts = [text for _, text, _ in meant]
+        texts += [line.unframed for line, text, _ in meant if line.unframed != text]
         refused = self.refusals(texts)
-        return [one for line, unclear in meant for one in self.checked(line, unclear, refused)]
+        return [one for its in meant for one in self.checked(*its, refused)]
 
     def checked(
-        self, line: Line, unclear: Sequence[str], refused: Mapping[bytes, Mapping[str, Finding]]
+        self,
+        line: Line,
+        meant: bytes,
+        unclear: Sequence[str],
+        refused: Mapping[bytes, Mapping[str, Finding]],
     ) -> Iterator[CheckedLine]:
         """A line, or of several answers the valid ones, and those that are refused for one reason. One
         that has not their form, or whose elector is not known, is never entered.
         """
         why = f"it has the name of {ENGLISH.joined(list(unclear))}" if unclear else ""
-        its = {"": NO_FORM} if why and self.names.labels else refused[line.repaired]
+        its = {"": NO_FORM} if why and self.names.labels else refused[meant]
         if not its:
-            yield CheckedLine(line, line.repaired)
-        elif repaired := its.get(""):
-            came = refused[line.unframed].get("", repaired)
-            is_same = (came.word, came.hint) == (repaired.word, repaired.hint)
-            others = self.other_names(came)
-            yield CheckedLine(line, line.unframed, came, None if is_same else repaired, others, why)
+            yield CheckedLine(line, meant, meant)
+        elif as_meant := its.get(""):
+            came = refused[line.unframed].get("", as_meant)
+            other = None if (came.word, came.hint) == (as_meant.word, as_meant.hint) else as_meant
+            yield CheckedLine(line, meant, line.unframed, came, other, self.other_names(came), why)
         else:
-            name, _, answers = line.repaired.decode("ascii").partition(" ")
+            name, _, answers = meant.decode("ascii").partition(" ")
             by_finding = grouped(
                 (its.get(label), (label, one)) for label, one in ranks_by_label(answers).items()
             )
             for finding in sorted(by_finding, key=lambda finding: finding is not None):
                 text = line_of(name, dict(by_finding[finding])).encode()
-                yield CheckedLine(line, text, finding, None, self.other_names(finding))
+                yield CheckedLine(line, meant, text, finding, None, self.other_names(finding))
 
     def why_each_refused(self, lines: Sequence[bytes]) -> dict[bytes, str | None]:
         """What debvote says of each line, such as `bad rank count: ..`; None for a valid ballot. What
@@ -299,7 +302,7 @@ class Vote:
                 yield from change_words(line)
             yield f"{number} {reply}  {self.in_words(line, reply)}"
             if other := line.finding_if_changed:
-                written = f"written as `{shown_line(line.original.repaired)}` it is refused too"
+                written = f"written as `{shown_line(line.as_meant)}` it is refused too"
                 yield f"  it goes in as it came; {written}: {other.word}: {other.hint}"
         if not all(line.is_ballot for line in lines):
             yield self.right_words()
@@ -314,7 +317,7 @@ class Vote:
         word = "" if line.finding.word == reply else f"{line.finding.word}: "
         # so that nobody takes one elector for another
         others = f" (or {ENGLISH.joined(list(line.other_names))})" if line.other_names else ""
-        is_code = has_code(line.original.repaired.decode("utf-8", "replace")) and not self.has_codes
+        is_code = has_code(line.as_meant.decode("utf-8", "replace")) and not self.has_codes
         said = f"{shown_line(line.as_entered)}: {word}{line.finding.hint}{others}"
         return said + (IS_CODE if is_code else "")
 
