@@ -14,7 +14,7 @@ from debvote_tools.inbox.letter import ParsedLetter, parse
 from debvote_tools.inbox.letter_lines import Names, ReadLetter, from_json, to_json, with_lines
 from debvote_tools.inbox.mailbox import NotRead, RawLetter
 from debvote_tools.inbox.reasons import ReasonWithValues, for_secretary
-from debvote_tools.inbox.rules import Circumstances, LetterCase, Outcome
+from debvote_tools.inbox.rules import Circumstances, LetterCase, LetterOutcome
 from debvote_tools.poll.questions import LONGEST_LINE
 
 from tests.support import elections
@@ -89,7 +89,7 @@ def circumstances(
     }
     usual: dict[str, object] = {
         "mark": MARK, "subject": BY_PAGE, "electors": electors, "is_marked": False, "is_signed": keys is not None,
-        "called": at(9, day=20), "end": None, "first_close": None, "is_closed": False, "now": at(9, day=25), "our_letters": OURS, "decisions": {},
+        "called": at(9, day=20), "end": None, "first_close": None, "is_closed": False, "now": at(9, day=25), "our_ids": OURS, "decisions": {},
         "marks": {MARK}, "own_marks": {*filter(None, own_marks.values()), *own_marks_before},
     }  # fmt: skip
     return Circumstances(**{**usual, **other})  # type: ignore[arg-type]
@@ -161,8 +161,8 @@ def label(why: ReasonWithValues) -> str:
 
 def outcome(one: LetterCase) -> str:
     """What becomes of a letter, in a word and the ballot or the reason, which has all values that its sentence needs."""
-    if one.outcome is Outcome.GOES_IN:
-        return f"in: {one.ballots[0].ballot}"
+    if one.outcome is LetterOutcome.GOES_IN:
+        return f"in: {one.ballots[0].as_entered}"
     if one.reason is None:
         return one.outcome.value
     for_secretary(one.reason)
@@ -175,7 +175,7 @@ def outcomes(*letters: bytes | ParsedLetter, **other: object) -> list[str]:
 
 
 def lines_in(*letters: bytes | ParsedLetter, **other: object) -> list[str]:
-    return [one.ballots[0].ballot for one in judged(*letters, **other) if one.outcome is Outcome.GOES_IN]
+    return [one.ballots[0].as_entered for one in judged(*letters, **other) if one.outcome is LetterOutcome.GOES_IN]
 
 
 def read_in(found: Sequence[RawLetter]) -> list[RawLetter]:

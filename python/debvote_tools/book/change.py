@@ -35,7 +35,7 @@ class Change:
         if self.shown:
             tell(*self.shown)
 
-    def refused(self, _: bool | None) -> None:
+    def declined(self, _: bool | None) -> None:
         """What follows if the answer is no; None is the end of the input."""
         raise Fault(None, "you did not say yes", "run the command again when you agree")
 
@@ -65,7 +65,7 @@ class Change:
             self.report(act.number)
 
 
-def asked(question: str, is_agreed: bool) -> str:
+def terminal_question(question: str, is_agreed: bool) -> str:
     """A question that is asked only at a terminal, unless it was agreed to."""
     return question if is_terminal() and not is_agreed else ""
 
@@ -87,7 +87,7 @@ def carried_out(book: Book, plan: Callable[[], Planned]) -> Planned:
             if change.is_nothing:
                 return change
             if change.question and not (answer := is_yes(change.question)):
-                change.refused(answer)
+                change.declined(answer)
                 return change
             shown = change
         with contextlib.suppress(Overtaken):

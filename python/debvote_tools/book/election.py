@@ -95,6 +95,11 @@ class History(NamedTuple):
         return self.since_call("close")
 
     @property
+    def was_closed_early(self) -> bool:
+        """Whether the first close came before the end that was announced then."""
+        return bool(self.closes and self.closes[0].detail["early"])
+
+    @property
     def is_closed(self) -> bool:
         acts = self.since_call("close", "reopen")
         return bool(acts) and acts[-1].name == "close"
@@ -109,6 +114,16 @@ class History(NamedTuple):
         return self.is_closed or (self.is_reopened and not came_before_close)
 
     @property
+    def publications(self) -> list[DoneAct]:
+        """Those since the last close."""
+        close = self.closes[-1].number if self.closes else 0
+        return [act for act in self.named("publish") if act.number > close]
+
+    @property
+    def last_publication(self) -> DoneAct | None:
+        return next(reversed(self.publications), None)
+
+    @property
     def timing(self) -> list[DoneAct]:
         """The acts on which it depends whether the vote is open, and until when: a plan that is made
         again is compared by them.
@@ -119,7 +134,7 @@ class History(NamedTuple):
     def stage(self) -> Stage:
         if not self.is_closed:
             return "new" if self.call is None else "called"
-        return "closed" if self.since_call("close", "publish")[-1].name == "close" else "published"
+        return "published" if self.publications else "closed"
 
 
 class Fixed(NamedTuple):

@@ -93,7 +93,7 @@ WITH marked AS MATERIALIZED (
     SELECT mark FROM elector_state AS last WHERE last.elector = state.elector ORDER BY act DESC LIMIT 1
   ) GROUP BY elector
 )"""
-REACHED = f"""
+BY_ADDRESS = f"""
 {MARKED}, ours AS (
   SELECT elector, kind, act, state, since, detail ->> 'address' AS address, detail ->> 'for_act' AS for_act,
     detail ->> 'reply' AS reply, detail ->> 'by_server' AS by_server, max(sent) AS last, total(state = 'taken' AND act >= since) AS taken
@@ -105,13 +105,13 @@ SELECT elector, address, act, state, coalesce(reply, ''), total(kind = 'call' AN
 """
 
 
-def reached(
+def letters_by_address(
     book: Book, call: int, without: int
 ) -> dict[tuple[int, str], tuple[int, str, str, float]]:
     """Of each address to which letters were written since the call: the act and the state of the
     last one that a server answered, the answer, and 0 if the call did not go there.
     """
-    return {row[:2]: row[2:6] for row in book.rows(REACHED, call, without)}
+    return {row[:2]: row[2:6] for row in book.rows(BY_ADDRESS, call, without)}
 
 
 # the letters with which mail servers sent letters of ours back, each with the act that kept its first

@@ -85,7 +85,7 @@ def labels_of(book: Book) -> list[str]:
     return [""] if book.label or not rows else [label for label, in rows]
 
 
-def by_question(book: Book) -> Iterator[str]:
+def each_question_alone(book: Book) -> Iterator[str]:
     """The labels of the questions, each while the book shows that question alone."""
     for label in labels_of(book):
         with book.question(label):
@@ -128,7 +128,7 @@ class Envelope(NamedTuple):
     # the act that struck it: a `strike`, or the `undo` that took its act back
     struck: int | None
     # why debvote refuses the line; None of a ballot
-    answer: str | None = None
+    why_refused: str | None = None
     # what became of it, as the view `fate` says: it counts if any of its answers does
     became: str = "counts"
     # the same of each answer, by the label of its question
@@ -206,8 +206,8 @@ NOT_UNDONE = "act NOT IN (SELECT json_extract(detail, '$.act') FROM act WHERE na
 ANEW = f"SELECT value FROM act, json_each(act.detail, '$.in_time') WHERE act.name = 'reopen' AND act.{NOT_UNDONE}"
 LEFT_LATE = f"{LATE} AND envelope NOT IN ({ANEW})"
 
-# those that came in files of lines and tables; a line that was entered anew came once, and is known
-# by its new envelope
+# those that came in files of lines; a line that was entered anew came once, and is known by its new
+# envelope
 IN_FILES = f"source IS NOT NULL AND letter IS NULL AND {NOT_UNDONE} AND envelope NOT IN ({ANEW})"
 
 COLUMNS = "envelope, act, elector, line, source, letter, place, time, late, struck, answer, became"
@@ -223,7 +223,7 @@ def envelopes(book: Book, condition: str = "1", *values: object) -> list[Envelop
     if labels_of(book) == [""]:
         return found
     became: dict[int, dict[str, str]] = collections.defaultdict(dict)
-    for label in by_question(book):
+    for label in each_question_alone(book):
         words = f"SELECT envelope, became FROM fate WHERE {condition}"
         for number, its in book.rows(words, *values):
             became[number][label] = its
@@ -272,7 +272,7 @@ class NewEnvelope(NamedTuple):
     source: int | None = None
     letter: int | None = None
     time: datetime.datetime | None = None
-    answer: str | None = None
+    why_refused: str | None = None
 
 
 def add_envelopes(
@@ -281,20 +281,20 @@ def add_envelopes(
     """Enters lines, each with the elector with whose name it begins."""
     now = as_text(act.time)
     rows = (
-        (elector, line, place, source, letter, as_text(time) if time else now, int(is_late), answer)
-        for elector, (line, place, source, letter, time, answer) in zip(electors, new)
+        (elector, line, place, source, letter, as_text(time) if time else now, int(is_late), why)
+        for elector, (line, place, source, letter, time, why) in zip(electors, new)
     )
     act.insert_all("envelope", "elector, line, place, source, letter, time, late, answer", rows)
 
 
 def entered_by(book: Book, act: int) -> tuple[int, set[int], list[tuple[bytes, str | None]]]:
-    """What an act entered: the number of its first envelope, the electors, and the lines, each with
-    debvote's answer.
+    """What an act entered: the number of its first envelope, the electors, and the lines, each with why
+    debvote refuses it.
     """
     words = "SELECT envelope, elector, line, answer FROM envelope WHERE act = ? ORDER BY 1"
     rows = book.rows(words, act)
     electors = {elector for _, elector, *_ in rows if elector is not None}
-    return rows[0][0] if rows else 0, electors, [(line, answer) for _, _, line, answer in rows]
+    return rows[0][0] if rows else 0, electors, [(line, why) for _, _, line, why in rows]
 
 
 def last_envelope(book: Book) -> int:
@@ -345,7 +345,7 @@ def envelopes_of(book: Book, electors: Collection[int], condition: str = "1") ->
 
 def what_counts(book: Book, electors: Collection[int] | None = None) -> dict[str, str]:
     """What counts now of each elector who has a valid ballot, or of some: by name the answers, as
-    `answers_in` reads them.
+    `ranks_by_label` reads them.
     """
     some = "" if electors is None else f" WHERE elector IN ({', '.join('?' * len(electors))})"
     words = f"SELECT line FROM counting{some}"
@@ -369,7 +369,7 @@ def what_counted(
 def of_all_questions(book: Book, ballots: Callable[[], Iterable[bytes]]) -> dict[str, str]:
     """By name the answers to all questions, of the ballots of one that is seen alone."""
     found: dict[str, dict[str, str]] = collections.defaultdict(dict)
-    for label in by_question(book):
+    for label in each_question_alone(book):
         its = dict(line.decode("ascii").split(" ", 1) for line in ballots())
         if not label:
             return its
@@ -402,7 +402,7 @@ def refused_lines(book: Book) -> list[tuple[int, bytes, str]]:
 
 
 def lines_that_came(book: Book) -> collections.Counter[bytes]:
-    """How often each line came in a file of lines or a table that no `undo` took back."""
+    """How often each line came in a file of lines that no `undo` took back."""
     words = f"SELECT line, count(*) FROM entered WHERE {IN_FILES} GROUP BY line"
     return collections.Counter(dict(book.rows(words)))
 
@@ -415,12 +415,12 @@ def came_in_files(book: Book) -> dict[bytes, list[Envelope]]:
     return grouped((envelope.line, envelope) for envelope in found)
 
 
-def counting(book: Book) -> dict[tuple[int, str], tuple[int, bytes]]:
+def counting_envelopes(book: Book) -> dict[tuple[int, str], tuple[int, bytes]]:
     """Number and line of the envelope that counts, of each elector who has one, by question."""
     words = "SELECT elector, envelope, line FROM counting"
     return {
         (elector, label): (number, line)
-        for label in by_question(book)
+        for label in each_question_alone(book)
         for elector, number, line in book.rows(words)
     }
 
@@ -502,7 +502,7 @@ def source_of(book: Book, source: int) -> bytes:
     return bytes(book.value("SELECT data FROM source WHERE source = ?", source))
 
 
-def unsettled(kept: list[KeptLetter]) -> list[KeptLetter]:
+def unsettled_and_copies(kept: list[KeptLetter]) -> list[KeptLetter]:
     """The unsettled letters, and their copies."""
     identities = {letter.identity for letter in kept if letter.is_unsettled}
     return [letter for letter in kept if letter.identity in identities]

@@ -5,7 +5,6 @@ import dataclasses
 import operator
 import re
 from collections.abc import Iterable, Iterator, Mapping, Sequence
-from typing import NamedTuple
 
 from debvote_tools.cli.arguments import demand_reason, flag, given, has_reason, positional
 from debvote_tools.book import queries
@@ -21,9 +20,9 @@ from debvote_tools.inbox import entering
 from debvote_tools.inbox.given_files import GivenFile, read_files
 from debvote_tools.inbox.lines import MARK, Line, lines_in
 from debvote_tools.inbox.entering import NOTHING_ADDED, Entry, doubtful
-from debvote_tools.inbox.tables import OptionNames
+from debvote_tools.inbox.option_names import OptionNames
 from debvote_tools.inbox.vote import IN_ORDER, CheckedLine, Vote, replies_to, summary
-from debvote_tools.text.ballots import answers_in, part_of
+from debvote_tools.text.ballots import part_of, ranks_by_label
 
 FORCE = "add it anyway with --force"
 
@@ -72,21 +71,29 @@ def run(election: Election, arguments: Arguments) -> None:
 
 
 # ---- lines
-class FileLines(NamedTuple):
-    """A file and its lines in the order of entering, the new ones, and those that came before."""
+@dataclasses.dataclass(frozen=True)
+class FileLines:
+    """A file and its lines in the order of entering."""
 
     file: GivenFile
     lines: Sequence[CheckedLine]
     empty: Sequence[Line]
     # its columns may stand in another order than the options
     is_table: bool
-    new: Sequence[CheckedLine] = ()
-    # each with what has happened since, if it no longer counts
-    repeated: Sequence[tuple[CheckedLine, str | None]] = ()
 
     @property
     def name(self) -> str:
         return self.file.name
+
+
+@dataclasses.dataclass(frozen=True)
+class ComparedLines(FileLines):
+    """The same, compared with the book as it is now: the lines that are new, and those that came before,
+    each with what has happened since, if it no longer counts.
+    """
+
+    new: Sequence[CheckedLine]
+    repeated: Sequence[tuple[CheckedLine, str | None]]
 
 
 @dataclasses.dataclass(frozen=True)
@@ -95,7 +102,7 @@ class NewLines:
 
     history: History = dataclasses.field(compare=False)
     timing: Sequence[DoneAct]
-    files: Sequence[FileLines]
+    files: Sequence[ComparedLines]
 
     @property
     def lines(self) -> list[CheckedLine]:
@@ -106,7 +113,7 @@ def new_lines(vote: Vote, files: Sequence[FileLines]) -> NewLines:
     """It asks nothing of debvote, so it is found again within the act."""
     history = vote.election.history()
     vote.demand_same_call(history, NOTHING_ADDED)
-    found = without_duplicates(vote.book, files, history)
+    found = compared_with_book(vote.book, files, history)
     return NewLines(history, history.timing, found)
 
 
@@ -114,12 +121,12 @@ def new_lines(vote: Vote, files: Sequence[FileLines]) -> NewLines:
 class Addition(Entry):
     """An act that enters the new lines of files."""
 
-    given: Sequence[FileLines]
+    files: Sequence[FileLines]
     new: NewLines
 
     def is_same_now(self) -> bool:
         """Else desks that go on casting could keep it from its act: it takes a while to plan."""
-        return new_lines(self.vote, self.given) == self.new
+        return new_lines(self.vote, self.files) == self.new
 
     def write(self, act: NewAct) -> None:
         """Keeps each file whole, and enters its lines."""
@@ -130,7 +137,9 @@ class Addition(Entry):
         self.enter(
             act,
             [
-                NewEnvelope(line.as_entered, line.original.place, source, answer=line.answer)
+                NewEnvelope(
+                    line.as_entered, line.original.place, source, why_refused=line.why_refused
+                )
                 for source, lines in files
                 for line in lines
             ],
@@ -143,20 +152,20 @@ class Addition(Entry):
 
 def what_is_added(vote: Vote, files: Sequence[FileLines], arguments: Arguments) -> Addition:
     new = new_lines(vote, files)
-    stop_at(list(doubts(vote, new, arguments)))
+    stop_at(list(faults_of_lines(vote, new, arguments)))
     if not new.lines:
         nothing = "There is nothing new, and nothing was added."
         shown = [*report_of_files(vote, new, (), ()), nothing]
-        return Addition("add", {}, shown=shown, is_nothing=True, vote=vote, given=files, new=new)
-    came_in_time = entering.came_before_close(
+        return Addition("add", {}, shown=shown, is_nothing=True, vote=vote, files=files, new=new)
+    came_before_close = entering.came_before_close(
         new.history, arguments.came_before_close, NOTHING_ADDED
     )
     return Addition(
         "add",
-        detail_of_act(vote, new, arguments, came_in_time),
+        detail_of_act(vote, new, arguments, came_before_close),
         vote=vote,
-        is_late=new.history.is_late(came_in_time),
-        given=files,
+        is_late=new.history.is_late(came_before_close),
+        files=files,
         new=new,
     )
 
@@ -186,13 +195,13 @@ def file_lines(vote: Vote, files: Sequence[GivenFile]) -> list[FileLines]:
     stop_at([doubtful(file.name, what, cure) for file in empty])
     checked = vote.checked_lines([line for lines in lists for line in lines if not line.is_empty])
     cure = f"write it as `{vote.right_line}`, or take it out"
-    no_form = [line for line in checked if not line.has_form][:MAX_REFUSED]
+    no_form = [line for line in checked if not line.can_be_entered][:MAX_REFUSED]
     stop_at([doubtful(line.original.where, vote.why_not_entered(line), cure) for line in no_form])
     by_file, found = grouped((line.original.file_name, line) for line in checked), []
     for file, lines in zip(files, lists):
         its_lines = by_file[file.name]
         # of a table no ranks are repaired
-        if is_table := not is_right(its_lines[0]) and vote.are_table(lines):
+        if is_table := not is_right_as_it_came(its_lines[0]) and vote.are_table(lines):
             unrepaired = (line.original for line in its_lines)
             its_lines = vote.checked_lines(
                 [one._replace(repaired=one.unframed) for one in unrepaired]
@@ -201,42 +210,44 @@ def file_lines(vote: Vote, files: Sequence[GivenFile]) -> list[FileLines]:
     return found
 
 
-def is_right(line: CheckedLine) -> bool:
-    """Whether a line is a ballot as it came: below one no line is the head of a table, and the lines of a
-    table are none.
+def is_right_as_it_came(line: CheckedLine) -> bool:
+    """Whether a line is a ballot without a change: below one no line is the head of a table, and the lines
+    of a table are none.
     """
     return line.is_ballot and line.as_entered == line.original.unframed
 
 
-def without_duplicates(book: Book, files: Sequence[FileLines], history: History) -> list[FileLines]:
+def compared_with_book(
+    book: Book, files: Sequence[FileLines], history: History
+) -> list[ComparedLines]:
     """The files, each with its new lines and those that came before. If n copies of a line came in earlier files, its first
     n copies in this file are duplicates, whether those were counted, refused, struck or late. Files
     that an `undo` took back do not count. A file that goes in now is an earlier one for the next.
     """
-    counts = queries.lines_that_came(book)
-    is_known = any(line.as_entered in counts for file in files for line in file.lines)
+    copies_before = queries.lines_that_came(book)
+    is_known = any(line.as_entered in copies_before for file in files for line in file.lines)
     if not is_known and len(files) == 1:
-        return [files[0]._replace(new=files[0].lines)]
+        return [ComparedLines(**vars(files[0]), new=files[0].lines, repeated=())]
     before = queries.came_in_files(book) if is_known else {}
-    counting = queries.counting(book) if is_known else {}
+    counting = queries.counting_envelopes(book) if is_known else {}
     copies = [list(copies_of(file.lines, before)) for file in files]
     own = {envelope.number for lines in copies for _, _, envelope in lines if envelope}
     # what counts now; a later line of these files did not come since
     since = {answered: now for answered, now in counting.items() if now[0] not in own}
     going_in, found = set[bytes](), []
     for file, lines in zip(files, copies):
-        new = [line for line, nth, _ in lines if nth > counts[line.as_entered]]
+        new = [line for line, nth, _ in lines if nth > copies_before[line.as_entered]]
         repeated = [
             (
                 line,
                 None if line.as_entered in going_in else change_since(line, came, since, history),
             )
             for line, nth, came in lines
-            if nth <= counts[line.as_entered]
+            if nth <= copies_before[line.as_entered]
         ]
-        counts.update(line.as_entered for line in new)
+        copies_before.update(line.as_entered for line in new)
         going_in.update(line.as_entered for line in new)
-        found.append(file._replace(new=new, repeated=repeated))
+        found.append(ComparedLines(**vars(file), new=new, repeated=repeated))
     return found
 
 
@@ -244,10 +255,10 @@ def copies_of(
     lines: Iterable[CheckedLine], before: Mapping[bytes, Sequence[Envelope]]
 ) -> Iterator[tuple[CheckedLine, int, Envelope | None]]:
     """Each line with its number among its copies, and with its envelope if it came before."""
-    counts: collections.Counter[bytes] = collections.Counter()
+    so_far: collections.Counter[bytes] = collections.Counter()
     for line in lines:
-        counts[line.as_entered] += 1
-        nth, envelopes = counts[line.as_entered], before.get(line.as_entered, ())
+        so_far[line.as_entered] += 1
+        nth, envelopes = so_far[line.as_entered], before.get(line.as_entered, ())
         yield line, nth, envelopes[nth - 1] if nth <= len(envelopes) else None
 
 
@@ -273,15 +284,15 @@ def change_since(
 
 
 def detail_of_act(
-    vote: Vote, new: NewLines, arguments: Arguments, came_in_time: bool | None
+    vote: Vote, new: NewLines, arguments: Arguments, came_before_close: bool | None
 ) -> Detail:
     detail: Detail = {
         "files": [file.file.kept_name for file in new.files],
         "lines": len(new.lines),
         "passed_over": sum(len(file.repeated) for file in new.files),
     }
-    if came_in_time is not None:
-        detail["came_before_close"] = came_in_time
+    if came_before_close is not None:
+        detail["came_before_close"] = came_before_close
     if vote.is_signed:
         detail["unsigned"] = True
         detail["because"] = demand_reason(arguments.because, "--force")
@@ -292,21 +303,21 @@ def look(vote: Vote, files: Sequence[FileLines], arguments: Arguments) -> None:
     """Says what would become of the lines, and stops if `add` would."""
     with vote.book.snapshot():
         new = new_lines(vote, files)
-        voters, first = queries.what_counts(vote.book), queries.last_envelope(vote.book) + 1
+        counting, first = queries.what_counts(vote.book), queries.last_envelope(vote.book) + 1
     is_late = new.history.is_late(arguments.came_before_close != "no")
-    lines = [(line.as_entered, line.answer) for line in new.lines]
+    lines = [(line.as_entered, line.why_refused) for line in new.lines]
     numbers = range(first, first + len(lines))
-    replies = [*replies_to(lines, voters, is_late=is_late)]
+    replies = [*replies_to(lines, counting, is_late=is_late)]
     if new.history.is_reopened and arguments.came_before_close is None:
         asks = "Note: add will ask whether these lines came before the close"
         tell(f"{asks}; this preview assumes that they did.")
     tell_many(report_of_files(vote, new, numbers, replies))
-    stop_at(list(doubts(vote, new, arguments)))
+    stop_at(list(faults_of_lines(vote, new, arguments)))
     tell(f"These would be {summary(replies)}. Nothing was changed.")
 
 
 # ---- what a person has to look at first
-def doubts(vote: Vote, new: NewLines, arguments: Arguments) -> Iterator[Fault]:
+def faults_of_lines(vote: Vote, new: NewLines, arguments: Arguments) -> Iterator[Fault]:
     """All that stands against entering these lines."""
     is_reasoned = arguments.force and has_reason(arguments.because)
     if new.lines and vote.is_signed and not is_reasoned:
@@ -331,7 +342,7 @@ def doubts(vote: Vote, new: NewLines, arguments: Arguments) -> Iterator[Fault]:
             yield doubtful(file.name, words, f"take the older ballot out, or {FORCE}")
 
 
-def odd_lines(vote: Vote, file: FileLines) -> Iterator[Fault]:
+def odd_lines(vote: Vote, file: ComparedLines) -> Iterator[Fault]:
     """A fault for the first line that is longer than any ballot, and for those with a name that
     several electors have.
     """
@@ -359,12 +370,12 @@ def under_other_names(vote: Vote, files: Sequence[FileLines]) -> Iterator[Fault]
                 break
 
 
-def new_one_above(file: FileLines) -> tuple[CheckedLine, CheckedLine] | None:
+def new_one_above(file: ComparedLines) -> tuple[CheckedLine, CheckedLine] | None:
     """A new ballot, and one of its elector below it that came before, which it would replace."""
     new = {line.original.number for line in file.new} if file.repeated else set()
     above: dict[tuple[str, str], tuple[str, CheckedLine]] = {}
     for line in filter(is_ballot, file.lines if new else ()):
-        for label, ranks in answers_in(line.ranks).items():
+        for label, ranks in ranks_by_label(line.ranks).items():
             last, ballot = above.get((line.voter, label), (ranks, line))
             if line.original.number in new:
                 above[line.voter, label] = ranks, line
@@ -381,7 +392,7 @@ def few_ballots(vote: Vote, files: Sequence[FileLines]) -> Iterator[Fault]:
     all_lines = tuple(line for file in files for line in file.lines)
     few = [file for file in files if has_few_ballots(file.lines)]
     if not few and len(files) > 1 and has_few_ballots(all_lines):
-        few = [files[0]._replace(lines=all_lines)]
+        few = [dataclasses.replace(files[0], lines=all_lines)]
     for file in few:
         refused = [line for line in file.lines if not line.is_ballot]
         lines, count = lines_and_ballots(file.lines)
@@ -440,7 +451,7 @@ def report_of_files(
         yield from several_ballots_words(file)
 
 
-def repeated_words(file: FileLines) -> Iterator[str]:
+def repeated_words(file: ComparedLines) -> Iterator[str]:
     if not (count := len(file.repeated)):
         return
     ignored = "is ignored, since it" if count == 1 else "are ignored, since they"
@@ -455,10 +466,12 @@ def repeated_words(file: FileLines) -> Iterator[str]:
         yield "  To enter such a line again, type it at a desk."
 
 
-def several_ballots_words(file: FileLines) -> Iterator[str]:
+def several_ballots_words(file: ComparedLines) -> Iterator[str]:
     by_voter = several((one.voter, one) for one in filter(is_ballot, file.new))
     for voter, ballots in by_voter.items():
-        answered = collections.Counter(label for one in ballots for label in answers_in(one.ranks))
+        answered = collections.Counter(
+            label for one in ballots for label in ranks_by_label(one.ranks)
+        )
         if max(answered.values()) > 1:
             places = [one.original.number for one in ballots]
             listed = ", ".join(map(str, places[:5])) + (", .." if places[5:] else "")

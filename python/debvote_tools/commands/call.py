@@ -34,7 +34,7 @@ from debvote_tools.poll.announced import (
     parse_until,
 )
 from debvote_tools.cli.faults import NOTHING_CHANGED, Fault, bad_words, kept_in, stop_at
-from debvote_tools.inbox.asked import unasked
+from debvote_tools.inbox.asked import unasked_fault
 from debvote_tools.inbox.signature import read_keyring
 from debvote_tools.poll.box import SCRIPT, box_files, script_address
 from debvote_tools.poll.secret import aliased, demand_no_code
@@ -141,7 +141,7 @@ def call_again(election: Election, arguments: Arguments) -> None:
     history, faults = election.history(), list[Fault]()
     said = announced(arguments, history, faults)
     if said.get("at") not in (None, history.announced("at")):
-        faults += filter(None, [unasked(election, history, "at")])
+        faults += filter(None, [unasked_fault(election, history, "at")])
     stop_at(faults)
     demand_no_change(election, history, arguments, said)
     before = current_call(election, history).letter_text

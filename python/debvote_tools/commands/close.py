@@ -7,11 +7,11 @@ from debvote_tools.cli.arguments import Acting, demand_reason, flag, has_reason
 from debvote_tools.text import times
 from debvote_tools.book import queries
 from debvote_tools.book.book import Detail, DoneAct
-from debvote_tools.book.change import Change, asked, carried_out
+from debvote_tools.book.change import Change, carried_out, terminal_question
 from debvote_tools.cli.console import act_time, count_of, tell
 from debvote_tools.book.election import LETTERS, Election, Fixed, History, Sealed, fixed_by
 from debvote_tools.files import OWN, sha256_of, write_made
-from debvote_tools.inbox.asked import unasked
+from debvote_tools.inbox.asked import unasked_fault
 from debvote_tools.inbox.pending import other_votes_words, pending_letters
 from debvote_tools.result.publication import (
     closing_letter,
@@ -103,7 +103,7 @@ class Closing(Change):
     def __eq__(self, other: object) -> bool:
         return isinstance(other, Closing)
 
-    def refused(self, _: bool | None) -> None:
+    def declined(self, _: bool | None) -> None:
         cure = "enter what is missing, then run the command again"
         raise Fault(None, "you did not say that this is all", cure)
 
@@ -138,7 +138,7 @@ def what_is_closed(election: Election, sealed: Sealed, arguments: Arguments) -> 
         how = f"{election.command('close', '--early')} (the result page says so)"
         faults.append(Fault(None, words, f"close after that time, or now with {how}"))
     is_forced = arguments.force and has_reason(arguments.because)
-    not_asked = unasked(election, history, "early" if is_early else "close")
+    not_asked = unasked_fault(election, history, "early" if is_early else "close")
     if not_asked is not None and not is_forced:
         faults.append(not_asked)
     if pending.stopping and not is_forced:
@@ -162,7 +162,7 @@ def what_is_closed(election: Election, sealed: Sealed, arguments: Arguments) -> 
     if pending.stopping or not_asked:
         detail["because"] = demand_reason(arguments.because, "--force")
     shown = [came_last(history, lines_in_words(fixed)), *other_votes_words(pending.other_votes)]
-    return Closing("close", detail, shown=shown, question=asked(ALL, arguments.yes))
+    return Closing("close", detail, shown=shown, question=terminal_question(ALL, arguments.yes))
 
 
 def what_is_fixed(election: Election, label: str, poll: SealedPoll) -> Fixed:

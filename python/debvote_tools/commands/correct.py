@@ -6,7 +6,7 @@ from collections.abc import Iterator, Mapping, Sequence
 
 from debvote_tools.book import outgoing, queries
 from debvote_tools.book.book import Book, Detail, DoneAct
-from debvote_tools.book.change import Change, asked, carried_out
+from debvote_tools.book.change import Change, carried_out, terminal_question
 from debvote_tools.book.election import Election, History
 from debvote_tools.book.queries import Envelope, NewEnvelope
 from debvote_tools.cli.arguments import Acting, demand_reason, flag, option, positional
@@ -77,7 +77,7 @@ def what_is_taken_back(vote: Vote, arguments: UndoArguments) -> TakenBack:
         after = queries.what_counted(book, history.last.number, electors, without=number)
     act, struck = history.act(number), [envelope.number for envelope in envelopes]
     letters = sorted({one.letter for one in envelopes if one.letter is not None})
-    question = asked(f"Take back {what(act, struck)}?", arguments.yes)
+    question = terminal_question(f"Take back {what(act, struck)}?", arguments.yes)
     none = "no ballot would be left" if question else "no ballot is left"
     ballots = standing_words(vote, before, after, none)
     others = [*what_else_changes(book, struck, letters)]
@@ -108,7 +108,7 @@ def what_else_changes(book: Book, struck: Sequence[int], letters: Sequence[int])
 
 def judged_now(vote: Vote) -> dict[int, LetterCase]:
     """The letters as they are judged now, by number."""
-    kept = queries.unsettled(queries.kept_letters(vote.book))
+    kept = queries.unsettled_and_copies(queries.kept_letters(vote.book))
     return {one.number: one for one in judged(vote, vote.election.history(), kept)}
 
 
@@ -173,7 +173,9 @@ def what_is_struck(vote: Vote, arguments: StrikeArguments, because: str) -> Chan
     return Change(
         "strike",
         {"envelope": envelope.number, "because": because},
-        question=asked(f"Strike {in_words(envelope, vote)}? This cannot be undone.", arguments.yes),
+        question=terminal_question(
+            f"Strike {in_words(envelope, vote)}? This cannot be undone.", arguments.yes
+        ),
         struck=[envelope.number],
         letters=dict.fromkeys(done, queries.STRUCK),
     )
@@ -271,7 +273,7 @@ def what_is_reopened(
         detail,
         vote=vote,
         envelopes=[
-            NewEnvelope(one.line, one.place, one.source, one.letter, one.time, one.answer)
+            NewEnvelope(one.line, one.place, one.source, one.letter, one.time, one.why_refused)
             for one in offered
         ],
         offered=offered,

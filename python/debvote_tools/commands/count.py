@@ -8,7 +8,7 @@ from debvote_tools.cli.console import tell_as_it_is, tell_aside
 from debvote_tools.cli.faults import bad_words
 from debvote_tools.debvote import casting_words
 from debvote_tools.book.election import Election, History
-from debvote_tools.inbox.asked import asked_words, unasked
+from debvote_tools.inbox.asked import asked_words, unasked_fault
 from debvote_tools.inbox.pending import Pending, pending_letters
 from debvote_tools.text.ballots import ballot_file
 from debvote_tools.poll.questions import Questions
@@ -51,7 +51,7 @@ def run(election: Election, arguments: Arguments) -> int:
     if not history.is_closed:
         tell_aside(*asked_words(history))
     elif (
-        not_asked := unasked(election, history, "closed", NOTHING_COUNTED)
+        not_asked := unasked_fault(election, history, "closed", NOTHING_COUNTED)
     ) and not arguments.force:
         raise not_asked
     if not arguments.force:

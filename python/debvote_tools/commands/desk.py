@@ -24,7 +24,7 @@ from debvote_tools.inbox.entering import Entry
 from debvote_tools.inbox.lines import Line, Names, lines_in
 from debvote_tools.inbox.vote import IN_ORDER, CheckedLine, Vote, change_words, summary
 from debvote_tools.poll.plain_names import alike
-from debvote_tools.text.ballots import answers_in, answers_text
+from debvote_tools.text.ballots import answers_text, ranks_by_label
 
 QUIT = b"q"
 NOTHING_CAST, NOT_ENTERED = "nothing was entered", "It was not entered."
@@ -136,7 +136,7 @@ class Casting(Entry):
         there = queries.envelope_states(self.vote.book, self.elector)
         return (self.desk.history().timing, there) == (self.timing, self.there)
 
-    def refused(self, answer: bool | None) -> None:
+    def declined(self, answer: bool | None) -> None:
         self.desk.is_over = answer is None
         tell(*([] if answer is None else [NOT_ENTERED]))
 
@@ -160,7 +160,8 @@ def what_is_cast(desk: Desk, lines: list[CheckedLine], elector: int | None, asks
         question=asked,
         vote=desk.vote,
         envelopes=[
-            NewEnvelope(one.as_entered, one.original.place, answer=one.answer) for one in lines
+            NewEnvelope(one.as_entered, one.original.place, why_refused=one.why_refused)
+            for one in lines
         ],
         is_late=history.is_late(desk.came_before_close),
         desk=desk,
@@ -261,7 +262,7 @@ def ask_and_cast(desk: Desk, line: Line) -> None:
         tell(NOT_ENTERED)
         return
     checked = desk.vote.checked_lines([meant])
-    if no_form := [one for one in checked if not one.has_form]:
+    if no_form := [one for one in checked if not one.can_be_entered]:
         tell(desk.vote.why_not_entered(no_form[0]), NOT_ENTERED)
         return
     [elector] = desk.vote.electors_of([checked[0].as_entered])
@@ -273,8 +274,8 @@ def completed(desk: Desk, line: Line) -> Line | None:
     one, or else parts of one; of several electors one is chosen by a number, or none. Codes are never
     looked for.
     """
-    line, meant = desk.vote.as_meant(line)
-    name, answers = typed_parts(desk, line)
+    as_meant, meant = desk.vote.as_meant(line)
+    name, answers = typed_parts(desk, as_meant)
     if desk.vote.has_codes or not name or (name in desk.vote.names_on_roll and not meant):
         return line
     words = [alike(word) for word in name.split()]
@@ -304,9 +305,9 @@ def chosen_of(found: Sequence[Elector], name: str) -> Elector | None:
     return found[number - 1] if 0 < number <= len(found[:MAX_NAMES]) else None
 
 
-def typed_parts(desk: Desk, line: Line) -> tuple[str, str]:
+def typed_parts(desk: Desk, line: bytes) -> tuple[str, str]:
     """The words that were typed in the place of a name, and what is behind them; empty of no ballot."""
-    text, names = line.repaired.decode("utf-8", "replace"), desk.vote.names
+    text, names = line.decode("utf-8", "replace"), desk.vote.names
     if names.labels:
         return names.taken_apart(text) or ("", "")
     found = TYPED.fullmatch(text)
@@ -336,7 +337,7 @@ def question(
 def earlier_words(vote: Vote, ballot: CheckedLine, elector: int) -> Iterator[str]:
     """What a ballot would replace, and which answers to other questions stay."""
     counting = queries.what_counts(vote.book, {elector})
-    earlier, new = answers_in(counting.get(ballot.voter, "")), answers_in(ballot.ranks)
+    earlier, new = ranks_by_label(counting.get(ballot.voter, "")), ranks_by_label(ballot.ranks)
     goes, stays = (
         answers_text({label: earlier[label] for label in earlier if (label in new) == is_new})
         for is_new in (True, False)

@@ -8,7 +8,7 @@ from typing import NamedTuple
 from debvote_tools.cli.arguments import Acting, flag, given, option, positional
 from debvote_tools.book import queries
 from debvote_tools.book.book import ActName, Book, Detail
-from debvote_tools.book.change import Change, asked, carried_out
+from debvote_tools.book.change import Change, carried_out, terminal_question
 from debvote_tools.book.election import Election, History
 from debvote_tools.book.queries import Envelope
 from debvote_tools.cli.console import count_of, shown_line, shown_text, tell
@@ -16,9 +16,9 @@ from debvote_tools.cli.faults import Fault, bad_words, kept_in, stop_at
 from debvote_tools.grouping import grouped
 from debvote_tools.inbox import letter_words
 from debvote_tools.inbox.letter_words import name_of, who_and_when, why
-from debvote_tools.inbox.judging import Box, answered_by, ballots_in, judged
+from debvote_tools.inbox.judging import BallotsByElector, answered_by, ballots_in, judged
 from debvote_tools.inbox.reasons import Reason
-from debvote_tools.inbox.rules import BallotLine, LetterCase, Outcome
+from debvote_tools.inbox.rules import BallotLine, LetterCase, LetterOutcome
 from debvote_tools.inbox.taking import LetterEntry, envelope_of
 from debvote_tools.inbox.lines import Line, lines_in, name_in
 from debvote_tools.inbox.vote import Vote, said_of
@@ -76,9 +76,11 @@ def run(election: Election, arguments: Arguments) -> None:
         tell(*letter_words.whole(letter))
     if not (is_act or shown):
         tell(*letter_words.table(pending))
-        if aside := [str(letter.number) for letter in found if letter.outcome is Outcome.SET_ASIDE]:
+        if aside := [
+            str(letter.number) for letter in found if letter.outcome is LetterOutcome.SET_ASIDE
+        ]:
             tell(f"Set aside: {', '.join(aside)}")
-    others = (letter.other_vote for letter in found if letter.outcome is Outcome.OTHER_VOTE)
+    others = (letter.other_vote for letter in found if letter.outcome is LetterOutcome.OTHER_VOTE)
     tell(*other_votes_words(others))
     if not pending:
         tell("No letter waits.", f"Next: {election.command('status')}")
@@ -121,7 +123,7 @@ def chosen_letters(found: Sequence[LetterCase], numbers: Sequence[int]) -> list[
 def what_is_decided(vote: Vote, arguments: Arguments) -> Change:
     """The act that sets letters aside, or has them wait again."""
     chosen = chosen_letters(all_letters(vote), arguments.numbers)
-    if entered := [letter for letter in chosen if letter.outcome is Outcome.ENTERED]:
+    if entered := [letter for letter in chosen if letter.outcome is LetterOutcome.ENTERED]:
         cure = "strike takes out one envelope, undo takes back the last act"
         raise Fault(name_of(entered[0]), "its ballot was entered", cure)
     state: ActName = queries.SET_ASIDE if arguments.set_aside else queries.PUT_BACK
@@ -156,7 +158,9 @@ class Chosen(NamedTuple):
     def again(self) -> list[Envelope]:
         """The envelopes in which answers of these ballots were entered already."""
         there = self.entered
-        answered = ((line.elector, one) for line in self.lines for one in answers_of(line.ballot))
+        answered = (
+            (line.elector, one) for line in self.lines for one in answers_of(line.as_entered)
+        )
         return [there[answer] for answer in answered if answer in there]
 
     def waits_for(self, history: History) -> list[str]:
@@ -171,14 +175,18 @@ class Chosen(NamedTuple):
         names = dict.fromkeys([*(line.elector for line in self.letter.ballots), *sharing])
         return [name for name in names if name not in having]
 
-    def left_of(self, line: BallotLine, box: Box) -> tuple[str, dict[str, set[str]]]:
+    def left_of(
+        self, line: BallotLine, by_elector: BallotsByElector
+    ) -> tuple[str, dict[str, set[str]]]:
         """A ballot without the answers to which its elector has later ones, and without those that were
         entered; and the labels of both, by why.
         """
-        there = queries.later(box.get(line.elector, []), self.letter.time)
-        later, entered = answered_by(line.ballot, there), self.entered
-        done = {one for one in answers_of(line.ballot) if (line.elector, one) in entered} - later
-        left = without(line.ballot, later | done)
+        there = queries.later(by_elector.get(line.elector, []), self.letter.time)
+        later, entered = answered_by(line.as_entered, there), self.entered
+        done = {
+            one for one in answers_of(line.as_entered) if (line.elector, one) in entered
+        } - later
+        left = without(line.as_entered, later | done)
         return left, {f"{line.elector} has a later answer": later, "it was entered": done}
 
 
@@ -239,18 +247,18 @@ def entry_of(
         detail | {"lines": [line.number for _, line in lines if line.number]},
         shown=[
             *(
-                f"{who_and_when(letter)}: {vote.ballot_in_words(line.ballot)}\n  {why(letter)}"
+                f"{who_and_when(letter)}: {vote.ballot_in_words(line.as_entered)}\n  {why(letter)}"
                 for letter, line in lines
             ),
             *left,
         ],
-        question=asked(f"Enter {count_of(len(lines), 'ballot')}?", is_agreed),
+        question=terminal_question(f"Enter {count_of(len(lines), 'ballot')}?", is_agreed),
         letters={
             one.letter.number: queries.PUT_BACK if one.letter in waits else queries.ENTERED
             for one in chosen
         },
         vote=vote,
-        envelopes=[envelope_of(letter, line.ballot) for letter, line in lines],
+        envelopes=[envelope_of(letter, line.as_entered) for letter, line in lines],
         is_late=would_be_late(history, chosen[0].letter),
         end=[
             f"{name_of(letter)} waits on, for a ballot of {ENGLISH.joined(names)}"
@@ -259,19 +267,21 @@ def entry_of(
     )
 
 
-def without_answered(chosen: Sequence[Chosen], box: Box) -> tuple[list[Chosen], list[str]]:
+def without_answered(
+    chosen: Sequence[Chosen], by_elector: BallotsByElector
+) -> tuple[list[Chosen], list[str]]:
     """The ballots without the answers that are left out, unless none is left; and what is said of these."""
     found, said = list[Chosen](), list[str]()
     for one in chosen:
         kept = list[BallotLine]()
         for line in one.lines:
-            left, left_out = one.left_of(line, box)
+            left, left_out = one.left_of(line, by_elector)
             said += (
                 f"Left out of {name_of(one.letter)}: {ENGLISH.joined(sorted(labels))}, since {why}"
                 for why, labels in left_out.items()
                 if labels and left
             )
-            kept.append(BallotLine(line.numbers, left or line.ballot))
+            kept.append(BallotLine(line.numbers, left or line.as_entered))
         found.append(one._replace(lines=kept))
     return found, said
 
@@ -282,14 +292,16 @@ def left_out(vote: Vote, electors: Collection[str]) -> Iterator[str]:
     """
     if not vote.names.labels:
         return
-    entered, box = entered_in(vote.book), ballots_in(vote, electors, IN_TIME)
+    entered, by_elector = entered_in(vote.book), ballots_in(vote, electors, IN_TIME)
     for letter in all_letters(vote):
         one = Chosen(letter, (*letter.ballots, *letter.offered), entered.get(letter.number, ()))
         partly = (
-            {elector for elector, _ in one.entered} if letter.outcome is Outcome.ENTERED else ()
+            {elector for elector, _ in one.entered}
+            if letter.outcome is LetterOutcome.ENTERED
+            else ()
         )
         for line in one.lines:
-            left, _ = one.left_of(line, box)
+            left, _ = one.left_of(line, by_elector)
             if left and line.elector in electors and line.elector in partly:
                 enter = vote.election.command("held", str(letter.number), "--enter")
                 yield f"{name_of(letter)} has an answer that was left out, `{left}`: {enter}"
@@ -344,7 +356,7 @@ def named_lines(letter: LetterCase, enter: Sequence[str], *, is_one: bool) -> li
     name = name_of(letter)
     there = {str(line.number): line for line in (*letter.offered, *letter.ballots)}
     if [*enter] == [THE_ONE]:
-        if len({line.ballot for line in there.values()}) != 1:
+        if len({line.as_entered for line in there.values()}) != 1:
             words = f"it has {count_of(len(there), 'line')} that can be entered"
             cure = "name its lines with --enter LINE, or type the ballot with --as LINE"
             raise Fault(name, words, cure)
@@ -380,7 +392,7 @@ def why_not_now(vote: Vote, history: History, chosen: Sequence[Chosen]) -> Again
                 words = f"{words}, and is late"
                 cure = f"if it came before the first close, have the vote closed, then run {reopen}"
             yield letter, Fault(name, words, cure)
-        elif letter.outcome is Outcome.COPY:
+        elif letter.outcome is LetterOutcome.COPY:
             cure = "to enter its ballot once more, have the letter wait first with --wait"
             yield letter, Fault(name, "it is a copy of another letter", cure)
         elif history.is_closed and letter.arrived_in_time:
@@ -392,7 +404,7 @@ def why_not_now(vote: Vote, history: History, chosen: Sequence[Chosen]) -> Again
             yield letter, Fault(name, words, "name the one that counts")
 
 
-def why_not_unforced(chosen: Sequence[Chosen], box: Box) -> Against:
+def why_not_unforced(chosen: Sequence[Chosen], by_elector: BallotsByElector) -> Against:
     """The letter is of another vote; nothing ties the elector of a typed ballot to it; or the
     elector has a later ballot, or another one of its time.
     """
@@ -404,13 +416,13 @@ def why_not_unforced(chosen: Sequence[Chosen], box: Box) -> Against:
             yield letter, Fault(name, words, f"add it to that vote; {cure}")
         tied = {*letter.electors, *letter.sharing, letter.marked_elector}
         for line in lines:
-            there = box.get(line.elector, [])
+            there = by_elector.get(line.elector, [])
             if not line.number and line.elector not in tied:
                 words = f"neither its sender nor a line of {name} is of {line.elector}"
                 yield letter, Fault("--as", words, f"check the name; {cure}")
-            if answered_by(line.ballot, queries.later(there, time)):
+            if answered_by(line.as_entered, queries.later(there, time)):
                 yield letter, Fault(name, "its elector has voted since", cure)
-            elif any(one.time == time and differ(one.line, line.ballot) for one in there):
+            elif any(one.time == time and differ(one.line, line.as_entered) for one in there):
                 words = "another ballot of its elector with the same time was entered"
                 yield letter, Fault(name, words, cure)
 
@@ -423,7 +435,7 @@ def demand_one_order(chosen: Sequence[Chosen]) -> None:
         itertools.combinations(one, 2) for one in at_once.values()
     )
     for (letter, line), (other, other_line) in pairs:
-        if differ(line.ballot, other_line.ballot):
+        if differ(line.as_entered, other_line.as_entered):
             name = f"letters {letter.number} and {other.number}"
             words = f"they have different ballots of {line.elector}, and the same time"
             raise Fault(name, words, "enter the one that counts")

@@ -22,7 +22,7 @@ from debvote_tools.files import locked, uninterrupted
 from debvote_tools.outbox import letter_folder, smtp
 from debvote_tools.inbox.pending import pending_letters
 from debvote_tools.outbox.due import NOTHING_WRITTEN, LettersDue, is_present, letters_due
-from debvote_tools.outbox.reached import WAS_REFUSED, reached_by_call
+from debvote_tools.outbox.reached import WAS_REFUSED, unreached_and_printed
 from debvote_tools.outbox.smtp import Server
 from debvote_tools.outbox.words import SUBJECTS
 from debvote_tools.poll.announced import demand_mail_address, demand_web_address
@@ -168,7 +168,7 @@ def sent_words(due: LettersDue, tried: Sequence[OutgoingLetter]) -> Iterator[str
 
 def unreached_words(election: Election) -> Iterator[str]:
     """Names those whom the call has not reached, until a letter to them is taken."""
-    unreached, _ = reached_by_call(election, election.history())
+    unreached, _ = unreached_and_printed(election, election.history())
     found = [
         f"{elector.name} ({why}{f': {shown_text(reply)}' if why == WAS_REFUSED else ''})"
         for elector, why, reply in unreached

@@ -40,10 +40,10 @@ from debvote_tools.inbox.fates import Fate, fates_of
 from debvote_tools.inbox.lines import has_code
 from debvote_tools.inbox.pending import Pending, pending_letters
 from debvote_tools.inbox.vote import IS_CODE, Vote
-from debvote_tools.outbox.reached import reached_by_call
+from debvote_tools.outbox.reached import unreached_and_printed
 from debvote_tools.poll.questions import Questions, place_of, quorums_in
 from debvote_tools.text import times
-from debvote_tools.text.ballots import answers_in, ballot_file, part_of
+from debvote_tools.text.ballots import ballot_file, part_of, ranks_by_label
 
 # ---- status
 # how many characters the bar of those who have voted has
@@ -72,7 +72,9 @@ def status(election: Election, arguments: StatusArguments) -> None:
     if arguments.json:
         tell(json.dumps(state, ensure_ascii=False))
     else:
-        tell(*stage_words(election, history, state), *words_of(election, history, state, refused))
+        tell(
+            *stage_words(election, history, state), *state_words(election, history, state, refused)
+        )
 
 
 def state_of(election: Election, history: History) -> tuple[State, list[Refused]]:
@@ -82,9 +84,9 @@ def state_of(election: Election, history: History) -> tuple[State, list[Refused]
     book, has_codes = election.book, history.has_codes_on_roll
     roll = [elector.name for elector in queries.electors(book)]
     pending = Pending() if history.call is None else pending_letters(election, history)
-    numbers, voters = queries.numbers(book), queries.what_counts(book)
-    answered = {name: {*answers_in(answers)} for name, answers in voters.items()}
-    unreached, printed = reached_by_call(election, history)
+    numbers, counting = queries.numbers(book), queries.what_counts(book)
+    answered = {name: {*ranks_by_label(answers)} for name, answers in counting.items()}
+    unreached, printed = unreached_and_printed(election, history)
     state = {
         "stage": history.stage,
         "electors": len(roll),
@@ -92,7 +94,7 @@ def state_of(election: Election, history: History) -> tuple[State, list[Refused]
         "late": len(queries.late_lines(book)),
         "waiting": pending.count,
         "stopping": pending.stopping,
-        "without_ballot": None if has_codes else [name for name in roll if name not in voters],
+        "without_ballot": None if has_codes else [name for name in roll if name not in counting],
         "box": asked_last(election, history),
         "not_reached": {elector.name: why for elector, why, _ in unreached},
         "printed": printed,
@@ -105,7 +107,7 @@ def state_of(election: Election, history: History) -> tuple[State, list[Refused]
     refused = [
         (number, line, answer)
         for number, line, answer in queries.refused_lines(book)
-        if has_codes or not labels_in(line, labels) <= answered.get(name_in(line) or "", set())
+        if has_codes or not labels_in(line, labels) <= answered.get(whose_line(line) or "", set())
     ]
     return state, refused
 
@@ -120,7 +122,7 @@ def questions_in(election: Election, history: History, *, has_late: bool) -> Sta
             **queries.numbers(book)._asdict(),
             "late": len(queries.late_lines(book)) if has_late else 0,
         }
-        for label in queries.by_question(book)
+        for label in queries.each_question_alone(book)
     }
 
 
@@ -129,7 +131,7 @@ def labels_in(line: bytes, labels: Sequence[str]) -> set[str]:
     return {label for label in labels if part_of(line, label) is not None}
 
 
-def name_in(line: bytes) -> str | None:
+def whose_line(line: bytes) -> str | None:
     """Whose a line may be: its first word in small letters."""
     word = FIRST_WORD.match(line)
     return word[1].decode("ascii").lower() if word else None
@@ -160,7 +162,7 @@ def stage_words(election: Election, history: History, state: State) -> Iterator[
         yield f"{'  ' if label else ''}{quorum_words(poll.quorum, quorums[label])}"
 
 
-def words_of(
+def state_words(
     election: Election, history: History, state: State, refused: list[Refused]
 ) -> Iterator[str]:
     yield f"Lines: {state['lines']} ({state['valid']} valid, {state['refused']} refused)"
@@ -209,7 +211,7 @@ def refused_words(
         nobody := "with no known elector",
     )
     whose = dict.fromkeys(roll, no_answer) | dict.fromkeys(without_ballot, no_ballot)
-    found = grouped((whose.get(name_in(one[1]) or "", nobody), one) for one in refused)
+    found = grouped((whose.get(whose_line(one[1]) or "", nobody), one) for one in refused)
     for who in groups:
         if who in found:
             yield f"Refused lines {who} ({len(found[who])}):"
@@ -296,7 +298,7 @@ def fate_words(vote: Vote, history: History, fate: Fate) -> Iterator[str]:
 def refused_line(vote: Vote, fate: Fate) -> str:
     line = b"" if fate.envelope is None else fate.envelope.line
     is_code = has_code(line.decode("utf-8", "replace")) and not vote.has_codes
-    return f"{shown_line(line)}: {fate.answer}{IS_CODE if is_code else ''}"
+    return f"{shown_line(line)}: {fate.why_refused}{IS_CODE if is_code else ''}"
 
 
 # ---- log, export and backup

@@ -37,7 +37,7 @@ from debvote_tools.result.sheet import (
     demand_countable,
     publishing,
 )
-from debvote_tools.result.facts import Facts, Outcome, Words
+from debvote_tools.result.facts import Facts, Outcome, PublishedWords
 from debvote_tools.result.file_names import BALLOTS, CHECKSUMS, PAGE, POLL
 from debvote_tools.result.folder import NOTHING_DONE
 
@@ -84,13 +84,13 @@ def run(election: Election, arguments: Arguments) -> int:
     history, sealed = election.history(), election.sealed()
     demand_countable(election, history, sealed)
     target = pathlib.Path(arguments.target) if arguments.target else election.path(RESULT)
-    given = words_of(arguments, sealed.public)
+    given = published_words(arguments, sealed.public)
     demand_place(target, history)
-    before = publication.last_publication(history)
-    again = before if given == Words(is_forced=arguments.force) else None
-    words = given if again is None else Words(**again.detail["words"])
+    before = history.last_publication
+    again = before if given == PublishedWords(is_forced=arguments.force) else None
+    words = given if again is None else PublishedWords(**again.detail["words"])
     pending = pending_letters(election, history) if history.is_closed else Pending()
-    facts = facts_again(publication.facts_of(election, words, pending), again)
+    facts = without_old_force(publication.facts_of(election, words, pending), again)
     agreed = agreed_in_secret(history, sealed.public, facts.values(), is_agreed=arguments.yes)
     with folder.beside(target) as new:
         filled = folder.filled(new.folder, facts, election.program_folder)
@@ -107,7 +107,7 @@ def run(election: Election, arguments: Arguments) -> int:
     return max(one.sheet.status for one in filled.outcomes.values())
 
 
-def detail_of(words: Words, filled: folder.Filled) -> Detail:
+def detail_of(words: PublishedWords, filled: folder.Filled) -> Detail:
     """The detail of the act, with the checksums that the letter of the result names; and the casting
     votes that decide.
     """
@@ -128,9 +128,9 @@ def detail_of(words: Words, filled: folder.Filled) -> Detail:
     }
 
 
-def facts_again(facts: dict[str, Facts], again: DoneAct | None) -> dict[str, Facts]:
-    """The facts of a result that is made again, with its own words, if the command line has none, or
-    --force alone: the reason of then is not one for what came since.
+def without_old_force(facts: dict[str, Facts], again: DoneAct | None) -> dict[str, Facts]:
+    """The facts. Those of a result that is made again, with its words of then, are not forced if a doubt
+    that stops is new: the reason of then is not one for what came since.
     """
     stopping = (
         doubt
@@ -139,7 +139,7 @@ def facts_again(facts: dict[str, Facts], again: DoneAct | None) -> dict[str, Fac
     )
     if again is None or all(doubt in again.detail["doubts"] for doubt in stopping):
         return facts
-    words = Words(**(again.detail["words"] | {"is_forced": False}))
+    words = PublishedWords(**(again.detail["words"] | {"is_forced": False}))
     return {label: dataclasses.replace(its, words=words) for label, its in facts.items()}
 
 
@@ -190,7 +190,7 @@ def demand_place(target_folder: pathlib.Path, history: History) -> None:
     folder.demand_outside(target_folder)
     if folder.is_free(place):
         return
-    sums = [act.detail["checksums"][CHECKSUMS] for act in publication.publications(history)]
+    sums = [act.detail["checksums"][CHECKSUMS] for act in history.publications]
     was_killed = sums and any(
         folder.is_publication(beside, sums[-1]) for beside in folder.left_beside(place)
     )
@@ -231,7 +231,7 @@ def alone(election: Election) -> Iterator[None]:
 
 
 # ---- words of those who publish
-def words_of(arguments: Arguments, questions: Questions) -> Words:
+def published_words(arguments: Arguments, questions: Questions) -> PublishedWords:
     """What the command line says, checked."""
     reason, about = arguments.because if arguments.force else None, None
     by, on = arguments.cast_by, arguments.cast_on
@@ -248,7 +248,7 @@ def words_of(arguments: Arguments, questions: Questions) -> Words:
             "write it, or leave --about out",
         )
         about = read_text(arguments.about, TEXT_LIMIT, unread, empty, may_wait=True)
-    return Words(
+    return PublishedWords(
         casting=castings_said(castings_in(arguments.casting, questions)),
         cast_by=by,
         cast_on=on,

@@ -15,7 +15,8 @@ from debvote_tools.text.times import now
 # how old an asking may be where ballots still come
 FRESH = datetime.timedelta(minutes=10)
 
-# what needs an asking: why it stops, and what can be forced
+# what needs an asking, as kinds of letters, a new address (`at`), a close at the end, one that is `early`,
+# and what follows an early one (`closed`): why it stops, and what can be forced
 FORCE = "with --force --because TEXT"
 WITHOUT_PAGE = f"write letters that say that the page takes no ballots, {FORCE}"
 CLOSE = f"close {FORCE} (the result page says so)"
@@ -78,11 +79,12 @@ def is_unasked_since_close(history: History) -> bool:
     """Whether the box was not asked since the end, or since the first close if that was early."""
     if not history.closes:
         return False
-    first = history.closes[0]
-    return is_unasked(history, first.time if first.detail["early"] else history.until)
+    return is_unasked(
+        history, history.closes[0].time if history.was_closed_early else history.until
+    )
 
 
-def unasked(
+def unasked_fault(
     election: Election, history: History, what: str, done: str = NOTHING_CHANGED
 ) -> Fault | None:
     """Why something has to wait until the box is asked; None if it need not."""
@@ -95,7 +97,7 @@ def unasked(
         # what comes after the first close is late
         "close": not closes and is_unasked(history, history.until),
         "early": not closes and is_unasked(history, recently),
-        "closed": closes and closes[0].detail["early"] and is_unasked_since_close(history),
+        "closed": history.was_closed_early and is_unasked_since_close(history),
     }
     if not is_missing[what]:
         return None

@@ -36,7 +36,7 @@ FIELDS = {
 UPLOAD = f"upload {SCRIPT} of the folder call to where PHP 8.1 or later runs and may write; then run the command again"
 
 
-class Answer(NamedTuple):
+class HostAnswer(NamedTuple):
     """What a web host answers, and when it began to."""
 
     status: int
@@ -87,7 +87,7 @@ def ask(at: str | None, mark: str, word: str) -> Asked:
     return Asked(time, int(behind.total_seconds()), digest, records)
 
 
-def answer_of(address: str, body: bytes) -> Answer:
+def answer_of(address: str, body: bytes) -> HostAnswer:
     """What is answered to a request. Stops if it does not come whole. No redirect is followed: the
     word is for this address alone.
     """
@@ -106,7 +106,7 @@ def answer_of(address: str, body: bytes) -> Answer:
         # without a length nobody sees whether an answer was cut off
         if response.length or not (response.headers["content-length"] or response.chunked):
             raise cut_off(address)
-        return Answer(response.status, response.headers["location"] or "", data, time)
+        return HostAnswer(response.status, response.headers["location"] or "", data, time)
     except ssl.SSLCertVerificationError as error:
         cure = "ask who keeps the web host to put it right, or look whether the clock of this computer is right"
         raise doubtful(
@@ -122,7 +122,7 @@ def answer_of(address: str, body: bytes) -> Answer:
         connection.close()
 
 
-def demand_box(address: str, answer: Answer) -> None:
+def demand_box(address: str, answer: HostAnswer) -> None:
     """Stops at what other servers answer, and a box that refuses."""
     if 300 <= answer.status < 400:
         reason = f"it sends on to {shown_text(answer.moved_to) or 'nowhere'}"
@@ -137,7 +137,7 @@ def demand_box(address: str, answer: Answer) -> None:
         raise doubtful(address, f"it answers {answer.status}: {shown(answer)}", UPLOAD)
 
 
-def shown(answer: Answer) -> str:
+def shown(answer: HostAnswer) -> str:
     """The beginning of an answer, in words."""
     return shown_text(answer.body[:1_000].decode("utf-8", "replace"))
 

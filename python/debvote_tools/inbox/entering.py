@@ -46,11 +46,11 @@ class Entry(Change):
         super().write(act)
         self.enter(act, self.envelopes)
 
-    def enter(self, act: NewAct, new: Sequence[NewEnvelope]) -> None:
+    def enter(self, act: NewAct, envelopes: Sequence[NewEnvelope]) -> None:
         if not self.is_late:
-            demand_room(self.vote.book, new)
-        electors = self.vote.electors_of([envelope.line for envelope in new])
-        queries.add_envelopes(act, new, electors, is_late=self.is_late)
+            demand_room(self.vote.book, envelopes)
+        electors = self.vote.electors_of([envelope.line for envelope in envelopes])
+        queries.add_envelopes(act, envelopes, electors, is_late=self.is_late)
 
     def words(self, numbers: range, replies: Sequence[str]) -> Iterable[str]:
         """What is told, by the numbers of the envelopes and the replies."""

@@ -9,7 +9,7 @@ from debvote_tools.book.election import Election, History
 from debvote_tools.book.queries import Elector, Envelope
 from debvote_tools.grouping import grouped
 from debvote_tools.inbox.judging import judged
-from debvote_tools.inbox.rules import LetterCase, Outcome
+from debvote_tools.inbox.rules import LetterCase, LetterOutcome
 from debvote_tools.inbox.vote import Vote
 
 # what belongs to no elector has this in place of a name
@@ -34,15 +34,15 @@ class Fate(NamedTuple):
     """
 
     time: datetime.datetime
-    became: Became | Outcome
+    became: Became | LetterOutcome
     envelope: Envelope | None = None
     letter: LetterCase | None = None
     is_own: bool = False
 
     @property
-    def answer(self) -> str | None:
+    def why_refused(self) -> str | None:
         """Why debvote refuses the line of an envelope; None of a ballot."""
-        return None if self.envelope is None else self.envelope.answer
+        return None if self.envelope is None else self.envelope.why_refused
 
     @property
     def replaced(self) -> list[str]:
@@ -55,24 +55,26 @@ class Fate(NamedTuple):
     @property
     def answers(self) -> str:
         """What a valid ballot has behind the name."""
-        if self.envelope is None or self.answer is not None:
+        if self.envelope is None or self.why_refused is not None:
             return ""
         return self.envelope.line.decode().partition(" ")[2]
 
 
 def fates_of(
-    election: Election, history: History, of: Elector | None = None
+    election: Election, history: History, elector: Elector | None = None
 ) -> dict[str, list[Fate]]:
     """What came from all electors or from one, by their names on the roll, in the order of its
     times; a letter that arrived at no known time has that of its act.
 
-    The last valid line of an elector that is in time and not struck counts. A letter is of whoever
-    has a ballot in it or a line near to one, and of whoever sent it; where one is asked about, of each
-    who has the sender's address. One that was entered comes beside its envelopes.
+    What became of an envelope the view `fate` says, of a letter `judged`. A letter is of whoever has a
+    ballot in it or a line near to one, and of whoever sent it; of one elector alone also each whose
+    sender has an address of theirs. One that was entered comes beside its envelopes.
     """
     book = election.book
-    names = {one.number: one.name for one in (queries.electors(book) if of is None else [of])}
-    came = queries.envelopes(book) if of is None else queries.envelopes_of(book, names)
+    names = {
+        one.number: one.name for one in (queries.electors(book) if elector is None else [elector])
+    }
+    came = queries.envelopes(book) if elector is None else queries.envelopes_of(book, names)
     fates = [
         (names.get(one.elector or 0, NOBODY), Fate(one.time, Became(one.became), one))
         for one in came
@@ -81,7 +83,7 @@ def fates_of(
     kept_at = {letter.number: history.act(letter.act).time for letter in kept}
     for letter in judged(Vote(election), history, kept):
         time = letter.read.arrived or kept_at[letter.number]
-        senders = letter.sharing if of or len(letter.sharing) == 1 else ()
+        senders = letter.sharing if elector or len(letter.sharing) == 1 else ()
         fates += [
             (name, Fate(time, letter.outcome, letter=letter, is_own=letter.is_from(name)))
             for name in dict.fromkeys((*letter.electors, *senders)) or [NOBODY]

@@ -15,7 +15,7 @@ from debvote_tools.inbox.letter import Body
 from debvote_tools.inbox.letter_lines import ReadLetter, from_json, read_letters
 from debvote_tools.inbox.mailbox import RawLetter
 from debvote_tools.inbox.reasons import Reason, ReasonWithValues
-from debvote_tools.inbox.rules import WENT_IN, Circumstances, LetterCase, Outcome
+from debvote_tools.inbox.rules import WENT_IN, Circumstances, LetterCase, LetterOutcome
 from debvote_tools.inbox.vote import Vote
 from debvote_tools.poll.call import SUBJECT, call_letter, current_call
 from debvote_tools.text import times
@@ -23,17 +23,17 @@ from debvote_tools.text.ballots import answers_of, differ, without
 
 # what an act decided holds, whatever the rules say
 DECIDED = {
-    queries.ENTERED: (Outcome.ENTERED, None),
-    queries.SET_ASIDE: (Outcome.SET_ASIDE, Reason.SET_ASIDE()),
-    queries.STRUCK: (Outcome.SET_ASIDE, Reason.STRUCK()),
-    queries.TAKEN_BACK: (Outcome.WAITS, Reason.TAKEN_BACK()),
-    queries.PUT_BACK: (Outcome.WAITS, Reason.PUT_BACK()),
+    queries.ENTERED: (LetterOutcome.ENTERED, None),
+    queries.SET_ASIDE: (LetterOutcome.SET_ASIDE, Reason.SET_ASIDE()),
+    queries.STRUCK: (LetterOutcome.SET_ASIDE, Reason.STRUCK()),
+    queries.TAKEN_BACK: (LetterOutcome.WAITS, Reason.TAKEN_BACK()),
+    queries.PUT_BACK: (LetterOutcome.WAITS, Reason.PUT_BACK()),
 }
 
 # what becomes of a letter, and why it waits or was set aside
-Judgement = tuple[Outcome, ReasonWithValues | None]
+Judgement = tuple[LetterOutcome, ReasonWithValues | None]
 # the ballots of each elector, in the order `queries.by_time`
-Box = dict[str, list[Ballot]]
+BallotsByElector = dict[str, list[Ballot]]
 TIME, IS_BY_LETTER = operator.attrgetter("time"), operator.attrgetter("is_by_letter")
 
 
@@ -88,13 +88,15 @@ def check_again(
         found[index] = read
 
 
-def ballots_in(vote: Vote, names: Collection[str], condition: str = queries.A_BALLOT) -> Box:
+def ballots_in(
+    vote: Vote, names: Collection[str], condition: str = queries.A_BALLOT
+) -> BallotsByElector:
     """The ballots of some electors that were entered and are not struck, also late ones, unless a
     condition says otherwise.
     """
     numbers = queries.elector_numbers(vote.book, names)
     by_number = {number: name for name, number in numbers.items()}
-    box: Box = collections.defaultdict(list)
+    by_elector: BallotsByElector = collections.defaultdict(list)
     clocks = queries.letter_clocks(vote.book)
     there = queries.envelopes_of(vote.book, by_number, condition)
     for envelope in sorted(there, key=queries.by_time):
@@ -102,8 +104,8 @@ def ballots_in(vote: Vote, names: Collection[str], condition: str = queries.A_BA
         behind, line = clocks.get(envelope.letter or 0), envelope.line.decode("ascii")
         is_by_letter = behind is not None and not envelope.is_late
         ballot = Ballot(envelope.time, line, is_by_letter, behind or 0, envelope.number)
-        box[by_number[envelope.elector or 0]].append(ballot)
-    return box
+        by_elector[by_number[envelope.elector or 0]].append(ballot)
+    return by_elector
 
 
 def circumstances_now(
@@ -132,12 +134,12 @@ def circumstances_now(
         first_close=history.closes[0].time if history.closes else None,
         is_closed=history.is_closed,
         now=times.now(),
-        our_letters={elector.name: ids.get(elector.number, []) for elector in electors},
+        our_ids={elector.name: ids.get(elector.number, []) for elector in electors},
         decisions={key: state for key, state in states if state != queries.NEVER_DECIDED},
         box_key=queries.sealed(election.book, BOX_KEY) or b"",
         words=vote.names.words,
         no_answers=no_answers,
-        asking=queries.ids_that_ask(election.book),
+        asking_ids=queries.ids_that_ask(election.book),
     )
 
 
@@ -154,27 +156,30 @@ def judge_all(
     cases = [LetterCase(letter, circumstances) for letter in letters]
     cases.sort(key=lambda case: (case.time is None, case.time or circumstances.now))
     electors = {elector for case in cases for elector in case.electors}
-    box: Box = collections.defaultdict(list)
+    by_elector: BallotsByElector = collections.defaultdict(list)
     for elector, ballots in ballots_of(electors).items():
-        box[elector] = sorted(ballots, key=queries.by_time)
+        by_elector[elector] = sorted(ballots, key=queries.by_time)
     for case in cases:
         case.outcome, case.reason = (
-            (Outcome.WAITS, case.first_broken_rule)
+            (LetterOutcome.WAITS, case.first_broken_rule)
             if case.decision is None
             else DECIDED[case.decision]
         )
     groups = grouped((case.read.identity, case) for case in cases).values()
     originals = set(filter(None, map(original_of, groups)))
-    judge_originals(cases, originals, box)
+    judge_originals(cases, originals, by_elector)
     for group in groups:
-        judge_copies(group, originals, box)
+        judge_copies(group, originals, by_elector)
     # of each elector the last ballot that answers a question
     last = {
-        elector: {label: one for one in its for label in one.labels} for elector, its in box.items()
+        elector: {label: one for one in its for label in one.labels}
+        for elector, its in by_elector.items()
     }
     for case in cases:
-        if case.decision is None and case.outcome is Outcome.WAITS and case.other_vote:
-            case.outcome, case.reason = Outcome.OTHER_VOTE, Reason.OTHER_MARK(mark=case.other_vote)
+        if case.decision is None and case.outcome is LetterOutcome.WAITS and case.other_vote:
+            case.outcome, case.reason = LetterOutcome.OTHER_VOTE, Reason.OTHER_MARK(
+                mark=case.other_vote
+            )
         case.has_voted_since = any(has_voted_since(case, one, last) for one in case.electors)
     return cases
 
@@ -186,7 +191,7 @@ def has_voted_since(
     that answers one of the same questions.
     """
     its = last.get(elector, {})
-    lines = (line.ballot for line in (*case.ballots, *case.offered) if line.elector == elector)
+    lines = (line.as_entered for line in (*case.ballots, *case.offered) if line.elector == elector)
     labels = {label for ballot in lines for label in answers_of(ballot)} or its.keys()
     return any(queries.later([its[label]], case.time) for label in labels & its.keys())
 
@@ -202,33 +207,33 @@ def original_of(group: Sequence[LetterCase]) -> LetterCase | None:
 
 
 def judge_originals(
-    cases: Sequence[LetterCase], originals: Collection[LetterCase], box: Box
+    cases: Sequence[LetterCase], originals: Collection[LetterCase], by_elector: BallotsByElector
 ) -> None:
-    """Judges the letters that break no rule, by their times, and puts into the box the ballots of those
-    that do not wait.
+    """Judges the letters that break no rule, by their times, and puts the ballots of those that do
+    not wait to the others of their electors.
     """
     in_order = [case for case in cases if case in originals]
-    ballots = (((case.elector, case.time), case.ballots[0].ballot) for case in in_order)
+    ballots = (((case.elector, case.time), case.sole_ballot.as_entered) for case in in_order)
     # each once: of a thousand letters of one time each is compared with all
     at_its_time = grouped(dict.fromkeys(ballots))
     # copies of these are not known as such, while gpgv does not answer
     unchecked = [case for case in cases if case.decision is not None and case.read.is_slow]
-    unchecked_ballots = {line.ballot for case in unchecked for line in case.ballots}
+    unchecked_ballots = {line.as_entered for case in unchecked for line in case.ballots}
     for case in in_order:
         assert case.time is not None
-        own = Ballot(case.time, case.ballots[0].ballot, True, case.read.behind)
+        own = Ballot(case.time, case.sole_ballot.as_entered, True, case.read.behind)
         at_once = at_its_time[case.elector, case.time]
         case.outcome, case.reason = outcome_of_original(
-            case, own, box[case.elector], at_once, unchecked_ballots
+            case, own, by_elector[case.elector], at_once, unchecked_ballots
         )
-        if case.outcome is not Outcome.WAITS:
-            bisect.insort(box[case.elector], own, key=queries.by_time)
+        if case.outcome is not LetterOutcome.WAITS:
+            bisect.insort(by_elector[case.elector], own, key=queries.by_time)
 
 
 def outcome_of_original(
     case: LetterCase,
     own: Ballot,
-    its_box: Sequence[Ballot],
+    its_ballots: Sequence[Ballot],
     at_once: Sequence[str],
     unchecked_ballots: Collection[str],
 ) -> Judgement:
@@ -238,24 +243,24 @@ def outcome_of_original(
     """
     elector, time = case.elector, own.time
     # those that answer one of its questions
-    there = [one for one in its_box if not own.labels.isdisjoint(one.labels)]
+    there = [one for one in its_ballots if not own.labels.isdisjoint(one.labels)]
     if turned := next(filter(own.may_turn, there), None):
-        return Outcome.WAITS, Reason.CLOCKS(elector=elector, time=turned.time)
+        return LetterOutcome.WAITS, Reason.CLOCKS(elector=elector, time=turned.time)
     if later := queries.later(there, time):
         case.answered_since = answered_by(own.line, later)
         # this one can count in no case; the time of a line is only when somebody entered it
         is_older = not without(own.line, answered_by(own.line, filter(IS_BY_LETTER, later)))
         reason = Reason.LATER_BALLOT(elector=elector, time=later[-1].time)
-        return Outcome.OLDER if is_older else Outcome.WAITS, reason
+        return LetterOutcome.OLDER if is_older else LetterOutcome.WAITS, reason
     since = (one.line for one in there[bisect.bisect_left(there, time, key=TIME) :])
     if any(differ(own.line, one) for one in (*at_once, *since)):
-        return Outcome.WAITS, Reason.SAME_TIME(elector=elector, time=time)
+        return LetterOutcome.WAITS, Reason.SAME_TIME(elector=elector, time=time)
     if own.line in unchecked_ballots:
-        return Outcome.WAITS, Reason.PERHAPS_COPY()
+        return LetterOutcome.WAITS, Reason.PERHAPS_COPY()
     if case.circumstances.is_closed:
         # it would become late, and the plainer a ballot is, the less would that be noticed
-        return Outcome.WAITS, Reason.CLOSED()
-    return Outcome.GOES_IN, None
+        return LetterOutcome.WAITS, Reason.CLOSED()
+    return LetterOutcome.GOES_IN, None
 
 
 def answered_by(ballot: str, later: Iterable[Ballot]) -> set[str]:
@@ -263,7 +268,9 @@ def answered_by(ballot: str, later: Iterable[Ballot]) -> set[str]:
     return answers_of(ballot).keys() & {label for one in later for label in one.labels}
 
 
-def judge_copies(group: Sequence[LetterCase], originals: Collection[LetterCase], box: Box) -> None:
+def judge_copies(
+    group: Sequence[LetterCase], originals: Collection[LetterCase], by_elector: BallotsByElector
+) -> None:
     """Which letters of one identity are ignored as copies: of one that went in, though it was
     taken back or struck since, or that breaks no rule. One that breaks a rule, and never went in,
     hides only those with the same reason and body.
@@ -276,7 +283,7 @@ def judge_copies(group: Sequence[LetterCase], originals: Collection[LetterCase],
     hiding.sort(key=lambda case: (case.decision not in WENT_IN, case.decision is None))
     original = next(iter(hiding), None)
     is_done = original is not None and (
-        original.decision is not None or original.outcome is not Outcome.WAITS
+        original.decision is not None or original.outcome is not LetterOutcome.WAITS
     )
     waiting: dict[tuple[ReasonWithValues | None, Body, bool], LetterCase] = {}
     for case in sorted(group, key=lambda case: case.decision is None):
@@ -285,23 +292,25 @@ def judge_copies(group: Sequence[LetterCase], originals: Collection[LetterCase],
         if original is not None and (is_done or case.first_broken_rule is None):
             before = original
         if case in others and before is not case:
-            case.outcome, case.reason = outcome_of_copy(case, before, box)
+            case.outcome, case.reason = outcome_of_copy(case, before, by_elector)
 
 
-def outcome_of_copy(case: LetterCase, original: LetterCase, box: Box) -> Judgement:
+def outcome_of_copy(
+    case: LetterCase, original: LetterCase, by_elector: BallotsByElector
+) -> Judgement:
     """A copy of a letter is ignored, unless another ballot lies between: which of the two copies was
     read first depends on the order of the mailboxes, and may not decide which ballot is the last.
     """
     if original.time is None or case.time is None:
-        return Outcome.COPY, None
+        return LetterOutcome.COPY, None
     begin, end = sorted((original.time, case.time))
     for line in (*case.ballots, *case.offered):
-        there = box[line.elector]
+        there = by_elector[line.elector]
         places = (bisect.bisect_left(there, time, key=TIME) for time in (begin, end))
-        others = (one.time for one in there[slice(*places)] if differ(one.line, line.ballot))
+        others = (one.time for one in there[slice(*places)] if differ(one.line, line.as_entered))
         if between := next(others, None):
             reason = Reason.CAME_BEFORE(
                 elector=line.elector, time=case.time, first=original.time, between=between
             )
-            return Outcome.WAITS, reason
-    return Outcome.COPY, None
+            return LetterOutcome.WAITS, reason
+    return LetterOutcome.COPY, None

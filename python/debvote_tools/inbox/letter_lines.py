@@ -49,9 +49,9 @@ from debvote_tools.text.motions import may_answer, with_ranks
 BALLOT = re.compile(rf"[a-z0-9.-]{{1,32}} {RANKS}")
 RANKS_ALONE, RANK_ALONE = re.compile(RANKS), re.compile(ONE_RANK)
 # a name and at least two ranks, within other words
-RANK = rf"(?:\d{{1,2}}|[{DASHES}-])"
-WITHIN = re.compile(
-    rf"(?<![\w.-])([A-Za-z0-9.-]{{1,32}})[\s:*\"'`]+({RANK}(?:\s*[,;]\s*{RANK})+)(?!\w|\s*[,;]\s*[\d{DASHES}-]|[,;]\S)"
+RANK_WITHIN = rf"(?:\d{{1,2}}|[{DASHES}-])"
+BALLOT_WITHIN = re.compile(
+    rf"(?<![\w.-])([A-Za-z0-9.-]{{1,32}})[\s:*\"'`]+({RANK_WITHIN}(?:\s*[,;]\s*{RANK_WITHIN})+)(?!\w|\s*[,;]\s*[\d{DASHES}-]|[,;]\S)"
 )
 # in characters: a ballot within other words is searched for up to here
 MAX_LOOKED_THROUGH = 200
@@ -102,7 +102,7 @@ class ReadLine:
         return (self.number, *self.more)
 
     @property
-    def is_ballot(self) -> bool:
+    def reads_as_ballot(self) -> bool:
         """Whether it is a ballot by itself, valid or not, if somebody is known by its name."""
         return bool(self.ranks) and self.offered_for is None
 
@@ -141,7 +141,7 @@ def read_letters(vote: Vote, raws: Sequence[RawLetter]) -> list[ReadLetter]:
     if found and vote.is_signed:
         keyring = queries.sealed(vote.book, KEYRING) or b""
         found = verified(raws, found, keyring, find_gpgv())
-    return with_lines(found, vote.names, vote.answers)
+    return with_lines(found, vote.names, vote.why_each_refused)
 
 
 def with_lines(letters: Sequence[ParsedLetter], names: Names, ask: Ask) -> list[ReadLetter]:
@@ -211,7 +211,7 @@ def read_line(number: int, line: str, names: Names) -> ReadLine | None:
         if why is None or way != text
     )
     found = next(filter(None, readings), None)
-    if found is not None and found.elector and found.is_ballot:
+    if found is not None and found.elector and found.reads_as_ballot:
         return found
     near = near_in(number, line, text, names) if ranked == text else None
     if found is None and near is None:
@@ -260,7 +260,7 @@ def read_answers(letter: ParsedLetter, names: Names) -> tuple[list[ReadLine], tu
     apart = [one for line in others for one in ballots_written([line], names)]
     quoted = [one for line in bare for one in ballots_written([line], names)]
     found = [(one, read_written(one, names)) for one in (*ballots_written(own, names), *apart)]
-    named = [one for one, line in found if line and line.is_ballot]
+    named = [one for one, line in found if line and line.reads_as_ballot]
     answers = {answer for one in named for answer in one.answers.items()}
     repeated = (one for one in (*apart, *quoted) if one.answers.items() <= answers)
     belonging = {number for one in (*named, *repeated) for number in one.numbers}
@@ -335,7 +335,7 @@ def with_commas(text: str) -> str:
 
 def near_in(number: int, line: str, text: str, names: Names) -> Near | None:
     """A line shaped as a ballot, with a name of the roll at its start, or with a ballot in it."""
-    for found in WITHIN.finditer(line[:MAX_LOOKED_THROUGH]):
+    for found in BALLOT_WITHIN.finditer(line[:MAX_LOOKED_THROUGH]):
         ballot = repaired_text(f"{found[1]} {found[2]}", names)
         has_words = re.search(r"\w", line[: found.start()] + line[found.end() :]) is not None
         if has_words and ballot.partition(" ")[0] in names.roll:

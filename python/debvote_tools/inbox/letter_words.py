@@ -9,7 +9,7 @@ from collections.abc import Iterator, Sequence
 from debvote_tools.cli.console import act_time, count_of, listed, shown_line, shown_text
 from debvote_tools.inbox.letter import is_quoted
 from debvote_tools.inbox.letter_lines import Near
-from debvote_tools.inbox.rules import LetterCase, Outcome, above_end
+from debvote_tools.inbox.rules import LetterCase, LetterOutcome, above_end
 from debvote_tools.inbox.reasons import for_secretary
 from debvote_tools.inbox.vote import IS_CODE, Vote
 from debvote_tools.text.ballots import without
@@ -82,10 +82,10 @@ def going_in_words(letters: Sequence[LetterCase], vote: Vote) -> Iterator[str]:
 
 
 def ballot_words(letter: LetterCase, vote: Vote) -> str:
-    line = letter.ballots[0]
+    line = letter.sole_ballot
     written = " ".join(letter.read.shown_lines[number - 1].strip() for number in line.numbers)
-    as_written = "" if written == line.ballot else f", written `{shown_line(written.encode())}`"
-    answers = vote.answers_in_words(line.ballot.partition(" ")[2])
+    as_written = "" if written == line.as_entered else f", written `{shown_line(written.encode())}`"
+    answers = vote.answers_in_words(line.as_entered.partition(" ")[2])
     return f"{line.elector} ({name_of(letter)}{as_written}): {answers}"
 
 
@@ -129,7 +129,7 @@ def attachment_words(letter: LetterCase) -> Iterator[str]:
 def why(letter: LetterCase) -> str:
     """Why a letter waits, or what became of it."""
     said = letter.outcome.value if letter.reason is None else for_secretary(letter.reason)
-    if letter.outcome is Outcome.GOES_IN:
+    if letter.outcome is LetterOutcome.GOES_IN:
         # nobody has agreed to it yet
         said = "it goes in with the next add of letters"
     return said + ("; has voted since" if letter.is_pending and letter.has_voted_since else "")
@@ -137,17 +137,17 @@ def why(letter: LetterCase) -> str:
 
 def near_words(letter: LetterCase) -> Iterator[str]:
     for line in (*letter.ballots, *letter.offered):
-        yield f"line {line.number}: {without(line.ballot, letter.answered_since) or line.ballot}"
+        yield f"line {line.number}: {without(line.as_entered, letter.answered_since) or line.as_entered}"
     for near in letter.near:
         within = ", within other words" if near.is_within else ""
         why = near.answer or "a ballot, but not alone on its line"
         yield f"line {near.number}, `{shown_text(near.ballot)}`{within}: {why}"
 
 
-def counts(letters: Sequence[LetterCase], entered: int) -> str:
-    copies = sum(letter.outcome is Outcome.COPY for letter in letters)
+def went_in_words(letters: Sequence[LetterCase], entered: int) -> str:
+    copies = sum(letter.outcome is LetterOutcome.COPY for letter in letters)
     passed_over = f"; {count_of(copies, 'copy', 'copies')} passed over" if copies else ""
-    waits = sum(letter.outcome is Outcome.WAITS for letter in letters)
+    waits = sum(letter.outcome is LetterOutcome.WAITS for letter in letters)
     return f"{count_of(entered, 'ballot')} of letters went in; {wait_words(waits)}{passed_over}."
 
 
@@ -163,7 +163,7 @@ def whole(letter: LetterCase) -> Iterator[str]:
     yield who_and_when(letter)
     yield f"  subject: {shown_text(letter.read.subject)}"
     lines = letter.read.shown_lines
-    hidden = {index + 1 for index in quoted_of_ours(letter)} - letter.strays
+    hidden = {index + 1 for index in quoted_of_ours(letter)} - letter.other_answers
     for is_hidden, its in itertools.groupby(range(1, len(lines) + 1), hidden.__contains__):
         numbers = list(its)
         if is_hidden:
@@ -172,7 +172,7 @@ def whole(letter: LetterCase) -> Iterator[str]:
             continue
         for number in numbers:
             yield f"{number:4}  {shown_line(LINK.sub(LEFT_OUT, lines[number - 1]).encode())}"
-    if letter.outcome is Outcome.ENTERED:
+    if letter.outcome is LetterOutcome.ENTERED:
         yield "It was entered."
     elif letter.reason is not None:
         waits = "waits" if letter.is_pending else "does not wait"
@@ -219,7 +219,7 @@ def quoted_of_ours(letter: LetterCase) -> set[int]:
     """
     lines, circumstances = letter.read.body.lines, letter.circumstances
     answered = letter.read.in_reply_to
-    is_answer = answered and any(answered in ids for ids in circumstances.our_letters.values())
+    is_answer = answered and any(answered in ids for ids in circumstances.our_ids.values())
     shown = indices_of_ballots(letter, letter.near)
     return {
         index

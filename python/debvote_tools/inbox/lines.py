@@ -109,6 +109,7 @@ class Line(NamedTuple):
     as_it_came: bytes
     # without them
     unframed: bytes
+    # with the changes that are allowed, but for those of name and words, which `Vote.as_meant` makes
     repaired: bytes
 
     @property

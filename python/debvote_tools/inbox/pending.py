@@ -53,13 +53,13 @@ def pending_letters(election: Election, history: History) -> Pending:
     if not kept:
         return Pending()
     from debvote_tools.inbox.judging import judged
-    from debvote_tools.inbox.rules import Outcome
+    from debvote_tools.inbox.rules import LetterOutcome
     from debvote_tools.inbox.vote import Vote
 
     # where letters have to be signed, what was signed says which are copies, which the book may not
     # have known when they came
     if not history.announced("signed"):
-        kept = queries.unsettled(kept)
+        kept = queries.unsettled_and_copies(kept)
     letters = judged(Vote(election), history, kept)
     found = [letter for letter in letters if letter.is_pending]
     arrived_in_time = sorted(letter.number for letter in found if letter.arrived_in_time)
@@ -72,7 +72,7 @@ def pending_letters(election: Election, history: History) -> Pending:
         [number for number in arrived_in_time if number not in left_by(history.closes[-1:])],
         after_end,
         len(found) - len(arrived_in_time) - after_end,
-        [one.other_vote for one in letters if one.outcome is Outcome.OTHER_VOTE],
+        [one.other_vote for one in letters if one.outcome is LetterOutcome.OTHER_VOTE],
     )
 
 

@@ -3,8 +3,7 @@
 import collections
 import datetime
 import re
-from collections.abc import Iterator, Sequence
-from typing import NamedTuple
+from collections.abc import Iterator
 
 from debvote_tools.book import queries
 from debvote_tools.book.book import Detail
@@ -30,16 +29,8 @@ RECORD = re.compile(
 )
 
 
-class Asking(NamedTuple):
-    """What the box has, as letters, what the act keeps of it, and what is said."""
-
-    letters: list[RawLetter]
-    detail: Detail = {}
-    words: Sequence[str] = ()
-
-
-def asked_box(vote: Vote) -> Asking:
-    """Asks the box of this vote."""
+def asked_box(vote: Vote) -> tuple[list[RawLetter], Detail, list[str]]:
+    """Asks the box of this vote: what it has, as letters, what the act keeps of it, and what is said."""
     history, book = vote.election.history(), vote.book
     if not history.announced("box"):
         cure = f"add files; see {vote.election.command('status')}"
@@ -57,16 +48,16 @@ def asked_box(vote: Vote) -> Asking:
         "behind": asked.behind,
         "list": asked.list_digest,
     }
-    words = [*words_of(box, before)]
+    words = [*box_words(box, before)]
     if not has_list_of_now(vote.election, asked.list_digest):
         older = (
             "as an older one: upload that of the folder, since who has a new link cannot vote there"
         )
         words.append(f"Note: the web host has another {SCRIPT} than the folder call, {older}.")
-    return Asking(letters, {"box": box}, words)
+    return letters, {"box": box}, words
 
 
-def words_of(box: Detail, before: Detail) -> Iterator[str]:
+def box_words(box: Detail, before: Detail) -> Iterator[str]:
     """What is said of an asking, beside the one before."""
     yield f"The box has {count_of(box['records'], 'record')}."
     if abs(off := box["behind"]) > MOST_OFF:

@@ -50,7 +50,7 @@ PICTURES = re.compile("[\u2600-\u2767\u2794-\u27bf\U0001f300-\U0001faff]")
 OPENING, COLONS, LIKE_COLONS = ("¡", "¿"), (":", "：", "﹕"), "\u02d0\u0903\ua4fd"
 
 
-class Outcome(enum.Enum):
+class LetterOutcome(enum.Enum):
     # by itself, once the secretary agrees in `add`; until then it waits with the others
     GOES_IN = "goes in"
     WAITS = "waits"
@@ -93,7 +93,7 @@ class Circumstances:
     is_closed: bool
     now: datetime.datetime
     # the Message-IDs of the letters that were written to each elector
-    our_letters: Mapping[str, Collection[str]]
+    our_ids: Mapping[str, Collection[str]]
     # what acts decided, by the keys of the letters: states of the book
     decisions: Mapping[str, str]
     # the key of the box of the web host
@@ -102,7 +102,7 @@ class Circumstances:
     # they look like one; and the Message-IDs of the letters that ask to vote
     words: Words = dataclasses.field(default_factory=dict)
     no_answers: Collection[str] = ()
-    asking: Collection[str] = ()
+    asking_ids: Collection[str] = ()
 
     @property
     def ends(self) -> list[datetime.datetime]:
@@ -139,7 +139,7 @@ class BallotLine:
     """
 
     numbers: tuple[int, ...]
-    ballot: str
+    as_entered: str
 
     @property
     def number(self) -> int:
@@ -148,14 +148,14 @@ class BallotLine:
 
     @property
     def elector(self) -> str:
-        return self.ballot.partition(" ")[0]
+        return self.as_entered.partition(" ")[0]
 
     @property
     def high_rank(self) -> int:
         """The number of options of the first answer with a rank above it, else 0: `Lars Winter 12,50`
         may be money.
         """
-        for ranks in (text.split(",") for text in answers_of(self.ballot).values()):
+        for ranks in (text.split(",") for text in answers_of(self.as_entered).values()):
             if any(rank != "-" and int(rank) > len(ranks) for rank in ranks):
                 return len(ranks)
         return 0
@@ -175,11 +175,11 @@ class SentLine(NamedTuple):
 
 # ---- a letter
 class LetterCase:
-    """A letter with all that it is judged by. `judging.py` sets `outcome` and `reason`, why it
-    waits or was set aside.
+    """A letter with all that it is judged by. `judging.py` sets what has a value here already, such as
+    `reason`, why it waits or was set aside.
     """
 
-    outcome = Outcome.WAITS
+    outcome = LetterOutcome.WAITS
     reason: ReasonWithValues | None = None
     has_voted_since = False
     # the labels of the questions to which its elector has a later answer, if not to all
@@ -204,31 +204,37 @@ class LetterCase:
         asked_for = filter(self.is_asked_for, letter.read_lines)
         self.sent = [SentLine(line, self.elector_of(line)) for line in asked_for]
         # the ballots of an elector who is known, also those that debvote refuses
-        self.named = [one for one in self.sent if one.elector and one.read.is_ballot]
+        self.named = [one for one in self.sent if one.elector and one.read.reads_as_ballot]
         valid = [one.as_ballot for one in self.named if one.read.answer is None]
         # beside these those with the real name of somebody else, as in the letter of a family
         unknown = [
-            one for one in self.sent if self.named and one.read.is_ballot and not one.elector
+            one for one in self.sent if self.named and one.read.reads_as_ballot and not one.elector
         ]
         others = [one.as_ballot for one in unknown if one.read.real and one.read.answer is None]
         # the ballot that may go in, and the indices of its lines
         end = above_end(letter.body.lines)
         self.ballot = next((line for line in valid if max(line.numbers) <= end), None)
-        self.lines = tuple(number - 1 for number in self.ballot.numbers) if self.ballot else ()
+        self.indices = tuple(number - 1 for number in self.ballot.numbers) if self.ballot else ()
         self.elector = "" if self.ballot is None else self.ballot.elector
         # all lines that read as ballots, first that one. Each can be entered by its number
         self.ballots = tuple(dict.fromkeys([*filter(None, [self.ballot]), *valid, *others]))
 
+    @property
+    def sole_ballot(self) -> BallotLine:
+        """`ballot`, of a letter that breaks no rule: it has one, and none that differs."""
+        assert self.ballot is not None
+        return self.ballot
+
     @functools.cached_property
-    def strays(self) -> set[int]:
+    def other_answers(self) -> set[int]:
         """The lines that may be answers and are in no valid ballot, unless they stand so in our letter.
         What is quoted is none, since the elector may have written it before, but in our letter.
         """
         shown, ours = self.read.shown_lines, self.circumstances.no_answers
         bare = {number: without_marks(shown[number - 1]).strip() for number in self.read.strays}
-        strays = {number for number, line in bare.items() if line not in ours}
-        quoted = {number for number in strays if is_quoted(shown[number - 1])}
-        kept = strays if quoted and self.fills_in_our_letter else strays - quoted
+        others = {number for number, line in bare.items() if line not in ours}
+        quoted = {number for number in others if is_quoted(shown[number - 1])}
+        kept = others if quoted and self.fills_in_our_letter else others - quoted
         return kept | self.read.refused_answers
 
     @property
@@ -246,7 +252,7 @@ class LetterCase:
         if line.offered_for is not Reason.WORD_ALONE or line.has_labels:
             return True
         is_first = not any(map(str.strip, self.read.shown_lines[: line.number - 1]))
-        is_answer = self.read.in_reply_to in self.circumstances.asking
+        is_answer = self.read.in_reply_to in self.circumstances.asking_ids
         return is_first and (is_answer or is_subject_of_page(self))
 
     def elector_of(self, line: ReadLine) -> str | None:
@@ -282,13 +288,15 @@ class LetterCase:
         lines = () if self.named else self.sent
         found = {one.as_ballot: why for one in lines if (why := self.why_offered(one))}
         has_labels = any(one.read.has_labels for one in lines)
-        is_all = len(found) == 1 and self.strays.issubset(*(line.numbers for line in found))
+        is_all = len(found) == 1 and self.other_answers.issubset(*(line.numbers for line in found))
         return found if is_all or not has_labels else {}
 
     @functools.cached_property
     def every_near(self) -> list[Near]:
         """What is near to a ballot; beside ballots that is what debvote refuses."""
-        refused = grouped((one.as_ballot.ballot, one.read) for one in self.named if one.read.answer)
+        refused = grouped(
+            (one.as_ballot.as_entered, one.read) for one in self.named if one.read.answer
+        )
         near = [Near(its[0].number, of, False, its[0].answer) for of, its in refused.items()]
         if not self.named:
             near = [one.read.near for one in self.sent if one.read.near]
@@ -305,7 +313,7 @@ class LetterCase:
     @property
     def has_own_mark(self) -> bool:
         """Whether its subject has the own mark of the elector on its ballot."""
-        return self.ballot is not None and self.marked_elector == self.elector
+        return self.marked_elector == self.elector
 
     @property
     def other_vote(self) -> str:
@@ -338,7 +346,7 @@ class LetterCase:
         """Whether the secretary still has to look at it, since it waits, or to agree in `add` that it
         goes in.
         """
-        return self.outcome in (Outcome.GOES_IN, Outcome.WAITS)
+        return self.outcome in (LetterOutcome.GOES_IN, LetterOutcome.WAITS)
 
     @property
     def arrived_before_call(self) -> bool:
@@ -404,7 +412,7 @@ def why_not_readable(case: LetterCase) -> ReasonWithValues | None:
     if letter.crowd:
         what = "lines that may be ballots"
         return Reason.TOO_LONG(length=letter.crowd, what=what, limit=MAX_BALLOTS)
-    is_odd = body.is_html and any(index >= body.plain_lines for index in case.lines)
+    is_odd = body.is_html and any(index >= body.plain_lines for index in case.indices)
     return Reason.HTML(element=body.first_other) if is_odd else None
 
 
@@ -475,7 +483,7 @@ def why_not_signed_by_its_elector(case: LetterCase) -> ReasonWithValues | None:
 
 def why_several_ballots(case: LetterCase) -> ReasonWithValues | None:
     """No other line reads as a ballot that differs. The next rule would say less of such a letter."""
-    if len({line.ballot for line in case.ballots}) <= 1:
+    if len({line.as_entered for line in case.ballots}) <= 1:
         return None
     electors = sorted({line.elector for line in case.ballots})
     if len(electors) == 1:
@@ -487,8 +495,8 @@ def why_another_answer(case: LetterCase) -> ReasonWithValues | None:
     """No other line that is not quoted may be an answer in a word, or one of several answers."""
     now = case.circumstances
     for number, line in enumerate(case.read.shown_lines if case.ballot else (), start=1):
-        is_own = is_quoted(line) or line.strip() in now.no_answers or number - 1 in case.lines
-        if number in case.strays or (not is_own and may_answer(line, now.words)):
+        is_own = is_quoted(line) or line.strip() in now.no_answers or number - 1 in case.indices
+        if number in case.other_answers or (not is_own and may_answer(line, now.words)):
             return Reason.ANOTHER_ANSWER(number=number)
     return None
 
@@ -502,7 +510,7 @@ def why_not_first(case: LetterCase) -> ReasonWithValues | None:
         return next(iter(case.offered.values()), Reason.NO_BALLOT)()
     if ballot is None and not flowing:
         return Reason.ELSEWHERE(number=case.ballots[0].number)
-    if ballot is None or not {*flowing}.isdisjoint(case.lines):
+    if ballot is None or not {*flowing}.isdisjoint(case.indices):
         return Reason.JOINED()
     if ballot.high_rank:
         return Reason.HIGH_RANK(number=ballot.number, options=ballot.high_rank)
@@ -572,12 +580,12 @@ def is_subject_of_page(case: LetterCase) -> bool:
 
 def why_not_first_in(case: LetterCase, joined: Collection[int]) -> ReasonWithValues | None:
     """Why the ballot is not the first line, with these lines joined to others; None if it is."""
-    letter, lines, ballot = case.read, case.read.body.lines, case.lines
-    ours = case.circumstances.our_letters.get(case.elector, ())
+    letter, lines, own = case.read, case.read.body.lines, case.indices
+    ours = case.circumstances.our_ids.get(case.elector, ())
     is_answer = case.has_own_mark and letter.in_reply_to in ours
     is_by_page = case.has_own_mark and letter.is_new and is_subject_of_page(case)
     paragraphs = paragraphs_of(case, joined)
-    places = [at for at, own in enumerate(paragraphs) if not {*own}.isdisjoint(ballot)]
+    places = [at for at, one in enumerate(paragraphs) if not {*one}.isdisjoint(own)]
     place, last = places[0], places[-1]
     quoted = [any(is_quoted(lines[index]) for index in one) for one in paragraphs]
     first = quoted.index(True) if True in quoted[:place] else -1
@@ -586,18 +594,18 @@ def why_not_first_in(case: LetterCase, joined: Collection[int]) -> ReasonWithVal
     if first >= 0 and not has_only_a_head(lines, paragraphs[: first + 1]):
         return Reason.MUCH_QUOTED()
     between = [one for one in range(first + 1, last + 1) if not quoted[one]]
-    others = [index for one in between for index in paragraphs[one] if index not in ballot]
+    others = [index for one in between for index in paragraphs[one] if index not in own]
     # in an answer, what is beside the ballot below it is free, unless it may be the head of a
     # quotation
     if is_answer and True not in quoted[last + 1 : last + 2]:
-        others = [index for index in others if index < ballot[0]]
+        others = [index for index in others if index < own[0]]
     for index in others:
         line = lines[index] if index in joined else lines[index].rstrip()
-        if (is_answer or is_by_page) and index < ballot[0] and line.endswith(COLONS):
+        if (is_answer or is_by_page) and index < own[0] and line.endswith(COLONS):
             line = line[:-1]
         if not is_greeting(line) or case.circumstances.words.keys() & words_in(line):
             return Reason.NOT_FIRST(number=index + 1)
-    above = [lines[index].strip() for index in others if index < ballot[0]]
+    above = [lines[index].strip() for index in others if index < own[0]]
     most = 0 if letter.body.is_html and not case.has_own_mark else MAX_ABOVE
     is_much = len(above) > most or len("".join(above)) > MAX_CHARACTERS
     return Reason.MUCH_ABOVE() if is_much else None

@@ -20,8 +20,8 @@ from debvote_tools.inbox.entering import NOTHING_ADDED, Entry, bad_ballots
 from debvote_tools.inbox.judging import judged
 from debvote_tools.inbox.letter_lines import ReadLetter, read_letters, to_json
 from debvote_tools.inbox.mailbox import RawLetter, letters_of_file, letters_of_folder
-from debvote_tools.inbox.records import Asking, asked_box
-from debvote_tools.inbox.rules import LetterCase, Outcome
+from debvote_tools.inbox.records import asked_box
+from debvote_tools.inbox.rules import LetterCase, LetterOutcome
 from debvote_tools.inbox.vote import Vote
 from debvote_tools.inbox.pending import other_votes_words
 
@@ -40,15 +40,15 @@ def take_letters(
     """Keeps new letters, and enters the ballots that go in; or tells what would become of them. Those
     `of_box` are its records: the others that wait stay as they are.
     """
-    asking = asked_box(vote) if of_box else Asking(split_letters(given))
-    raws = [raw for raw in asking.letters if raw.why_not_read is None]
+    came, detail, words = asked_box(vote) if of_box else (split_letters(given), {}, [])
+    raws = [raw for raw in came if raw.why_not_read is None]
     new = new_of(vote, raws)
     read = read_letters(vote, new)
-    if asking.words:
-        tell(*asking.words)
+    if words:
+        tell(*words)
     if not is_look:
-        keep(vote, new, read, asking.detail)
-    for raw in asking.letters:
+        keep(vote, new, read, detail)
+    for raw in came:
         if why := raw.why_not_read:
             tell(f"{shown_text(raw.where)}: {why.what}, and was passed over; {why.cure}")
     came_before = f"{count_of(len(new), 'new letter')}; {len(raws) - len(new)} came before."
@@ -56,8 +56,8 @@ def take_letters(
     if is_look:
         would = plan(read)
         tell_letters(vote, would.found)
-        counts = (words.replace("went in", "would go in") for words in would.end)
-        tell(came_before, *counts, "Nothing was changed.")
+        said = (one.replace("went in", "would go in") for one in would.end)
+        tell(came_before, *said, "Nothing was changed.")
         return
     tell(came_before)
     tell_next(vote.election, carried_out(vote.book, plan))
@@ -136,7 +136,7 @@ def envelope_of(letter: LetterCase, ballot: str) -> NewEnvelope:
 
 
 def going_in(found: Iterable[LetterCase]) -> list[LetterCase]:
-    return [letter for letter in found if letter.outcome is Outcome.GOES_IN]
+    return [letter for letter in found if letter.outcome is LetterOutcome.GOES_IN]
 
 
 @dataclasses.dataclass(frozen=True, kw_only=True)
@@ -155,7 +155,7 @@ class GoingIn(LetterEntry):
             cure, done = "agree with --yes, or run it at a terminal", "and the letters are kept"
             raise Fault(None, f"{ballots} would go in", cure, done=f"{NOTHING_ADDED}, {done}")
 
-    def refused(self, _: bool | None) -> None:
+    def declined(self, _: bool | None) -> None:
         waits = letter_words.wait_words(sum(letter.is_pending for letter in self.found))
         tell(f"Nothing was entered. The letters are kept, and wait: {waits}.")
 
@@ -176,10 +176,10 @@ def what_goes_in(
         letters={letter.number: queries.ENTERED for letter in new},
         vote=vote,
         # by their times, as they are judged: of an elector's ballots the one that is entered last counts
-        envelopes=[envelope_of(letter, letter.ballots[0].ballot) for letter in new],
+        envelopes=[envelope_of(letter, letter.sole_ballot.as_entered) for letter in new],
         # what is late breaks a rule, and does not go in
         is_late=False,
-        end=[letter_words.counts(every, len(new))],
+        end=[letter_words.went_in_words(every, len(new))],
         history=history,
         found=found,
     )
@@ -188,16 +188,16 @@ def what_goes_in(
 def tell_next(election: Election, change: GoingIn) -> None:
     undo = f"; {election.command('undo')} takes back what was entered last"
     waiting = f"{election.command('held')}, which lists the letters that wait"
-    is_waiting = any(letter.outcome is Outcome.WAITS for letter in change.found)
+    is_waiting = any(letter.outcome is LetterOutcome.WAITS for letter in change.found)
     following = waiting if is_waiting else election.command("status")
     tell(f"Next: {following}{'' if change.history.is_closed else undo}")
 
 
 def tell_letters(vote: Vote, found: Sequence[LetterCase]) -> None:
     tell(*letter_words.going_in_words(going_in(found), vote))
-    tell(*letter_words.table([one for one in found if one.outcome is Outcome.WAITS]))
-    if older := [letter_words.name_of(one) for one in found if one.outcome is Outcome.OLDER]:
+    tell(*letter_words.table([one for one in found if one.outcome is LetterOutcome.WAITS]))
+    if older := [letter_words.name_of(one) for one in found if one.outcome is LetterOutcome.OLDER]:
         numbers = listed(older, MOST_NAMED)
         tell(f"Passed over, since a later letter of its elector went in: {numbers}")
-    of_others = (one.other_vote for one in found if one.outcome is Outcome.OTHER_VOTE)
+    of_others = (one.other_vote for one in found if one.outcome is LetterOutcome.OTHER_VOTE)
     tell(*other_votes_words(of_others))

@@ -22,7 +22,7 @@ from debvote_tools.inbox.lines import (
     has_code,
     name_in,
 )
-from debvote_tools.text.ballots import answers_in, ballot_file, line_of, part_of
+from debvote_tools.text.ballots import ballot_file, line_of, part_of, ranks_by_label
 from debvote_tools.text.language import ENGLISH
 
 # the cure where lines look like a table
@@ -52,7 +52,9 @@ class CheckedLine(NamedTuple):
     """
 
     original: Line
-    # with the changes that are allowed if debvote takes it so, and otherwise without them
+    # with the changes that are allowed
+    as_meant: bytes
+    # the same if debvote takes it so, and otherwise without them
     as_entered: bytes
     # why debvote refuses it; None if it is a ballot
     finding: Finding | None = None
@@ -68,8 +70,10 @@ class CheckedLine(NamedTuple):
         return self.finding is None
 
     @property
-    def has_form(self) -> bool:
-        """Whether it can be entered, valid or not."""
+    def can_be_entered(self) -> bool:
+        """As a ballot or as refused. Of several answers a line can't that has not their form, or has the
+        name of several electors.
+        """
         return self.finding is not NO_FORM
 
     @property
@@ -80,12 +84,10 @@ class CheckedLine(NamedTuple):
     @property
     def changed(self) -> bytes:
         """The whole line with what was changed of it."""
-        return (
-            self.as_entered if self.as_entered == self.original.unframed else self.original.repaired
-        )
+        return self.as_entered if self.as_entered == self.original.unframed else self.as_meant
 
     @property
-    def answer(self) -> str | None:
+    def why_refused(self) -> str | None:
         """What the book keeps of what debvote says, without its remark on other lines."""
         return None if self.finding is None else said_of(self.finding)
 
@@ -113,7 +115,7 @@ class Vote:
         self.label, self.poll = label, questions.get(label)
         self.roll = questions.roll
         # the roll has codes: none is printed that was not typed
-        self.has_codes = bool(history.announced("codes_on_roll"))
+        self.has_codes = history.has_codes_on_roll
         self.is_signed = bool(history.announced("signed"))
         # what debvote has said of lines
         self.known = dict[bytes, Mapping[str, Finding]]()
@@ -142,9 +144,9 @@ class Vote:
         longest, words = questions.longest_line, questions.words(language)
         return Names(self.names_on_roll, language.code, real_names, longest, words, labels, motions)
 
-    def as_meant(self, line: Line) -> tuple[Line, list[str]]:
-        """A line with the name on the roll of the elector who is meant by its name, and with ranks in place
-        of words; and those who may be meant, if they are several.
+    def as_meant(self, line: Line) -> tuple[bytes, list[str]]:
+        """A line as it was repaired, with the name on the roll of the elector who is meant by its name, and
+        with ranks in place of words; and those who may be meant, if they are several.
         """
         names, labels = self.names, self.names.labels
         # of several answers each is repaired by itself: the first label may be part of the name
@@ -153,7 +155,7 @@ class Vote:
         name, _, answers = text.partition(" ")
         is_right = name in names.roll and (self.has_form(given) if labels else " " not in answers)
         if is_right and not names.words:
-            return line, []
+            return line.repaired, []
         is_read = not (is_right or self.has_codes or self.why_too_long(line))
         found, unclear = names.taken_apart(text) if is_read else None, list[str]()
         if found and found[0]:
@@ -162,7 +164,7 @@ class Vote:
             unclear = sorted({*meant, *longer}) if longer or len(meant) > 1 else []
             if labels or len(meant) == 1:
                 text = f"{meant[0] if len(meant) == 1 else name.lower()} {answers}"
-        return line._replace(repaired=text.encode("utf-8", "surrogateescape")), unclear
+        return text.encode("utf-8", "surrogateescape"), unclear
 
     def why_too_long(self, line: Line) -> str | None:
         """Why a line is no ballot, if it is longer than any."""
@@ -170,8 +172,8 @@ class Vote:
         return words if len(line.as_it_came) > self.questions.longest_line else None
 
     def why_not_entered(self, line: CheckedLine) -> str:
-        """Why a line is not entered, neither as a ballot nor as refused; empty if it is."""
-        if line.has_form:
+        """Why a line is not entered unless somebody forces it, or at all; empty if it is."""
+        if line.can_be_entered:
             return line.why_unclear
         is_none = f"`{shown_line(line.original.as_reported)}` is no ballot"
         hint = NO_FORM.hint if self.poll is None else WITHOUT_LABEL
@@ -193,37 +195,40 @@ class Vote:
         mark and carriage return. It is refused too, since repairs leave a right line as it is; the
         reason may be another one.
         """
-        meant = [self.as_meant(line) for line in lines]
-        texts = [line.repaired for line, _ in meant]
-        texts += [line.unframed for line, _ in meant if line.unframed != line.repaired]
+        meant = [(line, *self.as_meant(line)) for line in lines]
+        texts = [text for _, text, _ in meant]
+        texts += [line.unframed for line, text, _ in meant if line.unframed != text]
         refused = self.refusals(texts)
-        return [one for line, unclear in meant for one in self.checked(line, unclear, refused)]
+        return [one for its in meant for one in self.checked(*its, refused)]
 
     def checked(
-        self, line: Line, unclear: Sequence[str], refused: Mapping[bytes, Mapping[str, Finding]]
+        self,
+        line: Line,
+        meant: bytes,
+        unclear: Sequence[str],
+        refused: Mapping[bytes, Mapping[str, Finding]],
     ) -> Iterator[CheckedLine]:
         """A line, or of several answers the valid ones, and those that are refused for one reason. One
         that has not their form, or whose elector is not known, is never entered.
         """
         why = f"it has the name of {ENGLISH.joined(list(unclear))}" if unclear else ""
-        its = {"": NO_FORM} if why and self.names.labels else refused[line.repaired]
+        its = {"": NO_FORM} if why and self.names.labels else refused[meant]
         if not its:
-            yield CheckedLine(line, line.repaired)
-        elif changed := its.get(""):
-            now = refused[line.unframed].get("", changed)
-            is_same = (now.word, now.hint) == (changed.word, changed.hint)
-            others = self.other_names(now)
-            yield CheckedLine(line, line.unframed, now, None if is_same else changed, others, why)
+            yield CheckedLine(line, meant, meant)
+        elif as_meant := its.get(""):
+            came = refused[line.unframed].get("", as_meant)
+            other = None if (came.word, came.hint) == (as_meant.word, as_meant.hint) else as_meant
+            yield CheckedLine(line, meant, line.unframed, came, other, self.other_names(came), why)
         else:
-            name, _, answers = line.repaired.decode("ascii").partition(" ")
+            name, _, answers = meant.decode("ascii").partition(" ")
             by_finding = grouped(
-                (its.get(label), (label, one)) for label, one in answers_in(answers).items()
+                (its.get(label), (label, one)) for label, one in ranks_by_label(answers).items()
             )
             for finding in sorted(by_finding, key=lambda finding: finding is not None):
                 text = line_of(name, dict(by_finding[finding])).encode()
-                yield CheckedLine(line, text, finding, None, self.other_names(finding))
+                yield CheckedLine(line, meant, text, finding, None, self.other_names(finding))
 
-    def answers(self, lines: Sequence[bytes]) -> dict[bytes, str | None]:
+    def why_each_refused(self, lines: Sequence[bytes]) -> dict[bytes, str | None]:
         """What debvote says of each line, such as `bad rank count: ..`; None for a valid ballot. What
         it remarks on other lines is left out.
         """
@@ -239,7 +244,7 @@ class Vote:
             new: dict[bytes, dict[str, Finding]] = {
                 line: {} if self.has_form(line) else {"": NO_FORM} for line in part
             }
-            for label, its, found in self.asked(part):
+            for label, its, found in self.findings_by_question(part):
                 for finding in found.refused:
                     bare = finding._replace(line=0)
                     if self.has_codes:
@@ -259,9 +264,13 @@ class Vote:
     def are_table(self, lines: Sequence[Line]) -> bool:
         """Whether lines look like a table to debvote, as they came; one line alone is none."""
         given = [line.unframed for line in lines]
-        return len(lines) > 1 and any(found.are_table for *_, found in self.asked(given))
+        return len(lines) > 1 and any(
+            found.are_table for *_, found in self.findings_by_question(given)
+        )
 
-    def asked(self, lines: Sequence[bytes]) -> Iterator[tuple[str, Sequence[bytes], Findings]]:
+    def findings_by_question(
+        self, lines: Sequence[bytes]
+    ) -> Iterator[tuple[str, Sequence[bytes], Findings]]:
         """What debvote says of the answers to each question: its label, and the lines with one."""
         right = [line for line in lines if self.has_form(line)]
         for label, poll in self.questions.items():
@@ -293,7 +302,7 @@ class Vote:
                 yield from change_words(line)
             yield f"{number} {reply}  {self.in_words(line, reply)}"
             if other := line.finding_if_changed:
-                written = f"written as `{shown_line(line.original.repaired)}` it is refused too"
+                written = f"written as `{shown_line(line.as_meant)}` it is refused too"
                 yield f"  it goes in as it came; {written}: {other.word}: {other.hint}"
         if not all(line.is_ballot for line in lines):
             yield self.right_words()
@@ -308,7 +317,7 @@ class Vote:
         word = "" if line.finding.word == reply else f"{line.finding.word}: "
         # so that nobody takes one elector for another
         others = f" (or {ENGLISH.joined(list(line.other_names))})" if line.other_names else ""
-        is_code = has_code(line.original.repaired.decode("utf-8", "replace")) and not self.has_codes
+        is_code = has_code(line.as_meant.decode("utf-8", "replace")) and not self.has_codes
         said = f"{shown_line(line.as_entered)}: {word}{line.finding.hint}{others}"
         return said + (IS_CODE if is_code else "")
 
@@ -342,21 +351,21 @@ IN_PART = f"{REPLACED} in part"
 def replies_to(
     lines: Iterable[tuple[bytes, str | None]], counting: Mapping[str, str], *, is_late: bool
 ) -> Iterator[str]:
-    """The reply to each line, with debvote's answer to it, unless it is late: the word with which it
+    """The reply to each line, given with why debvote refuses it, unless it is late: the word with which it
     is refused; or whether a ballot is counted, or has replaced one of its elector, by what counts of
     electors and the lines above. If that differs by question, it says so: `A replaced, B counted`.
     """
-    having = {name: {*answers_in(answers)} for name, answers in counting.items()}
-    for line, answer in lines:
-        if refused := LATE_REPLY if is_late else (answer or "").partition(":")[0]:
+    having = {name: {*ranks_by_label(answers)} for name, answers in counting.items()}
+    for line, why_refused in lines:
+        if refused := LATE_REPLY if is_late else (why_refused or "").partition(":")[0]:
             yield refused
             continue
         name, _, answers = line.decode("ascii").partition(" ")
         there = having.setdefault(name, set())
-        said = {label: REPLACED if label in there else COUNTED for label in answers_in(answers)}
+        said = {label: REPLACED if label in there else COUNTED for label in ranks_by_label(answers)}
         is_same = len({*said.values()}) == 1
         yield said.popitem()[1] if is_same else ", ".join(map(" ".join, said.items()))
-        there.update(answers_in(answers))
+        there.update(ranks_by_label(answers))
 
 
 def said_of(finding: Finding) -> str:

@@ -22,13 +22,13 @@ UNFILLED = re.compile(rf"[\s>]*\w[\s,]*{GAP}[\s,{GAP}]*")
 # ranks with a comma or a semicolon between, or a label before one: at the start of a line in whatever
 # signs, within it as a capital letter, and small if only ranks are behind it. A checksum, which stands
 # in our letters, may begin as a label and a rank, and goes on
-RANK = rf"(?:(?<!\d)\d{{1,2}}(?!\d)|[{DASHES}-](?!\w))"
+WRITTEN_RANK = rf"(?:(?<!\d)\d{{1,2}}(?!\d)|[{DASHES}-](?!\w))"
 SIGNS = r"[^\w\n]{0,4}?"
-BEGINS = re.compile(rf"\A{SIGNS}([A-Za-z]){SIGNS}{RANK}(?!\w{{9}})")
+BEGINS = re.compile(rf"\A{SIGNS}([A-Za-z]){SIGNS}{WRITTEN_RANK}(?!\w{{9}})")
 BEGINS_WITH_WORD = re.compile(rf"\A{SIGNS}([A-Za-z])[^\w\n]{{1,4}}([^\W\d_]+)")
-WITHIN = re.compile(rf"(?<!\w)([A-Z]){SIGNS}{RANK}")
-AT_THE_END = re.compile(rf"(?<!\w)([a-z])(?=[\W\d]*$)[\W\d]*?{RANK}")
-RANKS = re.compile(rf"{RANK}{SIGNS}[,;]{SIGNS}{RANK}")
+LABEL_WITHIN = re.compile(rf"(?<!\w)([A-Z]){SIGNS}{WRITTEN_RANK}")
+LABEL_AT_THE_END = re.compile(rf"(?<!\w)([a-z])(?=[\W\d]*$)[\W\d]*?{WRITTEN_RANK}")
+TWO_RANKS = re.compile(rf"{WRITTEN_RANK}{SIGNS}[,;]{SIGNS}{WRITTEN_RANK}")
 
 
 class Written(NamedTuple):
@@ -80,7 +80,7 @@ def may_answer_question(line: str, names: Names) -> bool:
 
 
 def has_answer(text: str, names: Names) -> bool:
-    is_one = RANKS.search(text) or labelled(text, names, BEGINS, WITHIN, AT_THE_END)
+    is_one = TWO_RANKS.search(text) or labelled(text, names, BEGINS, LABEL_WITHIN, LABEL_AT_THE_END)
     return bool(is_one) or begins_with_word(text, names) or names.with_ranks(text) != text
 
 

@@ -12,14 +12,14 @@ from debvote_tools.book.outgoing import REFUSED, TAKEN, WRITTEN, About, Outgoing
 from debvote_tools.cli.arguments import demand_reason, has_reason
 from debvote_tools.cli.faults import Fault, bad_words
 from debvote_tools.grouping import grouped
-from debvote_tools.inbox.asked import unasked
+from debvote_tools.inbox.asked import unasked_fault
 from debvote_tools.inbox.fates import NOBODY, Became, Fate, fates_of
-from debvote_tools.inbox.rules import Outcome
-from debvote_tools.outbox.reached import CAME_BACK, reached_by_call, unreached
+from debvote_tools.inbox.rules import LetterOutcome
+from debvote_tools.outbox.reached import CAME_BACK, unreached_and_printed, unreached
 from debvote_tools.outbox.words import Composer
 from debvote_tools.poll.announced import address_in
 from debvote_tools.poll.call import CallData, current_call
-from debvote_tools.result.publication import closing_letter, last_publication
+from debvote_tools.result.publication import closing_letter
 from debvote_tools.text.language import language_of
 from debvote_tools.text.times import now
 
@@ -168,7 +168,7 @@ def letters_due(
     typed = {act.number for act in history.acts if act.is_typed}
     records = queries.records_since(book, called)
     composer = Composer(call_data, is_over, on_list, typed, records)
-    not_reached, _ = reached_by_call(election, history)
+    not_reached, _ = unreached_and_printed(election, history)
     back = {elector.number for elector, why, _ in not_reached if why == CAME_BACK}
     present = [one for one in noted_before if one.elector in back and is_present(one, electors)]
     returned_ids = {letter.elector: letter.message_id for letter in present}.values()
@@ -186,7 +186,7 @@ def demand_time(election: Election, history: History, kind: str, *, is_over: boo
         cure = f"say it: {election.command('call', '--until', 'TIME')}"
     elif kind == "closed" and not history.is_closed:
         words, cure = "the vote is not closed", f"run {election.command('close')} first"
-    elif kind == "result" and not (history.is_closed and last_publication(history)):
+    elif kind == "result" and not (history.is_closed and history.last_publication):
         words, cure = "nothing is published", f"run {election.command('publish')} first"
     else:
         return
@@ -199,7 +199,7 @@ def call_data_of(
     """What the letters say of the call, and the reason for which they go out although the box was not
     asked, if they do: then they say that the page takes no ballots. Stops if it has to be asked.
     """
-    call, publication = current_call(election, history), last_publication(history)
+    call, publication = current_call(election, history), history.last_publication
     if kind == "result" and publication is not None:
         if call.at is None:
             why, cure = "the letter must say where the result is published", "give it: --at URL"
@@ -207,7 +207,7 @@ def call_data_of(
         if (code := publication.detail["words"]["language"]) is not None:
             call = dataclasses.replace(call, language=language_of(code))
     needs_asking = kind in ("call", "reminders", "closed")
-    fault = unasked(election, history, kind, NOTHING_WRITTEN) if needs_asking else None
+    fault = unasked_fault(election, history, kind, NOTHING_WRITTEN) if needs_asking else None
     if fault is None:
         return call, {}
     if not has_reason(because):
@@ -293,7 +293,7 @@ def reminders_due(run: Run) -> LettersDue:
 
     def text_of(elector: Elector, letter: OutgoingLetter) -> str:
         told = told_of(fates[elector.name]).values()
-        left = [one for one in told if one.became is not Outcome.SET_ASIDE]
+        left = [one for one in told if one.became is not LetterOutcome.SET_ASIDE]
         return run.composer.reminder(elector, left)
 
     return LettersDue(
@@ -333,7 +333,7 @@ def receipts_due(run: Run) -> LettersDue:
         in_no_receipt=[
             one.letter.number
             for one in fates[NOBODY]
-            if one.letter and one.became is Outcome.WAITS and not one.letter.is_automatic
+            if one.letter and one.became is LetterOutcome.WAITS and not one.letter.is_automatic
         ],
         letters_pending=letters_pending_in(fates),
     )
@@ -395,7 +395,7 @@ def letters_of_close_due(run: Run) -> LettersDue:
 
 def results_due(run: Run) -> LettersDue:
     """The letter of the last publication to each elector, with the ballot of theirs that counts."""
-    act = run.history.since_call("publish")[-1].number
+    act = run.history.publications[-1].number
     name = f"{LETTERS}/{RESULT_LETTER}"
     letter = (queries.sealed(run.election.book, name, act) or b"").decode()
     # since the close no other ballot counts than in the publication
@@ -421,7 +421,12 @@ def is_told(fate: Fate) -> bool:
     if letter is None:
         return True
     is_automatic = letter.is_automatic and (fate.is_own or not letter.ballots)
-    told = (Outcome.WAITS, Outcome.GOES_IN, Outcome.SET_ASIDE, Outcome.OLDER)
+    told = (
+        LetterOutcome.WAITS,
+        LetterOutcome.GOES_IN,
+        LetterOutcome.SET_ASIDE,
+        LetterOutcome.OLDER,
+    )
     return fate.became in told and not is_automatic
 
 

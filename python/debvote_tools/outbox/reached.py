@@ -1,6 +1,6 @@
 """Whom the call has reached, and who gets it printed: the one answer for `status`, for each kind of
 letters and for what a letter after an extension says. `status` asks it, so nothing is imported here
-that reads letters or makes pages.
+that judges letters or makes pages.
 """
 
 from collections.abc import Sequence
@@ -25,7 +25,7 @@ def unreached(election: Election, history: History, *, without: int = 0) -> list
     letter since. `without` is an act whose letters reach nobody yet.
     """
     electors, call = queries.electors(election.book), election.called(history).number
-    found = outgoing.reached(election.book, call, without)
+    found = outgoing.letters_by_address(election.book, call, without)
     back, not_reached = came_back(election, electors, call), list[Unreached]()
     for elector in electors:
         place = elector.number, address_in(elector.addresses)
@@ -38,7 +38,9 @@ def unreached(election: Election, history: History, *, without: int = 0) -> list
     return not_reached
 
 
-def reached_by_call(election: Election, history: History) -> tuple[list[Unreached], list[str]]:
+def unreached_and_printed(
+    election: Election, history: History
+) -> tuple[list[Unreached], list[str]]:
     """The electors with an address whom the call has not reached, and the names of those who get it
     printed; none before `letters call`.
     """

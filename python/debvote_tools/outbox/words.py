@@ -12,7 +12,7 @@ import re
 from collections.abc import Collection, Iterator, Sequence
 
 from debvote_tools.book.queries import Elector
-from debvote_tools.inbox.rules import Outcome
+from debvote_tools.inbox.rules import LetterOutcome
 from debvote_tools.inbox.fates import Became, Fate
 from debvote_tools.inbox.reasons import for_elector
 from debvote_tools.poll.announced import address_in
@@ -201,7 +201,7 @@ class Composer:
         language = self.call_data.language
         zone = self.call_data.until.tzinfo if self.call_data.until else datetime.UTC
         if not isinstance(fate.became, Became):
-            is_done = fate.became in (Outcome.SET_ASIDE, Outcome.OLDER)
+            is_done = fate.became in (LetterOutcome.SET_ASIDE, LetterOutcome.OLDER)
             of_kind = OF_RECORD if fate.letter and fate.letter.read.link else OF_LETTER
             said = of_kind[fate.is_own, is_done]
         else:
@@ -227,7 +227,7 @@ class Composer:
             )
             sentences += dict.fromkeys(near)
         elif fate.became is Became.REFUSED:
-            sentences += faults_of(fate.answer, name, language)
+            sentences += faults_of(fate.why_refused, name, language)
         return " ".join(sentences)
 
     def more_of(self, fate: Fate) -> Iterator[str]:
@@ -243,7 +243,7 @@ class Composer:
 
     def quotation_of(self, fate: Fate) -> str:
         """A refused line behind a bar, with which it is no ballot; empty if it may have words."""
-        line = fate.envelope.line if fate.envelope is not None and fate.answer is not None else b""
+        line = fate.envelope.line if fate.envelope and fate.why_refused is not None else b""
         is_quoted = self.call_data.questions.is_several or QUOTED.fullmatch(line)
         return f"|{line.decode()}" if line and is_quoted else ""
 

@@ -7,7 +7,7 @@ from collections.abc import Callable, Collection, Mapping
 
 from debvote_tools.files import sha256_of
 from debvote_tools.poll.sealed import SealedPoll, read_plain
-from debvote_tools.text.ballots import answers_in, ballots_in_words, line_of, without_ballots
+from debvote_tools.text.ballots import ballots_in_words, line_of, ranks_by_label, without_ballots
 from debvote_tools.text.language import ENGLISH, Language
 from debvote_tools.text.motions import Words, words_of
 
@@ -72,7 +72,7 @@ class Questions(dict[str, SealedPoll]):
     def in_brackets(self, ballot: str) -> str:
         """A ballot as letters repeat it: wherever a line of it is broken, none reads as a ballot."""
         name, _, answers = ballot.partition(" ")
-        parts = (f"({label} {ranks})" for label, ranks in answers_in(answers).items())
+        parts = (f"({label} {ranks})" for label, ranks in ranks_by_label(answers).items())
         return " ".join([name, *parts]) if self.is_several else f"({ballot})"
 
     def words(self, language: Language) -> Words:
@@ -98,7 +98,7 @@ class Questions(dict[str, SealedPoll]):
         }
         before = {label: f"{self.titled(label)}: " if label else "" for label in self}
         return lambda answers: "; ".join(
-            before[label] + said[label](ranks) for label, ranks in answers_in(answers).items()
+            before[label] + said[label](ranks) for label, ranks in ranks_by_label(answers).items()
         )
 
     def titled(self, label: str) -> str:

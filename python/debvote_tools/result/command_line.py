@@ -21,7 +21,7 @@ from debvote_tools.files import BALLOTS_LIMIT, POLL_LIMIT, read_at_most, sha256_
 from debvote_tools.text.language import ENGLISH, LANGUAGES, language_of
 from debvote_tools.poll.plain_names import bad_options, bad_title
 from debvote_tools.result import folder
-from debvote_tools.result.facts import Facts, Words
+from debvote_tools.result.facts import Facts, PublishedWords
 from debvote_tools.poll.sealed import KEYS, REQUIRED, SealedPoll, poll_of
 from debvote_tools.poll.secret import CODE
 
@@ -98,7 +98,7 @@ def facts_of(arguments: Arguments, program_folder: pathlib.Path) -> Facts:
         poll,
         ballots,
         language_of(arguments.language),
-        words=Words(casting=arguments.casting),
+        words=PublishedWords(casting=arguments.casting),
         desks=arguments.desks,
         given_checksum=sha256_of(poll_bytes),
     )

@@ -54,7 +54,7 @@ class Told:
 
 
 @dataclasses.dataclass(frozen=True)
-class Words:
+class PublishedWords:
     """What the secretary says of a publication. The act keeps it, so that the same folder can be
     made again.
     """
@@ -162,14 +162,14 @@ class Facts:
     # the lines in time; in a secret vote the ballots that stand, under aliases
     ballots: bytes
     language: Language = ENGLISH
-    words: Words = Words()
+    words: PublishedWords = PublishedWords()
     desks: int = 1
     # of two files: the checksum of the file that was given as the poll
     given_checksum: str | None = None
     # what was done, about all questions, None of two files; and of each line that came after the end,
     # and is in time since the vote was not closed, the labels of the questions that it answers
     acts: tuple[Act, ...] | None = None
-    after_end: Sequence[Collection[str]] = ()
+    labels_after_end: Sequence[Collection[str]] = ()
     # the lines that were entered after the close: how many came late, and unless the vote is secret the
     # file of all
     late_number: int = 0
@@ -225,7 +225,7 @@ class Facts:
 
     @property
     def lines_after_end(self) -> int:
-        return sum(self.label in labels for labels in self.after_end)
+        return sum(self.label in labels for labels in self.labels_after_end)
 
     @property
     def late_lines(self) -> list[bytes]:

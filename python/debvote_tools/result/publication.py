@@ -22,7 +22,7 @@ from debvote_tools.poll.call import zone_of
 from debvote_tools.poll.secret import alias_in, aliased_ballots, sealed_checksum
 from debvote_tools.poll.questions import Questions, place_of
 from debvote_tools.poll.sealed import SealedPoll
-from debvote_tools.result.facts import Act, Doubt, Facts, Words
+from debvote_tools.result.facts import Act, Doubt, Facts, PublishedWords
 from debvote_tools.result.file_names import BALLOTS
 from debvote_tools.result.sheet import castings_kept, sheet_in
 from debvote_tools.text.ballots import ballot_file, in_normal_form
@@ -30,19 +30,8 @@ from debvote_tools.text.language import Language, language_of
 from debvote_tools.text.rendering import render_letter
 
 
-# ---- publications
-def publications(history: History) -> list[DoneAct]:
-    """The publications since the last close."""
-    close = history.closes[-1].number if history.closes else 0
-    return [act for act in history.named("publish") if act.number > close]
-
-
-def last_publication(history: History) -> DoneAct | None:
-    return next(reversed(publications(history)), None)
-
-
 # ---- the facts
-def facts_of(election: Election, words: Words, pending: Pending) -> dict[str, Facts]:
+def facts_of(election: Election, words: PublishedWords, pending: Pending) -> dict[str, Facts]:
     """The facts of each question, by its label."""
     history, sealed, book = election.history(), election.sealed(), election.book
     demand_own_lines(election)
@@ -52,7 +41,7 @@ def facts_of(election: Election, words: Words, pending: Pending) -> dict[str, Fa
         "words": words,
         "language": election.language if words.language is None else language_of(words.language),
         "acts": acts_of(book, history, is_secret=sealed.counted.is_secret),
-        "after_end": after_end(book, history),
+        "labels_after_end": labels_after_end(book, history),
         "closed": closing_letter(history, sealed.public, election.language)
         if history.closes
         else None,
@@ -66,22 +55,24 @@ def facts_of(election: Election, words: Words, pending: Pending) -> dict[str, Fa
             label=label,
             poll=poll,
             doubts=tuple(doubts_of(history, label, poll, words.castings.get(label), pending)),
-            **cast_in(election, history, label, words),
+            **facts_of_ballots(election, history, label, words),
             **shared,
         )
         for label, poll in sealed.public.items()
     }
 
 
-def cast_in(election: Election, history: History, label: str, words: Words) -> dict[str, Any]:
+def facts_of_ballots(
+    election: Election, history: History, label: str, words: PublishedWords
+) -> dict[str, Any]:
     """The facts about the ballots of a question. Stops if debvote does not find them as they are kept."""
     poll, book = election.sealed().counted[label], election.book
     with book.question(label), book.snapshot():
         ballots, late = map(ballot_file, (queries.lines_to_count(book), queries.late_lines(book)))
         # what was entered anew as in time came in time
         late_number = len(queries.lines(book, queries.LEFT_LATE))
-        public, standing = public_ballots(book, label, poll, ballots), queries.what_counts(book)
-    demand_kept(election, election.debvote.standing(poll.as_bytes(), ballots), standing)
+        public, counting = public_ballots(book, label, poll, ballots), queries.what_counts(book)
+    demand_kept(election, election.debvote.standing(poll.as_bytes(), ballots), counting)
     demand_as_closed(history, label, public)
     if not poll.secret:
         return {"ballots": public, "late": late, "late_number": late_number}
@@ -94,7 +85,7 @@ def cast_in(election: Election, history: History, label: str, words: Words) -> d
         "private": sheet_in(
             election.debvote.answer("count", poll.as_bytes(), ballots, *casting).text
         ),
-        "compared": shown_by_comparison(election, history, label, standing, public),
+        "compared": shown_by_comparison(election, history, label, counting, public),
     }
 
 
@@ -102,7 +93,7 @@ def early_end(history: History) -> datetime.datetime | None:
     """Until when one should have been able to vote, if the first close came before; after it nobody
     could.
     """
-    return history.until if history.closes and history.closes[0].detail.get("early") else None
+    return history.until if history.was_closed_early else None
 
 
 def closing_letter(history: History, questions: Questions, language: Language) -> bytes:
@@ -163,7 +154,7 @@ def demand_as_closed(history: History, label: str, ballots: bytes) -> None:
 
 
 def shown_by_comparison(
-    election: Election, history: History, label: str, standing: Mapping[str, str], ballots: bytes
+    election: Election, history: History, label: str, counting: Mapping[str, str], ballots: bytes
 ) -> list[str]:
     """The electors of a secret vote whose ballots differ from those of the last publication: a
     comparison shows theirs alone.
@@ -175,7 +166,7 @@ def shown_by_comparison(
         before = queries.what_counted(election.book, earlier[-1].number)
     then, now = (
         {name: in_normal_form(ranks) for name, ranks in votes.items()}
-        for votes in (before, standing)
+        for votes in (before, counting)
     )
     roll = election.sealed().counted.roll
     return [name for name in roll if then.get(name) != now.get(name)]
@@ -194,8 +185,8 @@ def doubts_of(
         # `close --early` has agreed to it
         yield Doubt("closed early", {"closed": closed, "until": until}, stops=False)
     if is_unasked_since_close(history):
-        # `close --force` has agreed to it
-        yield Doubt("box not asked", stops=history.closes[0].detail["early"])
+        # as in `unasked_fault`: at the end `close --force` has agreed to it
+        yield Doubt("box not asked", stops=history.was_closed_early)
     names = dict(zip(poll.plain_names, poll.names))
     earlier = dict.fromkeys(
         castings_kept(act.detail["casting"]).get(label) for act in history.named("publish")
@@ -223,8 +214,8 @@ def acts_of(book: Book, history: History, *, is_secret: bool) -> tuple[Act, ...]
     )
 
 
-def after_end(book: Book, history: History) -> list[Collection[str]]:
-    """Of each line, row and ballot of a desk that came after the end, and is in time, valid or not, the
+def labels_after_end(book: Book, history: History) -> list[Collection[str]]:
+    """Of each line of a file or a desk that came after the end, and is in time, valid or not, the
     labels of the questions that it answers. What was entered after the first close is left out: whoever
     entered it said that it came before that close.
     """
@@ -283,7 +274,7 @@ def close_of(act: DoneAct, book: Book, history: History) -> dict[str, Any]:
     for place, column in (("came", "act"), ("struck", "struck")) if earlier else ():
         places[place] = {
             label: len(queries.lines(book, between.format(column), earlier[-1], act.number))
-            for label in queries.by_question(book)
+            for label in queries.each_question_alone(book)
         }
     return places
 

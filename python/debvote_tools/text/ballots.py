@@ -43,7 +43,7 @@ def in_normal_form(ranks: str) -> str:
     return ",".join(normal[rank] for rank in given)
 
 
-def answers_in(answers: str) -> dict[str, str]:
+def ranks_by_label(answers: str) -> dict[str, str]:
     """The ranks by the labels of their questions, from what a ballot has behind the name: `1,2`, of
     which the label is empty, or `A 1,2 C 2,1,3`.
     """
@@ -63,7 +63,7 @@ def line_of(name: str, answers: Mapping[str, str]) -> str:
 @functools.lru_cache(maxsize=10_000)
 def answers_of(ballot: str) -> Mapping[str, str]:
     """The ranks by question, of a ballot with its name. Each is compared with many others."""
-    return answers_in(ballot.partition(" ")[2])
+    return ranks_by_label(ballot.partition(" ")[2])
 
 
 def differ(ballot: str, other: str) -> bool:

@@ -24,7 +24,7 @@ def book(tmp_path: pathlib.Path) -> Book:
     with book.act("roll", {"electors": 2}) as act:
         ada, ben = (queries.new_elector(act, name).number for name in ("ada", "ben"))
     with book.act("add") as act:
-        new = [queries.NewEnvelope(line, answer=answer) for line, answer in LINES]
+        new = [queries.NewEnvelope(line, why_refused=answer) for line, answer in LINES]
         queries.add_envelopes(act, new, [ada, ben, ada, ben], is_late=False)
     return book
 

@@ -193,7 +193,7 @@ class NamesAreCompleted(TerminalTest):
         self.assertEqual(self.lines(), ["clara 1,2,4,3"] * 2)
 
     def test_no_code_is_completed(self) -> None:
-        self.act("extend", {"codes_on_roll": True})
+        self.act("codes", {"on_roll": True})
         desk = self.at_terminal("Type a ballot as CODE 1,2,3,4 (the code, then a rank ")
         for typed in ("clara 1,2,4,3", "anna 1,2,4,3", "anna-maier 1,2,4,3", "Meier 1,2,4,3"):
             shown = desk.after(f"{typed}\n", CAST_REFUSED)

@@ -11,7 +11,7 @@ from collections.abc import Sequence
 
 from debvote_tools.inbox.judging import judge_all
 from debvote_tools.inbox.letter import is_quoted
-from debvote_tools.inbox.rules import LetterCase, Outcome
+from debvote_tools.inbox.rules import LetterCase, LetterOutcome
 from debvote_tools.text.language import LANGUAGES
 from debvote_tools.text.motions import RANKS, WORDS, Words, may_answer, words_of
 
@@ -47,7 +47,7 @@ def judged_by(data: Sequence[bytes], words: Words = WORDS_EN, **other: object) -
     """What becomes of letters, each alone."""
     found = read(*data, reader=MotionReader(), words=words, real_names=REAL, roll=frozenset(ROLL))
     usual: dict[str, object] = {"addresses": {name: [f"{name}@club.example"] for name in ROLL}, "own_marks": {**OWN, "kim-no": "kmn2345678"}, "roll": ROLL}
-    usual |= {"words": words, "no_answers": {*REAL.values(), "Option 1: Yes"}, "asking": ASKING}
+    usual |= {"words": words, "no_answers": {*REAL.values(), "Option 1: Yes"}, "asking_ids": ASKING}
     now = circumstances(**{**usual, **other})
     return [judge_all([one], now, lambda _: {})[0] for one in found]
 
@@ -55,7 +55,7 @@ def judged_by(data: Sequence[bytes], words: Words = WORDS_EN, **other: object) -
 def becomes(data: bytes, **other: object) -> str:
     """What becomes of a letter, and what is offered of it."""
     [one] = judged_by([data], **other)
-    return "; ".join([outcome(one), *(line.ballot for line in one.offered)])
+    return "; ".join([outcome(one), *(line.as_entered for line in one.offered)])
 
 
 class OfLines(unittest.TestCase):
@@ -265,8 +265,8 @@ def compare(test: unittest.TestCase, letters: list[bytes]) -> dict[str, int]:
     """Nothing goes in that does not without a motion, and of what goes in no other line may be an answer; how many go in and are offered."""
     found = {"in": 0, "held back": 0, "offered": 0}
     for data, plain, one in zip(letters, judged_by(letters, words={}), judged_by(letters)):
-        is_in, was_in = one.outcome is Outcome.GOES_IN, plain.outcome is Outcome.GOES_IN
-        found["offered"] += bool({line.ballot for line in one.offered} - {line.ballot for line in plain.offered})
+        is_in, was_in = one.outcome is LetterOutcome.GOES_IN, plain.outcome is LetterOutcome.GOES_IN
+        found["offered"] += bool({line.as_entered for line in one.offered} - {line.as_entered for line in plain.offered})
         found["held back"] += was_in and not is_in
         if not is_in:
             continue

@@ -10,7 +10,7 @@ from debvote_tools.inbox.judging import Ballot, judge_all
 from debvote_tools.inbox.letter import ParsedLetter
 from debvote_tools.inbox.letter_lines import ReadLetter
 from debvote_tools.inbox.reasons import for_secretary
-from debvote_tools.inbox.rules import LetterCase, Outcome
+from debvote_tools.inbox.rules import LetterCase, LetterOutcome
 
 from tests.support.letters import BALLOT, IN, OTHER, RANKS, alternatives, at, circumstances, judged, letter, lines_in, outcome, outcomes, parsed, read
 
@@ -31,11 +31,11 @@ def other(time: str, **how: object) -> bytes:
 
 def entered(*letters: LetterCase) -> dict[str, object]:
     """The circumstances when what goes in of these has gone in."""
-    going = [one for one in letters if one.outcome is Outcome.GOES_IN]
+    going = [one for one in letters if one.outcome is LetterOutcome.GOES_IN]
     ballots: dict[str, list[Ballot]] = {}
     for one in going:
         assert one.time is not None
-        ballots.setdefault(one.electors[0], []).append(Ballot(one.time, one.ballots[0].ballot, True))
+        ballots.setdefault(one.electors[0], []).append(Ballot(one.time, one.ballots[0].as_entered, True))
     return {"ballots": ballots, "decisions": {one.read.digest: queries.ENTERED for one in going}}
 
 
@@ -271,13 +271,13 @@ class World:
                 found = judge_all(kept, circumstances(decisions=decisions), lambda _: {"ada": box})
                 # it may be that nobody agrees, but in the end
                 for one in found if minute == MINUTES or self.chance.random() < 0.8 else ():
-                    if one.outcome is Outcome.GOES_IN and one.time is not None:
+                    if one.outcome is LetterOutcome.GOES_IN and one.time is not None:
                         decisions[one.read.key] = queries.ENTERED
-                        box.append(Ballot(one.time, one.ballots[0].ballot, True))
+                        box.append(Ballot(one.time, one.ballots[0].as_entered, True))
                         lines.append(box[-1].line)
         found = judge_all(kept, circumstances(decisions=decisions), lambda _: {"ada": box})
-        assert not any(one.outcome is Outcome.GOES_IN for one in found)
-        return next(reversed(lines), ""), any(one.outcome is Outcome.WAITS for one in found)
+        assert not any(one.outcome is LetterOutcome.GOES_IN for one in found)
+        return next(reversed(lines), ""), any(one.outcome is LetterOutcome.WAITS for one in found)
 
 
 class Orders(unittest.TestCase):

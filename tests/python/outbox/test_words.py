@@ -17,7 +17,7 @@ from debvote_tools.book.outgoing import OutgoingLetter
 from debvote_tools.inbox.letter_lines import Near
 from debvote_tools.inbox.fates import Became, Fate
 from debvote_tools.inbox.reasons import Reason, for_elector
-from debvote_tools.inbox.rules import Outcome
+from debvote_tools.inbox.rules import LetterOutcome
 from debvote_tools.outbox.letter_folder import message, rows_to_print
 from debvote_tools.outbox.words import PACKAGE, SUBJECTS, Composer
 from debvote_tools.poll.announced import is_mail_address
@@ -62,12 +62,12 @@ def all_that_came() -> list[Fate]:
     ballots = [envelope(number, became) for number, became in enumerate(Became) if became is not Became.REFUSED]
     refused = ["bad rank count: 1 ranks, the poll has 3 options", 'bad shape: column 2: "!"']
     letter = types.SimpleNamespace(reason=Reason.NO_BALLOT(), near=near, read=types.SimpleNamespace(link=""))
-    outcomes = itertools.product((Outcome.WAITS, Outcome.SET_ASIDE), (True, False))
+    outcomes = itertools.product((LetterOutcome.WAITS, LetterOutcome.SET_ASIDE), (True, False))
     letters = [Fate(TIME, outcome, letter=letter, is_own=is_own) for outcome, is_own in outcomes]  # type: ignore[arg-type]
     return [*ballots, *(envelope(9, Became.REFUSED, answer) for answer in refused), *letters]
 
 
-WAITS = next(one for one in all_that_came() if one.became is Outcome.WAITS and one.is_own)
+WAITS = next(one for one in all_that_came() if one.became is LetterOutcome.WAITS and one.is_own)
 
 
 def texts(now: Composer) -> list[str]:

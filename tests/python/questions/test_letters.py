@@ -11,7 +11,7 @@ from unittest import mock
 from debvote_tools.inbox import rules
 from debvote_tools.inbox.judging import Ballot, judge_all
 from debvote_tools.inbox.letter_lines import ReadLetter, from_json, to_json, with_lines
-from debvote_tools.inbox.rules import LetterCase, Outcome
+from debvote_tools.inbox.rules import LetterCase, LetterOutcome
 from debvote_tools.text.motions import Words, words_of
 
 from tests.python.inbox import test_forgeries
@@ -60,7 +60,7 @@ def judged(*given: bytes, ballots: Mapping[str, Sequence[Ballot]] | None = None,
 def becomes(text: str, how: object = letter, words: Words = {}) -> str:
     """What becomes of a letter of ada with this text, or what it is offered as."""
     [case] = judged(how("ada", text), words=words)  # type: ignore[operator]
-    offered = "".join(f" ({line.number}: {line.ballot})" for line in case.offered)
+    offered = "".join(f" ({line.number}: {line.as_entered})" for line in case.offered)
     return f"{outcome(case)}{offered}"
 
 
@@ -345,8 +345,8 @@ def that_go_in(count: int, *, has_words: bool = False, words: Words = {}) -> Ite
     known = circumstances(no_answers=OURS, words=words)
     for (data, stands), one in zip(given, read(*(data for data, _ in given), words=words)):
         [case] = judge_all([one], known, lambda _: {})
-        if case.outcome is Outcome.GOES_IN:
-            name, *parts = case.ballots[0].ballot.split(" ")
+        if case.outcome is LetterOutcome.GOES_IN:
+            name, *parts = case.ballots[0].as_entered.split(" ")
             assert name == "ada", data
             yield data, stands, set(zip(parts[::2], parts[1::2]))
 

@@ -8,7 +8,7 @@ from debvote_tools.result.facts import Act
 from debvote_tools.result.page import share
 from debvote_tools.result.sheet import sheet_in
 from debvote_tools.result.why import Why
-from debvote_tools.text.ballots import answers_in, ballots_in_words, line_of, part_of
+from debvote_tools.text.ballots import ballots_in_words, line_of, part_of, ranks_by_label
 from debvote_tools.text.language import ENGLISH, language_of
 from debvote_tools.text.rendering import templates_of
 
@@ -68,7 +68,7 @@ class WordsTest(expecting.Expecting):
             "A 1,2": {"A": "1,2"},
             "A 1,2 C 2,-,3": {"A": "1,2", "C": "2,-,3"},
         }.items():
-            self.expect(f"the answers in {answers}", answers_in(answers), by_label)
+            self.expect(f"the answers in {answers}", ranks_by_label(answers), by_label)
             self.expect(f"the line of {by_label}", line_of("ada", by_label), f"ada {answers}")
             parts = {label: part_of(f"ada {answers}".encode(), label) for label in by_label}
             self.expect(f"the parts of {answers}", parts, {label: f"ada {ranks}".encode() for label, ranks in by_label.items()})
