@@ -36,7 +36,8 @@ SENTENCES = {
     "a tie of many": "No option has won yet: {left} are tied. The casting vote has to choose one of them. {tied}",
     "a tie by defeats that were removed": "The defeats among them were set aside as the weakest.",
     "a tie without defeats": "None of them beats another.",
-    "the casting vote": "Winner: {winner} by casting vote. These options were left: {left}.",
+    "the casting vote": "Winner: {winner} by casting vote. {left}",
+    "the casting vote among many": "These options were left: {left}.",
     "the default option, a few failed": "Winner: {winner}. All other options were dropped. {failed}",
     "the default option, many failed": "Winner: {winner}. All other options were dropped. The nearest, {nearest}",
     "a circle": "Winner: {winner}. Options beat each other in a circle, so the weakest defeat was set aside: {last}. "
@@ -326,8 +327,7 @@ class Parts:
         demand_equal("whether it is long", head.attributes.get("class"), "long" if len(name) > 60 else None)
         if count.final[1:]:
             said = "Those who publish this page do not say whose casting vote it was, or when it was given."
-            more = f"These options were left: {left}." if count.final[2:] else self.against(*count.final)
-            demand_equal("a casting vote", texts, ["Has won by the casting vote", more, said])
+            demand_equal("a casting vote", texts, ["Has won by the casting vote", self.left(), said])
             return
         demand_equal("how it ended", texts[0], "The default option has won" if count.winner == default else "Has won")
         rows = [self.shown(entry) for entry in section.one("ul", "duels").all("li")]
@@ -337,6 +337,11 @@ class Parts:
         """Of more than two that are left, why."""
         among = {pair for _, gone in self.count.rounds for pair in gone if {*pair} <= {*self.count.final}}
         return self.say("a tie by defeats that were removed" if among else "a tie without defeats")
+
+    def left(self):
+        """Among which the casting vote chose."""
+        final = self.count.final
+        return self.say("the casting vote among many", left=in_words(list(map(self.name, final)))) if final[2:] else self.against(*final)
 
     def shown(self, entry):
         """A row of the panel: its texts, its bar, and whether it is one of a defeat that holds."""
@@ -386,7 +391,7 @@ class Parts:
             wanted = self.say(kind, left=left, **more)
         else:
             winner = {"winner": self.name(count.winner)}
-            wanted = self.say("the casting vote", left=left, **winner) if count.final[1:] else self.deciding_alone(count.winner, winner)
+            wanted = self.say("the casting vote", left=self.left(), **winner) if count.final[1:] else self.deciding_alone(count.winner, winner)
         demand(f" {' '.join(wanted.split())} " in self.letter, f"what decides it, in the letter: {wanted} is not in {self.letter[:600]}")
 
     def deciding_alone(self, winner, places):

@@ -356,6 +356,8 @@ def names_like_answers(
 
 
 def what_next(election: Election, history: History, questions: Questions) -> str:
+    if history.call is not None:
+        return election.command("status")
     if lacks_codes(election, history, questions):
         return (
             f"{election.command('codes')}, since the vote is secret and electors have no codes yet"
@@ -389,7 +391,7 @@ def codes(election: Election, arguments: CodesArguments) -> None:
     history, private = election.history(), election.path(PRIVATE)
     write_slips(election, sealed)
     when = "Print them after the call, which adds the end of the vote and the address for ballots."
-    tell(f"The slips: {private / SLIPS}. {when}")
+    tell(f"The slips: {private / SLIPS}.{'' if history.call else f' {when}'}")
     without = [one.name for one in queries.electors(election.book) if not one.code]
     if history.has_codes_on_roll:
         words = "Destroy the slips that are left over, and their file."

@@ -359,6 +359,9 @@ def call_in_words(election: Election, data: CallData) -> Iterator[str]:
         put = f"upload the files of {folder} to {data.at}, {SCRIPT} too, then run {ask}, which tries whether it works"
         yield f"To ask for the ballots of the page each hour, by cron: {cron_line(election)}"
     yield f"{sealed} and texts/ of this folder are no longer read; roll still reads addresses and keys."
+    if election.history().closes:
+        yield f"Next: {election.command('status')}"
+        return
     send = election.to_all("call", folder / "call.txt")
     enter = f"{election.command('add', 'FILE')} or {election.command('desk')}"
     yield f"Next: {put}, and write to the electors: {send}; enter the ballots that come: {enter}"

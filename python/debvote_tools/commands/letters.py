@@ -21,7 +21,13 @@ from debvote_tools.cli.faults import Fault, Status
 from debvote_tools.files import locked, uninterrupted
 from debvote_tools.outbox import letter_folder, smtp
 from debvote_tools.inbox.pending import pending_letters
-from debvote_tools.outbox.due import NOTHING_WRITTEN, LettersDue, is_present, letters_due
+from debvote_tools.outbox.due import (
+    NOTHING_WRITTEN,
+    LettersDue,
+    demand_due,
+    is_present,
+    letters_due,
+)
 from debvote_tools.outbox.reached import WAS_REFUSED, unreached_and_printed
 from debvote_tools.outbox.smtp import Server
 from debvote_tools.outbox.words import SUBJECTS
@@ -72,13 +78,14 @@ def run(election: Election, arguments: Arguments) -> int:
     if arguments.kind == "result" and history.is_closed:
         force = "or publish without them, with --force --because TEXT"
         pending_letters(election, history).demand_none(election, force, done=NOTHING_WRITTEN)
-    if arguments.at not in (None, history.announced("at")):
-        with election.book.act("announce", {"at": arguments.at}, seen=history.last.number):
-            pass
     sender = arguments.sender or history.announced("to")
     if sender is None:
         raise bad_words("--from", "the call names no address", "give the sender's address with it")
     demand_mail_address(sender, "--from")
+    if arguments.at not in (None, history.announced("at")):
+        demand_due(election, history, arguments.kind)
+        with election.book.act("announce", {"at": arguments.at}, seen=history.last.number):
+            pass
     letter_folder.make_own(election.path(LETTERS) / arguments.kind)
     # two runs at once would send each letter twice
     with locked(election.path(LETTERS) / ".lock"):

@@ -127,8 +127,7 @@ def ballots_written(lines: Iterable[tuple[int, str]], names: Names) -> list[Writ
             # what is alone may be the name again
             word = bare_text(line[: 2 * MAX_NAME]).removesuffix(":").rstrip()
             before, alone = alone, (number, word) if word and is_name(word) else None
-            is_again = alone and not before and may_go_on
-            may_go_on = bool(is_again and is_same_name(word, found[-1].name, names))
+            may_go_on = bool(alone and not before and may_go_on)
             is_unfilled = False
             continue
         if is_unfilled:

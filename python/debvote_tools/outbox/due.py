@@ -156,12 +156,8 @@ def letters_due(
     }
     history, time, book = election.history(), now(), election.book
     called, until = election.called(history).number, history.until
-    if history.has_codes_on_roll:
-        words = "codes are on the roll, and nobody knows whose they are, so no letters can be written to electors"
-        cure = "with your mail program send call/call.txt, letters/closed.txt and letters/result.txt to all"
-        raise Fault("letters", words, cure, done=NOTHING_WRITTEN)
     is_over = bool(history.closes) or (until is not None and time > until)
-    demand_time(election, history, kind, is_over=is_over)
+    demand_due(election, history, kind, is_over=is_over)
     call_data, forced = call_data_of(election, history, kind, because)
     on_list, noted_before = queries.electors(book), outgoing.outgoing_letters(book, kind)
     electors = {elector.number: elector for elector in on_list}
@@ -176,8 +172,12 @@ def letters_due(
     return of_kinds[kind](Run(election, history, time, *how))
 
 
-def demand_time(election: Election, history: History, kind: str, *, is_over: bool) -> None:
-    """Stops at a kind of letters for which it is too early or too late."""
+def demand_due(election: Election, history: History, kind: str, *, is_over: bool = False) -> None:
+    """Stops at a kind of letters for which it is too early or too late, or that nobody can write."""
+    if history.has_codes_on_roll:
+        words = "codes are on the roll, and nobody knows whose they are, so no letters can be written to electors"
+        cure = "with your mail program send call/call.txt, letters/closed.txt and letters/result.txt to all"
+        raise Fault("letters", words, cure, done=NOTHING_WRITTEN)
     if kind in ("call", "reminders") and is_over:
         words = "the vote is over, so nobody is asked to vote"
         cure = f"see {election.command('status')}"

@@ -274,6 +274,13 @@ class Secret(CallTest):
             self.done("call", *words)
             self.assertIn(said, self.read("private/slips.html").decode())
 
+    def test_what_comes_next_once_it_is_called_and_closed(self) -> None:
+        self.called()
+        self.assertIn("The slips: private/slips.html.\n", self.done("codes").output)
+        self.done("close", "--early", "--yes")
+        for command in ("codes", "call"):
+            self.assertTrue(self.done(command).output.endswith("\nNext: debvote-election status\n"))
+
     def test_codes_stay_and_new_electors_get_theirs(self) -> None:
         """Only the secretary may read them, whatever modes the files have got."""
         self.done("codes")

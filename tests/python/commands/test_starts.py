@@ -26,6 +26,7 @@ def letter_of(number: int, name: str, text: str, mark: str, kind: str = "plain")
 class Starts(elections.ElectionTest):
     call_words = None
     secret = False
+    questions = 1
 
     def set_clock(self, time: str) -> None:
         super().set_clock(time)
@@ -36,11 +37,14 @@ class Starts(elections.ElectionTest):
     def begin(self) -> None:
         self.tried: set[str] = set()
         self.set_clock(CALLED)
-        self.started("new", self.folder, cwd=self.scratch)
-        self.write("poll.toml", elections.POLL + ("secret = true\n" if self.secret else ""))
+        self.started("new", "--questions", self.questions, self.folder, cwd=self.scratch)
+        self.write_polls()
         self.write("members.csv", elections.members_of(elections.NAMES))
         self.each(["roll", *["codes"] * self.secret, "check"])
         self.started("call", "--to", "vote@club.example", "--at", "https://club.example/", "--until", "2026-12-04 18:00+00:00")
+
+    def write_polls(self) -> None:
+        self.write("poll.toml", elections.POLL + ("secret = true\n" if self.secret else ""))
 
     def each(self, commands: list[str]) -> None:
         for words in commands:
@@ -54,7 +58,7 @@ class Starts(elections.ElectionTest):
         self.tried.add(command)
         with self.subTest(words):
             self.assertIn(ended.status, (0, 1) if command in ("count", "publish") else (0,), ended)
-            self.assertLessEqual(len(counter.read_bytes()), MOST.get(command, 0) if most is None else most)
+            self.assertLessEqual(len(counter.read_bytes()), self.questions * (MOST.get(command, 0) if most is None else most))
 
     def mailbox(self) -> str:
         mark = hashlib.sha256(self.read("call/poll.toml")).hexdigest()[:16]
@@ -110,3 +114,26 @@ class Secret(Starts):
         self.votes()
         self.result()
         self.assertEqual(self.tried, {*COMMANDS})
+
+
+class Several(Starts):
+    """As often for each question."""
+
+    questions = 2
+
+    def write_polls(self) -> None:
+        self.write("polls/title.txt", "Assembly\n")
+        for label in "AB":
+            self.write(f"polls/{label}.toml", elections.POLL)
+
+    def test_each_command(self) -> None:
+        self.write("lines", "ada A 1,2,3,4 B 4,3,2,1\nben a: 1;2;3;4\nBen B 1, 2, 3, 4\ncleo A 1,2 B 1,2,3,4\nzoe A 1,2,3,4\n")
+        mark = hashlib.sha256(self.read("call/polls.sha256")).hexdigest()[:16]
+        texts = [("ada", "ada\nA 2,1,3,4\n\nB 1,2,3,4"), ("dan", "A 1,2,3,4\nB 1,2,3,4"), ("eve", "eve A 1,2\nB 1,2,3,4"), ("fay", "gus B 1,2,3,4")]
+        self.write("mail", "".join(letter_of(number, name, text, mark) for number, (name, text) in enumerate(texts, start=1)))
+        self.set_clock(TEN)
+        self.each(["add --force lines", "add lines", "add --yes mail", "held", "held 2 --enter --force", "held 3 4 --set-aside"])
+        self.started("desk", given="ida A 1,2,3,4\n")
+        self.each(["show ada", "status", "undo --yes", "strike 1 --because x", "letters receipts"])
+        self.set_clock(ELEVEN)
+        self.each(["close --early --force --because x", "count --force", "publish --yes --force --because x", "publish", "letters result", "export out"])

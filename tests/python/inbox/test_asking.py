@@ -17,6 +17,7 @@ from debvote_tools.inbox import asking
 from debvote_tools.inbox.asking import Asked, ask
 from debvote_tools.inbox.letter import parse
 from debvote_tools.inbox.mailbox import are_letters, letters_of_file
+from debvote_tools.inbox.records import words_of
 from debvote_tools.poll.box import list_digest, script_of
 from debvote_tools.text import times
 
@@ -303,6 +304,26 @@ class Dishonest(AskingTest):
                 asked = ask(host.at, MARK, WORD)
                 self.assertTrue(least <= asked.behind <= most, asked)
                 self.assertIsInstance(asked.behind, int)
+
+
+class Said(unittest.TestCase):
+    def test_what_is_said_of_an_asking(self) -> None:
+        """A clock that is off by more than a minute; records that are gone, when there are more of them; others."""
+        for box, gone, notes in (
+            ({"behind": 60}, 0, []),
+            ({"behind": -60}, 0, []),
+            ({"behind": 61}, 0, ["its clock is 61 seconds behind that of this computer"]),
+            ({"behind": -61}, 0, ["its clock is 61 seconds ahead of that of this computer"]),
+            ({"gone": 2}, 1, ["2 records that it had it has no more"]),
+            ({"gone": 2}, 2, []),
+            ({"gone": 1}, 2, []),
+            ({"others": 1}, 0, ["1 record of no elector, or more than 20 of one"]),
+        ):
+            first, *said = words_of({"records": 3, "behind": 0, "gone": 0, "others": 0} | box, {"gone": gone})
+            self.assertEqual(first, "The box has 3 records.")
+            self.assertEqual(len(said), len(notes), (box, said))
+            for note, line in zip(notes, said):
+                self.assertIn(f"Note: {note}", line)
 
 
 @NEEDS_PHP

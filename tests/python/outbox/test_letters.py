@@ -150,8 +150,12 @@ class Refused(OutTest):
         # the one that she had before the call gets no receipt
         self.add_lines(f"ada {RANKS}")
         self.assertEqual([message["To"] for message in self.written("receipts").values()], ["home@ada.example"])
-        # where the result is published is an act
+        # where the result is published is an act, and none if no letter can say it
         self.done("close")
+        before = self.last_act()
+        self.assert_fault(self.election("letters", "result", "--at", "https://x.example/r/"), 9, "result: nothing is published")
+        self.assert_fault(self.election("letters", "result", "--at", "https://x.example/r/", "--from", "x"), 2, "--from")
+        self.assertEqual(self.last_act(), before)
         self.done("publish")
         self.assert_fault(self.election("letters", "result"), 2, "--at: the letter must say where the result is published")
         self.assert_fault(self.election("letters", "result", "--at", "ftp://x"), 2, "it must be the address of a page")

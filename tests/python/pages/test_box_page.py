@@ -48,7 +48,8 @@ def page_with_box(code: str = "en", patience: int = 30_000, call: CallData = CAL
     call = dataclasses.replace(call, language=language_of(code), has_box=True)
     page = dict(call_files(call))["index.html"].decode()
     [script] = re.findall("(?s)<script>(.*?)</script>", page)
-    new_script = script.replace("PATIENCE = 30000", f"PATIENCE = {patience}")
+    before, after = script.split("PATIENCE = 30000")
+    new_script = f"{before}PATIENCE = {patience}{after}"
     page = page.replace(checksum_source(script), checksum_source(new_script))
     return page.replace(script, new_script).encode()
 

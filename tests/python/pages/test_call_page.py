@@ -278,9 +278,16 @@ class Several(PageTest):
         self.assertEqual((of_all["line"], self.copied(TAKES)[0]), (" ".join(lines), "\n".join(lines)))
         # what would take most of the window lies below the questions
         self.assertEqual(self.window.ask("getComputedStyle(document.getElementById('Bottom')).position"), "static")
-        of_few = self.window.ballot("e01", [*ranks * 12, *["-"] * 20 * 12])
-        self.assertEqual((bool(of_few["letter"]), of_few["missing"]), (True, f"Not answered: {', '.join(LABELS[12:])}"))
-        self.assertLessEqual(len(of_few["letter"]), 2_000)
+
+        def link(count: int) -> str:
+            found = self.window.ballot("e01", [*ranks * count, *["-"] * 20 * (24 - count)])
+            self.assertEqual(found["missing"], f"Not answered: {', '.join(LABELS[count:])}")
+            return found["letter"] or ""
+
+        # each answer makes it as much longer
+        one, two = len(link(1)), len(link(2))
+        most = 1 + (2_000 - one) // (two - one)
+        self.assertEqual([bool(link(most)), bool(link(most + 1))], [True, False])
 
     def test_widths_and_contrast(self) -> None:
         self.addCleanup(self.window.show)

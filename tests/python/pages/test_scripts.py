@@ -145,6 +145,14 @@ class ScriptsTest(publishing.ResultPageTest):
         window.resize(700, 900)
         self.expect("wide on paper", window.ask("[document.documentElement.scrollWidth, document.querySelector('.picture svg')?.clientWidth > 300]"), [700, publishing.HAS_PICTURES])
 
+    def test_which_ballots_are_long_on_paper(self):
+        """In which the names have more than 200 characters."""
+        for length, are_long in ((200, False), (201, True)):
+            names = ["A" * 100, "B" * 99, "N" * (length - 199)]
+            room = plain_room(self.scratch / f"{length} characters", publishing.PLAIN_POLL + f"shown_options = {json.dumps(names)}\n")
+            self.expect("it is published", publish(room, *FILES, "result")[2], 0)
+            self.expect(f"{length} characters", '<ul class="ballots long">' in (room / "result" / "index.html").read_text(), are_long)
+
     def test_electors_with_names_of_things_of_the_page(self):
         roll = ["find", "code", "show", "answer", "votes", "name", "result", "again", "poll-file", "ballots", "anna-meier", "graph0"]
         poll = re.sub("roll = .*", f"roll = {json.dumps(roll)}", publishing.PLAIN_POLL)

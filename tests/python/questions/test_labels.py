@@ -83,7 +83,7 @@ class Lines(LabelsTest):
         self.done("desk", given="".join(f"{text}\n" for text in RIGHT))
         self.demand_entered(*RIGHT.values())
 
-    def test_at_a_terminal(self) -> None:
+    def test_earlier_answers_that_stay(self) -> None:
         """What is no ballot is asked for again; which earlier answers stay is said before it is entered."""
         self.add_lines("cleo A 1,2 C 1,2,3,4")
         desk = terminal.Terminal(self)

@@ -73,7 +73,7 @@ class Written(unittest.TestCase):
     def test_goes_in(self) -> None:
         for text in (
             "ada A 1,2 B 2,1,3,-", "ada\nA 1,2\nB 2,1,3,-\n", "Hello,\n\nada\nA 1,2\nB 2,1,3,-\n\nAda", "Ada Lovelace\na: 1, 2\n\nb) 2;1;3;-\n", "ada\nB 2,1,3,-\nA 1,2",
-            "ada A 1,2\nB 2,1,3,-", "ada A 1,2\nada B 2,1,3,-", "ada\nA 1,2\nAda\nB 2,1,3,-", "ada\n\n\nA 1,2\n\n\n\nB 2,1,3,-", "ADA: a1,2\nb. 2,1,3,-.", "*ada*\n*A* 1,2\n*B 2,1,3,-*",
+            "ada A 1,2\nB 2,1,3,-", "ada A 1,2\nada B 2,1,3,-", "ada\nA 1,2\nAda\nB 2,1,3,-", "Ada Lovelace\nA 1,2\n\u00c1da Lovelace B 2,1,3,-", "ada\n\n\nA 1,2\n\n\n\nB 2,1,3,-", "ADA: a1,2\nb. 2,1,3,-.", "*ada*\n*A* 1,2\n*B 2,1,3,-*",
             "Ada Lovelace A 1,2\nb 2, 1, 3, -\n\nBest wishes\nAda Lovelace\n-- \nsent with a telephone", "ada\nA 1,2\nB 2,1,3,-\n\n> Your ballot: ..\n> A _,_",
         ):  # fmt: skip
             with self.subTest(text):

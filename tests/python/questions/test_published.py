@@ -424,3 +424,19 @@ class ManyTest(PublishedTest):
         # a doubt is not folded
         self.assertEqual(len(re.findall('</details>\n<p class="doubts">.*no ballot counts</p>\n</section>', page)), 4)
         self.assertEqual(pathlib.Path(self.folder / "result" / "G" / "ballots.txt").read_text(), "ada 2,1\n")
+
+
+class SixTest(PublishedTest):
+    polls = {label: ManyTest.polls[label] for label in "ABCDEF"}
+    poll = "".join(polls.values())
+    new_words = ("--questions", "6")
+
+    def setUp(self) -> None:
+        QuestionsTest.setUp(self)
+        self.add_lines("ada A 1,2 B 1,2 C 1,2 D 1,2 E 1,2 F 1,2")
+
+    def test_each_is_whole(self) -> None:
+        self.done("close", "--early")
+        self.publish()
+        page = self.read("result/index.html").decode()
+        self.assertEqual((page.count('<section class="outcome"'), page.count("<summary>")), (6, 0))

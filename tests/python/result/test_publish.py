@@ -432,7 +432,7 @@ class OfOpenVotes(OfElections):
         self.say("publish", "--casting", "72 Euro", *cast, "--language", "en")
         said = 'The secretary says that the casting vote was that of "Anna <b>", given on 20 November 2026. No count can show this.'
         self.expect("on the page", said in self.sections()["Result"].text(), True)
-        won = "Winner: Option 1: 72 Euro by casting vote. These options were left: Option 1: 72 Euro and Option 2: Größe."
+        won = "Winner: Option 1: 72 Euro by casting vote. Option 1: 72 Euro against Option 2: Größe: 1 to 1."
         self.expect("in the letter", [text in self.letter().replace("\n", " ") for text in (said, won)], [True, True])
         self.stops("publish", "--casting", "Groesse", *cast, said=["an earlier publication has a casting vote for 72 Euro"])
         self.reopened_with("cleo 1,2,3\n")
