@@ -106,4 +106,4 @@ def unasked_fault(
     cure = f"{first}run {election.command('add', '--box')}"
     if force:
         cure += f"; if it does not answer any more, {force}"
-    return Fault("--box", words, cure, done=done)
+    return Fault(what if force == WITHOUT_PAGE else "--box", words, cure, done=done)

@@ -165,7 +165,7 @@ class Reason(enum.Enum):
     )
     # other ballots
     TWO_BALLOTS = "two different ballots", marked("The reason: it has two ballots that differ.")
-    ANOTHER_ANSWER = "line {number} may be an answer, too", LOOKED_AT
+    ANOTHER_ANSWER = "line {number} may be an answer, and belongs to no ballot", LOOKED_AT
     SEVERAL_ELECTORS = "ballots of several electors: {electors}", marked(
         "The reason: it has ballots of several electors."
     )

@@ -454,7 +454,7 @@ class Asked(boxes.BoxElectionTest):
         # a wrong address can be put right, as long as no letter has a link to it
         self.done("call", "--at", self.host.at.replace("http:", "https:"))
         self.done("call", "--at", self.host.at)
-        fault = "nobody has seen yet whether the box of the web host works, with the links of now; nothing was written: upload the folder call, then run debvote-election add --box"
+        fault = "call: nobody has seen yet whether the box of the web host works, with the links of now; nothing was written: upload the folder call, then run debvote-election add --box"
         self.assert_fault(self.election("letters", "call"), 9, fault)
         self.assert_fault(
             self.election("add", "--box"),
@@ -521,7 +521,7 @@ class Asked(boxes.BoxElectionTest):
         self.begun()
         self.done("letters", "reminders")
         self.off(660)
-        fault = "who voted by a click in the last ten minutes would be told that they have not; nothing was written: run debvote-election add --box"
+        fault = "reminders: who voted by a click in the last ten minutes would be told that they have not; nothing was written: run debvote-election add --box"
         self.assert_fault(self.election("letters", "reminders", "--yes"), 9, fault)
         self.assert_fault(
             self.election("call", "--at", "https://club.example/moved/"),

@@ -127,7 +127,7 @@ class Taken(LettersTest):
         said = self.told("held")
         for reason, line in (
             ("a word is in place of the ballot, without a name", "line 1: ada 1,2"), ("a word is in place of the ranks", "line 1: cleo 2,1"),
-            ("line 3 may be an answer, too", "line 1: eve 1,2"), ("no ballot found", "other words: Ja"),
+            ("line 3 may be an answer, and belongs to no ballot", "line 1: eve 1,2"), ("no ballot found", "other words: Ja"),
         ):  # fmt: skip
             self.assertIn(f"        {reason}\n        {line}\n", said)
         before = self.last_act()
@@ -171,7 +171,7 @@ class Answering(LettersTest):
         answers = [letter(name, f"{name} 1,2\n{more}{head}{ours[name].get_content()}", head=f"In-Reply-To: {ours[name]['Message-ID']}\n") for name, more in (("ada", ""), ("ben", "\nYes\n"))]
         self.add(*answers)
         self.assertEqual(self.lines(), ["ada 1,2"])
-        self.assertIn("line 3 may be an answer, too", self.told("held"))
+        self.assertIn("line 3 may be an answer, and belongs to no ballot", self.told("held"))
 
 
 class AtDesk(TerminalTest):
