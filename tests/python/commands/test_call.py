@@ -386,4 +386,12 @@ class Secret(CallTest):
         self.write("poll.toml", self.poll)
         self.done("codes")
         self.assert_fault(self.election("codes", "--on-roll"), 9, "--on-roll", "electors have names with codes already")
+        before = "The slips: private/slips.html. Print them after the call, which adds the end of the vote and the address for ballots.\n"
+        self.assertIn(before, self.done("codes").output)
         self.assert_fault(self.election("call", "--names"), 2, "--names", "secret")
+        # after the call, too; to call again would only make the vote longer
+        self.done("call", *UNTIL)
+        self.assert_fault(self.election("codes", "--on-roll"), 9, "--on-roll", "electors have names with codes already")
+        said = self.done("codes").output
+        self.assertTrue(said.startswith("The slips: private/slips.html. Print them.\n"), said)
+        self.assertTrue(said.endswith("Next: debvote-election status\n"), said)
