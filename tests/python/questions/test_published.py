@@ -5,6 +5,7 @@ import io
 import json
 import pathlib
 import re
+import shlex
 import subprocess
 import sys
 
@@ -179,6 +180,19 @@ class OpenTest(PublishedTest):
                     self.assert_fault(self.election("publish"), 2, "is not what this election has published last")
                     file.parent.rmdir()
         self.assertIn("as it was published before", self.publish())
+
+    def test_one_casting_vote_after_the_other(self) -> None:
+        """The command that is told for the second has the first, without which that question would be a tie again."""
+        self.done("close", "--early")
+        first = self.publish(status=1)
+        self.assertIn("its day: debvote-election publish --casting B=NAME --casting C=NAME --cast-by WHO --cast-on DATE\n", first)
+        ended = self.election("publish", "--casting", "B=Ada Lovelace", *CAST)
+        [told] = re.findall(r"its day: debvote-election (.*)\n", ended.output)
+        self.assertEqual((ended.status, told), (1, "publish --casting 'B=Ada Lovelace' --casting C=NAME --cast-by WHO --cast-on DATE"))
+        words = shlex.split(told.replace("NAME", "Tiles").replace("WHO", "Ida").replace("DATE", "2026-11-24"))
+        found = self.done(*words).output
+        self.assertIn("B: Winner: 1 Ada Lovelace by casting vote\n", found)
+        self.assertIn("C: Winner: 2 Tiles by casting vote\n", found)
 
     def doubted(self) -> list[str]:
         """The questions with a doubt, by the first page; the page of each has it, too."""
