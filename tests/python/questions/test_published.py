@@ -237,6 +237,13 @@ class OpenTest(PublishedTest):
         for label in self.polls:
             self.assertIn("was not closed when this page was made", self.read(f"result/{label}/index.html").decode(), label)
 
+    def test_times_are_said_to_the_secretary_as_on_the_page(self) -> None:
+        self.done("call", "--until", "2026-12-04 18:00", "--zone", "Europe/Berlin")
+        self.done("close", "--early")
+        note = self.publish("--casting", "B=Mary Somerville", "--casting", "C=Slate", *CAST)
+        closed, until = r"Wednesday, 25 November 2026, 10:\d\d(?::\d\d)? \(UTC\+01:00\)", re.escape("Friday, 4 December 2026, 18:00 (UTC+01:00)")
+        self.assertRegex(note, f"Note: the vote was closed on {closed}, before its announced end, {until}; the result page")
+
     def test_what_was_done_is_told_once(self) -> None:
         self.done("strike", "5", "--because", "it was a joke")
         self.done("close", "--early")
