@@ -109,7 +109,7 @@ class OpenTest(PublishedTest):
         self.write("about.txt", "Certified by the board.")
         said = self.publish("--casting", "B=Mary Somerville", "--about", "about.txt", *CAST, status=1)
         self.assertIn("A: Winner: 1 Yes, 72 Euro\nverified\nB: Winner: 2 Mary Somerville by casting vote\nverified, casting vote 2 Mary Somerville\nC: Tie: 1 2", said)
-        self.assertIn("publish --casting C=NAME --cast-by WHO", said)
+        self.assertIn("publish --casting 'B=Mary Somerville' --casting C=NAME --cast-by WHO", said)
         self.assertEqual(self.listed(), sorted([*ABOVE, *(f"{label}/{name}" for label in self.polls for name in FILES)]))
         for name in ("title.txt", "polls.sha256", "A/poll.toml", "B/poll.toml", "C/poll.toml"):
             self.assertEqual(self.read(f"result/{name}"), self.read(f"call/{name}"), name)
