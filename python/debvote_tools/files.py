@@ -115,20 +115,31 @@ def sync_folder(folder: pathlib.Path) -> None:
         os.close(handle)
 
 
+@contextlib.contextmanager
+def naming(place: pathlib.Path) -> Iterator[None]:
+    """Whatever is written within has this name in an error: what is made beside its place has one that
+    nobody knows, and a full disk names no file.
+    """
+    try:
+        yield
+    except OSError as error:
+        error.filename = str(place)
+        raise
+
+
 def write_whole(file: pathlib.Path, data: bytes, mode: int) -> None:
     """Writes a file with this mode, whole or not at all: a temporary beside it takes its place.
     Raises OSError, and then the file is as it was.
     """
     handle, name = tempfile.mkstemp(prefix=TEMPORARY, dir=file.parent)
     try:
-        with os.fdopen(handle, "wb") as target:
-            write_through(target, data, mode)
-        os.rename(name, file)
-    except BaseException as error:
+        with naming(file):
+            with os.fdopen(handle, "wb") as target:
+                write_through(target, data, mode)
+            os.rename(name, file)
+    except BaseException:
         with contextlib.suppress(OSError):
             os.unlink(name)
-        if isinstance(error, OSError):
-            error.filename = str(file)
         raise
     try:
         sync_folder(file.parent)

@@ -84,6 +84,10 @@ class History(NamedTuple):
         until = self.announced("until")
         return None if until is None else from_text(until)
 
+    def ends_after(self, time: datetime.datetime) -> bool:
+        """Whether its announced end is still to come: to close before it takes `--early`."""
+        return self.until is not None and time < self.until
+
     @property
     def askings(self) -> list[DoneAct]:
         """The acts that asked the box of the web host."""

@@ -356,6 +356,7 @@ def names_like_answers(
 
 
 def what_next(election: Election, history: History, questions: Questions) -> str:
+    # another call would make the vote longer
     if history.call is not None:
         return election.command("status")
     if lacks_codes(election, history, questions):
@@ -369,6 +370,7 @@ def what_next(election: Election, history: History, questions: Questions) -> str
 # ---- codes
 SLIPS, CODES = "slips.html", "codes.csv"
 NOT_SECRET = "the vote is not secret, so it needs no codes"
+WITH_NAMES = "electors have names with codes already"
 
 
 class CodesArguments(Acting):
@@ -388,10 +390,12 @@ def codes(election: Election, arguments: CodesArguments) -> None:
         sealed = election.sealed()
         if not sealed.counted.is_secret:
             raise Fault(None, NOT_SECRET, f"see {election.command('status')}")
+        if arguments.on_roll and not election.history().has_codes_on_roll:
+            raise Fault("--on-roll", WITH_NAMES, "begin anew in another folder")
     history, private = election.history(), election.path(PRIVATE)
     write_slips(election, sealed)
-    when = "Print them after the call, which adds the end of the vote and the address for ballots."
-    tell(f"The slips: {private / SLIPS}.{'' if history.call else f' {when}'}")
+    when = "after the call, which adds the end of the vote and the address for ballots"
+    tell(f"The slips: {private / SLIPS}. Print them{f' {when}' if history.call is None else ''}.")
     without = [one.name for one in queries.electors(election.book) if not one.code]
     if history.has_codes_on_roll:
         words = "Destroy the slips that are left over, and their file."
@@ -421,8 +425,7 @@ def make_codes(election: Election, arguments: CodesArguments) -> tuple[Questions
         reason = "with several questions the row of all votes under one code would be a mark"
         raise Fault("--on-roll", reason, "leave it out, or hold an election for each question")
     if arguments.on_roll and len(without) < len(electors):
-        reason = "electors have names with codes already"
-        raise Fault("--on-roll", reason, "begin anew in another folder")
+        raise Fault("--on-roll", WITH_NAMES, "begin anew in another folder")
     if history.has_codes_on_roll or not without:
         return questions, 0
     detail: Detail = {"codes": len(without)}

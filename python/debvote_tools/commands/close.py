@@ -131,7 +131,7 @@ def what_is_closed(election: Election, sealed: Sealed, arguments: Arguments) -> 
         words = "another command closed the vote meanwhile"
         raise Fault(None, words, "run the command again: it says what is closed")
     pending, faults, until = pending_letters(election, history), [], history.until
-    is_early = until is not None and now < until
+    is_early = history.ends_after(now)
     if until is not None and is_early and not arguments.early:
         here = times.minute_in_words(now, until.tzinfo)
         words = f"the vote ends {times.time_in_words(until)}, and by the clock of this computer it is {here}"

@@ -20,6 +20,7 @@ from debvote_tools.inbox.judging import judged
 from debvote_tools.inbox.lines import name_in
 from debvote_tools.inbox.rules import LetterCase
 from debvote_tools.inbox.vote import envelope_words, standing_words, Vote
+from debvote_tools.text.times import now
 
 
 # ---- undo
@@ -235,14 +236,16 @@ def reopen(election: Election, arguments: ReopenArguments) -> None:
     if arguments.in_time is None and is_terminal():
         numbers = typed_numbers(vote)
     carried_out(book, lambda: what_is_reopened(vote, numbers, because, is_forced=arguments.force))
+    early = ["--early"] if election.history().ends_after(now()) else []
+    close = election.command("close", *early)
     if left := [str(envelope.number) for envelope in queries.envelopes(book, queries.LEFT_LATE)]:
         again = election.command("reopen", "--in-time", *left, "--because", because)
         tell(
             f"Note: {count_of(len(left), 'line')} late; for those that came before the first close:",
-            f"  {election.command('close')} && {again}",
+            f"  {close} && {again}",
         )
     tell("Of new ballots only those that arrived before the first close count: add and desk ask.")
-    tell(f"Next: {election.command('add', 'FILE')}, then {election.command('close')}")
+    tell(f"Next: {election.command('add', 'FILE')}, then {close}")
 
 
 @dataclasses.dataclass(frozen=True, kw_only=True)

@@ -385,7 +385,8 @@ def why_not_now(vote: Vote, history: History, chosen: Sequence[Chosen]) -> Again
         if again := one.again:
             electors = dict.fromkeys(map(elector_of, again))
             words = f"its ballot of {ENGLISH.joined([*electors])} was entered"
-            cure = "there is nothing to do"
+            is_all = all(line.elector in electors for line in one.lines)
+            cure = "there is nothing to do" if is_all else "leave it out"
             # who reads that there is nothing to do takes it for one that counts
             if late := {str(envelope.number): None for envelope in again if envelope.is_late}:
                 reopen = vote.election.command("reopen", "--in-time", *late, "--because", "TEXT")

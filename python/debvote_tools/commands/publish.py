@@ -172,7 +172,13 @@ def tell_published(
     tell(f"Made the folder {target}{as_before}.")
     if tied := [label for label, one in outcomes.items() if one.sheet.winner is None]:
         ask = "it is a tie: ask for the casting vote, and then give its option, its holder and its day"
-        tell(f"Next: {ask}: {publishing(election, dict.fromkeys(tied, 'NAME'))}")
+        # the next result has the casting votes of its own command alone
+        cast = {
+            label: one.facts.words.castings[label]
+            for label, one in outcomes.items()
+            if one.sheet.is_by_casting
+        }
+        tell(f"Next: {ask}: {publishing(election, cast | dict.fromkeys(tied, 'NAME'))}")
     else:
         send = election.to_all("result", election.path(LETTERS) / RESULT_LETTER)
         tell(f"Next: put the folder {target} on the web site as it is, then {send}")

@@ -37,6 +37,8 @@ ANOTHER_KEY = marked(
     "The reason: it is signed with another key than the list of members has for the name on the ballot."
 )
 
+LAPSED_KEY = marked("The reason: the key with which it is signed has expired, or was revoked.")
+
 
 @dataclasses.dataclass(frozen=True)
 class ReasonWithValues:
@@ -207,8 +209,8 @@ class Reason(enum.Enum):
         LOOKED_AT,
     )
     EXPIRED_SIGNATURE = "its signature has expired", SIGNATURE_UNREAD
-    EXPIRED_KEY = "signed with a key that has expired: {key}", ANOTHER_KEY
-    REVOKED_KEY = "signed with a key that was revoked: {key}", ANOTHER_KEY
+    EXPIRED_KEY = "signed with a key that has expired: {key}", LAPSED_KEY
+    REVOKED_KEY = "signed with a key that was revoked: {key}", LAPSED_KEY
     UNKNOWN_KEY = "signed with a key that is not in the keyring: {key}", ANOTHER_KEY
     WEAK_DIGEST = (
         "its signature uses a digest that is too weak, number {digest} of OpenPGP",

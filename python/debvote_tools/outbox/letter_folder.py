@@ -17,7 +17,7 @@ import shutil
 from collections.abc import Iterator, Mapping, Sequence
 
 from debvote_tools.book.outgoing import OutgoingLetter
-from debvote_tools.files import TEMPORARY, sync_folder, temporary_folder
+from debvote_tools.files import TEMPORARY, naming, sync_folder, temporary_folder
 from debvote_tools.outbox.due import LettersDue
 from debvote_tools.outbox.words import PACKAGE
 from debvote_tools.text.rendering import one_line, render_page, resources
@@ -158,9 +158,10 @@ def in_place(files: Mapping[str, bytes], place: pathlib.Path) -> Iterator[None]:
         shutil.rmtree(left)
     made, before = temporary_folder(place.parent), temporary_folder(place.parent)
     try:
-        for name, data in files.items():
-            (made / name).touch(0o600)
-            (made / name).write_bytes(data)
+        with naming(place):
+            for name, data in files.items():
+                (made / name).touch(0o600)
+                (made / name).write_bytes(data)
         os.sync()
         has_before = place.is_dir()
         if has_before:

@@ -198,7 +198,8 @@ class Composer:
         """Says what became of something that came, with its time in the zone in which the end was
         announced, and what is wrong with it.
         """
-        language = self.call_data.language
+        language, questions = self.call_data.language, self.call_data.questions
+        faults = functools.partial(faults_of, is_of_several=questions.is_several)
         zone = self.call_data.until.tzinfo if self.call_data.until else datetime.UTC
         if not isinstance(fate.became, Became):
             is_done = fate.became in (LetterOutcome.SET_ASIDE, LetterOutcome.OLDER)
@@ -218,7 +219,7 @@ class Composer:
                     fault=fault,
                 )
                 for line in fate.letter.near
-                for fault in faults_of(line.answer, name, language, is_within=line.is_within)
+                for fault in faults(line.answer, name, language, is_within=line.is_within)
             )
             why, _, advice = language.say(for_elector(fate.letter.reason)).partition(". ")
             # after the end nobody is asked to send it better
@@ -227,7 +228,7 @@ class Composer:
             )
             sentences += dict.fromkeys(near)
         elif fate.became is Became.REFUSED:
-            sentences += faults_of(fate.why_refused, name, language)
+            sentences += faults(fate.why_refused, name, language)
         return " ".join(sentences)
 
     def more_of(self, fate: Fate) -> Iterator[str]:

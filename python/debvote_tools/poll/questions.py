@@ -85,6 +85,8 @@ class Questions(dict[str, SealedPoll]):
             text = without_ballots(
                 text, options, lambda word: is_name(word) or word.upper() in self, words
             )
+            # a line with one of these has its bar now
+            words = {}
         return text
 
     def in_words(self, language: Language = ENGLISH) -> Callable[[str], str]:

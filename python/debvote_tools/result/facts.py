@@ -15,6 +15,7 @@ from debvote_tools.poll.sealed import SealedPoll
 from debvote_tools.result.sheet import Castings, Sheet, castings_kept
 from debvote_tools.result.why import Why
 from debvote_tools.text.language import ENGLISH, Language
+from debvote_tools.text.times import time_in_words
 
 # what the letter of the result does not tell, besides a close of which there is no more to say
 QUIET = ("called", "called until", "taken back", "keyring")
@@ -24,7 +25,7 @@ FOR_SECRETARY = {
     "no ballot": "no elector has a ballot that counts; check that these are the ballots of this poll",
     "mostly refused": "more than half of the lines are refused, {refused} of {lines}; debvote explain says why",
     "not closed": "the vote is not closed; close it first",
-    "closed early": "the vote was closed at {closed}, before its announced end, {until}",
+    "closed early": "the vote was closed on {closed}, before its announced end, {until}",
     "box not asked": "the box of the web host was not asked since the end: run debvote-election add --box",
     "letters left": (
         "these letters arrived in time, and wait: {letters}; set aside what is no ballot (debvote-election held NUMBER --set-aside); if "
@@ -95,7 +96,7 @@ class Doubt(Told):
         return {"kind": self.kind, **self.shown(datetime.datetime.isoformat)}
 
     def for_secretary(self) -> str:
-        return FOR_SECRETARY[self.kind].format(**self.as_data())
+        return FOR_SECRETARY[self.kind].format(**self.shown(time_in_words))
 
 
 def doubts_about(sheet: Sheet) -> list[Doubt]:

@@ -20,6 +20,7 @@ from debvote_tools.debvote import Answer, Debvote, findings_in
 from debvote_tools.files import (
     TEMPORARY,
     locked,
+    naming,
     sha256_of,
     sync_folder,
     temporary_folder,
@@ -205,7 +206,8 @@ class Filling:
         for name, data in files.items():
             place = place_of(label, name)
             demand_no_code(place, data, codes, NOTHING_DONE)
-            write_public(self.folder / place, data)
+            with naming(self.folder.parent):
+                write_public(self.folder / place, data)
             self.checksums[place] = sha256_of(data)
 
     def sums(self, label: str) -> dict[str, str]:

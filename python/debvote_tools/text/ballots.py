@@ -133,10 +133,15 @@ RANK_COUNT = re.compile(r"bad rank count: (\d+) ranks?, the poll has (\d+) optio
 
 
 def faults_of(
-    answer: str | None, name: str, language: Language, *, is_within: bool = False
+    answer: str | None,
+    name: str,
+    language: Language,
+    *,
+    is_within: bool = False,
+    is_of_several: bool = False,
 ) -> Iterator[str]:
-    """What is wrong with a line, by what debvote says of it; nothing if it is late. It names the
-    elector if the name is known.
+    """What is wrong with a line, which may have answers to several questions, by what debvote says of
+    it; nothing if it is late. It names the elector if the name is known.
     """
     if is_within:
         yield language.say("It has a ballot within other words; the ballot has to be there alone.")
@@ -144,11 +149,17 @@ def faults_of(
         if not is_within:
             yield language.say("It is a ballot.")
     elif count := RANK_COUNT.match(answer):
+        number, options = int(count[1]), count[2]
         yield language.say_number(
+            "One of its answers has {number} rank, and the question has {options} options.",
+            "One of its answers has {number} ranks, and the question has {options} options.",
+            number,
+            options=options,
+        ) if is_of_several else language.say_number(
             "It has {number} rank, and the vote has {options} options.",
             "It has {number} ranks, and the vote has {options} options.",
-            int(count[1]),
-            options=count[2],
+            number,
+            options=options,
         )
     elif answer.startswith("bad not on roll: "):
         if name:

@@ -276,7 +276,7 @@ class Secret(CallTest):
 
     def test_what_comes_next_once_it_is_called_and_closed(self) -> None:
         self.called()
-        self.assertIn("The slips: private/slips.html.\n", self.done("codes").output)
+        self.assertIn("The slips: private/slips.html. Print them.\n", self.done("codes").output)
         self.done("close", "--early", "--yes")
         for command in ("codes", "call"):
             self.assertTrue(self.done(command).output.endswith("\nNext: debvote-election status\n"))
@@ -393,4 +393,12 @@ class Secret(CallTest):
         self.write("poll.toml", self.poll)
         self.done("codes")
         self.assert_fault(self.election("codes", "--on-roll"), 9, "--on-roll", "electors have names with codes already")
+        before = "The slips: private/slips.html. Print them after the call, which adds the end of the vote and the address for ballots.\n"
+        self.assertIn(before, self.done("codes").output)
         self.assert_fault(self.election("call", "--names"), 2, "--names", "secret")
+        # after the call, too; to call again would only make the vote longer
+        self.done("call", *UNTIL)
+        self.assert_fault(self.election("codes", "--on-roll"), 9, "--on-roll", "electors have names with codes already")
+        said = self.done("codes").output
+        self.assertTrue(said.startswith("The slips: private/slips.html. Print them.\n"), said)
+        self.assertTrue(said.endswith("Next: debvote-election status\n"), said)

@@ -856,6 +856,9 @@ class Couple(LettersTest):
         self.assert_refused(("close",), 9, "these letters arrived in time, and wait: 1;")
         said = "letter 1: its ballot of ada was entered; nothing was changed: there is nothing to do"
         self.assert_refused(("held", 1, "--as", f"ada {OTHER}", "--force"), 9, said)
+        # with the ballot of the other there is something to do
+        said = said.replace("there is nothing to do", "leave it out\n")
+        self.assert_refused(("held", 1, "--as", self.ada, "--as", self.ben), 9, said)
         self.assertNotIn("waits on", self.told("held", 1, "--as", self.ben))
         self.assert_left(0, self.ada, self.ben)
         # what is taken back waits, and that of the other stays

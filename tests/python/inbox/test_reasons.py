@@ -40,6 +40,13 @@ class Sentences(unittest.TestCase):
                     self.assertNotRegex(text, rf"(?<!\w){re.escape(value)}(?!\w)")
             self.assertFalse(may_be_ballot(repaired_text(text, names()), LONGEST_LINE) and any(name in text.split() for name in NAMES), text)
 
+    def test_what_electors_read_of_their_own_key(self) -> None:
+        """One that has expired or was revoked may be the key that the list of members has."""
+        for reason in (Reason.EXPIRED_KEY, Reason.REVOKED_KEY):
+            said = for_elector(with_values(reason))
+            self.assertEqual(said, "The reason: the key with which it is signed has expired, or was revoked.")
+        self.assertIn("another key than the list of members has", for_elector(with_values(Reason.OTHER_KEY)))
+
     def test_how_values_are_shown(self) -> None:
         said = for_secretary(Reason.AFTER_THE_END(end=at(9)))
         self.assertEqual(said, "it arrived after the end of the vote, 2026-11-23 09:00:00 UTC")

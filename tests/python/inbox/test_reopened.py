@@ -106,6 +106,23 @@ class Reopened(LettersTest):
         self.assertIn("Note: 1 line late; ", self.reopen("--in-time", 1, "--in-time", 3))
         self.assertEqual((self.lines(), self.late_lines()), ([late[0], late[2]], late))
 
+    def test_that_command_before_the_announced_end(self) -> None:
+        """It closes early again, which the program does not do unasked."""
+        self.told("call", "--until", "2026-11-30 18:00", "--zone", "UTC")
+        self.done("close", "--early")
+        self.add_lines(BALLOT)
+        said = self.reopen()
+        line = "debvote-election close --early && debvote-election reopen --in-time 1 --because 'it was in time'"
+        self.assertIn(f"first close:\n  {line}\n", said)
+        self.assertIn("Next: debvote-election add FILE, then debvote-election close --early\n", said)
+        for words in line.split(" && "):
+            said = self.done(*shlex.split(words)[1:]).output
+        self.assertEqual(self.lines(), [BALLOT])
+        self.set_clock("2026-11-30T18:00:00+00:00")
+        self.assertIn("then debvote-election close --early\n", said)
+        self.told("close")
+        self.assertIn("Next: debvote-election add FILE, then debvote-election close\n", self.reopen())
+
     def test_what_is_listed_and_typed_at_a_terminal(self) -> None:
         """The late lines, but for those that were entered before. Numbers are typed with commas between, and nothing else."""
         self.told("close")

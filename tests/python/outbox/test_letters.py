@@ -1,9 +1,11 @@
 """`letters`: what goes to the electors as files, to whom, and that nothing of it reads as a ballot."""
 
 import contextlib
+import functools
 import hashlib
 import pathlib
 import re
+import resource
 import shutil
 import stat
 
@@ -559,6 +561,23 @@ class FullDisk(OutTest):
             with in_place({"ada.eml": b"1"}, place):
                 pass
             self.assertEqual([file.name for file in place.parent.iterdir()], ["4"])
+
+    def test_the_fault_names_the_place(self) -> None:
+        """And not the folder beside it in which a file that has no room is, under a name that nobody knows."""
+        # in bytes: no letter and no page is as short
+        full = functools.partial(resource.setrlimit, resource.RLIMIT_FSIZE, (500, 500))
+
+        def demand_named(place: object, *words: str) -> None:
+            before = self.contents()
+            ended = self.election(*words, preexec_fn=full)
+            self.assert_fault(ended, 7, f"{place}: File too large; it was not changed; put this right, then run the command again")
+            self.assertEqual({name: data for name, data in self.contents().items() if name != "letters/.lock"}, before)
+
+        self.add_lines(f"ada {RANKS}")
+        demand_named(pathlib.Path("letters/receipts") / str(self.last_act() + 1), "letters", "receipts")
+        self.done("close", "--early")
+        shutil.rmtree(self.folder / "letters")
+        demand_named(self.folder.resolve(), "publish")
 
     def test_it_loses_no_receipt(self) -> None:
         """The calls are those that write into the folder and the book; some come in each run, and the disk is full at each of them."""

@@ -379,6 +379,9 @@ class Bytes(unittest.TestCase):
             self.assertEqual([one.startswith(said) for one in found], [True] * bool(said), answer)
         within = [list(faults_of(answer, "", language_of("en"), is_within=True)) for answer in ("bad shape: it is odd", None, "late: x")]
         self.assertEqual(within, [["It has a ballot within other words; the ballot has to be there alone."]] * 3)
+        # the vote has no number of options, but each question
+        for ranks, said in (("1 rank", "One of its answers has 1 rank, and the question has 3 options."), ("4 ranks", "One of its answers has 4 ranks, and the question has 3 options.")):
+            self.assertEqual([*faults_of(f"bad rank count: {ranks}, the poll has 3 options", "", language_of("en"), is_of_several=True)], [said])
 
     def guarded(self, line: str, options: int = 3, words: Words = {}) -> str:
         text = without_ballots(f"x\n{line}\ny", options, lambda word: word.lower() in ("ada", "ben-2", "maier"), words)

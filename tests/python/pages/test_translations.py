@@ -15,6 +15,9 @@ from tests.support import languages, sentences
 MSGFMT = shutil.which("msgfmt")
 TAG = re.compile(r"<[^>]*>")
 
+# words that have stood for a thing which another word of the glossary stands for: what is entered, and the rank
+NOT_IN_THE_GLOSSARY = {"de": "eingetragen", "fr": "enregistr", "es": r"\brangos?\b"}
+
 
 class Translations(languages.LanguageTest):
     def setUp(self) -> None:
@@ -56,6 +59,11 @@ class Translations(languages.LanguageTest):
             for text in ("{entries} and {last}", "{before}: {after}", "{before}; {after}", "{before}, then {step}", "{thousands},{rest}"):
                 first, second = re.findall(r"\{\w+\}", text)
                 self.assertRegex(forms[text], f"^{re.escape(first)}.*{re.escape(second)}$", code)
+
+    def test_one_word_stands_for_one_thing(self) -> None:
+        """A letter told electors to write `rangos`, and two lines below words in place of the `puestos`."""
+        for code, word in NOT_IN_THE_GLOSSARY.items():
+            self.assertEqual([form for entry in self.entries[code] for form in entry.forms if re.search(word, form)], [], code)
 
     def test_french_signs_stand_behind_a_space_that_does_not_break(self) -> None:
         for entry in self.entries["fr"][1:]:

@@ -13,6 +13,7 @@ from debvote_tools.book.queries import Elector
 from debvote_tools.poll.call import call_files
 from debvote_tools.poll.questions import LABELS, Questions, quorums_in, quorums_said, read_questions
 from debvote_tools.poll.secret import alias_in, aliased, codes_csv, slips
+from debvote_tools.text.language import ENGLISH
 
 from tests.support import calls
 from tests.support.at_browser import NEEDS_BROWSER, Window
@@ -97,6 +98,10 @@ class Words(unittest.TestCase):
         text = "A 1,2\nb: 1,2,3,4\n1,2\nlater C 2,1\nD 1,2 is a place\nA 1\nada A 1,2"
         barred = "|A 1,2\n|b: 1,2,3,4\n|1,2\n|later\n|C 2,1\nD 1,2 is a place\nA 1\n|ada\n|A 1,2"
         self.assertEqual(SEVERAL.without_ballots(text, lambda word: word == "ada", {}), barred)
+        # one bar, although questions differ in how many options they have
+        motions = Questions({"A": dataclasses.replace(FEE, motion=True), "B": POLL}, SEVERAL.title)
+        text, barred = "yes\nada: no\nQuestion A: abstain", "|yes\n|ada: no\n|Question A: abstain"
+        self.assertEqual(motions.without_ballots(text, lambda word: word == "ada", motions.words(ENGLISH)), barred)
 
 
 class Aliases(unittest.TestCase):

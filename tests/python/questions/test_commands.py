@@ -189,7 +189,7 @@ class Told(QuestionsTest):
         not_all = "These of its answers do not count; others of yours, which were entered after them, count instead: A (Raise the fee to 72 Euro)."
         self.assertIn(f"It counts unless you send a later one. {not_all} It was read as ada (A 1,2) (B 1,2,3), in words: {YES}; {CHAIR}.", texts["ada"])
         self.assertIn(f"It was read as ada (A 2,1), in words: {NO}.", texts["ada"])
-        self.assertIn("It is not a valid ballot of this vote, so it does not count. It has 2 ranks, and the vote has 3 options. |ben |B 1,2", texts["ben"])
+        self.assertIn("It is not a valid ballot of this vote, so it does not count. One of its answers has 2 ranks, and the question has 3 options. |ben |B 1,2", texts["ben"])
 
     def test_who_has_answered_one_question_is_not_reminded(self) -> None:
         self.add_lines("ada B 1,2,3", "ben B 1,2", words=["--force"])

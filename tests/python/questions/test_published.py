@@ -5,6 +5,7 @@ import io
 import json
 import pathlib
 import re
+import shlex
 import subprocess
 import sys
 
@@ -108,7 +109,7 @@ class OpenTest(PublishedTest):
         self.write("about.txt", "Certified by the board.")
         said = self.publish("--casting", "B=Mary Somerville", "--about", "about.txt", *CAST, status=1)
         self.assertIn("A: Winner: 1 Yes, 72 Euro\nverified\nB: Winner: 2 Mary Somerville by casting vote\nverified, casting vote 2 Mary Somerville\nC: Tie: 1 2", said)
-        self.assertIn("publish --casting C=NAME --cast-by WHO", said)
+        self.assertIn("publish --casting 'B=Mary Somerville' --casting C=NAME --cast-by WHO", said)
         self.assertEqual(self.listed(), sorted([*ABOVE, *(f"{label}/{name}" for label in self.polls for name in FILES)]))
         for name in ("title.txt", "polls.sha256", "A/poll.toml", "B/poll.toml", "C/poll.toml"):
             self.assertEqual(self.read(f"result/{name}"), self.read(f"call/{name}"), name)
@@ -180,6 +181,19 @@ class OpenTest(PublishedTest):
                     file.parent.rmdir()
         self.assertIn("as it was published before", self.publish())
 
+    def test_one_casting_vote_after_the_other(self) -> None:
+        """The command that is told for the second has the first, without which that question would be a tie again."""
+        self.done("close", "--early")
+        first = self.publish(status=1)
+        self.assertIn("its day: debvote-election publish --casting B=NAME --casting C=NAME --cast-by WHO --cast-on DATE\n", first)
+        ended = self.election("publish", "--casting", "B=Ada Lovelace", *CAST)
+        [told] = re.findall(r"its day: debvote-election (.*)\n", ended.output)
+        self.assertEqual((ended.status, told), (1, "publish --casting 'B=Ada Lovelace' --casting C=NAME --cast-by WHO --cast-on DATE"))
+        words = shlex.split(told.replace("NAME", "Tiles").replace("WHO", "Ida").replace("DATE", "2026-11-24"))
+        found = self.done(*words).output
+        self.assertIn("B: Winner: 1 Ada Lovelace by casting vote\n", found)
+        self.assertIn("C: Winner: 2 Tiles by casting vote\n", found)
+
     def doubted(self) -> list[str]:
         """The questions with a doubt, by the first page; the page of each has it, too."""
         page = self.read("result/index.html").decode()
@@ -222,6 +236,13 @@ class OpenTest(PublishedTest):
         self.assertLess(letter.index(doubt), letter.index("Question A: "))
         for label in self.polls:
             self.assertIn("was not closed when this page was made", self.read(f"result/{label}/index.html").decode(), label)
+
+    def test_times_are_said_to_the_secretary_as_on_the_page(self) -> None:
+        self.done("call", "--until", "2026-12-04 18:00", "--zone", "Europe/Berlin")
+        self.done("close", "--early")
+        note = self.publish("--casting", "B=Mary Somerville", "--casting", "C=Slate", *CAST)
+        closed, until = r"Wednesday, 25 November 2026, 10:\d\d(?::\d\d)? \(UTC\+01:00\)", re.escape("Friday, 4 December 2026, 18:00 (UTC+01:00)")
+        self.assertRegex(note, f"Note: the vote was closed on {closed}, before its announced end, {until}; the result page")
 
     def test_what_was_done_is_told_once(self) -> None:
         self.done("strike", "5", "--because", "it was a joke")
