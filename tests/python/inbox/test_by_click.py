@@ -16,6 +16,7 @@ from debvote_tools.inbox.judging import Ballot
 from debvote_tools.inbox.letter import ParsedLetter
 from debvote_tools.inbox.records import MOST
 from debvote_tools.poll.box import asking_word, link_of, list_digest
+from debvote_tools.poll.sealed import OWN_SIGNS
 
 from tests.support import at_browser, boxes, elections
 from tests.support.letters import OWN, at, judged, letter, mailbox, outcome, outcomes, parsed
@@ -317,6 +318,11 @@ class Clicks(boxes.BoxElectionTest):
 
     def test_a_dishonest_host(self) -> None:
         links = self.begun()
+        # cleo has another link than she had
+        self.write(
+            "members.csv", elections.members_of(elections.NAMES).replace("cleo@club", "cleo@new")
+        )
+        self.done("roll", "--yes")
         self.click("ada", "1,2,3,4", links["ada"])
         self.done("add", "--box", "--yes")
         mark = self.mark()
@@ -327,9 +333,12 @@ class Clicks(boxes.BoxElectionTest):
             record("x", "ben 1,2,3,4", 99, ago, mark).replace("2" * 16, links["ben"]).encode()
         )
         unknown = b"".join(
-            record("x", "cleo 1,2,3,4", number, at[:19], mark).encode()
-            for number in range(100, 100 + MOST + 10)
+            record("x", "cleo 1,2,3,4", number, at[:19], mark)
+            .replace("2" * 16, "2" * 15 + sign)
+            .encode()
+            for number, sign in enumerate(OWN_SIGNS[: MOST + 10], start=100)
         )
+        former = record("x", "cleo 1,2,3,4", 98, ago, mark).replace("2" * 16, links["cleo"]).encode()
         nobody = record("x", "nobody 1,2,3,4", 999, at[:19], mark).encode()
         odd = nobody.replace(b"nobody", b"dan").replace(
             b"From: box@page.invalid\n", b"From: dan@club.example\n"
@@ -339,10 +348,10 @@ class Clicks(boxes.BoxElectionTest):
         for what, data, gone, others, records in (
             ("dropped", drop, 1, 0, 0),
             ("backdated", real + backdated, 0, 0, 2),
-            ("of who never came", real + backdated + unknown, 0, 10, MOST + 2),
-            ("of nobody, and of another form", real + backdated + nobody + odd, MOST, 2, 2),
-            ("changed", changed, MOST + 2, 0, 1),
-            ("replayed", replayed, MOST + 3, 0, 1),
+            ("of who never came", real + backdated + unknown + former, 0, 10, MOST + 3),
+            ("of nobody, and of another form", real + backdated + nobody + odd, MOST + 1, 2, 2),
+            ("changed", changed, MOST + 3, 0, 1),
+            ("replayed", replayed, MOST + 4, 0, 1),
         ):
             with self.subTest(what):
                 self.file().write_bytes(data)
@@ -503,6 +512,9 @@ class Asked(boxes.BoxElectionTest):
             json.loads(self.done("status", "--json").output)["box"]["is_present"], True
         )
         self.done("letters", "call")
+        # nor is one at another address
+        self.done("call", "--at", self.host.at.replace("127.0.0.1", "localhost"))
+        self.assert_fault(self.election("letters", "call"), 9, "nobody has seen yet")
 
     def test_status_says_when_it_was_asked_last(self) -> None:
         self.call()
@@ -583,6 +595,7 @@ class Asked(boxes.BoxElectionTest):
         self.done("reopen", "--because", "A letter was found.")
         self.off(5000)
         self.done("close", "--early")
+        self.assertEqual(self.election("count").status, 0)
 
     def test_the_end_by_both_clocks(self) -> None:
         links = self.begun()
