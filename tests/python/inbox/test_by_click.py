@@ -539,6 +539,7 @@ class Asked(boxes.BoxElectionTest):
             self.election("call", "--at", "https://club.example/moved/"),
             9,
             "ballots may lie on the page at the address of now",
+            "run debvote-election add --box\n",
         )
         ended = self.election("call", "--at", "http://club.example/moved/")
         self.assertEqual((ended.status, len(ended.faults.splitlines())), (2, 2), ended)
@@ -614,6 +615,9 @@ class Asked(boxes.BoxElectionTest):
             b"Ballots may have been sent on the page of the vote that the secretary did not get.",
             self.read("result/index.html"),
         )
+        # a later close needs none
+        self.done("reopen", "--because", "A letter was found.")
+        self.done("close")
 
     def test_an_asking_of_the_second_of_an_early_close_is_none(self) -> None:
         """A ballot of that second may have come after it."""
