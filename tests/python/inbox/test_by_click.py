@@ -153,6 +153,7 @@ class Clicks(boxes.BoxElectionTest):
             "3 new letters; 0 came before.\n3 ballots of letters would go in; 0 letters wait.\nNothing was changed.",
             ended.output,
         )
+        self.assertIn("ben (box, record 2): ", ended.output)
         self.assertEqual(self.rows("SELECT * FROM act"), before)
         # letters wait for the secretary, and are not entered by what cron runs
         box = mailbox(
@@ -397,7 +398,8 @@ class Clicks(boxes.BoxElectionTest):
         self.done("add", "--box", "--yes")
         arrived = time.strftime("%a, %d %b %Y %H:%M:%S +0000")
         own = boxes.link_in(next((self.folder / "letters/call").rglob("*ada*.eml")).read_bytes())[1]
-        text = f"I opened {self.host.at}#ada/{own}/{links['ada']} and it says\nada 1,2,3\n"
+        place = f"#ada/{own}/{links['ada']}"
+        text = f"{place.upper()}\nI opened {self.host.at}{place} and it says\nada 1,2,3\n"
         self.write("inbox.mbox", mailbox(self.of_this_vote(letter("ada", text, time=arrived))))
         said = self.election("add", "inbox.mbox").output + self.done("held").output
         said += "".join(self.done("held", str(number)).output for number in (1, 2, 3))
@@ -414,7 +416,7 @@ class Clicks(boxes.BoxElectionTest):
         )
         for text in (said, *texts):
             for link in links.values():
-                self.assertNotIn(link, text)
+                self.assertNotIn(link, text.lower())
         self.assertTrue(
             any(
                 "A ballot of" in text
