@@ -245,9 +245,9 @@ class OfOpenVotes(OfElections):
         self.say("publish", "result-2")
         files = self.files("result-2")
         self.stops("publish", "result-2/../result", said=["as result-2/../result-3"], status=2)
-        inside = [f"it would be in {self.folder / 'result-2'}, whose files are published as they are", "name a folder outside of it"]
-        for name in ("result-2/x", "result-2/x/y", "result-2/../result-2/x"):
-            self.stops("publish", name, said=inside, status=2, folder=name)
+        for name in ("result-2/x", "result-2/x/y", "result-2/../result-2/x", "call/result"):
+            inside = f"it would be in {self.folder / name.partition('/')[0]}, whose files are published as they are"
+            self.stops("publish", name, said=[inside, "name a folder outside of it"], status=2, folder=name)
         self.expect("nothing was added to it", self.files("result-2") == files, True)
         self.say("publish", "--language", "fr", "result-2")
         self.expect("it takes the place of the last one", self.files("result-2") == files, False)
