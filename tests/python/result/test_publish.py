@@ -13,10 +13,9 @@ import tomllib
 import unittest
 from unittest import mock
 
-from debvote_tools import files
 from debvote_tools.book import queries
 from debvote_tools.book.election import fixed_by
-from debvote_tools.result.folder import NewFolder
+from debvote_tools.result.folder import NewFolder, beside
 
 from tests.support import elections, expecting, page_parts as pages
 from tests.support.called import CalledTest
@@ -210,12 +209,13 @@ class OfOpenVotes(OfElections):
         self.expect("other words are an act", (len(self.acts()), self.files() == files), (acts + 1, False))
         self.expect("nothing is left beside it", [name for name in os.listdir(self.folder) if name.startswith(".")], [])
         self.expect("real names are not published", "Lovelace" in (self.folder / "elsewhere" / "index.html").read_text(), False)
-        # a close before the end is a doubt, and each letter tells until when one should have been able to vote
-        self.reopened_with("zoe-mueller 1,2,3\n", words=("--early",))
+        # a first close before the end is a doubt, and each letter tells until when one should have been able to vote
+        self.set_clock("2099-12-05T09:00:00+01:00")
+        self.reopened_with("zoe-mueller 1,2,3\n")
         self.replace("--language", "en")
         end = "one should have been able to vote until Friday, 4 December 2099, 18:00 (UTC+01:00)."
         [doubt] = self.doubts()
-        self.assertRegex(doubt, f"^The vote was closed on .*before its announced end: {re.escape(end)}$")
+        self.assertRegex(doubt, f"^The vote was closed on (?:(?!2099).)* before its announced end: {re.escape(end)}$")
         self.expect("the letter of the result", doubt in " ".join(self.letter().split()), True)
         self.say("publish", "--language", "de")
         texts, until = [*self.texts_of_messages(), self.read("letters/closed.txt").decode()], "Freitag, 4. Dezember 2099, 18:00 (UTC+01:00)"
@@ -485,12 +485,10 @@ class OfOpenVotes(OfElections):
             self.expect(f"{language}: it came back", ({name: sums[name] for name in last}, len(self.acts())), (last, acts + 1))
             self.expect(f"{language}: it is the new one", (self.files() == before, left()), (False, []))
         # a run that lasts keeps its folder
-        lasting = self.folder / ".debvote-result-lasting"
-        lasting.mkdir()
-        (lasting / "poll.toml").touch()
-        with files.locked(lasting, is_directory=True):
+        with beside(self.folder / "result") as lasting:
+            (lasting.folder / "poll.toml").touch()
             self.say("publish")
-        self.expect("that of a run that lasts", left(), [lasting.name])
+            self.expect("that of a run that lasts", left(), [lasting.folder.name])
 
     def test_hostile_texts(self):
         hostile = "</p></b><script>alert(1)</script> & <img src=x onerror=alert(1)>{{ say }}{% endblock %}"
