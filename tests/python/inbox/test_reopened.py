@@ -65,7 +65,9 @@ class Reopened(LettersTest):
         self.assertEqual(self.stands("ada"), OTHER_RANKS)
 
     def test_the_times_of_two_closes(self) -> None:
-        """What had to come before a close, had to before the first one; the vote is closed since the last one."""
+        """What had to come before a close, had to before the first one; the vote is closed since the last one, of which each letter tells
+        until the next one.
+        """
 
         def at(hour: int) -> str:
             self.set_clock(f"2026-11-25T{hour}:00:00+00:00")
@@ -75,6 +77,7 @@ class Reopened(LettersTest):
         self.told("close")
         last = at(11)
         self.assertIn(f"the close at {first} stays in the log", self.reopen())
+        self.add_lines(f"ben {RANKS}", words=("--came-before-close", "yes"))
         self.told("close")
         for words, part in (
             (("status",), f"\nClosed: at {last}\n"),
@@ -84,13 +87,19 @@ class Reopened(LettersTest):
             self.assertIn(part, self.told(*words, given=BALLOT))
         self.assert_fault(self.election("undo", "--yes"), 9, f"the vote was closed at {last}, and its ballots stay")
         opened = at(12)
-        self.assertIn(f"the close at {last} stays in the log", self.reopen())
+        self.assertIn(f"the close at {last} stays in the log", self.told("reopen", "--because", "a bag was found"))
         self.assertIn(f"\nReopened: at {opened}\n", self.told("status"))
         said = f"the vote was closed at {first} and opened again, and only what came before counts"
         self.assert_fault(self.election("add", "-", given=OTHER), 9, said)
         # what comes by letter would wait until the end that the call says
         said = f"--until: the vote was closed at {first}, and only ballots that came before then count"
         self.assert_fault(self.election("call", "--until", "2026-12-24 12:00"), 9, said)
+        self.add_lines(f"cleo {RANKS}", words=("--came-before-close", "yes"))
+        self.told("close")
+        letter = " ".join(self.read("letters/closed.txt").decode().split())
+        self.assertIn("11:00 (UTC), and opened again. The reason, in the secretary's words: (a bag was found) This", letter)
+        closes = [detail["questions"][""]["checksum"] for name, detail in self.acts() if name == "close"]
+        self.assertEqual([checksum in letter for checksum in closes], [False, True, True])
 
     def test_a_late_line_is_entered_once(self) -> None:
         """What was entered again came once: the same line in a file is another one."""
