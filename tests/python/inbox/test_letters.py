@@ -153,6 +153,11 @@ class Adding(LettersTest):
         said = self.told("undo", "--yes")
         self.assertIn("2 letters then wait again, as taken back: 1, 2\n", said)
         self.assertNotIn("\nletter ", said)
+        # one that was passed over, since a later letter had gone in, is named, too
+        self.add(letter("dan", f"dan {OTHER}", time="Mon, 23 Nov 2026 11:00:00 +0000", number=2))
+        self.assertIn("Passed over, since a later letter of its elector went in", self.add(letter("dan", f"dan {RANKS}")))
+        said = self.told("strike", 5, "--because", "somebody else wrote it")
+        self.assertEqual((said.count("\nletter "), f"\n{named.format(5, 'Dan', 'dan')}" in said), (1, True), said)
 
     def test_plain_ballots_in_time_that_were_added_after_the_close(self) -> None:
         """None goes in, as the first envelope of the book or a later one: a ballot that becomes late is one that nobody misses."""

@@ -100,6 +100,8 @@ class Reopened(LettersTest):
         self.assertIn("11:00 (UTC), and opened again. The reason, in the secretary's words: (a bag was found) This", letter)
         closes = [detail["questions"][""]["checksum"] for name, detail in self.acts() if name == "close"]
         self.assertEqual([checksum in letter for checksum in closes], [False, True, True])
+        self.told("publish")
+        self.assertEqual(self.read("result/index.html").decode().count("lines that came in: 1; "), 2)
 
     def test_a_late_line_is_entered_once(self) -> None:
         """What was entered again came once: the same line in a file is another one."""

@@ -643,4 +643,5 @@ class OfSecretVotes(OfElections):
         self.say("close")
         self.stops("publish", "result-3", said=["a comparison with the earlier result shows how these voted: cleo"], folder="result-3")
         self.checksums_of_letters(self.files("result-2"), "-")
-        self.expect("the reason stays in the log", "Cleo" in (self.folder / "result-2" / "index.html").read_text(), False)
+        told = ["Cleo" in (self.folder / "result-2" / name).read_text() for name in ("index.html", "closed.txt")]
+        self.expect("the reason stays in the log", told, [False, False])
