@@ -363,6 +363,8 @@ class Held(LettersTest):
             self.assert_fault(self.election("held", "1", "--enter", lines), 9, "2 of these lines are ballots of ada")
         self.assertIn(f"1 counted  ada: {LAKE}", self.told("held", "1", "--enter", "5"))
         self.assertEqual(self.numbers()["waiting"], 1)
+        # one that waits stops no count before the close
+        self.assertIn("this is not the result yet", self.election("count").faults)
         for words in (("--enter", "5"), ("--set-aside",)):
             self.assert_fault(self.election("held", "1", *words), 9, "was entered")
         self.add(b"X-Status: R\n" + letter("ada", f"Dear Anna,\n\nI thought about it for 3 days:\n\nada {RANKS}\n"))
