@@ -661,13 +661,13 @@ class AtTheEnd(LettersTest):
         return detail["waiting"], detail["after_end"], detail.get("because")
 
     def test_a_letter_in_time_needs_a_reason(self) -> None:
-        """Letters of after the end need no act at the close, whatever else they wait for: the page has no reason to tell."""
+        """Letters of after the end need no act at the close, whatever else they wait for: the page has no reason to tell. A copy is none."""
         away = letters.letter("dan", "I am away\n", head="Auto-Submitted: auto-replied\n", **self.late)
         self.add(away, letters.letter("ben", f"> ben {RANKS}\n", sender="x, y", **self.late))
         self.told("close", "--force", "--because", "in a hurry")
         self.assertEqual(self.closed(), (0, 2, None))
         self.told("reopen", "--because", "a letter was forgotten")
-        self.add(letter("ada", "hello"), letter("cleo", f"cleo {RANKS}", **self.late))
+        self.add(letter("ada", "hello"), letter("cleo", f"cleo {RANKS}", **self.late), b"X-Status: R\n" + away)
         self.assertEqual(self.numbers()["waiting"], 4)
         self.assertIn("These arrived in time, and close stops while they wait: 3\n", self.told("status"))
         for words in ((), ("--force",), ("--force", "--because", " "), ("--because", "hello is no ballot")):

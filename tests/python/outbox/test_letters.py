@@ -407,6 +407,8 @@ class ReceiptsAndReminders(OutTest):
         held = self.told("held").replace("\n        ", "\n")
         self.assertIn("no ballot found\nother words: Who are you?\n", held)
         self.assertIn(f"no ballot found\nother words: Benjamin Lind {RANKS}\nsame address: ada, ben\n", held)
+        shown = {name: "letter 1, from " in self.told("show", name) for name in ("ada", "ben", "cleo")}
+        self.assertEqual(shown, {"ada": True, "ben": True, "cleo": False})
         self.told("held", 1, 2, "--set-aside")
         self.assertEqual(self.told("letters", "receipts"), f"3{waits}")
 
