@@ -124,6 +124,8 @@ class Asked(LettersTest):
         self.add_lines("ada 1,2,3,4")
         self.set_clock("2026-12-02T18:30:00+00:00")
         self.done("desk", given="ben 1,2,3,4\nida 1,2,3,4\n")
+        self.done("desk", given="fay 1,2,3,4\n")
+        self.done("undo")
         self.done("strike", "3", "--because", "not hers")
         self.done("call", "--until", "2026-12-02 20:00", "--zone", "UTC")
         # the second of the end is not early

@@ -97,8 +97,8 @@ class Words(unittest.TestCase):
         self.assertEqual((questions.words(CALL.language), SEVERAL.words(CALL.language)), (words_of("en", motion=True), {}))
 
     def test_no_line_of_a_text_reads_as_an_answer(self) -> None:
-        text = "A 1,2\nb: 1,2,3,4\n1,2\nlater C 2,1\nD 1,2 is a place\nA 1\nada A 1,2"
-        barred = "|A 1,2\n|b: 1,2,3,4\n|1,2\n|later\n|C 2,1\nD 1,2 is a place\nA 1\n|ada\n|A 1,2"
+        text = "A 1,2\nb: 1,2,3,4\n1,2\n1,2,3,4\nlater C 2,1\nD 1,2 is a place\nA 1\nada A 1,2"
+        barred = "|A 1,2\n|b: 1,2,3,4\n|1,2\n|1,2,3,4\n|later\n|C 2,1\nD 1,2 is a place\nA 1\n|ada\n|A 1,2"
         self.assertEqual(SEVERAL.without_ballots(text, lambda word: word == "ada", {}), barred)
 
 
