@@ -617,6 +617,7 @@ class Asked(boxes.BoxElectionTest):
             b"Ballots may have been sent on the page of the vote that the secretary did not get.",
             self.read("result/index.html"),
         )
+        self.assertIn(b"The host is down.", self.read("result/index.html"))
         # a later close needs none
         self.done("reopen", "--because", "A letter was found.")
         self.done("close")
