@@ -610,7 +610,7 @@ class Asked(boxes.BoxElectionTest):
         # by the clock of the host the end has not come
         self.done("add", "--box", "--yes")
         self.assert_fault(self.election("close"), 9, fault)
-        self.done("close", *self.forced)
+        self.assertNotIn("still takes ballots", self.done("close", *self.forced).output)
         self.assertEqual(self.election("count").status, 0)
         self.done("publish")
         self.assertIn(

@@ -148,7 +148,7 @@ class Adding(LettersTest):
         self.assertEqual((said.count("\nletter "), f"\n{ada}" in said), (1, True), said)
         said = self.told("undo", "--yes")
         self.assertEqual((said.count("\nletter "), f"\n{ben}" in said), (1, True), said)
-        self.assertIn("2 ballots of letters went in; 1 letter waits", self.add(letter("ada", f"ada {RANKS}")))
+        self.assertIn("2 ballots of letters went in; 1 letter waits", self.add(b"X-Status: R\n" + letter("ada", f"ada {RANKS}")))
         # the letters of the act itself are told as taken back
         said = self.told("undo", "--yes")
         self.assertIn("2 letters then wait again, as taken back: 1, 2\n", said)
@@ -157,7 +157,7 @@ class Adding(LettersTest):
         self.add(letter("dan", f"dan {OTHER}", time="Mon, 23 Nov 2026 11:00:00 +0000", number=2))
         self.assertIn("Passed over, since a later letter of its elector went in", self.add(letter("dan", f"dan {RANKS}")))
         said = self.told("strike", 5, "--because", "somebody else wrote it")
-        self.assertEqual((said.count("\nletter "), f"\n{named.format(5, 'Dan', 'dan')}" in said), (1, True), said)
+        self.assertEqual((said.count("\nletter "), f"\n{named.format(6, 'Dan', 'dan')}" in said), (1, True), said)
 
     def test_plain_ballots_in_time_that_were_added_after_the_close(self) -> None:
         """None goes in, as the first envelope of the book or a later one: a ballot that becomes late is one that nobody misses."""
