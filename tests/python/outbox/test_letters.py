@@ -394,10 +394,13 @@ class ReceiptsAndReminders(OutTest):
         self.assertEqual(shown, {"cleo": True, "dan": True, "eve": False})
 
     def test_letters_that_are_in_no_receipt_are_named(self) -> None:
-        """Letters of a couple and of a stranger. Not a ballot in an elector's name, who is told, and not what a program wrote."""
+        """Letters of a couple and of a stranger. Not a ballot in an elector's name, who is told, whatever its head says; and not what a program
+        wrote.
+        """
         self.change_roll("ben@club", "ada@club")
         away = letter("x", "away\n", number=3, head="Auto-Submitted: auto-replied\n")
-        self.add(letter("ada", f"Benjamin Lind {RANKS}\n"), letter("x", "Who are you?\n"), letter("x", f"eve {RANKS}\n", number=2), away, letter("cleo", "Thank you.\n"))
+        forged = letter("x", f"eve {RANKS}\n", number=2, head="Auto-Submitted: auto-replied\n")
+        self.add(letter("ada", f"Benjamin Lind {RANKS}\n"), letter("x", "Who are you?\n"), forged, away, letter("cleo", "Thank you.\n"))
         said = "No receipt is about these letters that wait, since no elector alone has the sender's address: 1, 2\n"
         output = self.told("letters", "receipts")
         self.assertTrue(output.startswith(said), output)
