@@ -636,12 +636,13 @@ class OfSecretVotes(OfElections):
         self.stops("publish", "result-2", said=["a comparison with the earlier result shows how these voted: ada-lovelace, cleo"], folder="result-2")
         self.say("publish", "--yes", "result-2")
         self.expect("Cleo counts, too", len((self.folder / "result-2" / "ballots.txt").read_text().splitlines()), 3)
-        # what is gone is seen, too
-        self.say("reopen", "--because", "that of Cleo was forged")
-        [number] = [one.number for one in self.envelopes() if one.line.startswith(b"cleo ") and one.became == "counts"]
-        self.say("strike", str(number), "--because", "it was forged")
-        self.say("close")
-        self.stops("publish", "result-3", said=["a comparison with the earlier result shows how these voted: cleo"], folder="result-3")
+        # what is gone is seen, too, beside the last result, also where all is as in the first one
+        for name, shown in (("cleo", "cleo"), ("ada-lovelace", "ada-lovelace, cleo")):
+            self.say("reopen", "--because", f"that of {name.title()} was forged")
+            [number] = [one.number for one in self.envelopes() if one.line.startswith(f"{name} ".encode()) and one.became == "counts"]
+            self.say("strike", str(number), "--because", "it was forged")
+            self.say("close")
+            self.stops("publish", "result-3", said=[f"a comparison with the earlier result shows how these voted: {shown}; "], folder="result-3")
         self.checksums_of_letters(self.files("result-2"), "-")
         told = ["Cleo" in (self.folder / "result-2" / name).read_text() for name in ("index.html", "closed.txt")]
         self.expect("the reason stays in the log", told, [False, False])
