@@ -46,7 +46,9 @@ class Undo(CalledTest):
         self.assert_stops(self.election("undo"), self.last_act(), 9, "the vote was closed at ", said)
         self.told("add", given=f"ben {RANKS}\n")
         self.told("reopen", "--because", "a bag was forgotten")
-        # a late line has changed nothing that stands
+        # a late line counts for nothing when a later one is taken back, and has changed nothing that stands
+        self.told("add", "--came-before-close", "yes", given=f"ben {OTHER_RANKS}\n")
+        self.assertIn("\n  ben: no ballot is left\n", self.told("undo"))
         self.assertRegex(self.told("undo"), r"^Took back 1 line \(.*, envelope 2\)\.\nNext: ")
         self.assertEqual((self.lines(), self.late_lines()), ([f"ada {RANKS}"], []))
 

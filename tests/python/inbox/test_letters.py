@@ -249,6 +249,7 @@ class Adding(LettersTest):
         self.assertIn("debvote-election held --enter enters these letters again\n", self.told("undo", "--yes"))
         self.assertEqual(self.exported()[0], "")
         self.assertIn("its ballot was taken back", self.told("held"))
+        self.assert_fault(self.election("close"), 9, "these letters arrived in time, and wait: 1, 2, 3, 4")
         # a copy with another head is the same letter
         self.assertIn("4 letters wait", self.add(*(b"X-Status: R\n" + one for one in box)))
         self.assert_fault(self.election("close"), 9, "these letters arrived in time, and wait: 1, 2, 3, 4")
