@@ -39,7 +39,9 @@ class Close(LettersTest):
         self.assertEqual({key: value for key, value in self.numbers().items() if key not in ("act", "digest", "without_ballot")}, wanted)
 
     def test_the_end(self) -> None:
-        """A later call announced it, in another zone than that in which the book keeps times. A line that comes after it still counts."""
+        """A later call announced it, in another zone than that in which the book keeps times. A line that comes after it still counts; one of
+        its second came in time.
+        """
         self.set_clock("2026-11-27T09:00:00+00:00")
         self.done("call", "--until", "2026-12-04 18:00", "--zone", "Europe/Berlin")
         before, end = self.contents(), "Friday, 4 December 2026, 18:00 (UTC+01:00)"
@@ -47,11 +49,12 @@ class Close(LettersTest):
         for words in ((), ("--force", "--because", "all have voted")):
             self.assert_fault(self.election("close", *words), 9, end, "--early", "nothing was changed")
         self.assertEqual(self.contents(), before)
-        for time, name, said in (("16:30", "ada", ""), ("17:30", "ben", "; that time has passed")):
+        passed = "; that time has passed"
+        for time, name, said in (("16:30", "ada", ""), ("17:00", "cleo", passed), ("17:30", "ben", passed)):
             self.set_clock(f"2026-12-04T{time}:00+00:00")
             self.assertIn(f"\nEnd of the vote: {end}{said}\n", self.done("status").output)
             self.assertIn("1 counted", self.add_lines(f"{name} 1,2,3,4"))
-        self.assertIn("2 lines came in time", self.done("close").output)
+        self.assertIn("3 lines came in time", self.done("close").output)
         self.assertIn("18:30 (UTC+01:00)", " ".join(self.read("letters/closed.txt").decode().split()))
         self.done("publish")
         self.assertIn("1 line came after the end, and is in time, since the vote was not closed yet.", self.read("result/index.html").decode())
@@ -121,9 +124,12 @@ class Asked(LettersTest):
         self.add_lines("ada 1,2,3,4")
         self.set_clock("2026-12-02T18:30:00+00:00")
         self.done("desk", given="ben 1,2,3,4\nida 1,2,3,4\n")
+        self.done("desk", given="fay 1,2,3,4\n")
+        self.done("undo")
         self.done("strike", "3", "--because", "not hers")
         self.done("call", "--until", "2026-12-02 20:00", "--zone", "UTC")
-        self.set_clock("2026-12-02T20:30:00+00:00")
+        # the second of the end is not early
+        self.set_clock("2026-12-02T20:00:00+00:00")
         last = "Added last: 2026-12-01 17:00:00 UTC. Entered last at a desk: 2026-12-02 18:30:00 UTC. "
         last += "Strikes: 1. End of the vote: Wednesday, 2 December 2026, 20:00 (UTC)."
         asked = "Is that all? It is if the mailbox was added just now, all paper is entered, and no desk is open."

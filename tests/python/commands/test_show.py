@@ -37,11 +37,11 @@ class Show(CalledTest):
         ]
         self.assertEqual((self.shown(), self.shown("ben")[1:]), (wanted, [f"  envelope 2, TIME: {LAKE}", f"The current ballot: {LAKE}"]))
         self.assertEqual(self.shown("cleo"), ["cleo: Cleo cleo@club.example", "The current ballot: none"])
-        # a ballot of a letter has the time of the letter
+        # a ballot of a letter has the time of the letter, and its place
         with self.book.act("add") as act:
             time = act.time.replace(year=2020)
             queries.add_envelopes(act, [queries.NewEnvelope(f"ada {RANKS}".encode(), time=time)], [self.elector("ada")], is_late=False)
-        self.assertIn(f"  envelope 8, {time:%Y-%m-%d %H:%M:%S} UTC: {LAKE}\n", self.told("show", "ada"))
+        self.assertEqual(self.told("show", "ada").splitlines()[1], f"  envelope 8, {time:%Y-%m-%d %H:%M:%S} UTC: {LAKE}")
 
     def test_who_is_meant(self) -> None:
         for name in ("Ada", "ADA", " ada "):

@@ -31,11 +31,13 @@ class Undo(CalledTest):
         self.book.demand_whole()
 
     def test_an_envelope_that_was_struck_already(self) -> None:
+        self.told("add", given=f"ada {OTHER_RANKS}\n")
         self.told("add", given=f"ada {RANKS}\nben {RANKS}\ncleo {RANKS}\n")
-        self.told("strike", 2, "--because", "a test")
+        for number in (3, 1):
+            self.told("strike", number, "--because", "a test")
         left = "  ada: no ballot is left\n  cleo: no ballot is left\n"
-        self.assertRegex(self.told("undo"), rf"^Took back 2 lines \(act .*, envelopes 1, 3\)\.\n{left}Next: ")
-        self.assertEqual([envelope.struck for envelope in self.envelopes()], [self.first_act + 2, self.first_act + 1, self.first_act + 2])
+        self.assertRegex(self.told("undo"), rf"^Took back 2 lines \(act .*, envelopes 2, 4\)\.\n{left}Next: ")
+        self.assertEqual([envelope.struck for envelope in self.envelopes()], [self.first_act + act for act in (3, 4, 2, 4)])
 
     def test_after_the_close_and_after_reopen(self) -> None:
         self.told("add", given=f"ada {RANKS}\n")
@@ -44,7 +46,9 @@ class Undo(CalledTest):
         self.assert_stops(self.election("undo"), self.last_act(), 9, "the vote was closed at ", said)
         self.told("add", given=f"ben {RANKS}\n")
         self.told("reopen", "--because", "a bag was forgotten")
-        # a late line has changed nothing that stands
+        # a late line counts for nothing when a later one is taken back, and has changed nothing that stands
+        self.told("add", "--came-before-close", "yes", given=f"ben {OTHER_RANKS}\n")
+        self.assertIn("\n  ben: no ballot is left\n", self.told("undo"))
         self.assertRegex(self.told("undo"), r"^Took back 1 line \(.*, envelope 2\)\.\nNext: ")
         self.assertEqual((self.lines(), self.late_lines()), ([f"ada {RANKS}"], []))
 

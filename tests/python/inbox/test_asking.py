@@ -183,6 +183,10 @@ class Dishonest(AskingTest):
         moved = answered(b"", 301, "Location: https://else.example/vote.php")
         for sent, *parts in (
             (moved, "it sends on to https://else.example/vote.php", "--at of call"),
+            (
+                answered(b"", 302, "Location: https://else.example/\x1b[31m"),
+                "it sends on to https://else.example/\\u001B[31m",
+            ),
             (answered(b"", 308), "it sends on to nowhere"),
             (
                 answered(b"no\x1b[31m\nsuch  file", 404),
@@ -198,7 +202,7 @@ class Dishonest(AskingTest):
                 answered(b"<?php\n// The box"),
                 "it shows the script as a text: PHP does not run there",
             ),
-            (answered(b"<?php\n", 405), "it shows the script as a text"),
+            (answered(b"\r\n<?php\n", 405), "it shows the script as a text"),
             (
                 answered(b"<!doctype html>" + b"x" * 9_000),
                 "it does not answer as a box: <!doctype html>xx",
@@ -225,7 +229,7 @@ class Dishonest(AskingTest):
                 "its answer was cut off",
             ),
             (b"HTTP/1.1 200 OK\r\n", "its answer was cut off"),
-            (b"220 mail.example ESMTP\r\n", "it does not answer: 220 mail.example ESMTP"),
+            (b"220 mail.example \x1b[31m\r\n", "it does not answer: 220 mail.example \\u001B[31m"),
             (b"", "it does not answer: "),
             (
                 b"HTTP/1.1 200 OK\r\nX: " + b"x" * 70_000,
@@ -294,13 +298,23 @@ class Dishonest(AskingTest):
             )
 
     def test_how_far_its_clock_is_off(self) -> None:
-        """No more than is certain: the time that the answer took is no fault of the clock."""
-        for off, least, most in ((0, 0, 0), (180, -180, -120), (-180, 120, 183)):
-            lie = lambda request: [
-                1.2,
-                answered(head(times.now() + datetime.timedelta(seconds=off))),
-            ]
-            with self.subTest(off), Liar(lie) as host:
+        """No more than is certain: the time that the answer took, before the host looked at its clock and
+        after it, is no fault of the clock.
+        """
+        for off, before, after, least, most in (
+            (0, 0, 1.2, 0, 0),
+            (0, 2.2, 0, 0, 0),
+            (180, 0, 1.2, -180, -120),
+            (-180, 0, 1.2, 120, 183),
+        ):
+
+            def lie(request: bytes) -> Iterable[bytes | float]:
+                yield before
+                said = answered(head(times.now() + datetime.timedelta(seconds=off)))
+                yield after
+                yield said
+
+            with self.subTest(off=off, before=before), Liar(lie) as host:
                 asked = ask(host.at, MARK, WORD)
                 self.assertTrue(least <= asked.behind <= most, asked)
                 self.assertIsInstance(asked.behind, int)

@@ -16,6 +16,7 @@ from debvote_tools.inbox.judging import Ballot
 from debvote_tools.inbox.letter import ParsedLetter
 from debvote_tools.inbox.records import MOST
 from debvote_tools.poll.box import asking_word, link_of, list_digest
+from debvote_tools.poll.sealed import OWN_SIGNS
 
 from tests.support import at_browser, boxes, elections
 from tests.support.letters import OWN, at, judged, letter, mailbox, outcome, outcomes, parsed
@@ -152,6 +153,7 @@ class Clicks(boxes.BoxElectionTest):
             "3 new letters; 0 came before.\n3 ballots of letters would go in; 0 letters wait.\nNothing was changed.",
             ended.output,
         )
+        self.assertIn("ben (box, record 2): ", ended.output)
         self.assertEqual(self.rows("SELECT * FROM act"), before)
         # letters wait for the secretary, and are not entered by what cron runs
         box = mailbox(
@@ -317,6 +319,11 @@ class Clicks(boxes.BoxElectionTest):
 
     def test_a_dishonest_host(self) -> None:
         links = self.begun()
+        # cleo has another link than she had
+        self.write(
+            "members.csv", elections.members_of(elections.NAMES).replace("cleo@club", "cleo@new")
+        )
+        self.done("roll", "--yes")
         self.click("ada", "1,2,3,4", links["ada"])
         self.done("add", "--box", "--yes")
         mark = self.mark()
@@ -327,9 +334,12 @@ class Clicks(boxes.BoxElectionTest):
             record("x", "ben 1,2,3,4", 99, ago, mark).replace("2" * 16, links["ben"]).encode()
         )
         unknown = b"".join(
-            record("x", "cleo 1,2,3,4", number, at[:19], mark).encode()
-            for number in range(100, 100 + MOST + 10)
+            record("x", "cleo 1,2,3,4", number, at[:19], mark)
+            .replace("2" * 16, "2" * 15 + sign)
+            .encode()
+            for number, sign in enumerate(OWN_SIGNS[: MOST + 10], start=100)
         )
+        former = record("x", "cleo 1,2,3,4", 98, ago, mark).replace("2" * 16, links["cleo"]).encode()
         nobody = record("x", "nobody 1,2,3,4", 999, at[:19], mark).encode()
         odd = nobody.replace(b"nobody", b"dan").replace(
             b"From: box@page.invalid\n", b"From: dan@club.example\n"
@@ -339,10 +349,10 @@ class Clicks(boxes.BoxElectionTest):
         for what, data, gone, others, records in (
             ("dropped", drop, 1, 0, 0),
             ("backdated", real + backdated, 0, 0, 2),
-            ("of who never came", real + backdated + unknown, 0, 10, MOST + 2),
-            ("of nobody, and of another form", real + backdated + nobody + odd, MOST, 2, 2),
-            ("changed", changed, MOST + 2, 0, 1),
-            ("replayed", replayed, MOST + 3, 0, 1),
+            ("of who never came", real + backdated + unknown + former, 0, 10, MOST + 3),
+            ("of nobody, and of another form", real + backdated + nobody + odd, MOST + 1, 2, 2),
+            ("changed", changed, MOST + 3, 0, 1),
+            ("replayed", replayed, MOST + 4, 0, 1),
         ):
             with self.subTest(what):
                 self.file().write_bytes(data)
@@ -388,7 +398,8 @@ class Clicks(boxes.BoxElectionTest):
         self.done("add", "--box", "--yes")
         arrived = time.strftime("%a, %d %b %Y %H:%M:%S +0000")
         own = boxes.link_in(next((self.folder / "letters/call").rglob("*ada*.eml")).read_bytes())[1]
-        text = f"I opened {self.host.at}#ada/{own}/{links['ada']} and it says\nada 1,2,3\n"
+        place = f"#ada/{own}/{links['ada']}"
+        text = f"{place.upper()}\nI opened {self.host.at}{place} and it says\nada 1,2,3\n"
         self.write("inbox.mbox", mailbox(self.of_this_vote(letter("ada", text, time=arrived))))
         said = self.election("add", "inbox.mbox").output + self.done("held").output
         said += "".join(self.done("held", str(number)).output for number in (1, 2, 3))
@@ -405,7 +416,7 @@ class Clicks(boxes.BoxElectionTest):
         )
         for text in (said, *texts):
             for link in links.values():
-                self.assertNotIn(link, text)
+                self.assertNotIn(link, text.lower())
         self.assertTrue(
             any(
                 "A ballot of" in text
@@ -503,6 +514,9 @@ class Asked(boxes.BoxElectionTest):
             json.loads(self.done("status", "--json").output)["box"]["is_present"], True
         )
         self.done("letters", "call")
+        # nor is one at another address
+        self.done("call", "--at", self.host.at.replace("127.0.0.1", "localhost"))
+        self.assert_fault(self.election("letters", "call"), 9, "nobody has seen yet")
 
     def test_status_says_when_it_was_asked_last(self) -> None:
         self.call()
@@ -527,6 +541,7 @@ class Asked(boxes.BoxElectionTest):
             self.election("call", "--at", "https://club.example/moved/"),
             9,
             "ballots may lie on the page at the address of now",
+            "run debvote-election add --box\n",
         )
         ended = self.election("call", "--at", "http://club.example/moved/")
         self.assertEqual((ended.status, len(ended.faults.splitlines())), (2, 2), ended)
@@ -583,6 +598,7 @@ class Asked(boxes.BoxElectionTest):
         self.done("reopen", "--because", "A letter was found.")
         self.off(5000)
         self.done("close", "--early")
+        self.assertEqual(self.election("count").status, 0)
 
     def test_the_end_by_both_clocks(self) -> None:
         links = self.begun()
@@ -594,13 +610,17 @@ class Asked(boxes.BoxElectionTest):
         # by the clock of the host the end has not come
         self.done("add", "--box", "--yes")
         self.assert_fault(self.election("close"), 9, fault)
-        self.done("close", *self.forced)
+        self.assertNotIn("still takes ballots", self.done("close", *self.forced).output)
         self.assertEqual(self.election("count").status, 0)
         self.done("publish")
         self.assertIn(
             b"Ballots may have been sent on the page of the vote that the secretary did not get.",
             self.read("result/index.html"),
         )
+        self.assertIn(b"The host is down.", self.read("result/index.html"))
+        # a later close needs none
+        self.done("reopen", "--because", "A letter was found.")
+        self.done("close")
 
     def test_an_asking_of_the_second_of_an_early_close_is_none(self) -> None:
         """A ballot of that second may have come after it."""

@@ -148,11 +148,16 @@ class Adding(LettersTest):
         self.assertEqual((said.count("\nletter "), f"\n{ada}" in said), (1, True), said)
         said = self.told("undo", "--yes")
         self.assertEqual((said.count("\nletter "), f"\n{ben}" in said), (1, True), said)
-        self.assertIn("2 ballots of letters went in; 1 letter waits", self.add(letter("ada", f"ada {RANKS}")))
+        self.assertIn("2 ballots of letters went in; 1 letter waits", self.add(b"X-Status: R\n" + letter("ada", f"ada {RANKS}")))
         # the letters of the act itself are told as taken back
         said = self.told("undo", "--yes")
         self.assertIn("2 letters then wait again, as taken back: 1, 2\n", said)
         self.assertNotIn("\nletter ", said)
+        # one that was passed over, since a later letter had gone in, is named, too
+        self.add(letter("dan", f"dan {OTHER}", time="Mon, 23 Nov 2026 11:00:00 +0000", number=2))
+        self.assertIn("Passed over, since a later letter of its elector went in", self.add(letter("dan", f"dan {RANKS}")))
+        said = self.told("strike", 5, "--because", "somebody else wrote it")
+        self.assertEqual((said.count("\nletter "), f"\n{named.format(6, 'Dan', 'dan')}" in said), (1, True), said)
 
     def test_plain_ballots_in_time_that_were_added_after_the_close(self) -> None:
         """None goes in, as the first envelope of the book or a later one: a ballot that becomes late is one that nobody misses."""
@@ -244,6 +249,7 @@ class Adding(LettersTest):
         self.assertIn("debvote-election held --enter enters these letters again\n", self.told("undo", "--yes"))
         self.assertEqual(self.exported()[0], "")
         self.assertIn("its ballot was taken back", self.told("held"))
+        self.assert_fault(self.election("close"), 9, "these letters arrived in time, and wait: 1, 2, 3, 4")
         # a copy with another head is the same letter
         self.assertIn("4 letters wait", self.add(*(b"X-Status: R\n" + one for one in box)))
         self.assert_fault(self.election("close"), 9, "these letters arrived in time, and wait: 1, 2, 3, 4")
@@ -358,6 +364,8 @@ class Held(LettersTest):
             self.assert_fault(self.election("held", "1", "--enter", lines), 9, "2 of these lines are ballots of ada")
         self.assertIn(f"1 counted  ada: {LAKE}", self.told("held", "1", "--enter", "5"))
         self.assertEqual(self.numbers()["waiting"], 1)
+        # one that waits stops no count before the close
+        self.assertIn("this is not the result yet", self.election("count").faults)
         for words in (("--enter", "5"), ("--set-aside",)):
             self.assert_fault(self.election("held", "1", *words), 9, "was entered")
         self.add(b"X-Status: R\n" + letter("ada", f"Dear Anna,\n\nI thought about it for 3 days:\n\nada {RANKS}\n"))
@@ -654,13 +662,13 @@ class AtTheEnd(LettersTest):
         return detail["waiting"], detail["after_end"], detail.get("because")
 
     def test_a_letter_in_time_needs_a_reason(self) -> None:
-        """Letters of after the end need no act at the close, whatever else they wait for: the page has no reason to tell."""
+        """Letters of after the end need no act at the close, whatever else they wait for: the page has no reason to tell. A copy is none."""
         away = letters.letter("dan", "I am away\n", head="Auto-Submitted: auto-replied\n", **self.late)
         self.add(away, letters.letter("ben", f"> ben {RANKS}\n", sender="x, y", **self.late))
         self.told("close", "--force", "--because", "in a hurry")
         self.assertEqual(self.closed(), (0, 2, None))
         self.told("reopen", "--because", "a letter was forgotten")
-        self.add(letter("ada", "hello"), letter("cleo", f"cleo {RANKS}", **self.late))
+        self.add(letter("ada", "hello"), letter("cleo", f"cleo {RANKS}", **self.late), b"X-Status: R\n" + away)
         self.assertEqual(self.numbers()["waiting"], 4)
         self.assertIn("These arrived in time, and close stops while they wait: 3\n", self.told("status"))
         for words in ((), ("--force",), ("--force", "--because", " "), ("--because", "hello is no ballot")):

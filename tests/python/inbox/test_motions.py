@@ -206,9 +206,9 @@ class Offered(unittest.TestCase):
             # alone it is nothing, if the letter answers none of ours
             "yes": "waits: no ballot", "Kim No": "waits: no ballot",
             # a ballot goes in as ever, unless a line beside it may be an answer
-            "ada 1,2": "in: ada 1,2", "Hello,\n\nada 1,2\n\nbest wishes\n": "in: ada 1,2", "ada 1,2\n\nyes\n": "waits: another answer", "ada 1,2\n\nNo, not that\n": "waits: another answer",
+            "ada 1,2": "in: ada 1,2", "Hello,\n\nada 1,2\n\nbest wishes\n": "in: ada 1,2", "ada 1,2\n\nyes\n": "waits: another answer", "ada 1,2\n\nNo, not that one\n": "waits: another answer",
             "ada 1,2\n\nben no\n": "waits: another answer", "ada 1,2\n-- \nyes\n": "waits: another answer", "ada 1,2\n\n> yes\n": "in: ada 1,2",
-            "ada 1,2\n\nI say no to the rest of it\n": "in: ada 1,2", "ada 1,2\n\nNo, not this one\n": "waits: another answer", "ada 1,2\n\nNo, not this one here\n": "in: ada 1,2", "ada 1,2\n\nKim No\n": "in: ada 1,2", "ada 1,2\n\nOption 1: Yes\n": "in: ada 1,2", "Kim No 1,2": "waits: real name; kim-no 1,2",
+            "ada 1,2\n\nI say no to it\n": "in: ada 1,2", "ada 1,2\n\nKim No\n": "in: ada 1,2", "ada 1,2\n\nOption 1: Yes\n": "in: ada 1,2", "Kim No 1,2": "waits: real name; kim-no 1,2",
             # a line with a word greets nobody
             "Yes to all of what you say\n\nada 1,2": "waits: not first", "Hello and no more than that,\n\nada 1,2": "waits: not first", "Hello and not more than that,\n\nada 1,2": "in: ada 1,2",
         }.items():  # fmt: skip

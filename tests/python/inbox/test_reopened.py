@@ -20,15 +20,19 @@ class Reopened(LettersTest):
         return terminal
 
     def test_late_lines_go_in_by_their_times(self) -> None:
-        """In whatever order they are named. What needed no force is not told as forced: a later line that is refused is no ballot."""
+        """In whatever order they are named, and came where the clock was put back. What needed no force is not told as forced: a later line
+        that is refused is no ballot.
+        """
         self.add_lines("ada 1,2,3", "ben 1,2,3,4")
         self.told("close")
-        self.add_lines(BALLOT, OTHER)
-        said = self.reopen("--in-time", 4, 3, "--force")
-        first = f"\nEnvelope 5, entered anew from late envelope 3: {BALLOT}\n"
-        self.assertIn(f"{first}Envelope 6, entered anew from late envelope 4: {OTHER}\n", said)
+        self.add_lines(OTHER)
+        self.set_clock("2026-11-25T08:59:00+00:00")
+        self.add_lines(BALLOT)
+        said = self.reopen("--in-time", 3, 4, "--force")
+        first = f"\nEnvelope 5, entered anew from late envelope 4: {BALLOT}\n"
+        self.assertIn(f"{first}Envelope 6, entered anew from late envelope 3: {OTHER}\n", said)
         self.assertEqual(self.stands("ada"), OTHER_RANKS)
-        self.assertEqual(self.acts()[-1][1], {"because": "it was in time", "in_time": [3, 4]})
+        self.assertEqual(self.acts()[-1][1], {"because": "it was in time", "in_time": [4, 3]})
         # they keep their times
         self.assertIn("a later ballot of ada, of 2026-11-25 09:00:", self.add(letter("ada", "ada 1,1,4,3")))
         self.assertEqual((self.stands("ada"), self.numbers()["waiting"]), (OTHER_RANKS, 1))
@@ -48,8 +52,22 @@ class Reopened(LettersTest):
         self.assertEqual(self.stands("ada"), RANKS)
         self.assertEqual(self.acts()[-1][1], {"because": "it was in time", "in_time": [1], "force": True})
 
+    def test_a_newer_late_line_after_an_older_one(self) -> None:
+        """What was entered anew keeps its time, so that a later one goes in without force."""
+        self.told("close")
+        for minute, line in enumerate((BALLOT, OTHER)):
+            self.set_clock(f"2026-11-25T09:0{minute}:00+00:00")
+            self.add_lines(line)
+        self.set_clock("2026-11-25T10:00:00+00:00")
+        self.reopen("--in-time", 1)
+        self.told("close")
+        self.reopen("--in-time", 2)
+        self.assertEqual(self.stands("ada"), OTHER_RANKS)
+
     def test_the_times_of_two_closes(self) -> None:
-        """What had to come before a close, had to before the first one; the vote is closed since the last one."""
+        """What had to come before a close, had to before the first one; the vote is closed since the last one, of which each letter tells
+        until the next one.
+        """
 
         def at(hour: int) -> str:
             self.set_clock(f"2026-11-25T{hour}:00:00+00:00")
@@ -59,6 +77,7 @@ class Reopened(LettersTest):
         self.told("close")
         last = at(11)
         self.assertIn(f"the close at {first} stays in the log", self.reopen())
+        self.add_lines(f"ben {RANKS}", words=("--came-before-close", "yes"))
         self.told("close")
         for words, part in (
             (("status",), f"\nClosed: at {last}\n"),
@@ -68,13 +87,21 @@ class Reopened(LettersTest):
             self.assertIn(part, self.told(*words, given=BALLOT))
         self.assert_fault(self.election("undo", "--yes"), 9, f"the vote was closed at {last}, and its ballots stay")
         opened = at(12)
-        self.assertIn(f"the close at {last} stays in the log", self.reopen())
+        self.assertIn(f"the close at {last} stays in the log", self.told("reopen", "--because", "a bag was found"))
         self.assertIn(f"\nReopened: at {opened}\n", self.told("status"))
         said = f"the vote was closed at {first} and opened again, and only what came before counts"
         self.assert_fault(self.election("add", "-", given=OTHER), 9, said)
         # what comes by letter would wait until the end that the call says
         said = f"--until: the vote was closed at {first}, and only ballots that came before then count"
         self.assert_fault(self.election("call", "--until", "2026-12-24 12:00"), 9, said)
+        self.add_lines(f"cleo {RANKS}", words=("--came-before-close", "yes"))
+        self.told("close")
+        letter = " ".join(self.read("letters/closed.txt").decode().split())
+        self.assertIn("11:00 (UTC), and opened again. The reason, in the secretary's words: (a bag was found) This", letter)
+        closes = [detail["questions"][""]["checksum"] for name, detail in self.acts() if name == "close"]
+        self.assertEqual([checksum in letter for checksum in closes], [False, True, True])
+        self.told("publish")
+        self.assertEqual(self.read("result/index.html").decode().count("lines that came in: 1; "), 2)
 
     def test_a_late_line_is_entered_once(self) -> None:
         """What was entered again came once: the same line in a file is another one."""

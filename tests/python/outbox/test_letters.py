@@ -400,10 +400,13 @@ class ReceiptsAndReminders(OutTest):
         self.assertEqual(shown, {"cleo": True, "dan": True, "eve": False})
 
     def test_letters_that_are_in_no_receipt_are_named(self) -> None:
-        """Letters of a couple and of a stranger. Not a ballot in an elector's name, who is told, and not what a program wrote."""
+        """Letters of a couple and of a stranger. Not a ballot in an elector's name, who is told, whatever its head says; and not what a program
+        wrote.
+        """
         self.change_roll("ben@club", "ada@club")
         away = letter("x", "away\n", number=3, head="Auto-Submitted: auto-replied\n")
-        self.add(letter("ada", f"Benjamin Lind {RANKS}\n"), letter("x", "Who are you?\n"), letter("x", f"eve {RANKS}\n", number=2), away, letter("cleo", "Thank you.\n"))
+        forged = letter("x", f"eve {RANKS}\n", number=2, head="Auto-Submitted: auto-replied\n")
+        self.add(letter("ada", f"Benjamin Lind {RANKS}\n"), letter("x", "Who are you?\n"), forged, away, letter("cleo", "Thank you.\n"))
         said = "No receipt is about these letters that wait, since no elector alone has the sender's address: 1, 2\n"
         output = self.told("letters", "receipts")
         self.assertTrue(output.startswith(said), output)
@@ -413,6 +416,8 @@ class ReceiptsAndReminders(OutTest):
         held = self.told("held").replace("\n        ", "\n")
         self.assertIn("no ballot found\nother words: Who are you?\n", held)
         self.assertIn(f"no ballot found\nother words: Benjamin Lind {RANKS}\nsame address: ada, ben\n", held)
+        shown = {name: "letter 1, from " in self.told("show", name) for name in ("ada", "ben", "cleo")}
+        self.assertEqual(shown, {"ada": True, "ben": True, "cleo": False})
         self.told("held", 1, 2, "--set-aside")
         self.assertEqual(self.told("letters", "receipts"), f"3{waits}")
 

@@ -114,9 +114,12 @@ class Sending(SendTest):
         ended = self.send("call")
         self.assertIn("Without an address: gus. Print letters/call/", ended.output)
         self.assertNotIn("Not reached", ended.output)
+        # who has no address any more gets it printed, too
+        self.change_roll("hal@club.example", "")
+        self.assertEqual((self.not_reached(), self.numbers()["printed"]), ({"gus": "no letter"}, ["hal"]))
         self.change_roll("ada@club", "ada@new")
-        self.assertEqual(self.not_reached(), {"ada": "no letter", "gus": "no letter"})
-        self.assertIn("Not reached by the call: ada (no letter), gus (no letter)\n", self.told("letters", "receipts"))
+        self.assertEqual(self.not_reached(), dict.fromkeys(("ada", "gus", "hal"), "no letter"))
+        self.assertIn("Not reached by the call: ada (no letter), gus (no letter), hal (no letter)\n", self.told("letters", "receipts"))
         self.send("call")
         self.assertEqual(self.not_reached(), {})
 

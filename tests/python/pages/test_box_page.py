@@ -20,11 +20,12 @@ from debvote_tools.inbox.records import MOST
 from debvote_tools.poll.box import SENTENCES, link_of, records_file, script_of
 from debvote_tools.poll.call import CallData, call_files
 from debvote_tools.poll.questions import Questions
+from debvote_tools.poll.sealed import with_roll
 from debvote_tools.text.language import LANGUAGES, language_of
 from debvote_tools.text.rendering import checksum_source
 
 from tests.support.at_browser import NEEDS_BROWSER, Window
-from tests.support.calls import CALL, KINDS, POLL, ROLL
+from tests.support.calls import CALL, KINDS, POLL, ROLL, alone
 from tests.support.web_host import KEY, NEEDS_PHP, Host, Liar, answered, ballot, firewall, passed_on
 
 MARK = CALL.questions.mark
@@ -416,16 +417,19 @@ class Members(RealBoxTest):
         self.assertEqual(self.lines(), ["ada 1,2,3,4"])
 
     def test_a_link_that_was_sent_on(self) -> None:
-        """Who opens it reads whose it is, and can't vote by it under another name."""
+        """Who opens it reads whose it is, and can't vote by it under another name, which may begin as theirs."""
+        questions = alone(with_roll(POLL, (*ROLL, "ada-lee")))
+        call = dataclasses.replace(CALL, questions=questions)
+        (self.folder / "index.html").write_bytes(page_with_box(call=call))
         self.visit(self.host.at, self.place)
         self.assertTrue(self.window.ask("document.getElementById('You').checkVisibility()"))
         self.assertEqual(self.window.ask("document.getElementById('Linked').textContent"), "ada")
         self.tap("1234")
         self.window.ask("document.getElementById('Not-you').click()")
         self.assertEqual((self.state()["button"], self.state()["line"]), (False, ""))
-        found = self.choose("1234", "ben")
+        found = self.choose("1234", "ada-lee")
         self.assertEqual(
-            (found["line"], found["seen"], found["unlinked"]), ("ben 1,2,3,4", False, True)
+            (found["line"], found["seen"], found["unlinked"]), ("ada-lee 1,2,3,4", False, True)
         )
         self.assertEqual(self.lines(), [])
 
@@ -558,11 +562,15 @@ class Answers(BoxPageTest):
         self.assertNotIn(LINKS["ada"].encode(), heads)
 
     def test_the_button_has_a_row_of_its_own_in_each_language_and_width(self) -> None:
+        """And when a ballot arrived is said in that language, by the clock of whoever sent it."""
+        zone = "Asia/Kolkata"
+        self.window.tell("Emulation.setTimezoneOverride", timezoneId=zone)
+        self.addCleanup(self.window.tell, "Emulation.setTimezoneOverride", timezoneId="")
         for code, width in itertools.product(LANGUAGES, (320, 360, 1280)):
             with self.subTest(code=code, width=width):
                 self.window.resize(width, 640)
                 host = self.serve(
-                    lambda request: [answered(b"lost: x\n", 503)], page_with_box(code)
+                    lambda request: [answered(b"received " + NOW + b"\n")], page_with_box(code)
                 )
                 self.visit(host.at, f"#ada/{OWNS['ada']}/{LINKS['ada']}")
                 self.choose("1234")
@@ -577,7 +585,11 @@ class Answers(BoxPageTest):
                 self.assertEqual((box, {*others}), ([True, True], {True}))
                 self.assertEqual(self.window.broken_words("[document.getElementById('Vote')]"), [])
                 self.assertEqual(self.window.ask("document.documentElement.scrollWidth"), width)
-                self.assertEqual(self.sent(), WORDS_IN[code]["lost"])
+                how = {"dateStyle": "medium", "timeStyle": "medium", "timeZone": zone}
+                time = self.window.ask(
+                    f"new Date('{NOW.decode()}').toLocaleString('{code}', {json.dumps(how)})"
+                )
+                self.assertEqual(self.sent(), WORDS_IN[code]["received"].replace("{time}", time))
         self.window.resize(390, 844)
 
     def test_no_page_without_a_box_has_anything_of_it(self) -> None:

@@ -11,6 +11,7 @@ from debvote_tools.cli.faults import Fault
 from debvote_tools.inbox.records import MOST
 from debvote_tools.poll.box import (
     SCRIPT,
+    SENTENCES,
     asking_word,
     link_of,
     list_digest,
@@ -63,6 +64,19 @@ class Links(unittest.TestCase):
             records_file(KEY),
             f"box-{hashlib.sha256(asking_word(KEY).encode()).hexdigest()[:32]}.php",
         )
+
+
+class Words(unittest.TestCase):
+    def test_what_the_page_says_of_each_answer(self) -> None:
+        """Who reads that a ballot was not taken does not send it again, and who reads that it arrived waits."""
+        for word, begin in {
+            "received": "It has arrived, {time}. ",
+            "unknown": "It was not taken: this page does not know your link. Open the newest letter",
+            "many": "It was not taken: too many ballots came by your link. Send your ballot by e-mail.",
+            "lost": "It was not taken. Send your ballot by e-mail.",
+            "unsure": "Nobody knows whether it has arrived. Press the button again: it counts once.",
+        }.items():
+            self.assertTrue(SENTENCES[word].startswith(begin), word)
 
 
 class Scripts(unittest.TestCase):

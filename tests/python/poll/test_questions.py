@@ -14,6 +14,7 @@ from debvote_tools.poll.call import call_files
 from debvote_tools.poll.questions import LABELS, Questions, quorums_in, quorums_said, read_questions
 from debvote_tools.poll.secret import alias_in, aliased, codes_csv, slips
 from debvote_tools.text.language import ENGLISH
+from debvote_tools.text.motions import words_of
 
 from tests.support import calls
 from tests.support.at_browser import NEEDS_BROWSER, Window
@@ -93,10 +94,12 @@ class Words(unittest.TestCase):
         [before, after] = text.split("  (or in place of the ranks one word: yes, no, abstain)\n")
         self.assertTrue(before.endswith("\n\nQuestion B: Raise the fee\n  Option 1: Yes (majority ratio 2)\n  Option 2: No (the default option)\n"))
         self.assertTrue(after.startswith("\nSend your ballot to "))
+        # lines and letters are read with them if one question is a motion
+        self.assertEqual((questions.words(CALL.language), SEVERAL.words(CALL.language)), (words_of("en", motion=True), {}))
 
     def test_no_line_of_a_text_reads_as_an_answer(self) -> None:
-        text = "A 1,2\nb: 1,2,3,4\n1,2\nlater C 2,1\nD 1,2 is a place\nA 1\nada A 1,2"
-        barred = "|A 1,2\n|b: 1,2,3,4\n|1,2\n|later\n|C 2,1\nD 1,2 is a place\nA 1\n|ada\n|A 1,2"
+        text = "A 1,2\nb: 1,2,3,4\n1,2\n1,2,3,4\nlater C 2,1\nD 1,2 is a place\nA 1\nada A 1,2"
+        barred = "|A 1,2\n|b: 1,2,3,4\n|1,2\n|1,2,3,4\n|later\n|C 2,1\nD 1,2 is a place\nA 1\n|ada\n|A 1,2"
         self.assertEqual(SEVERAL.without_ballots(text, lambda word: word == "ada", {}), barred)
         # one bar, although questions differ in how many options they have
         motions = Questions({"A": dataclasses.replace(FEE, motion=True), "B": POLL}, SEVERAL.title)

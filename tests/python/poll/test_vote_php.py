@@ -69,6 +69,10 @@ BAD = [
 
 @NEEDS_PHP
 class Requests(BoxTest):
+    def host(self, *settings: str, **how: object) -> Host:
+        """In another time zone than that of the records."""
+        return super().host("-d", "date.timezone=Asia/Kolkata", *settings, **how)
+
     def received(self, answer: Answer) -> str:
         """The time of an answer that says that the ballot arrived."""
         found = TIME.fullmatch(answer.text)

@@ -92,6 +92,19 @@ class Held(QuestionsTest):
         self.done("held", "1", "--enter", "--force", "--yes")
         self.assertIn("The current ballot: ada A 1,2 B 1,2,3: ", self.told("show", "ada"))
 
+    def test_a_late_line_that_would_replace_a_later_answer(self) -> None:
+        """To the same question: only that needs force."""
+        close = ("close", "--early", "--force", "--because", "x", "--yes")
+        self.done(*close)
+        self.done("desk", given="ada A 1,2\nada B 1,2,3\n")
+        self.done("reopen", "--because", "x")
+        self.add_lines("ada A 2,1", words=("--came-before-close", "yes"))
+        self.done(*close)
+        said = "--in-time: envelope 1 would replace envelope 3, a later ballot of the same elector"
+        self.assert_refused(["reopen", "--in-time", "1", "2", "--because", "x"], 9, said)
+        self.done("reopen", "--in-time", "2", "--because", "x")
+        self.assertEqual(self.lines(), ["ada A 2,1", "ada B 1,2,3"])
+
     def test_no_force_is_offered_for_what_was_entered(self) -> None:
         """Half of a letter was left out, since a later answer is there: the other half is entered, and that is all."""
         self.add_lines("ada B 1,2,3")

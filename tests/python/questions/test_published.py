@@ -111,6 +111,8 @@ class OpenTest(PublishedTest):
         self.assertIn("A: Winner: 1 Yes, 72 Euro\nverified\nB: Winner: 2 Mary Somerville by casting vote\nverified, casting vote 2 Mary Somerville\nC: Tie: 1 2", said)
         self.assertIn("publish --casting 'B=Mary Somerville' --casting C=NAME --cast-by WHO", said)
         self.assertEqual(self.listed(), sorted([*ABOVE, *(f"{label}/{name}" for label in self.polls for name in FILES)]))
+        folders = [self.folder / "result" / label for label in ("", *self.polls)]
+        self.assertEqual({folder.stat().st_mode & 0o777 for folder in folders}, {0o755})
         for name in ("title.txt", "polls.sha256", "A/poll.toml", "B/poll.toml", "C/poll.toml"):
             self.assertEqual(self.read(f"result/{name}"), self.read(f"call/{name}"), name)
         # the letter names two files, which bind all others

@@ -13,10 +13,9 @@ import tomllib
 import unittest
 from unittest import mock
 
-from debvote_tools import files
 from debvote_tools.book import queries
 from debvote_tools.book.election import fixed_by
-from debvote_tools.result.folder import NewFolder
+from debvote_tools.result.folder import NewFolder, beside
 
 from tests.support import elections, expecting, page_parts as pages
 from tests.support.called import CalledTest
@@ -210,12 +209,13 @@ class OfOpenVotes(OfElections):
         self.expect("other words are an act", (len(self.acts()), self.files() == files), (acts + 1, False))
         self.expect("nothing is left beside it", [name for name in os.listdir(self.folder) if name.startswith(".")], [])
         self.expect("real names are not published", "Lovelace" in (self.folder / "elsewhere" / "index.html").read_text(), False)
-        # a close before the end is a doubt, and each letter tells until when one should have been able to vote
-        self.reopened_with("zoe-mueller 1,2,3\n", words=("--early",))
+        # a first close before the end is a doubt, and each letter tells until when one should have been able to vote
+        self.set_clock("2099-12-05T09:00:00+01:00")
+        self.reopened_with("zoe-mueller 1,2,3\n")
         self.replace("--language", "en")
         end = "one should have been able to vote until Friday, 4 December 2099, 18:00 (UTC+01:00)."
         [doubt] = self.doubts()
-        self.assertRegex(doubt, f"^The vote was closed on .*before its announced end: {re.escape(end)}$")
+        self.assertRegex(doubt, f"^The vote was closed on (?:(?!2099).)* before its announced end: {re.escape(end)}$")
         self.expect("the letter of the result", doubt in " ".join(self.letter().split()), True)
         self.say("publish", "--language", "de")
         texts, until = [*self.texts_of_messages(), self.read("letters/closed.txt").decode()], "Freitag, 4. Dezember 2099, 18:00 (UTC+01:00)"
@@ -245,9 +245,9 @@ class OfOpenVotes(OfElections):
         self.say("publish", "result-2")
         files = self.files("result-2")
         self.stops("publish", "result-2/../result", said=["as result-2/../result-3"], status=2)
-        inside = [f"it would be in {self.folder / 'result-2'}, whose files are published as they are", "name a folder outside of it"]
-        for name in ("result-2/x", "result-2/x/y", "result-2/../result-2/x"):
-            self.stops("publish", name, said=inside, status=2, folder=name)
+        for name in ("result-2/x", "result-2/x/y", "result-2/../result-2/x", "call/result"):
+            inside = f"it would be in {self.folder / name.partition('/')[0]}, whose files are published as they are"
+            self.stops("publish", name, said=[inside, "name a folder outside of it"], status=2, folder=name)
         self.expect("nothing was added to it", self.files("result-2") == files, True)
         self.say("publish", "--language", "fr", "result-2")
         self.expect("it takes the place of the last one", self.files("result-2") == files, False)
@@ -485,12 +485,10 @@ class OfOpenVotes(OfElections):
             self.expect(f"{language}: it came back", ({name: sums[name] for name in last}, len(self.acts())), (last, acts + 1))
             self.expect(f"{language}: it is the new one", (self.files() == before, left()), (False, []))
         # a run that lasts keeps its folder
-        lasting = self.folder / ".debvote-result-lasting"
-        lasting.mkdir()
-        (lasting / "poll.toml").touch()
-        with files.locked(lasting, is_directory=True):
+        with beside(self.folder / "result") as lasting:
+            (lasting.folder / "poll.toml").touch()
             self.say("publish")
-        self.expect("that of a run that lasts", left(), [lasting.name])
+            self.expect("that of a run that lasts", left(), [lasting.folder.name])
 
     def test_hostile_texts(self):
         hostile = "</p></b><script>alert(1)</script> & <img src=x onerror=alert(1)>{{ say }}{% endblock %}"
@@ -638,11 +636,13 @@ class OfSecretVotes(OfElections):
         self.stops("publish", "result-2", said=["a comparison with the earlier result shows how these voted: ada-lovelace, cleo"], folder="result-2")
         self.say("publish", "--yes", "result-2")
         self.expect("Cleo counts, too", len((self.folder / "result-2" / "ballots.txt").read_text().splitlines()), 3)
-        # what is gone is seen, too
-        self.say("reopen", "--because", "that of Cleo was forged")
-        [number] = [one.number for one in self.envelopes() if one.line.startswith(b"cleo ") and one.became == "counts"]
-        self.say("strike", str(number), "--because", "it was forged")
-        self.say("close")
-        self.stops("publish", "result-3", said=["a comparison with the earlier result shows how these voted: cleo"], folder="result-3")
+        # what is gone is seen, too, beside the last result, also where all is as in the first one
+        for name, shown in (("cleo", "cleo"), ("ada-lovelace", "ada-lovelace, cleo")):
+            self.say("reopen", "--because", f"that of {name.title()} was forged")
+            [number] = [one.number for one in self.envelopes() if one.line.startswith(f"{name} ".encode()) and one.became == "counts"]
+            self.say("strike", str(number), "--because", "it was forged")
+            self.say("close")
+            self.stops("publish", "result-3", said=[f"a comparison with the earlier result shows how these voted: {shown}; "], folder="result-3")
         self.checksums_of_letters(self.files("result-2"), "-")
-        self.expect("the reason stays in the log", "Cleo" in (self.folder / "result-2" / "index.html").read_text(), False)
+        told = ["Cleo" in (self.folder / "result-2" / name).read_text() for name in ("index.html", "closed.txt")]
+        self.expect("the reason stays in the log", told, [False, False])

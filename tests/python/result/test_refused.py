@@ -74,6 +74,15 @@ class RefusedTest(publishing.PublishTest):
         ]:
             found = publishing.run([*words, room / "result"], path=stand_in(self.scratch / name, f"case $1 in {text} {as_it_is}"))
             self.expect(name, (found[2], os.listdir(room)), (status, ["full"]))
+        # what debvote says, and says again when it is asked to verify it, the second count does not
+        for task, change, said in (
+            ("count", "s/by 4 to 3/by 5 to 2/", "line 22 is `  1 over 2 by 4 to 3`, where debvote has `  1 over 2 by 5 to 2`"),
+            ("standing", "/^gus/d", "line 7 is `gus 1,2,3,4`, where debvote has `(end)`"),
+        ):
+            text = f'case $1 in {task}) {publishing.PROGRAM} "$@" | /bin/sed "{change}" ;; verify) echo verified ;; {as_it_is}'
+            found = publishing.run([*words, room / "result"], path=stand_in(self.scratch / task, text))
+            said = f"recount.py, the second count, differs from debvote in its `{task}`: {said}; nothing was published"
+            self.expect(f"{task}: {found[1]}", (found[2], said in found[1], os.listdir(room)), (9, True, ["full"]))
         found = publishing.run([*words, room / "result"], path=stand_in(self.scratch / "plain", f'exec {publishing.PROGRAM} "$@"'))
         is_told = "Graphviz" in found[1] and "There is no picture" in (room / "result" / "index.html").read_text()
         self.expect("no Graphviz", (found[2], is_told, (room / "result" / "picture.svg").exists()), (0, True, False))
@@ -126,7 +135,7 @@ class RefusedTest(publishing.PublishTest):
         twice = publishing.plain_room(self.scratch / "twice", poll=poll, ballots=f"{roll[0]} 1,2,3\n{roll[1]} 2,1,3\n{roll[0]} 2,1,3\n")
         _, faults, status = publishing.publish(twice, *publishing.FILES, "result")
         self.expect(f"an alias twice: {faults}", ("a line of this secret vote does not count, or counts more than once" in faults, status), (True, 9))
-        room = publishing.plain_room(self.scratch / "aliases", poll=poll, ballots=f"{roll[0]} 1,2,3\n{roll[1]} 2,1,3\n{roll[2]} 1,2,3\n")
+        room = publishing.plain_room(self.scratch / "aliases", poll=poll, ballots=f"{roll[1]} 2,1,3\n{roll[0]} 1,2,3\n{roll[2]} 1,2,3\n")
         self.expect("a secret vote with aliases", publishing.publish(room, *publishing.FILES, "result")[1:], ("", 0))
         sections = page_parts.sections_of((room / "result" / "index.html").read_text())
         self.expect("nobody is listed as one who voted", "Who-voted" in sections, False)
