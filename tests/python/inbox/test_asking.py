@@ -17,7 +17,7 @@ from debvote_tools.inbox import asking
 from debvote_tools.inbox.asking import Asked, ask
 from debvote_tools.inbox.letter import parse
 from debvote_tools.inbox.mailbox import are_letters, letters_of_file
-from debvote_tools.inbox.records import words_of
+from debvote_tools.inbox.records import box_words
 from debvote_tools.poll.box import list_digest, script_of
 from debvote_tools.text import times
 
@@ -333,7 +333,7 @@ class Said(unittest.TestCase):
             ({"gone": 1}, 2, []),
             ({"others": 1}, 0, ["1 record of no elector, or more than 20 of one"]),
         ):
-            first, *said = words_of({"records": 3, "behind": 0, "gone": 0, "others": 0} | box, {"gone": gone})
+            first, *said = box_words({"records": 3, "behind": 0, "gone": 0, "others": 0} | box, {"gone": gone})
             self.assertEqual(first, "The box has 3 records.")
             self.assertEqual(len(said), len(notes), (box, said))
             for note, line in zip(notes, said):
