@@ -46,7 +46,8 @@ SETTINGS = "foreign_keys=ON recursive_triggers=ON journal_mode=DELETE synchronou
 # what became of each envelope, which every connection says for itself
 VIEWS = pathlib.Path(__file__).with_name("views.sql")
 
-# the views of the book that hold lines, as they are for one question: `views.sql` reads them then
+# the views of the book that hold lines, as they are for one question: `views.sql` reads them then. Their
+# `answer` is debvote's, why it refuses the line; `ballot` has refused lines, too
 ONE_QUESTION = """CREATE TEMP VIEW {view} AS SELECT * FROM (
   SELECT envelope, act, elector, part_of(line, '{label}') AS line, source, letter, place, time, late, answer, struck FROM main.{view}
 ) WHERE line IS NOT NULL"""

@@ -181,7 +181,8 @@ def by_time(ballot: Ballot | Envelope) -> tuple[datetime.datetime, int]:
     that is not known, has that of the act that entered it.
 
     Which ballot counts the envelopes alone decide (`counting` in `views.sql`). So what is entered may
-    not replace a later ballot unless the secretary says so: all who look for one ask `later`.
+    not replace a later ballot unless the secretary says so: all who look for one ask `later`. Of lines
+    that came in one file, the one above is the older one.
     """
     return ballot.time, ballot.number
 
@@ -199,7 +200,7 @@ def later(
 # ---- envelopes by conditions
 # conditions on envelopes, with the acts that no `undo` took back
 TO_COUNT, LATE = "NOT late AND struck IS NULL", "late AND struck IS NULL"
-A_BALLOT = "struck IS NULL AND answer IS NULL"
+VALID = "struck IS NULL AND answer IS NULL"
 NOT_UNDONE = "act NOT IN (SELECT json_extract(detail, '$.act') FROM act WHERE name = 'undo')"
 
 # the late envelopes that a `reopen` entered anew as in time, and those that none did

@@ -125,7 +125,7 @@ class Addition(Entry):
     new: NewLines
 
     def is_same_now(self) -> bool:
-        """Else desks that go on casting could keep it from its act: it takes a while to plan."""
+        """Else commands `desk` that go on could keep it from its act: it takes a while to plan."""
         return new_lines(self.vote, self.files) == self.new
 
     def write(self, act: NewAct) -> None:

@@ -78,8 +78,8 @@ def status(election: Election, arguments: StatusArguments) -> None:
 
 
 def state_of(election: Election, history: History) -> tuple[State, list[Refused]]:
-    """The numbers of an election, and the lines that debvote refuses, but for those of electors who
-    have a ballot; with codes on the roll all.
+    """The numbers of an election, and the lines that debvote refuses, but for those of electors whose
+    ballots answer the same questions; with codes on the roll all.
     """
     book, has_codes = election.book, history.has_codes_on_roll
     roll = [elector.name for elector in queries.electors(book)]

@@ -75,7 +75,7 @@ def is_unasked(history: History, since: datetime.datetime | None) -> bool:
     return not last or last[-1] <= since
 
 
-def is_unasked_since_close(history: History) -> bool:
+def is_unasked_since_end(history: History) -> bool:
     """Whether the box was not asked since the end, or since the first close if that was early."""
     if not history.closes:
         return False
@@ -97,7 +97,7 @@ def unasked_fault(
         # what comes after the first close is late
         "close": not closes and is_unasked(history, history.until),
         "early": not closes and is_unasked(history, recently),
-        "closed": history.was_closed_early and is_unasked_since_close(history),
+        "closed": history.was_closed_early and is_unasked_since_end(history),
     }
     if not is_missing[what]:
         return None

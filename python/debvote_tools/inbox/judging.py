@@ -62,15 +62,15 @@ def judged(
 # ---- what they are judged by
 def read_kept(vote: Vote, kept: Sequence[KeptLetter]) -> list[ReadLetter]:
     """What the book keeps of letters. A signature is checked anew if the letter came before the
-    present keyring, or gpgv was too slow: of a letter that waits; and, if a signed one waits, of
+    present keyring, or gpgv was too slow: of an unsettled letter; and, if such a one is signed, of
     those that were decided without a good signature, since only then a copy is known as one.
     """
     found = [from_json(letter.read_json) for letter in kept]
-    waiting = [index for index, one in enumerate(kept) if one.is_unsettled]
-    check_again(vote, kept, found, waiting)
-    if any(found[index].signature for index in waiting):
+    unsettled = [index for index, one in enumerate(kept) if one.is_unsettled]
+    check_again(vote, kept, found, unsettled)
+    if any(found[index].signature for index in unsettled):
         unsigned = {index for index, letter in enumerate(found) if letter.signature is None}
-        check_again(vote, kept, found, sorted(unsigned.difference(waiting)))
+        check_again(vote, kept, found, sorted(unsigned.difference(unsettled)))
     return found
 
 
@@ -89,7 +89,7 @@ def check_again(
 
 
 def ballots_in(
-    vote: Vote, names: Collection[str], condition: str = queries.A_BALLOT
+    vote: Vote, names: Collection[str], condition: str = queries.VALID
 ) -> BallotsByElector:
     """The ballots of some electors that were entered and are not struck, also late ones, unless a
     condition says otherwise.
@@ -202,7 +202,7 @@ def original_of(group: Sequence[LetterCase]) -> LetterCase | None:
     """
     may_go_in = (one for one in group if one.decision is None and one.first_broken_rule is None)
     original = next(may_go_in, None)
-    is_settled = original and any(one.decision is not None and one.hides for one in group)
+    is_settled = original and any(one.decision is not None and one.can_hide_all for one in group)
     return None if is_settled else original
 
 
@@ -278,19 +278,19 @@ def judge_copies(
     others = {case for case in group if case.decision is None and case not in originals}
     if not others:
         return
-    hiding = [case for case in group if case.hides]
+    hiding = [case for case in group if case.can_hide_all]
     # the one that went in, else the one that an act decided of, else the one that arrived first
     hiding.sort(key=lambda case: (case.decision not in WENT_IN, case.decision is None))
-    original = next(iter(hiding), None)
-    is_done = original is not None and (
-        original.decision is not None or original.outcome is not LetterOutcome.WAITS
+    hider = next(iter(hiding), None)
+    is_done = hider is not None and (
+        hider.decision is not None or hider.outcome is not LetterOutcome.WAITS
     )
-    waiting: dict[tuple[ReasonWithValues | None, Body, bool], LetterCase] = {}
+    first_alike: dict[tuple[ReasonWithValues | None, Body, bool], LetterCase] = {}
     for case in sorted(group, key=lambda case: case.decision is None):
         same = case.first_broken_rule, case.read.body, case.arrived_in_time
-        before = waiting.setdefault(same, case)
-        if original is not None and (is_done or case.first_broken_rule is None):
-            before = original
+        before = first_alike.setdefault(same, case)
+        if hider is not None and (is_done or case.first_broken_rule is None):
+            before = hider
         if case in others and before is not case:
             case.outcome, case.reason = outcome_of_copy(case, before, by_elector)
 

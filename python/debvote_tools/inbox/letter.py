@@ -356,7 +356,7 @@ def is_quoted(line: str) -> bool:
     return line.lstrip().startswith(">")
 
 
-def without_marks(line: str) -> str:
+def without_quote_signs(line: str) -> str:
     """A line without the marks of a quotation before it."""
     return line.lstrip("> \t\u00a0")
 

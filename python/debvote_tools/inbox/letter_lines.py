@@ -20,7 +20,7 @@ from typing import Any
 
 from debvote_tools.book import queries
 from debvote_tools.book.election import KEYRING
-from debvote_tools.inbox.letter import ParsedLetter, is_quoted, parse, without_marks
+from debvote_tools.inbox.letter import ParsedLetter, is_quoted, parse, without_quote_signs
 from debvote_tools.inbox.lines import (
     DASHES,
     ONE_RANK,
@@ -149,7 +149,7 @@ def with_lines(letters: Sequence[ParsedLetter], names: Names, ask: Ask) -> list[
     found, stand_in = [find_lines(letter, names) for letter in letters], min(names.roll)
     lines = (line for letter in found for line in letter.read_lines)
     texts = dict.fromkeys(text for line in lines for text in texts_of(line, stand_in) if text)
-    answers = answers_to(list(texts), names.roll, ask) | {b"": None}
+    answers = verdicts_on(list(texts), names.roll, ask) | {b"": None}
 
     def answered(line: ReadLine) -> ReadLine:
         own, near_text = texts_of(line, stand_in)
@@ -256,7 +256,7 @@ def read_answers(letter: ParsedLetter, names: Names) -> tuple[list[ReadLine], tu
     rest = enumerate(letter.body.other_lines, start=len(body) + 1)
     others = [(number, line) for number, line in rest if not is_quoted(line)]
     own = [(number, "-" if is_quoted(line) else line) for number, line in body]
-    bare = [(number, without_marks(line)) for number, line in body if is_quoted(line)]
+    bare = [(number, without_quote_signs(line)) for number, line in body if is_quoted(line)]
     apart = [one for line in others for one in ballots_written([line], names)]
     quoted = [one for line in bare for one in ballots_written([line], names)]
     found = [(one, read_written(one, names)) for one in (*ballots_written(own, names), *apart)]
@@ -295,7 +295,9 @@ def read_written(one: Written, names: Names) -> ReadLine | None:
 
 def read_filled(lines: Sequence[tuple[int, str]], names: Names) -> list[ReadLine]:
     """The ballot of our letter that was filled in where it is quoted, if nothing in it is in doubt."""
-    bare = [(number, without_marks(line) if is_quoted(line) else "-") for number, line in lines]
+    bare = [
+        (number, without_quote_signs(line) if is_quoted(line) else "-") for number, line in lines
+    ]
     found = ballots_written(bare, names)
     filled = {number for one in found for number in one.numbers}
     in_doubt = any(begins_with_answer(line, names) for one, line in bare if one not in filled)
@@ -307,7 +309,7 @@ def read_filled(lines: Sequence[tuple[int, str]], names: Names) -> list[ReadLine
 
 def read_quoted(number: int, line: str, names: Names) -> ReadLine | None:
     """The line of our letter, as `ada _,_,_,_`, that was filled in where it is quoted."""
-    bare = without_marks(filled_in(line).strip())
+    bare = without_quote_signs(filled_in(line).strip())
     if re.split(r"[\s:]", bare, maxsplit=1)[0].lower() not in names.roll:
         return None
     found = read_text(number, repaired_text(bare, names), Reason.FILLED_IN, names)
@@ -365,7 +367,7 @@ def texts_of(line: ReadLine, stand_in: str) -> tuple[bytes, bytes]:
     return own.encode(), line.near.ballot.encode() if line.near else b""
 
 
-def answers_to(texts: Sequence[bytes], roll: Collection[str], ask: Ask) -> dict[bytes, str | None]:
+def verdicts_on(texts: Sequence[bytes], roll: Collection[str], ask: Ask) -> dict[bytes, str | None]:
     """debvote's answer to each text. The names that are not on the roll it gets in some parts, each
     with as many as it looks for similar names of; the last part has all that are left.
     """

@@ -219,12 +219,12 @@ def quoted_of_ours(letter: LetterCase) -> set[int]:
     """
     lines, circumstances = letter.read.body.lines, letter.circumstances
     answered = letter.read.in_reply_to
-    is_answer = answered and any(answered in ids for ids in circumstances.our_ids.values())
+    is_reply = answered and any(answered in ids for ids in circumstances.our_ids.values())
     shown = indices_of_ballots(letter, letter.near)
     return {
         index
         for quotation in quotations(lines)
-        if is_answer or any(circumstances.mark in lines[index] for index in quotation)
+        if is_reply or any(circumstances.mark in lines[index] for index in quotation)
         for index in quotation
         if index not in shown
     }

@@ -17,9 +17,9 @@ from debvote_tools.cli.faults import Fault
 
 @dataclasses.dataclass(frozen=True)
 class Pending:
-    """The letters that are pending: the numbers of those that arrived in time, of those of them that
-    stop, and of those that the last close has not told, among which those are that stop; and how many
-    others are. Those of other votes are not among them: it has their marks.
+    """The letters that are pending: the numbers of those that arrived in time, or at no known time, of
+    those of them that stop, and of those that the last close has not told, among which those are that
+    stop; and how many others are. Those of other votes are not among them: it has their marks.
     """
 
     arrived_in_time: Sequence[int] = ()

@@ -19,7 +19,7 @@ from typing import NamedTuple
 from debvote_tools.book import queries
 from debvote_tools.book.queries import Elector
 from debvote_tools.grouping import grouped
-from debvote_tools.inbox.letter import END, is_quoted, is_server, without_marks
+from debvote_tools.inbox.letter import END, is_quoted, is_server, without_quote_signs
 from debvote_tools.inbox.letter_lines import MAX_BALLOTS, MAX_NEAR, Near, ReadLetter, ReadLine
 from debvote_tools.inbox.mime import address_key
 from debvote_tools.inbox.reasons import Reason, ReasonWithValues
@@ -182,7 +182,7 @@ class LetterCase:
     outcome = LetterOutcome.WAITS
     reason: ReasonWithValues | None = None
     has_voted_since = False
-    # the labels of the questions to which its elector has a later answer, if not to all
+    # the labels of the questions to which its elector has a later answer
     answered_since: Collection[str] = ()
     # its number and its source in the book; 0 if it is only looked at
     number = source = 0
@@ -216,7 +216,7 @@ class LetterCase:
         self.ballot = next((line for line in valid if max(line.numbers) <= end), None)
         self.indices = tuple(number - 1 for number in self.ballot.numbers) if self.ballot else ()
         self.elector = "" if self.ballot is None else self.ballot.elector
-        # all lines that read as ballots, first that one. Each can be entered by its number
+        # all lines that read as valid ballots, first that one. Each can be entered by its number
         self.ballots = tuple(dict.fromkeys([*filter(None, [self.ballot]), *valid, *others]))
 
     @property
@@ -231,7 +231,9 @@ class LetterCase:
         What is quoted is none, since the elector may have written it before, but in our letter.
         """
         shown, ours = self.read.shown_lines, self.circumstances.no_answers
-        bare = {number: without_marks(shown[number - 1]).strip() for number in self.read.strays}
+        bare = {
+            number: without_quote_signs(shown[number - 1]).strip() for number in self.read.strays
+        }
         others = {number for number, line in bare.items() if line not in ours}
         quoted = {number for number in others if is_quoted(shown[number - 1])}
         kept = others if quoted and self.fills_in_our_letter else others - quoted
@@ -240,7 +242,9 @@ class LetterCase:
     @property
     def fills_in_our_letter(self) -> bool:
         """Whether it quotes our letter, and lacks a line of the form of a ballot there."""
-        quoted = {without_marks(one).strip() for one in self.read.body.lines if is_quoted(one)}
+        quoted = {
+            without_quote_signs(one).strip() for one in self.read.body.lines if is_quoted(one)
+        }
         gaps = {line for line in self.circumstances.no_answers if GAP in line}
         form = filter(UNFILLED.fullmatch, gaps)
         return not quoted.isdisjoint(gaps) and not quoted.issuperset(form)
@@ -252,8 +256,8 @@ class LetterCase:
         if line.offered_for is not Reason.WORD_ALONE or line.has_labels:
             return True
         is_first = not any(map(str.strip, self.read.shown_lines[: line.number - 1]))
-        is_answer = self.read.in_reply_to in self.circumstances.asking_ids
-        return is_first and (is_answer or is_subject_of_page(self))
+        is_reply = self.read.in_reply_to in self.circumstances.asking_ids
+        return is_first and (is_reply or is_subject_of_page(self))
 
     def elector_of(self, line: ReadLine) -> str | None:
         """Whose ballot a line is. If only one elector has the sender's address, they may have written
@@ -335,9 +339,9 @@ class LetterCase:
         return next(filter(None, (rule(self) for rule in RULES)), None)
 
     @property
-    def hides(self) -> bool:
-        """Whether it can hide copies: it went in once, or breaks no rule. Which of them it hides,
-        `judge_copies` says.
+    def can_hide_all(self) -> bool:
+        """Whether it can hide all copies, also those that differ from it: it went in once, or breaks no
+        rule. Which of them it hides, `judge_copies` says.
         """
         return self.decision in WENT_IN or self.first_broken_rule is None
 
@@ -495,8 +499,8 @@ def why_another_answer(case: LetterCase) -> ReasonWithValues | None:
     """No other line that is not quoted may be an answer in a word, or one of several answers."""
     now = case.circumstances
     for number, line in enumerate(case.read.shown_lines if case.ballot else (), start=1):
-        is_own = is_quoted(line) or line.strip() in now.no_answers or number - 1 in case.indices
-        if number in case.other_answers or (not is_own and may_answer(line, now.words)):
+        is_none = is_quoted(line) or line.strip() in now.no_answers or number - 1 in case.indices
+        if number in case.other_answers or (not is_none and may_answer(line, now.words)):
             return Reason.ANOTHER_ANSWER(number=number)
     return None
 
@@ -582,14 +586,14 @@ def why_not_first_in(case: LetterCase, joined: Collection[int]) -> ReasonWithVal
     """Why the ballot is not the first line, with these lines joined to others; None if it is."""
     letter, lines, own = case.read, case.read.body.lines, case.indices
     ours = case.circumstances.our_ids.get(case.elector, ())
-    is_answer = case.has_own_mark and letter.in_reply_to in ours
+    is_reply = case.has_own_mark and letter.in_reply_to in ours
     is_by_page = case.has_own_mark and letter.is_new and is_subject_of_page(case)
     paragraphs = paragraphs_of(case, joined)
     places = [at for at, one in enumerate(paragraphs) if not {*one}.isdisjoint(own)]
     place, last = places[0], places[-1]
     quoted = [any(is_quoted(lines[index]) for index in one) for one in paragraphs]
     first = quoted.index(True) if True in quoted[:place] else -1
-    if any(quoted[place : last + 1]) or (first >= 0 and not is_answer):
+    if any(quoted[place : last + 1]) or (first >= 0 and not is_reply):
         return Reason.QUOTED()
     if first >= 0 and not has_only_a_head(lines, paragraphs[: first + 1]):
         return Reason.MUCH_QUOTED()
@@ -597,11 +601,11 @@ def why_not_first_in(case: LetterCase, joined: Collection[int]) -> ReasonWithVal
     others = [index for one in between for index in paragraphs[one] if index not in own]
     # in an answer, what is beside the ballot below it is free, unless it may be the head of a
     # quotation
-    if is_answer and True not in quoted[last + 1 : last + 2]:
+    if is_reply and True not in quoted[last + 1 : last + 2]:
         others = [index for index in others if index < own[0]]
     for index in others:
         line = lines[index] if index in joined else lines[index].rstrip()
-        if (is_answer or is_by_page) and index < own[0] and line.endswith(COLONS):
+        if (is_reply or is_by_page) and index < own[0] and line.endswith(COLONS):
             line = line[:-1]
         if not is_greeting(line) or case.circumstances.words.keys() & words_in(line):
             return Reason.NOT_FIRST(number=index + 1)

@@ -187,8 +187,8 @@ class Vote:
 
     # ---- what debvote says
     def checked_lines(self, lines: Sequence[Line]) -> list[CheckedLine]:
-        """Lines with what debvote says of them, none of them empty. It is started at most once, unless
-        there are more than it takes.
+        """Lines with what debvote says of them, none of them empty. It is started at most once for each
+        question, unless there are more lines than it takes.
 
         A name that is that of one elector alone, on the roll or really, counts as the one on the
         roll. If the repaired line is refused, the line goes in as it came, but without a byte-order
@@ -209,16 +209,18 @@ class Vote:
         refused: Mapping[bytes, Mapping[str, Finding]],
     ) -> Iterator[CheckedLine]:
         """A line, or of several answers the valid ones, and those that are refused for one reason. One
-        that has not their form, or whose elector is not known, is never entered.
+        that has not their form, or has the name of several electors, is never entered.
         """
         why = f"it has the name of {ENGLISH.joined(list(unclear))}" if unclear else ""
         its = {"": NO_FORM} if why and self.names.labels else refused[meant]
         if not its:
             yield CheckedLine(line, meant, meant)
-        elif as_meant := its.get(""):
-            came = refused[line.unframed].get("", as_meant)
-            other = None if (came.word, came.hint) == (as_meant.word, as_meant.hint) else as_meant
-            yield CheckedLine(line, meant, line.unframed, came, other, self.other_names(came), why)
+        elif of_meant := its.get(""):
+            found = refused[line.unframed].get("", of_meant)
+            other = None if (found.word, found.hint) == (of_meant.word, of_meant.hint) else of_meant
+            yield CheckedLine(
+                line, meant, line.unframed, found, other, self.other_names(found), why
+            )
         else:
             name, _, answers = meant.decode("ascii").partition(" ")
             by_finding = grouped(
@@ -342,7 +344,8 @@ class Vote:
         return f"A valid line in this poll: {self.right_line} ({name}, a space, and {ranks})"
 
 
-# what is said of an answer that is the first one, or another one, of its elector to its question
+# what is said of an answer that is the first one, or another one, of its elector to its question. Here
+# it has replaced the earlier one; in the view `fate` it is the earlier one that is replaced
 COUNTED, REPLACED = "counted", "replaced"
 # the same of a ballot of which the answers differ
 IN_PART = f"{REPLACED} in part"

@@ -171,8 +171,8 @@ class Facts:
     # and is in time since the vote was not closed, the labels of the questions that it answers
     acts: tuple[Act, ...] | None = None
     labels_after_end: Sequence[Collection[str]] = ()
-    # the lines that were entered after the close: how many came late, and unless the vote is secret the
-    # file of all
+    # the lines that were entered after the close: how many came late, without those that a reopen entered
+    # anew; and unless the vote is secret the file of all, with these
     late_number: int = 0
     late: bytes | None = None
     # the letter of the last close

@@ -15,7 +15,7 @@ from debvote_tools.cli.console import is_terminal, is_yes, tell_aside
 from debvote_tools.cli.faults import Fault
 from debvote_tools.debvote import casting_words
 from debvote_tools.files import sha256_of
-from debvote_tools.inbox.asked import is_unasked_since_close
+from debvote_tools.inbox.asked import is_unasked_since_end
 from debvote_tools.inbox.lines import name_in
 from debvote_tools.inbox.pending import Pending
 from debvote_tools.poll.call import zone_of
@@ -184,7 +184,7 @@ def doubts_of(
         closed = history.closes[0].time.astimezone(until.tzinfo)
         # `close --early` has agreed to it
         yield Doubt("closed early", {"closed": closed, "until": until}, stops=False)
-    if is_unasked_since_close(history):
+    if is_unasked_since_end(history):
         # as in `unasked_fault`: at the end `close --force` has agreed to it
         yield Doubt("box not asked", stops=history.was_closed_early)
     names = dict(zip(poll.plain_names, poll.names))
