@@ -76,7 +76,8 @@ fn crowd(alloc: Global) -> Result<(String, Option<PollFault>), AllocError> {
 fn a_roll_with_one_name_too_many(rt: HostRuntime) -> Result<(), Fail> {
     let (findings, fault) = crowd(rt.alloc())?;
     assert_same(&rt, fault, Some(PollFault::RollSize));
-    let most = "poll: size of roll: 10001 found; a roll has 1 to 10000 names\n  6 | roll = [\"v0\",\"v1\",\"v2\",\"v3\",\"v4\",\"v5\",\"v6\",\"v7\",\"v8\",\"v9\",\"v\n    | ^^^^^^^^^^^^^^^^^^^^^^^^^^^^^^^^^^^^^^^^^^^^^^^^^^^^^^^^^^^^\n";
+    let most =
+        "poll: size of roll: 10001 found; a roll has 1 to 10000 names\n  6 | roll = [\"v0\",\"v1\",\"v2\",\"v3\",\"v4\",\"v5\",\"v6\",\"v7\",\"v8\",\"v9\",\"v\n    | ^^^^^^^^^^^^^^^^^^^^^^^^^^^^^^^^^^^^^^^^^^^^^^^^^^^^^^^^^^^^\n";
     assert_same(&rt, findings.as_str(), most);
     Ok(())
 }
