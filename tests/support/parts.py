@@ -26,6 +26,11 @@ WIDTH = 300
 COUNT_OF_TRY = re.compile(r"test result: \w+\. (\d+) passed; (\d+) failed;.*")
 
 
+def kit() -> pathlib.Path:
+    """The folder of the kit."""
+    return pathlib.Path(subprocess.run(["rt", "doc"], capture_output=True, text=True, check=True).stdout.strip()).parent
+
+
 def environment_of_try() -> dict[str, str]:
     """The environment in which tests run `rt try`: without hints on names, and with half of the processor."""
     return {**os.environ, "PATH": os.pathsep.join([str(ROOT / "tests" / "support" / "without-hint"), os.environ["PATH"]])}
