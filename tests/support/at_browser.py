@@ -1,6 +1,7 @@
 """A page in chromium that a test uses as a reader does, by real keys in a window of a given size, through chromium's own protocol on a pipe."""
 
 import base64
+import contextlib
 import itertools
 import json
 import os
@@ -65,6 +66,10 @@ LONE_NUMBERS = """[...document.querySelectorAll("i + bdi")].filter((name) => nam
 }).map((name) => name.previousElementSibling.textContent)"""
 
 
+class Gone(RuntimeError):
+    """The page was left before it answered."""
+
+
 class Window:
     """A window with one page. It is closed with `with`."""
 
@@ -118,7 +123,8 @@ class Window:
                 self.faults.append(str(answer["params"]["exceptionDetails"]))
             if answer.get("id") == number:
                 if "error" in answer:
-                    raise RuntimeError(f"{method}: {answer['error']}")
+                    kind = Gone if "navigated" in answer["error"]["message"] else RuntimeError
+                    raise kind(f"{method}: {answer['error']}")
                 return dict(answer["result"])
 
     def message(self) -> dict[str, Any]:
@@ -146,7 +152,12 @@ class Window:
         """Waits until a script returns true, for two minutes at most."""
         end = "performance.now() > end ? done(false) : setTimeout(look, 10)"
         look = f"const end = performance.now() + 120000; const look = () => ({script}) ? done(true) : {end}; look();"
-        if not self.ask(f"new Promise((done) => {{ {look} }})"):
+        is_true = None
+        while is_true is None:
+            # the page that comes is asked after one that was left
+            with contextlib.suppress(Gone):
+                is_true = self.ask(f"new Promise((done) => {{ {look} }})")
+        if not is_true:
             raise AssertionError(f"it does not become true: {script}")
 
     def press(self, key: str, shift: bool = False, control: bool = False) -> None:

@@ -341,7 +341,7 @@ class Members(RealBoxTest):
         is_there = "document.readyState === 'complete' && document.getElementById('Vote')"
         self.window.tell("Page.navigate", url=f"{self.host.at}else.html")
         self.window.until(f"!({is_there})")
-        self.window.ask("history.back()")
+        self.window.ask("setTimeout(() => history.back())")
         self.window.until(is_there)
 
     def test_in_two_windows(self) -> None:
