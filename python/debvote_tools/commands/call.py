@@ -357,6 +357,9 @@ def call_in_words(election: Election, data: CallData) -> Iterator[str]:
     if data.has_box:
         ask = election.command("add", "--box")
         put = f"upload the files of {folder} to {data.at}, {SCRIPT} too, then run {ask}, which tries whether it works"
+        if election.history().askings:
+            # what lies there is fetched before somebody deletes it
+            put = f"run {ask}, then {put}"
         yield f"To ask for the ballots of the page each hour, by cron: {cron_line(election)}"
     yield f"{sealed} and texts/ of this folder are no longer read; roll still reads addresses and keys."
     if election.history().closes:

@@ -515,8 +515,10 @@ class Asked(boxes.BoxElectionTest):
         )
         self.done("letters", "call")
         # nor is one at another address
-        self.done("call", "--at", self.host.at.replace("127.0.0.1", "localhost"))
+        said = self.done("call", "--at", self.host.at.replace("127.0.0.1", "localhost")).output
         self.assert_fault(self.election("letters", "call"), 9, "nobody has seen yet")
+        # what lies there is fetched first
+        self.assertIn("\nNext: run debvote-election add --box, then upload the files of call to", said)
 
     def test_status_says_when_it_was_asked_last(self) -> None:
         self.call()
@@ -534,6 +536,9 @@ class Asked(boxes.BoxElectionTest):
     def test_reminders_and_another_page(self) -> None:
         self.begun()
         self.done("letters", "reminders")
+        # an asking is fresh for ten minutes
+        self.off(540)
+        self.done("letters", "reminders", "--yes")
         self.off(660)
         fault = "reminders: who voted by a click in the last ten minutes would be told that they have not; nothing was written: run debvote-election add --box"
         self.assert_fault(self.election("letters", "reminders", "--yes"), 9, fault)
