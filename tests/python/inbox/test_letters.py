@@ -404,6 +404,9 @@ class Held(LettersTest):
         named = "attachments: IMG_1.jpeg, Stimmzettel Ada.pdf, Grüße.pdf, application/octet-stream\n"
         self.assertIn(f"        {named}", self.told("held"))
         self.assertIn(named, self.told("held", 8))
+        # a line that was filled in where our letter is quoted is shown
+        self.add(letter("gus", f"Here:\n\n> the mark [{self.mark}]\n> gus {RANKS}\n> until Friday"))
+        self.assertIn(f"\n   4  > gus {RANKS}\n      .. 1 line of a letter of ours", self.told("held", 9))
 
     def test_set_aside_voted_since_and_at_the_close(self) -> None:
         self.assertIn("No letter waits.", self.told("held", "1", "2", "--set-aside"))

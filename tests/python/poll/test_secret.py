@@ -16,6 +16,7 @@ import unittest.mock
 from collections.abc import Sequence
 
 from debvote_tools.book.queries import Elector
+from debvote_tools.inbox.letter_lines import with_lines
 from debvote_tools.inbox.lines import has_code
 from debvote_tools.poll.call import CallData
 from debvote_tools.poll.sealed import read_plain
@@ -25,6 +26,7 @@ from debvote_tools.text.language import LANGUAGES, language_of
 from tests.support import calls
 from tests.support.at_browser import NEEDS_BROWSER, Window
 from tests.support.calls import ROLL, alone
+from tests.support.letters import alternatives, names, parsed
 
 CODES = {name: f"{number:x}" * 32 for number, name in enumerate(ROLL, start=10)}
 ALIASES = {name: alias_of(code, name) for name, code in CODES.items()}
@@ -83,6 +85,10 @@ class Codes(unittest.TestCase):
                 self.assertTrue(has_code(text), text)
         for other in ("", "ada", "a" * 31, "a" * 33, "g" * 32, "\u0661" * 32, "a  " * 32):
             self.assertFalse(has_code(other), other)
+        # in other parts of a letter, too
+        data = alternatives("ada", "ada 1,2,4,3", "<p>ada 1,2,4,3<p>my code is " + "0123456789abcdef" * 2)
+        [read] = with_lines([parsed(data)], names(), lambda lines: dict.fromkeys(lines))
+        self.assertEqual([has_code(read.shown_lines[number - 1]) for number in read.code_lines], [True])
 
 
 class Published(unittest.TestCase):
