@@ -124,12 +124,14 @@ class Asked(LettersTest):
         self.set_clock("2026-12-01T16:00:00+00:00")
         self.add_lines("ada 1,2,3,4")
         self.set_clock("2026-12-01T17:00:00+00:00")
-        self.add(letter("cleo", "cleo 1,2,3,4"))
+        # the mailbox brought no ballot
+        self.add(letter("cleo", "I shall be there"))
+        self.done("held", "1", "--set-aside")
         self.set_clock("2026-12-02T18:30:00+00:00")
         self.done("desk", given="ben 1,2,3,4\nida 1,2,3,4\n")
         self.done("desk", given="fay 1,2,3,4\n")
         self.done("undo")
-        self.done("strike", "4", "--because", "not hers")
+        self.done("strike", "3", "--because", "not hers")
         self.done("call", "--until", "2026-12-02 20:00", "--zone", "UTC")
         # the second of the end is not early
         self.set_clock("2026-12-02T20:00:00+00:00")
@@ -138,7 +140,7 @@ class Asked(LettersTest):
         asked = "Is that all? It is if the mailbox was added just now, all paper is entered, and no desk is open."
         for answer in ("n\n", "\x04"):
             terminal = Terminal(self, "close")
-            self.assertEqual(terminal.until("[y/n] "), f"Until now 3 lines came in time. {last}\n{asked} [y/n] ")
+            self.assertEqual(terminal.until("[y/n] "), f"Until now 2 lines came in time. {last}\n{asked} [y/n] ")
             terminal.type(answer)
             self.assertIn("you did not say that this is all; nothing was changed", terminal.end()[0])
         self.assertEqual(self.numbers()["stage"], "called")
@@ -148,8 +150,8 @@ class Asked(LettersTest):
         terminal.type("y\n")
         output, status = terminal.end()
         # it is asked once, and the ballot that came meanwhile is closed, too
-        self.assertRegex(output, r"^[^[]*Closed: 4 lines came in time[^[]*$")
-        self.assertEqual((status, self.numbers()["lines"], self.numbers()["stage"]), (0, 4, "closed"))
+        self.assertRegex(output, r"^[^[]*Closed: 3 lines came in time[^[]*$")
+        self.assertEqual((status, self.numbers()["lines"], self.numbers()["stage"]), (0, 3, "closed"))
 
     def test_another_close_meanwhile(self) -> None:
         self.add_lines("ada 1,2,3,4")
