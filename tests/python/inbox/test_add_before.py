@@ -35,21 +35,26 @@ class Before(CalledTest):
         self.assert_ignored(1, 2)
         self.assertEqual(self.lines()[2:], [f"ada {OTHER_RANKS}", f"ada {RANKS}"])
         self.assert_ignored(3, 0)
+        # of three equal lines one file had two
+        self.write("more", f"fay {RANKS}\nfay {RANKS}\n")
+        self.told("add", "more")
+        self.write("more", f"fay {RANKS}\n" * 3)
+        self.assert_ignored(2, 1)
         # what came at a desk came in no file
         self.told("desk", given=f"cleo {RANKS}\n")
-        self.assertIn("6 replaced  cleo: ", self.told("add", given=f"cleo {RANKS}\n"))
+        self.assertIn("9 replaced  cleo: ", self.told("add", given=f"cleo {RANKS}\n"))
         # nor did the ballot of a letter: the same line in a file is her last word
         with self.book.act("add") as act:
             source = queries.keep_source(act, "inbox", b"letter")
             letter = act.insert("letter", source=source, identity="1", known="{}")
             queries.add_envelopes(act, [queries.NewEnvelope(f"eve {RANKS}".encode(), "", source, letter)], [self.elector("eve")], is_late=False)
         self.told("desk", given=f"eve {OTHER_RANKS}\n")
-        self.assertIn("9 replaced  eve: ", self.told("add", given=f"eve {RANKS}\n"))
+        self.assertIn("12 replaced  eve: ", self.told("add", given=f"eve {RANKS}\n"))
         # refused lines are known by their text
         self.told("add", given="Zoe 1,2,4,3\n")
         self.write("more", "Zoe 1,2,4,3\nzoe 1,2,4,3\nada 1,2,4,3\nben 1,2,4,3\n")
         self.assert_ignored(3, 1)
-        self.assertEqual(self.lines()[9:], ["Zoe 1,2,4,3", "zoe 1,2,4,3"])
+        self.assertEqual(self.lines()[12:], ["Zoe 1,2,4,3", "zoe 1,2,4,3"])
         # late ones, too
         self.act("close", {"lines": 11, "checksum": "", "early": False})
         self.write("more", f"dan {RANKS}\n")

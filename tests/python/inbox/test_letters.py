@@ -396,12 +396,12 @@ class Held(LettersTest):
         files = (
             'Content-Type: image/jpeg; name="IMG_1.jpeg"\nContent-Disposition: inline; filename="IMG_1.jpeg"',
             "Content-Type: application/pdf\nContent-Disposition: attachment;\n filename*=utf-8''Stimmzettel%20Ada.pdf",
-            "Content-Type: application/pdf; name==?utf-8?q?Gr=C3=BC=C3=9Fe.pdf?=",
+            "Content-Type: application/pdf; name==?utf-8?q?Gr=C3=BC=C3=9F=1B[2Je.pdf?=",
             "Content-Type: application/octet-stream",
         )
         parts = "".join(f"--b\n{head}\n\nx\n" for head in ("Content-Type: text/plain", *files))
         self.add(letters.letter("hal", f"{parts}--b--\n", kind="multipart/mixed; boundary=b"))
-        named = "attachments: IMG_1.jpeg, Stimmzettel Ada.pdf, Grüße.pdf, application/octet-stream\n"
+        named = "attachments: IMG_1.jpeg, Stimmzettel Ada.pdf, Grüß\\u001B[2Je.pdf, application/octet-stream\n"
         self.assertIn(f"        {named}", self.told("held"))
         self.assertIn(named, self.told("held", 8))
         # a line that was filled in where our letter is quoted is shown
