@@ -91,9 +91,10 @@ def run(election: Election, arguments: Arguments) -> int:
     words = given if again is None else PublishedWords(**again.detail["words"])
     pending = pending_letters(election, history) if history.is_closed else Pending()
     facts = without_old_force(publication.facts_of(election, words, pending), again)
-    agreed = agreed_in_secret(history, sealed.public, facts.values(), is_agreed=arguments.yes)
     with folder.beside(target) as new:
         filled = folder.filled(new.folder, facts, election.program_folder)
+        # nobody is asked about a result that cannot be published
+        agreed = agreed_in_secret(history, sealed.public, facts.values(), is_agreed=arguments.yes)
         detail = detail_of(words, filled)
         if pending.arrived_in_time:
             detail["left"] = pending.arrived_in_time

@@ -615,9 +615,11 @@ class OfSecretVotes(OfElections):
         # doubts are about the lines that came, and not about those that are published
         self.add("ada-lovelace 1,2,3\nno-one 1,2,3\ncleo 1,2\n", words=("--force",))
         self.say("close")
-        self.stops("publish", said=["texts/1.txt:\n  Zoë is for it.\n", "these texts may tell who voted what"])
-        self.stops("publish", "--yes", said=["more than half of the lines are refused, 2 of 3"])
-        self.say("publish", "--force", "--because", "so be it", "--yes", "--language", "en")
+        # nobody is asked before it can be published
+        self.stops("publish", said=["more than half of the lines are refused, 2 of 3"])
+        forced = ("publish", "--force", "--because", "so be it", "--language", "en")
+        self.stops(*forced, said=["texts/1.txt:\n  Zoë is for it.\n", "these texts may tell who voted what"])
+        self.say(*forced, "--yes")
         self.expect("without numbers", self.doubts(), ["More than half of the lines that came are refused."])
 
     def test_two_results_that_can_be_compared(self):
