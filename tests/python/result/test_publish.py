@@ -342,7 +342,7 @@ class OfOpenVotes(OfElections):
         acts = re.findall(r"(?m)^- ((?:.+\n)+(?:  .+\n)*)", letters[0].partition("WAS GESCHEHEN IST\n\n")[2])
         self.expect("in the letters", (len(letters), len(acts)), (3, len(told)))
         close = " ".join(acts[-1].split())
-        words = ("2 rechtzeitig eingetroffene Schreiben", "1 Schreiben, das nach dem Ende", "(in a hurry)")
+        words = ("2 rechtzeitig eingetroffene Nachrichten", "1 Nachricht, die nach dem Ende", "(in a hurry)")
         self.expect(f"the close: {close}", [word in close for word in words], [True] * 3)
 
     def test_what_comes_after_the_end(self):
