@@ -449,7 +449,7 @@ class ReceiptsAndReminders(OutTest):
             ("hal", "Line 2 of its text is near to a ballot. It has a ballot within other words; the ballot has to be there alone."),
         ):
             self.assertIn(said, texts[name])
-        self.assertNotRegex(texts["cleo"], rf"dan|{RANKS}")
+        self.assertNotRegex(texts["cleo"], rf"\bdan\b|{RANKS}")
         self.assertNotIn("stranger", texts["eve"] + texts["dan"])
         self.assertEqual(self.texts("receipts"), {})
         # one that waited and is entered now
