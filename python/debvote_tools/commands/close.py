@@ -11,8 +11,7 @@ from debvote_tools.book.change import Change, carried_out, terminal_question
 from debvote_tools.cli.console import act_time, count_of, tell
 from debvote_tools.book.election import LETTERS, Election, Fixed, History, Sealed, fixed_by
 from debvote_tools.files import OWN, sha256_of, write_made
-from debvote_tools.inbox.asked import unasked_fault
-from debvote_tools.inbox.pending import other_votes_words, pending_letters
+from debvote_tools.inbox.stopping import other_votes_words, pending_letters, what_stops
 from debvote_tools.result.publication import (
     closing_letter,
     demand_kept,
@@ -138,14 +137,9 @@ def what_is_closed(election: Election, sealed: Sealed, arguments: Arguments) -> 
         how = f"{election.command('close', '--early')} (the result page says so)"
         faults.append(Fault(None, words, f"close after that time, or now with {how}"))
     is_forced = arguments.force and has_reason(arguments.because)
-    not_asked = unasked_fault(election, history, "early" if is_early else "close")
-    if not_asked is not None and not is_forced:
-        faults.append(not_asked)
-    if pending.stopping and not is_forced:
-        look = f"look at them with {election.command('held')}"
-        force = "or close anyway with --force --because TEXT (the result page says so)"
-        cure = f"add the mailbox once more, then {look}; {force}"
-        faults.append(Fault(None, pending.why_they_stop, cure))
+    stopping = what_stops(election, history, "early" if is_early else "close", pending)
+    if not is_forced:
+        faults += stopping.values()
     stop_at(faults)
     demand_own_lines(election)
     polls = sealed.counted.items()
@@ -159,7 +153,7 @@ def what_is_closed(election: Election, sealed: Sealed, arguments: Arguments) -> 
     }
     if pending.arrived_in_time:
         detail["left"] = pending.arrived_in_time
-    if pending.stopping or not_asked:
+    if stopping:
         detail["because"] = demand_reason(arguments.because, "--force")
     shown = [came_last(history, lines_in_words(fixed)), *other_votes_words(pending.other_votes)]
     return Closing("close", detail, shown=shown, question=terminal_question(ALL, arguments.yes))

@@ -5,11 +5,11 @@ from collections.abc import Mapping
 from debvote_tools.cli.arguments import Acting, flag, option
 from debvote_tools.book import queries
 from debvote_tools.cli.console import tell_as_it_is, tell_aside
-from debvote_tools.cli.faults import bad_words
+from debvote_tools.cli.faults import bad_words, stop_at
 from debvote_tools.debvote import casting_words
 from debvote_tools.book.election import Election, History
-from debvote_tools.inbox.asked import asked_words, unasked_fault
-from debvote_tools.inbox.pending import Pending, pending_letters
+from debvote_tools.inbox.asked import asked_words
+from debvote_tools.inbox.stopping import Pending, pending_letters, what_stops
 from debvote_tools.text.ballots import ballot_file
 from debvote_tools.poll.questions import Questions
 from debvote_tools.poll.sealed import SealedPoll
@@ -50,13 +50,8 @@ def run(election: Election, arguments: Arguments) -> int:
     pending = pending_letters(election, history) if history.is_closed else Pending()
     if not history.is_closed:
         tell_aside(*asked_words(history))
-    elif (
-        not_asked := unasked_fault(election, history, "closed", NOTHING_COUNTED)
-    ) and not arguments.force:
-        raise not_asked
-    if not arguments.force:
-        force = "or count without them with --force"
-        pending.demand_none(election, force, done=NOTHING_COUNTED)
+    elif not arguments.force:
+        stop_at([*what_stops(election, history, "count", pending, NOTHING_COUNTED).values()])
     demand_own_lines(election)
     sheets = {
         label: counted_again(election, history, label, poll, castings.get(label))

@@ -22,7 +22,7 @@ from debvote_tools.inbox.rules import BallotLine, LetterCase, LetterOutcome
 from debvote_tools.inbox.taking import LetterEntry, envelope_of
 from debvote_tools.inbox.lines import Line, lines_in, name_in
 from debvote_tools.inbox.vote import Vote, said_of
-from debvote_tools.inbox.pending import other_votes_words
+from debvote_tools.inbox.stopping import other_votes_words
 from debvote_tools.text.ballots import answers_of, differ, without
 from debvote_tools.text.language import ENGLISH
 

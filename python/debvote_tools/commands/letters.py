@@ -20,14 +20,7 @@ from debvote_tools.cli import console, faults
 from debvote_tools.cli.faults import Fault, Status
 from debvote_tools.files import locked, uninterrupted
 from debvote_tools.outbox import letter_folder, smtp
-from debvote_tools.inbox.pending import pending_letters
-from debvote_tools.outbox.due import (
-    NOTHING_WRITTEN,
-    LettersDue,
-    demand_due,
-    is_present,
-    letters_due,
-)
+from debvote_tools.outbox.due import LettersDue, demand_due, is_present, letters_due
 from debvote_tools.outbox.reached import WAS_REFUSED, unreached_and_printed
 from debvote_tools.outbox.smtp import Server
 from debvote_tools.outbox.words import SUBJECTS
@@ -75,9 +68,6 @@ def run(election: Election, arguments: Arguments) -> int:
     election.called(election.history())
     server = server_of(election.history(), named, arguments) if arguments.send else None
     history = election.history()
-    if arguments.kind == "result" and history.is_closed:
-        force = "or publish without them, with --force --because TEXT"
-        pending_letters(election, history).demand_none(election, force, done=NOTHING_WRITTEN)
     sender = arguments.sender or history.announced("to")
     if sender is None:
         raise bad_words("--from", "the call names no address", "give the sender's address with it")

@@ -38,7 +38,7 @@ from debvote_tools.inbox import letter_words
 from debvote_tools.inbox.asked import asked_last, asked_words
 from debvote_tools.inbox.fates import Fate, fates_of
 from debvote_tools.inbox.lines import has_code
-from debvote_tools.inbox.pending import Pending, pending_letters
+from debvote_tools.inbox.stopping import Pending, pending_letters
 from debvote_tools.inbox.vote import IS_CODE, Vote
 from debvote_tools.outbox.reached import unreached_and_printed
 from debvote_tools.poll.questions import Questions, place_of, quorums_in

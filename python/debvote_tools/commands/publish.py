@@ -25,7 +25,7 @@ from debvote_tools.book.election import (
 from debvote_tools.poll.box import SCRIPT, records_file
 from debvote_tools.poll.questions import Questions, place_of
 from debvote_tools.files import OWN, locked, read_text, uninterrupted, write_made
-from debvote_tools.inbox.pending import Pending, pending_letters
+from debvote_tools.inbox.stopping import Pending, pending_letters
 from debvote_tools.cli import faults
 from debvote_tools.cli.faults import Fault, Status
 from debvote_tools.text.language import LANGUAGES

@@ -15,8 +15,10 @@ from debvote_tools.text.times import now
 # how old an asking may be where ballots still come
 FRESH = datetime.timedelta(minutes=10)
 
+# what follows a close, and needs an asking after an early one
+AFTER_CLOSE = ("count", "closed", "publish")
 # what needs an asking, as kinds of letters, a new address (`at`), a close at the end, one that is `early`,
-# and what follows an early one (`closed`): why it stops, and what can be forced
+# and what follows: why it stops, and what can be forced
 FORCE = "with --force --because TEXT"
 WITHOUT_PAGE = f"write letters that say that the page takes no ballots, {FORCE}"
 CLOSE = f"close {FORCE} (the result page says so)"
@@ -32,11 +34,10 @@ NEEDS = {
     "at": ("ballots may lie on the page at the address of now", ""),
     "close": ("the box of the web host was not asked since the end", CLOSE),
     "early": ("the box of the web host was not asked in the last ten minutes", CLOSE),
-    "closed": (
-        "the box of the web host was not asked since the vote was closed early",
-        f"go on {FORCE}",
-    ),
-}
+} | dict.fromkeys(
+    AFTER_CLOSE,
+    ("the box of the web host was not asked since the vote was closed early", f"go on {FORCE}"),
+)
 
 
 def last_box(history: History) -> Detail:
@@ -97,9 +98,9 @@ def unasked_fault(
         # what comes after the first close is late
         "close": not closes and is_unasked(history, history.until),
         "early": not closes and is_unasked(history, recently),
-        "closed": history.was_closed_early and is_unasked_since_end(history),
+        **dict.fromkeys(AFTER_CLOSE, history.was_closed_early and is_unasked_since_end(history)),
     }
-    if not is_missing[what]:
+    if not is_missing.get(what):
         return None
     words, force = NEEDS[what]
     first = "upload the folder call, then " if what == "call" else ""

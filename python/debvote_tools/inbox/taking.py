@@ -23,7 +23,7 @@ from debvote_tools.inbox.mailbox import RawLetter, letters_of_file, letters_of_f
 from debvote_tools.inbox.records import asked_box
 from debvote_tools.inbox.rules import LetterCase, LetterOutcome
 from debvote_tools.inbox.vote import Vote
-from debvote_tools.inbox.pending import other_votes_words
+from debvote_tools.inbox.stopping import other_votes_words
 
 # how many letters with later ones are named
 MOST_NAMED = 20

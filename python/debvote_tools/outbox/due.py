@@ -10,11 +10,12 @@ from debvote_tools.book.election import LETTERS, RESULT_LETTER, Election, Histor
 from debvote_tools.book.queries import Elector
 from debvote_tools.book.outgoing import REFUSED, TAKEN, WRITTEN, About, OutgoingLetter
 from debvote_tools.cli.arguments import demand_reason, has_reason
-from debvote_tools.cli.faults import Fault, bad_words
+from debvote_tools.cli.faults import Fault, bad_words, stop_at
 from debvote_tools.grouping import grouped
 from debvote_tools.inbox.asked import unasked_fault
 from debvote_tools.inbox.fates import NOBODY, Became, Fate, fates_of
 from debvote_tools.inbox.rules import LetterOutcome
+from debvote_tools.inbox.stopping import pending_letters, what_stops
 from debvote_tools.outbox.reached import CAME_BACK, unreached_and_printed, unreached
 from debvote_tools.outbox.words import Composer
 from debvote_tools.poll.announced import address_in
@@ -178,6 +179,9 @@ def demand_due(election: Election, history: History, kind: str, *, is_over: bool
         words = "codes are on the roll, and nobody knows whose they are, so no letters can be written to electors"
         cure = "with your mail program send call/call.txt, letters/closed.txt and letters/result.txt to all"
         raise Fault("letters", words, cure, done=NOTHING_WRITTEN)
+    if kind == "result" and history.is_closed:
+        pending = pending_letters(election, history)
+        stop_at([*what_stops(election, history, kind, pending, NOTHING_WRITTEN).values()])
     if kind in ("call", "reminders") and is_over:
         words = "the vote is over, so nobody is asked to vote"
         cure = f"see {election.command('status')}"
@@ -206,8 +210,7 @@ def call_data_of(
             raise bad_words("--at", why, cure, NOTHING_WRITTEN)
         if (code := publication.detail["words"]["language"]) is not None:
             call = dataclasses.replace(call, language=language_of(code))
-    needs_asking = kind in ("call", "reminders", "closed")
-    fault = unasked_fault(election, history, kind, NOTHING_WRITTEN) if needs_asking else None
+    fault = unasked_fault(election, history, kind, NOTHING_WRITTEN)
     if fault is None:
         return call, {}
     if not has_reason(because):

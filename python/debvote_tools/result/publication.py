@@ -17,7 +17,7 @@ from debvote_tools.debvote import casting_words
 from debvote_tools.files import sha256_of
 from debvote_tools.inbox.asked import is_unasked_since_end
 from debvote_tools.inbox.lines import name_in
-from debvote_tools.inbox.pending import Pending
+from debvote_tools.inbox.stopping import BOX, LETTERS, Pending, what_stops
 from debvote_tools.poll.call import zone_of
 from debvote_tools.poll.secret import alias_in, aliased_ballots, sealed_checksum
 from debvote_tools.poll.questions import Questions, place_of
@@ -35,6 +35,7 @@ def facts_of(election: Election, words: PublishedWords, pending: Pending) -> dic
     """The facts of each question, by its label."""
     history, sealed, book = election.history(), election.sealed(), election.book
     demand_own_lines(election)
+    stopping = what_stops(election, history, "publish", pending)
     electors = queries.electors(book)
     has_names = history.announced("names")
     shared: dict[str, Any] = {
@@ -54,7 +55,9 @@ def facts_of(election: Election, words: PublishedWords, pending: Pending) -> dic
         label: Facts(
             label=label,
             poll=poll,
-            doubts=tuple(doubts_of(history, label, poll, words.castings.get(label), pending)),
+            doubts=tuple(
+                doubts_of(history, label, poll, words.castings.get(label), pending, stopping)
+            ),
             **facts_of_ballots(election, history, label, words),
             **shared,
         )
@@ -173,10 +176,15 @@ def shown_by_comparison(
 
 
 def doubts_of(
-    history: History, label: str, poll: SealedPoll, casting: str | None, pending: Pending
+    history: History,
+    label: str,
+    poll: SealedPoll,
+    casting: str | None,
+    pending: Pending,
+    stopping: Collection[str],
 ) -> Iterator[Doubt]:
     """The doubts that the book shows before the count. `casting` is the option of the casting vote
-    by its plain name.
+    by its plain name, `stopping` what `what_stops` finds.
     """
     if not history.is_closed:
         yield Doubt("not closed")
@@ -185,8 +193,8 @@ def doubts_of(
         # `close --early` has agreed to it
         yield Doubt("closed early", {"closed": closed, "until": until}, stops=False)
     if is_unasked_since_end(history):
-        # as in `unasked_fault`: at the end `close --force` has agreed to it
-        yield Doubt("box not asked", stops=history.was_closed_early)
+        # at the end `close --force` has agreed to it
+        yield Doubt(BOX, stops=BOX in stopping)
     names = dict(zip(poll.plain_names, poll.names))
     earlier = dict.fromkeys(
         castings_kept(act.detail["casting"]).get(label) for act in history.named("publish")
@@ -197,7 +205,7 @@ def doubts_of(
     if numbers := pending.untold:
         waits = {"number": len(numbers), "letters": ", ".join(map(str, numbers))}
         # an earlier publication may have had it
-        yield Doubt("letters left", waits, stops=bool(pending.stopping))
+        yield Doubt(LETTERS, waits, stops=LETTERS in stopping)
 
 
 # ---- what was done

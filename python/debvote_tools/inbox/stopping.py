@@ -1,8 +1,8 @@
-"""The letters that are pending, for commands that read none of them. What judges letters takes a
-while to be imported, so it is only if some came.
+"""What stops a close, and after it a count, a publication and the letters of the result: all of them ask
+`what_stops`. Letters that arrived in time and wait, whenever they were added, and ballots in a box that was not
+asked may decide the vote.
 
-What arrived in time and is pending may decide the vote, whenever it was added: it stops `close`, and
-after the close `count`, `publish` and `letters result`. All of them ask `pending_letters`.
+What judges letters takes a while to be imported, so it is only if some came.
 """
 
 import collections
@@ -12,7 +12,16 @@ from collections.abc import Iterable, Iterator, Sequence
 from debvote_tools.book import queries
 from debvote_tools.book.book import DoneAct
 from debvote_tools.book.election import Election, History
-from debvote_tools.cli.faults import Fault
+from debvote_tools.cli.faults import NOTHING_CHANGED, Fault
+from debvote_tools.inbox.asked import unasked_fault
+
+# the kinds of what stops, as the page names the doubts about them
+LETTERS, BOX = "letters left", "box not asked"
+# how each step goes on without the letters that stop it; a publication says it in its doubts
+ANYWAY = {
+    "count": "or count without them with --force",
+    "result": "or publish without them, with --force --because TEXT",
+}
 
 
 @dataclasses.dataclass(frozen=True)
@@ -37,15 +46,36 @@ class Pending:
     def why_they_stop(self) -> str:
         return f"these letters arrived in time, and wait: {', '.join(map(str, self.stopping))}"
 
-    def demand_none(self, election: Election, *more: str, done: str) -> None:
-        """Stops after the close at letters that arrived in time: they may decide the vote."""
-        if self.stopping:
-            aside = (
-                f"set aside what is no ballot: {election.command('held', 'NUMBER', '--set-aside')}"
-            )
-            reopen = election.command("reopen", "--because", "TEXT")
-            enter = f"if one is a ballot, run {reopen}, then {election.command('held', 'NUMBER', '--enter')}"
-            raise Fault(None, self.why_they_stop, "; ".join((aside, enter, *more)), done=done)
+
+def what_stops(
+    election: Election,
+    history: History,
+    step: str,
+    pending: Pending,
+    done: str = NOTHING_CHANGED,
+) -> dict[str, Fault]:
+    """Why a step has to wait, by kind: `close` or, before the end, `early`; `count`, `publish`, or the letters
+    of the `result`. What can be forced each command says.
+    """
+    unasked = unasked_fault(election, history, step, done)
+    found = {BOX: unasked} if unasked else {}
+    if pending.stopping:
+        cure = letters_cure(election, step, is_closed=history.is_closed)
+        found[LETTERS] = Fault(None, pending.why_they_stop, cure, done=done)
+    return found
+
+
+def letters_cure(election: Election, step: str, *, is_closed: bool) -> str:
+    """What is done with letters that stop a step."""
+    if not is_closed:
+        look = f"add the mailbox once more, then look at them with {election.command('held')}"
+        return f"{look}; or close anyway with --force --because TEXT (the result page says so)"
+    aside = f"set aside what is no ballot: {election.command('held', 'NUMBER', '--set-aside')}"
+    reopen = election.command("reopen", "--because", "TEXT")
+    enter = (
+        f"if one is a ballot, run {reopen}, then {election.command('held', 'NUMBER', '--enter')}"
+    )
+    return "; ".join(filter(None, (aside, enter, ANYWAY.get(step))))
 
 
 def pending_letters(election: Election, history: History) -> Pending:
