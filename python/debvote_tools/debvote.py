@@ -129,8 +129,10 @@ def casting_words(name: str | None) -> list[str]:
     return [f"--casting={name}"] if name.startswith("-") else ["--casting", name]
 
 
-FINDING = re.compile(r"ballots:(\d+): (late|bad shape|bad rank count|bad not on roll): (.*)")
-NEAR = re.compile(r"(\S+ is not on the roll); did you mean (\S+(?: or \S+)*)\?(.*)")
+FINDING = re.compile(
+    r"(?m)^ballots:(\d+): (late|bad shape|bad rank count|bad not on roll): "
+    r"(?:(\S+ is not on the roll); did you mean (\S+(?: or \S+)*)\?(.*)|(.*))$"
+)
 TOTALS = re.compile(
     r"(\d+) lines: (\d+) valid, \d+ refused, \d+ of them late; (\d+) of \d+ electors have a ballot"
     "; refused lines count for nothing"
@@ -143,13 +145,10 @@ def findings_in(text: str) -> Findings:
     totals = TOTALS.fullmatch(lines[-1]) if lines else None
     if totals is None:
         raise other_format("the list of findings of this debvote")
-    refused = []
-    for number, word, said in (found.groups() for found in map(FINDING.fullmatch, lines) if found):
-        finding = Finding(int(number), word, said)
-        if found := NEAR.fullmatch(said):
-            near = tuple(found[2].split(" or "))
-            finding = finding._replace(said=found[1], near=near, remark=found[3])
-        refused.append(finding)
+    refused = [
+        Finding(int(number), word, unknown or said, tuple(filter(None, near.split(" or "))), remark)
+        for number, word, unknown, near, remark, said in FINDING.findall(text)
+    ]
     count, valid, voters = map(int, totals.groups())
     return Findings(refused, count, valid, voters, TABLE in lines)
 

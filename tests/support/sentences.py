@@ -17,10 +17,11 @@ ROOT = pathlib.Path(__file__).resolve().parents[2]
 PACKAGE = ROOT / "python" / "debvote_tools"
 LOCALE = PACKAGE / "locale"
 
-# the functions whose first argument is a sentence, those of which each is one, and those whose first two are its singular and its plural
+# the functions whose first argument is a sentence, or has some, and those whose first two are its singular and its plural
 WITH_ONE = {"say", "say_each", "marked", "between"}
-WITH_MANY = {"marked_each", "marked_by_name"}
 WITH_TWO = {"say_number"}
+# how a sentence begins that is marked by nothing else
+BEGINS = "The reason: "
 
 
 @dataclasses.dataclass(frozen=True)
@@ -47,29 +48,37 @@ def in_code() -> dict[tuple[str, ...], str]:
                 found.setdefault(texts, f"{file.relative_to(PACKAGE)}:{line}")
     for file in sorted(PACKAGE.rglob("*.py")):
         for node in ast.walk(ast.parse(file.read_text(encoding="utf-8"))):
-            if isinstance(node, ast.Call):
-                for texts in texts_of(node):
-                    found.setdefault(texts, f"{file.relative_to(PACKAGE)}:{node.lineno}")
+            for texts in texts_of(node):
+                found.setdefault(texts, f"{file.relative_to(PACKAGE)}:{node.lineno}")
     return found
 
 
-def texts_of(call: ast.Call) -> list[tuple[str, ...]]:
-    name = call.func.attr if isinstance(call.func, ast.Attribute) else call.func.id if isinstance(call.func, ast.Name) else ""
+def texts_of(node: ast.AST) -> list[tuple[str, ...]]:
+    if isinstance(node, ast.Constant) and isinstance(node.value, str) and node.value.startswith(BEGINS):
+        return [(node.value,)]
+    if not isinstance(node, ast.Call):
+        return []
+    name = node.func.attr if isinstance(node.func, ast.Attribute) else node.func.id if isinstance(node.func, ast.Name) else ""
     if name in WITH_TWO:
-        one, many = (literals(word) for word in call.args[:2])
+        one, many = (literals(word) for word in node.args[:2])
         return [(first, second) for first in one for second in many]
-    if name in WITH_MANY:
-        return [(text,) for word in (*call.args, *(named.value for named in call.keywords)) for text in literals(word)]
-    if name in WITH_ONE and call.args:
-        return [(text,) for text in literals(call.args[0])]
-    return []
+    return [(text,) for text in literals(node.args[0])] if name in WITH_ONE and node.args else []
 
 
-def literals(node: ast.expr) -> list[str]:
-    """The string literals that an argument may be, as far as the call shows them."""
+def literals(node: ast.expr | None) -> list[str]:
+    """The string literals that an argument may be, or that are in it, as far as the call shows them."""
     if isinstance(node, ast.Constant) and isinstance(node.value, str):
         return [node.value]
-    return [*literals(node.body), *literals(node.orelse)] if isinstance(node, ast.IfExp) else []
+    within: list[ast.expr | None] = []
+    if isinstance(node, ast.IfExp):
+        within = [node.body, node.orelse]
+    elif isinstance(node, ast.Dict):
+        within = list(node.values)
+    elif isinstance(node, ast.Tuple):
+        within = list(node.elts)
+    elif isinstance(node, ast.Call) and isinstance(node.func, ast.Name) and node.func.id == "dict":
+        within = [named.value for named in node.keywords]
+    return [text for one in within for text in literals(one)]
 
 
 def entries_in(text: str) -> list[Entry]:

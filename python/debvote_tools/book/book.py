@@ -9,7 +9,6 @@ import contextlib
 import datetime
 import fcntl
 import functools
-import itertools
 import json
 import os
 import pathlib
@@ -21,6 +20,7 @@ from debvote_tools.book import chain
 from debvote_tools.book.machine_note import MachineNote, Note, machine_of
 from debvote_tools.cli.faults import Fault, Status, bad_words, kept_in
 from debvote_tools.files import read_at_most, uninterrupted
+from debvote_tools.poll.announced import address_in
 from debvote_tools.text import times
 from debvote_tools.text.ballots import part_of
 
@@ -56,8 +56,6 @@ VIEWS_OF_LINES = ("entered", "ballot")
 # the byte of the file that SQLite locks for an act, and how many seconds an act waits for others
 RESERVED_BYTE, PATIENCE = 0x40000001, 120
 
-# how many rows one statement adds: one for each row takes twice the time
-ROWS_AT_ONCE = 100
 
 # the clock was put back if an act is earlier than the one before by more: clocks are set by some
 SECONDS_BACK = 60
@@ -135,11 +133,9 @@ class NewAct(NamedTuple):
 
     def insert_all(self, table: str, columns: str, rows: Iterable[Sequence[object]]) -> None:
         """Adds rows of this act, each with its values in these columns."""
-        row, rest = f"({self.number}{', ?' * (columns.count(',') + 1)})", iter(rows)
-        while part := list(itertools.islice(rest, ROWS_AT_ONCE)):
-            words = f"INSERT INTO {table} (act, {columns}) VALUES {row}"
-            values = list(itertools.chain.from_iterable(part))
-            self.connection.execute(words + f", {row}" * (len(part) - 1), values)
+        places = ", ?" * (columns.count(",") + 1)
+        words = f"INSERT INTO {table} (act, {columns}) VALUES ({self.number}{places})"
+        self.connection.executemany(words, rows)
 
     def insert(self, table: str, **values: object) -> int:
         """Adds a row of this act, and returns its number."""
@@ -191,10 +187,6 @@ class Book:
 
     def last_number(self) -> int:
         return self.last_act().number
-
-    def size(self) -> int:
-        words = "SELECT page_count * page_size FROM pragma_page_count, pragma_page_size"
-        return int(self.value(words))
 
     def digest_at(self, act: int) -> str | None:
         """The digest of an act; None if there is no such act."""
@@ -481,6 +473,11 @@ def demand_version(path: pathlib.Path) -> None:
         raise bad_words(path, words, "use the debvote-election that began this election")
 
 
+def address_of(mail: str) -> str:
+    """The first of the addresses of an elector that every mail server takes."""
+    return address_in(json.loads(mail))
+
+
 def connected(path: pathlib.Path, mode: str) -> sqlite3.Connection:
     address = f"{path.absolute().as_uri()}?mode={mode}"
     connection = sqlite3.connect(address, uri=True, isolation_level=None, timeout=PATIENCE)
@@ -488,6 +485,7 @@ def connected(path: pathlib.Path, mode: str) -> sqlite3.Connection:
         connection.execute(f"PRAGMA {setting}")
     chain.prepare(connection)
     connection.create_function("part_of", 2, part_of, deterministic=True)
+    connection.create_function("address_in", 1, address_of, deterministic=True)
     connection.executescript(VIEWS.read_text())
     return connection
 

@@ -28,8 +28,6 @@ REFUSE = "CREATE TRIGGER {table}_{verb} BEFORE {verb} ON {table} BEGIN SELECT RA
 # in place of the digest before the first act
 BEGINNING = ""
 
-# how many rows are joined at once: what is known of one letter may be as long as the letter
-ROWS_AT_ONCE = 100
 
 ACT_OF, LAST = operator.itemgetter(0), operator.itemgetter(-1)
 
@@ -119,9 +117,9 @@ def digest_over(
     """
     digest = hashlib.sha256(before.encode() + b"\n" + line)
     for table, rows in by_table:
-        above, lines = f"\n{table}".encode(), (row[0] for row in rows)
-        while some := list(itertools.islice(lines, ROWS_AT_ONCE)):
-            digest.update(b"\n".join([above, *some]))
+        above = f"\n{table}".encode()
+        for row in rows:
+            digest.update(above + b"\n" + row[0])
             above = b""
     return digest.hexdigest()
 

@@ -44,28 +44,30 @@ class OutgoingLetter(NamedTuple):
         return self.state == REFUSED and not self.reply.startswith("4")
 
 
+# the letters of a kind and to an elector, each as it was written last, with its last state; the rows of
+# a letter have its Message-ID, and one to be printed is alone
+LETTERS = """
+WITH named AS (
+  SELECT *, min(sent) OVER (PARTITION BY id) AS first FROM (
+    SELECT *, coalesce(nullif(detail ->> 'message_id', ''), sent) AS id FROM sent WHERE kind = coalesce(?, kind) AND elector = coalesce(?, elector)
+  )
+), written AS (SELECT *, max(sent) FROM named WHERE state = 'written' GROUP BY id
+), last AS (SELECT id, state, detail ->> 'reply' AS reply, max(sent) FROM named GROUP BY id)
+SELECT elector, kind, detail ->> 'for_act', detail ->> 'address', detail ->> 'message_id', detail ->> 'time', detail ->> 'about',
+  last.state, coalesce(reply, ''), act, detail ->> 'by_server' FROM written JOIN last USING (id) ORDER BY first
+"""
+
+
 def outgoing_letters(
     book: Book, kind: str | None = None, elector: int | None = None
 ) -> list[OutgoingLetter]:
     """The letters of a kind and to an elector, where these are given, in the order of writing."""
-    found: dict[object, OutgoingLetter] = {}
-    words = (
-        "SELECT sent, act, elector, kind, state, detail FROM sent "
-        "WHERE kind = coalesce(?, kind) AND elector = coalesce(?, elector) ORDER BY sent"
-    )
-    for row, act, number, its_kind, state, text in book.rows(words, kind, elector):
-        detail = json.loads(text)
-        key = detail["message_id"] or row
-        if state == WRITTEN:
-            where = detail["for_act"], detail["address"], detail["message_id"]
-            about = tuple((what, number, is_struck) for what, number, is_struck in detail["about"])
-            time = from_text(detail["time"])
-            found[key] = OutgoingLetter(
-                number, its_kind, *where, time, about, act=act, by_server=detail["by_server"]
-            )
-        else:
-            found[key] = found[key]._replace(state=state, reply=detail.get("reply", ""))
-    return list(found.values())
+    return [
+        OutgoingLetter._make(
+            [*row[:5], from_text(row[5]), tuple(map(tuple, json.loads(row[6]))), *row[7:]]
+        )
+        for row in book.rows(LETTERS, kind, elector)
+    ]
 
 
 def note(act: NewAct, letters: Iterable[OutgoingLetter]) -> None:
@@ -93,47 +95,42 @@ WITH marked AS MATERIALIZED (
     SELECT mark FROM elector_state AS last WHERE last.elector = state.elector ORDER BY act DESC LIMIT 1
   ) GROUP BY elector
 )"""
-BY_ADDRESS = f"""
+# the letters with which mail servers sent letters of ours back, each with the act that kept its first
+# copy: by a Message-ID of ours in it with the address, by an own mark of now without one; but for those
+# from an address of their elector, and those after which a ballot of this elector came by letter. The order
+# of the tables is that of the join
+UNREACHED = f"""
 {MARKED}, ours AS (
   SELECT elector, kind, act, state, since, detail ->> 'address' AS address, detail ->> 'for_act' AS for_act,
     detail ->> 'reply' AS reply, detail ->> 'by_server' AS by_server, max(sent) AS last, total(state = 'taken' AND act >= since) AS taken
   FROM sent JOIN marked USING (elector) WHERE act > ?1 GROUP BY elector, address, kind, for_act, detail ->> 'message_id'
-)
-SELECT elector, address, act, state, coalesce(reply, ''), total(kind = 'call' AND for_act <> ?2 AND (
-  taken OR state = 'written' AND act >= since AND (address = '' OR NOT by_server)
-)), max(CASE WHEN state <> 'written' THEN last END) FROM ours GROUP BY elector, address
-"""
-
-
-def letters_by_address(
-    book: Book, call: int, without: int
-) -> dict[tuple[int, str], tuple[int, str, str, float]]:
-    """Of each address to which letters were written since the call: the act and the state of the
-    last one that a server answered, the answer, and 0 if the call did not go there.
-    """
-    return {row[:2]: row[2:6] for row in book.rows(BY_ADDRESS, call, without)}
-
-
-# the letters with which mail servers sent letters of ours back, each with the act that kept its first
-# copy: by a Message-ID of ours in it with the address, by an own mark of now without one; but for those
-# after which a ballot of their elector came by letter. The order of the tables is that of the join
-RETURNED = """
-WITH back AS MATERIALIZED (
+), answered AS MATERIALIZED (
+  SELECT elector, address, act, state, reply, total(kind = 'call' AND for_act <> ?2 AND (
+    taken OR state = 'written' AND act >= since AND (address = '' OR NOT by_server)
+  )) AS has_call, max(CASE WHEN state <> 'written' THEN last END) FROM ours GROUP BY elector, address
+), back AS MATERIALIZED (
   SELECT min(act) AS act, known ->> 'sender' AS sender, value FROM letter, json_each(known, '$.returned') GROUP BY identity, value
 ), found AS (
   SELECT back.act, sender, elector, detail ->> 'address' AS address FROM sent CROSS JOIN back
-  ON value = substr(detail ->> 'message_id', 2, 32) WHERE sent.act > ? AND EXISTS (SELECT 1 FROM back)
+  ON value = substr(detail ->> 'message_id', 2, 32) WHERE sent.act > ?1 AND EXISTS (SELECT 1 FROM back)
   UNION SELECT act, sender, elector, NULL FROM back JOIN elector_now ON value = mark
-)
-SELECT * FROM found WHERE NOT EXISTS (
-  SELECT 1 FROM envelope WHERE elector = found.elector AND letter IS NOT NULL AND act > found.act
-) ORDER BY act
+), returned AS MATERIALIZED (
+  SELECT elector, coalesce(address, address_in(mail)) AS address, max(found.act) AS act FROM found JOIN elector_now USING (elector)
+  WHERE NOT EXISTS (SELECT 1 FROM envelope WHERE elector = found.elector AND letter IS NOT NULL AND act > found.act)
+  AND NOT EXISTS (SELECT 1 FROM json_each(mail) WHERE lower(trim(value)) = sender) GROUP BY 1, 2
+), failed AS (
+  SELECT elector, address, act, 'refused' AS why, coalesce(reply, '') AS said FROM answered WHERE state = 'refused'
+  UNION ALL SELECT elector, address, act, 'came back', '' FROM returned
+), now AS MATERIALIZED (SELECT elector, position, address_in(mail) AS address FROM elector_now WHERE position IS NOT NULL)
+SELECT elector, coalesce(why, 'no letter'), coalesce(said, ''), max(2 * failed.act + (why = 'refused'))
+FROM now LEFT JOIN answered USING (elector, address) LEFT JOIN failed USING (elector, address)
+WHERE why IS NOT NULL OR NOT coalesce(has_call, 0) GROUP BY elector ORDER BY position
 """
 
 
-def returned(book: Book, call: int) -> list[tuple[int, str, int, str | None]]:
-    """Act, sender, elector and address of each letter that came back since the call."""
-    return book.rows(RETURNED, call)
+def unreached(book: Book, call: int, without: int) -> list[tuple[int, str, str]]:
+    """The electors whom the call has not reached, why, and what a server said."""
+    return [row[:3] for row in book.rows(UNREACHED, call, without)]
 
 
 def call_addresses(book: Book, call: int) -> dict[str, list[str]]:

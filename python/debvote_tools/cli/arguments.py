@@ -27,6 +27,9 @@ LONGEST_REASON = 2_000
 class Options:
     """The values of the options, by their fields. On the class a field has what the parser needs."""
 
+    # what was not done after a fault
+    nothing = "changed"
+
     def __init__(self, **values: Any) -> None:
         self.__dict__.update(values)
 
@@ -59,8 +62,10 @@ class Acting(Options):
     # whether the command needs a folder that is writable, and computes all digests anew
     writes, checks = True, False
 
-    def __init_subclass__(cls, *, writes: bool = True, checks: bool = False) -> None:
-        cls.writes, cls.checks = writes, checks
+    def __init_subclass__(
+        cls, *, writes: bool = True, checks: bool = False, nothing: str = ""
+    ) -> None:
+        cls.writes, cls.checks, cls.nothing = writes, checks, nothing or cls.nothing
 
 
 class Parser(argparse.ArgumentParser):

@@ -48,14 +48,11 @@ def parser(words: Sequence[str] = ()) -> argparse.ArgumentParser:
     commands = top.add_subparsers(dest="command", metavar="COMMAND", required=True)
     for name in words[:1] if words and words[0] in COMMANDS else COMMANDS:
         module = importlib.import_module(f"debvote_tools.commands.{SHARING.get(name, name)}")
-        run, kind, said = getattr(module, "run", None), "Arguments", module.__doc__
-        if name in SHARING:
-            run, kind = getattr(module, name), f"{name.capitalize()}Arguments"
-            said = run.__doc__
-        text = " ".join(str(said).split())
+        run = getattr(module, name)
+        kind, text = run.__annotations__["arguments"], " ".join(run.__doc__.split())
         command = commands.add_parser(name, help=text.removesuffix("."), description=text, **how)
-        arguments.add_arguments(command, getattr(module, kind))
-        command.set_defaults(run=run, arguments=getattr(module, kind))
+        arguments.add_arguments(command, kind)
+        command.set_defaults(run=run, arguments=kind)
     return top
 
 
@@ -82,7 +79,9 @@ def main(program_folder: pathlib.Path, words: Sequence[str] | None = None) -> in
             if namespace.command in QUIET:
                 return 128 + signal.SIGPIPE
         for one in (fault, *fault.others):
-            console.failed(PROGRAM, one.after(election.own_acts).words, one.status)
+            console.failed(
+                PROGRAM, one.after(election.own_acts, namespace.arguments.nothing).words, one.status
+            )
         return fault.status
     except KeyboardInterrupt:
         done = acts_in_words(election.own_acts) if election.own_acts else reported

@@ -50,8 +50,10 @@ class Fault(Exception):
     def __str__(self) -> str:
         return self.words
 
-    def after(self, acts: Sequence[str]) -> "Fault":
-        """The same fault, of a run that did these acts before."""
+    def after(self, acts: Sequence[str], nothing: str) -> "Fault":
+        """The same fault, of a run that did these acts before, and otherwise `nothing`."""
+        if self.done == NOTHING_CHANGED:
+            self.done = f"{NOTHING}{nothing}"
         if acts and self.done is not None and self.done.startswith(NOTHING):
             rest = self.done.removeprefix(NOTHING_CHANGED).removeprefix("; ")
             self.done = acts_in_words(acts)

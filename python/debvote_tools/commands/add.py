@@ -1,4 +1,4 @@
-"""Enter ballots from letters, files or standard input, and print the reply to each."""
+"""The command `add`."""
 
 import collections
 import dataclasses
@@ -19,7 +19,7 @@ from debvote_tools.grouping import grouped, several
 from debvote_tools.inbox import entering
 from debvote_tools.inbox.given_files import GivenFile, read_files
 from debvote_tools.inbox.lines import MARK, Line, lines_in
-from debvote_tools.inbox.entering import NOTHING_ADDED, Entry, doubtful
+from debvote_tools.inbox.entering import Entry, doubtful
 from debvote_tools.inbox.option_names import OptionNames
 from debvote_tools.inbox.vote import IN_ORDER, CheckedLine, Vote, replies_to, summary
 from debvote_tools.text.ballots import part_of, ranks_by_label
@@ -50,7 +50,8 @@ class Arguments(entering.Arguments):
     )
 
 
-def run(election: Election, arguments: Arguments) -> None:
+def add(election: Election, arguments: Arguments) -> None:
+    """Enter ballots from letters, files or standard input, and print the reply to each."""
     if not arguments.look:
         election.demand_right_book(arguments)
     vote = Vote(election)
@@ -62,7 +63,7 @@ def run(election: Election, arguments: Arguments) -> None:
         return
     if of_lines := given(arguments, "force", "came_before_close"):
         words = "only for lines, and these are letters"
-        raise bad_words(", ".join(of_lines), words, "leave this out", NOTHING_ADDED)
+        raise bad_words(", ".join(of_lines), words, "leave this out")
     # what reads letters takes a while to be imported
     from debvote_tools.inbox.taking import take_letters
 
@@ -112,7 +113,7 @@ class NewLines:
 def new_lines(vote: Vote, files: Sequence[FileLines]) -> NewLines:
     """It asks nothing of debvote, so it is found again within the act."""
     history = vote.election.history()
-    vote.demand_same_call(history, NOTHING_ADDED)
+    vote.demand_same_call(history)
     found = compared_with_book(vote.book, files, history)
     return NewLines(history, history.timing, found)
 
@@ -157,9 +158,7 @@ def what_is_added(vote: Vote, files: Sequence[FileLines], arguments: Arguments) 
         nothing = "There is nothing new, and nothing was added."
         shown = [*report_of_files(vote, new, (), ()), nothing]
         return Addition("add", {}, shown=shown, is_nothing=True, vote=vote, files=files, new=new)
-    came_before_close = entering.came_before_close(
-        new.history, arguments.came_before_close, NOTHING_ADDED
-    )
+    came_before_close = entering.came_before_close(new.history, arguments.came_before_close)
     return Addition(
         "add",
         detail_of_act(vote, new, arguments, came_before_close),

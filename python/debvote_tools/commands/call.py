@@ -1,4 +1,4 @@
-"""Make the call for votes, a page and a letter; from then on the poll cannot change."""
+"""The command `call`."""
 
 import dataclasses
 import os
@@ -33,12 +33,11 @@ from debvote_tools.poll.announced import (
     named_address,
     parse_until,
 )
-from debvote_tools.cli.faults import NOTHING_CHANGED, Fault, bad_words, kept_in, stop_at
+from debvote_tools.cli.faults import Fault, bad_words, kept_in, stop_at
 from debvote_tools.inbox.asked import unasked_fault
 from debvote_tools.inbox.signature import read_keyring
 from debvote_tools.poll.box import SCRIPT, box_files, script_address
 from debvote_tools.poll.secret import aliased, demand_no_code
-from debvote_tools.poll.questions import quorums_said
 from debvote_tools.poll.sealed import new_own_mark
 
 EXTENSION = "extension.txt"
@@ -82,13 +81,14 @@ class Arguments(Acting):
     )
 
 
-def run(election: Election, arguments: Arguments) -> None:
+def call(election: Election, arguments: Arguments) -> None:
+    """Make the call for votes, a page and a letter; from then on the poll cannot change."""
     election.demand_right_book(arguments)
     if arguments.take_back:
         take_back(election)
         return
     if election.history().call is None:
-        call(election, arguments)
+        call_first(election, arguments)
     else:
         call_again(election, arguments)
     make_folders(election)
@@ -96,7 +96,7 @@ def run(election: Election, arguments: Arguments) -> None:
 
 
 # ---- the acts
-def call(election: Election, arguments: Arguments) -> None:
+def call_first(election: Election, arguments: Arguments) -> None:
     history, faults = election.history(), list[Fault]()
     said, is_on_roll = announced(arguments, history, faults), history.has_codes_on_roll
     if is_on_roll and arguments.marked:
@@ -118,7 +118,7 @@ def call(election: Election, arguments: Arguments) -> None:
         "marked": arguments.marked,
         "box": arguments.box,
         "codes_on_roll": is_on_roll,
-        "quorum_votes": quorums_said(found.quorums),
+        "quorum_votes": found.quorums,
         "signed": arguments.keyring is not None,
     }
     public = aliased(questions, electors) if questions.is_secret else questions
@@ -228,13 +228,11 @@ def sealed_by(
     if data.questions.is_secret:
         codes = {elector.code or elector.name for elector in queries.electors(election.book)}
         for name, content in files.items():
-            demand_no_code(name, content, codes, NOTHING_CHANGED)
+            demand_no_code(name, content, codes)
         if sealed or LETTER_TEXT in files:
             # letter.txt begins the letter to all
             texts = {**(texts_of(sealed.counted) if sealed else {}), LETTER_TEXT: letter_text}
-            said["agreed"] = agreed_texts(
-                election.history(), texts, is_agreed=arguments.yes, done=NOTHING_CHANGED
-            )
+            said["agreed"] = agreed_texts(election.history(), texts, is_agreed=arguments.yes)
     return files if keyring is None else {**files, KEYRING: keyring}
 
 

@@ -1,4 +1,4 @@
-"""Close the vote; lines that are entered later are late, and do not count."""
+"""The command `close`."""
 
 import dataclasses
 from collections.abc import Mapping
@@ -38,7 +38,8 @@ class Arguments(Acting, checks=True):
     yes: bool = flag("Close without asking whether all ballots are in")
 
 
-def run(election: Election, arguments: Arguments) -> None:
+def close(election: Election, arguments: Arguments) -> None:
+    """Close the vote; lines that are entered later are late, and do not count."""
     election.demand_right_book(arguments)
     sealed, is_new = election.sealed(), not election.history().is_closed
     if is_new:

@@ -1,4 +1,4 @@
-"""Print the result sheet; of several questions all, each with its label above it."""
+"""The command `count`."""
 
 from collections.abc import Mapping
 
@@ -21,7 +21,6 @@ from debvote_tools.result.publication import (
 )
 from debvote_tools.result.sheet import (
     CASTING,
-    NOTHING_COUNTED,
     Castings,
     castings_in,
     demand_countable,
@@ -33,7 +32,7 @@ from debvote_tools.result.sheet import (
 )
 
 
-class Arguments(Acting, writes=False, checks=True):
+class Arguments(Acting, writes=False, checks=True, nothing="counted"):
     casting: list[str] | None = option(*CASTING, action="append")
     question: str | None = option("LABEL", "Of several questions count this one alone")
     force: bool = flag(
@@ -41,7 +40,8 @@ class Arguments(Acting, writes=False, checks=True):
     )
 
 
-def run(election: Election, arguments: Arguments) -> int:
+def count(election: Election, arguments: Arguments) -> int:
+    """Print the result sheet; of several questions all, each with its label above it."""
     election.demand_right_book(arguments)
     sealed, history = election.sealed(), election.history()
     demand_countable(election, history, sealed)
@@ -51,7 +51,7 @@ def run(election: Election, arguments: Arguments) -> int:
     if not history.is_closed:
         tell_aside(*asked_words(history))
     elif not arguments.force:
-        stop_at([*what_stops(election, history, "count", pending, NOTHING_COUNTED).values()])
+        stop_at([*what_stops(election, history, "count", pending).values()])
     demand_own_lines(election)
     sheets = {
         label: counted_again(election, history, label, poll, castings.get(label))
@@ -74,7 +74,7 @@ def polls_asked_for(questions: Questions, label: str | None) -> Mapping[str, Sea
     label = label.upper()
     if not label or label not in questions:
         cure = f"name one of {', '.join(questions)}" if any(questions) else "leave it out"
-        raise bad_words("--question", f"there is no question {label}", cure, NOTHING_COUNTED)
+        raise bad_words("--question", f"there is no question {label}", cure)
     return {label: questions[label]}
 
 

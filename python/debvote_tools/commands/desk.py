@@ -1,6 +1,4 @@
-"""Enter ballots by hand, and print the reply to each; several desks can run at once, each in its
-own terminal.
-"""
+"""The command `desk`."""
 
 import dataclasses
 import functools
@@ -27,8 +25,7 @@ from debvote_tools.poll.plain_names import alike
 from debvote_tools.text.ballots import answers_text, ranks_by_label
 
 QUIT = b"q"
-NOTHING_CAST, NOT_ENTERED = "nothing was entered", "It was not entered."
-REPORTED = "the ballots reported so far were entered, and nothing else"
+NOT_ENTERED = "It was not entered."
 
 # in place of a line that is no ballot here
 NO_LINE = b"-"
@@ -41,7 +38,7 @@ TYPED = re.compile(r"(.+?)\s+([\d-].*)")
 MAX_NAMES = 9
 
 
-class Arguments(entering.Arguments):
+class Arguments(entering.Arguments, nothing="entered"):
     question: str | None = option(
         "LABEL", "Of several questions the one that is answered: type the ballot without its label"
     )
@@ -71,13 +68,13 @@ class Desk:
     def history(self) -> History:
         """The acts until now. Stops after another call."""
         history = self.vote.election.history()
-        self.vote.demand_same_call(history, NOTHING_CAST, "start the desk again")
+        self.vote.demand_same_call(history, "start the desk again")
         return history
 
-    def ask_if_reopened(self, history: History, done: str = REPORTED) -> None:
+    def ask_if_reopened(self, history: History) -> None:
         """If the vote was opened again, asks once whether what is cast came before the first close."""
         if self.came_before_close is None:
-            self.came_before_close = entering.came_before_close(history, self.answer, done)
+            self.came_before_close = entering.came_before_close(history, self.answer)
 
     @functools.cached_property
     def names(self) -> Names:
@@ -110,7 +107,7 @@ class Desk:
             return
         self.above += [line.original for line in lines]
         if self.vote.are_table(self.above):
-            raise Fault("desk", TABLE, IN_ORDER, Status.BAD_BALLOTS, REPORTED)
+            raise Fault("desk", TABLE, IN_ORDER, Status.BAD_BALLOTS)
         if any(line.is_ballot for line in lines):
             self.above = None
 
@@ -172,23 +169,26 @@ def what_is_cast(desk: Desk, lines: list[CheckedLine], elector: int | None, asks
     )
 
 
-def run(election: Election, arguments: Arguments) -> None:
+def desk(election: Election, arguments: Arguments) -> None:
+    """Enter ballots by hand, and print the reply to each; several desks can run at once, each in its
+    own terminal.
+    """
     if sys.stdin is None:
         cure = "run it at a terminal"
-        raise Fault("standard input", "it is closed", cure, Status.BAD_BALLOTS, NOTHING_CAST)
+        raise Fault("standard input", "it is closed", cure, Status.BAD_BALLOTS)
     election.demand_right_book(arguments)
     label = (arguments.question or "").upper()
     vote = Vote(election, label)
     if label and vote.poll is None:
         labels = ", ".join(vote.names.labels) or "none: this vote has one question"
-        raise bad_words("--question", f"the labels are {labels}", "give one of them", NOTHING_CAST)
+        raise bad_words("--question", f"the labels are {labels}", "give one of them")
     desk, history = Desk(vote, arguments.came_before_close), election.history()
     tell(*entering.late_notes(election, history, "what is entered"))
     if desk.vote.is_signed:
         words = "in this vote letters must be signed, and a desk checks no signature"
         tell(f"Note: {words}: enter only ballots on paper or by word of mouth.")
     try:
-        desk.ask_if_reopened(history, NOTHING_CAST)
+        desk.ask_if_reopened(history)
         cast = at_terminal if sys.stdin.isatty() else from_pipe
         cast(desk)
     except KeyboardInterrupt:

@@ -1,4 +1,4 @@
-"""List the letters that wait; show one, enter its ballot, or set letters aside."""
+"""The command `held`."""
 
 import collections
 import itertools
@@ -7,7 +7,7 @@ from typing import NamedTuple
 
 from debvote_tools.cli.arguments import Acting, flag, given, option, positional
 from debvote_tools.book import queries
-from debvote_tools.book.book import ActName, Book, Detail
+from debvote_tools.book.book import ActName, Book
 from debvote_tools.book.change import Change, carried_out, terminal_question
 from debvote_tools.book.election import Election, History
 from debvote_tools.book.queries import Envelope
@@ -58,7 +58,8 @@ class Arguments(Acting):
     yes: bool = flag("Enter the ballots without asking")
 
 
-def run(election: Election, arguments: Arguments) -> None:
+def held(election: Election, arguments: Arguments) -> None:
+    """List the letters that wait; show one, enter its ballot, or set letters aside."""
     is_act = demand_words(arguments)
     if is_act:
         election.demand_right_book(arguments)
@@ -240,11 +241,10 @@ def entry_of(
     """
     lines = [(one.letter, line) for one in chosen for line in one.lines]
     numbers = [one.letter.number for one in chosen]
-    detail: Detail = {"letter": numbers[0]} if len(numbers) == 1 else {"letters": numbers}
     waits = {one.letter: names for one in chosen if (names := one.waits_for(history))}
     return LetterEntry(
         "enter",
-        detail | {"lines": [line.number for _, line in lines if line.number]},
+        {"letters": numbers, "lines": [line.number for _, line in lines if line.number]},
         shown=[
             *(
                 f"{who_and_when(letter)}: {vote.ballot_in_words(line.as_entered)}\n  {why(letter)}"

@@ -1,10 +1,7 @@
-"""Write letters to the electors, or send them: the call, receipts, reminders, the close, the
-result.
-"""
+"""The command `letters`."""
 
 import dataclasses
 import datetime
-import functools
 import getpass
 import itertools
 import pathlib
@@ -16,8 +13,8 @@ from debvote_tools.book.book import Detail
 from debvote_tools.book.election import LETTERS, Election, History
 from debvote_tools.cli.console import act_time, count_of, listed, shown_text, tell
 from debvote_tools.book.outgoing import TAKEN, WRITTEN, OutgoingLetter
-from debvote_tools.cli import console, faults
-from debvote_tools.cli.faults import Fault, Status
+from debvote_tools.cli import console
+from debvote_tools.cli.faults import Fault, Status, bad_words
 from debvote_tools.files import locked, uninterrupted
 from debvote_tools.outbox import letter_folder, smtp
 from debvote_tools.outbox.due import LettersDue, demand_due, is_present, letters_due
@@ -32,7 +29,7 @@ MOST = 20
 BAR = 40
 
 
-class Arguments(Acting):
+class Arguments(Acting, nothing="written"):
     kind: str = positional(
         "KIND", "call, receipts, reminders, closed or result", choices=list(SUBJECTS)
     )
@@ -61,7 +58,10 @@ class Arguments(Acting):
     yes: bool = flag("With reminders: answer yes when asked whether to remind again within a day")
 
 
-def run(election: Election, arguments: Arguments) -> int:
+def letters(election: Election, arguments: Arguments) -> int:
+    """Write letters to the electors, or send them: the call, receipts, reminders, the close, the
+    result.
+    """
     demand_words(arguments)
     named = None if arguments.server is None else smtp.server_of(arguments.server)
     election.demand_right_book(arguments)
@@ -103,7 +103,7 @@ def reminds_again(before: datetime.datetime) -> bool:
     """Whether electors are to be reminded again within a day. Stops where nobody can be asked."""
     said = f"Reminders were written at {act_time(before)}"
     if not console.is_terminal():
-        raise Fault(None, said, "if it is right, remind again with --yes", done=NOTHING_SENT)
+        raise Fault(None, said, "if it is right, remind again with --yes")
     return bool(console.is_yes(f"{said}. Remind again?"))
 
 
@@ -175,8 +175,6 @@ def unreached_words(election: Election) -> Iterator[str]:
 
 
 # ---- the words of the command line
-NOTHING_SENT = "nothing was written or sent"
-bad_words = functools.partial(faults.bad_words, done=NOTHING_SENT)
 
 
 def demand_words(arguments: Arguments) -> None:

@@ -41,7 +41,7 @@ from debvote_tools.inbox.lines import has_code
 from debvote_tools.inbox.stopping import Pending, pending_letters
 from debvote_tools.inbox.vote import IS_CODE, Vote
 from debvote_tools.outbox.reached import unreached_and_printed
-from debvote_tools.poll.questions import Questions, place_of, quorums_in
+from debvote_tools.poll.questions import Questions, place_of
 from debvote_tools.text import times
 from debvote_tools.text.ballots import ballot_file, part_of, ranks_by_label
 
@@ -154,7 +154,7 @@ def stage_words(election: Election, history: History, state: State) -> Iterator[
     yield f"Closed: {closed}"
     if history.is_reopened:
         yield f"Reopened: at {act_time(history.named('reopen')[-1].time)}"
-    quorums = quorums_in(history.call.detail["quorum_votes"])
+    quorums = history.call.detail["quorum_votes"]
     for label, poll in questions.items():
         if label:
             voters = count_of(state["questions"][label]["voters"], "elector")

@@ -1,9 +1,8 @@
-"""Make the folder of the result for a web site; without options, make the last one again."""
+"""The command `publish`."""
 
 import contextlib
 import dataclasses
 import datetime
-import functools
 import itertools
 import os
 import pathlib
@@ -26,22 +25,18 @@ from debvote_tools.poll.box import SCRIPT, records_file
 from debvote_tools.poll.questions import Questions, place_of
 from debvote_tools.files import OWN, locked, read_text, uninterrupted, write_made
 from debvote_tools.inbox.stopping import Pending, pending_letters
-from debvote_tools.cli import faults
-from debvote_tools.cli.faults import Fault, Status
+from debvote_tools.cli.faults import Fault, bad_words
 from debvote_tools.text.language import LANGUAGES
 from debvote_tools.result import folder, publication
 from debvote_tools.result.sheet import (
     CASTING,
     castings_in,
-    castings_said,
     demand_countable,
     publishing,
 )
 from debvote_tools.result.facts import Facts, Outcome, PublishedWords
 from debvote_tools.result.file_names import BALLOTS, CHECKSUMS, PAGE, POLL
-from debvote_tools.result.folder import NOTHING_DONE
 
-bad_words = functools.partial(faults.bad_words, done=NOTHING_DONE)
 
 # of the text for the page in bytes, and of the name of who gave the casting vote in characters
 TEXT_LIMIT, NAME_LIMIT = 65_536, 200
@@ -50,7 +45,7 @@ TEXT_LIMIT, NAME_LIMIT = 65_536, 200
 REFUSED_IN_NAME = '"\u201c\u201d\u201e\u201f\u2033\uff02\u00ab\u00bb'
 
 
-class Arguments(Acting, checks=True):
+class Arguments(Acting, checks=True, nothing="published"):
     casting: list[str] | None = option(*CASTING, action="append")
     cast_by: str | None = option("NAME", "Who had the casting vote; the page says so in your name")
     cast_on: str | None = option("DATE", "The day of the casting vote, as 2026-12-05")
@@ -76,10 +71,8 @@ class Arguments(Acting, checks=True):
     )
 
 
-def run(election: Election, arguments: Arguments) -> int:
-    """The folder is whole and counted before the act, and takes its place after the act. So a kill
-    leaves no folder that the book does not know.
-    """
+def publish(election: Election, arguments: Arguments) -> int:
+    """Make the folder of the result for a web site; without options, make the last one again."""
     election.demand_right_book(arguments)
     history, sealed = election.history(), election.sealed()
     demand_countable(election, history, sealed)
@@ -91,6 +84,8 @@ def run(election: Election, arguments: Arguments) -> int:
     words = given if again is None else PublishedWords(**again.detail["words"])
     pending = pending_letters(election, history) if history.is_closed else Pending()
     facts = without_old_force(publication.facts_of(election, words, pending), again)
+    # the folder is whole and counted before the act, and takes its place after the act: so a kill leaves
+    # no folder that the book does not know
     with folder.beside(target) as new:
         filled = folder.filled(new.folder, facts, election.program_folder)
         # nobody is asked about a result that cannot be published
@@ -119,7 +114,7 @@ def detail_of(words: PublishedWords, filled: folder.Filled) -> Detail:
     ]
     return {
         "words": dataclasses.asdict(words),
-        "casting": castings_said({label: words.castings[label] for label in by_casting}),
+        "casting": {label: words.castings[label] for label in by_casting},
         "checksums": {
             name: filled.checksums[name] for name in dict.fromkeys([*named, PAGE, CHECKSUMS])
         },
@@ -221,7 +216,7 @@ def would_differ(last: DoneAct) -> Fault:
     )
     why = "another version of a program makes it, or more was done since that the page tells"
     cure = "leave it as it is; or publish it once more, with a letter of its own: --force"
-    return Fault(None, f"{words}: {why}", cure, Status.DOUBT, NOTHING_DONE)
+    return Fault(None, f"{words}: {why}", cure)
 
 
 @contextlib.contextmanager
@@ -232,9 +227,7 @@ def alone(election: Election) -> Iterator[None]:
             yield
     except BlockingIOError:
         words = "another command is publishing this election now"
-        raise Fault(
-            None, words, "run the command again when it is done", done=NOTHING_DONE
-        ) from None
+        raise Fault(None, words, "run the command again when it is done") from None
 
 
 # ---- words of those who publish
@@ -256,7 +249,7 @@ def published_words(arguments: Arguments, questions: Questions) -> PublishedWord
         )
         about = read_text(arguments.about, TEXT_LIMIT, unread, empty, may_wait=True)
     return PublishedWords(
-        casting=castings_said(castings_in(arguments.casting, questions)),
+        castings=castings_in(arguments.casting, questions),
         cast_by=by,
         cast_on=on,
         about=about,
@@ -303,10 +296,9 @@ def agreed_in_secret(
         history,
         publication.texts_of(questions) | given,
         is_agreed=is_agreed,
-        done=NOTHING_DONE,
     )
     compared = [name for of_one in facts for name in of_one.compared]
     if compared and not is_agreed:
         why = f"a comparison with the earlier result shows how these voted: {', '.join(dict.fromkeys(compared))}"
-        publication.demand_yes(f"Publish it, although {why}?", why, NOTHING_DONE)
+        publication.demand_yes(f"Publish it, although {why}?", why)
     return agreed

@@ -8,7 +8,7 @@ from debvote_tools.book import queries
 from debvote_tools.book.book import Detail, from_text
 from debvote_tools.book.election import BOX_SCRIPT, Election, History
 from debvote_tools.cli.console import act_time, count_of
-from debvote_tools.cli.faults import NOTHING_CHANGED, Fault
+from debvote_tools.cli.faults import Fault
 from debvote_tools.poll.box import list_digest
 from debvote_tools.text.times import now
 
@@ -85,9 +85,7 @@ def is_unasked_since_end(history: History) -> bool:
     )
 
 
-def unasked_fault(
-    election: Election, history: History, what: str, done: str = NOTHING_CHANGED
-) -> Fault | None:
+def unasked_fault(election: Election, history: History, what: str) -> Fault | None:
     """Why something has to wait until the box is asked; None if it need not."""
     closes, recently, last = history.closes, now() - FRESH, asked_last(election, history)
     is_missing = {
@@ -107,4 +105,4 @@ def unasked_fault(
     cure = f"{first}run {election.command('add', '--box')}"
     if force:
         cure += f"; if it does not answer any more, {force}"
-    return Fault(what if force == WITHOUT_PAGE else "--box", words, cure, done=done)
+    return Fault(what if force == WITHOUT_PAGE else "--box", words, cure)

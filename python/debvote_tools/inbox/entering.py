@@ -19,10 +19,9 @@ from debvote_tools.inbox.vote import Vote, envelope_words, replies_to
 from debvote_tools.text.times import now, time_in_words
 
 CAME_BEFORE_CLOSE = "--came-before-close"
-NOTHING_ADDED = "nothing was added"
 
 
-class Arguments(Acting):
+class Arguments(Acting, nothing="added"):
     """The options of a command that enters lines."""
 
     came_before_close: str | None = option(
@@ -72,14 +71,12 @@ class Entry(Change):
 
 def demand_room(book: Book, new: Sequence[NewEnvelope]) -> None:
     """Stops at more lines than debvote takes."""
-    count, added = len(new), sum(len(envelope.line) + 1 for envelope in new)
-    # the file of the book is longer than its lines, so they are counted only if it may be too long
-    if queries.last_envelope(book) + count > LINES_LIMIT or book.size() + added > BALLOTS_LIMIT:
-        line_count, size = queries.size_to_count(book)
-        if line_count + count > LINES_LIMIT or size + added > BALLOTS_LIMIT:
-            words = f"with the new lines there would be {count_of(line_count + count, 'line')} and {size + added} bytes of ballots"
-            cure = f"debvote takes at most {LINES_LIMIT} lines and {BALLOTS_LIMIT} bytes: add fewer"
-            raise Fault(book.path, words, cure, Status.BAD_BALLOTS, NOTHING_ADDED)
+    count, size = queries.size_to_count(book)
+    count, size = count + len(new), size + sum(len(envelope.line) + 1 for envelope in new)
+    if count > LINES_LIMIT or size > BALLOTS_LIMIT:
+        words = f"with the new lines there would be {count_of(count, 'line')} and {size} bytes of ballots"
+        cure = f"debvote takes at most {LINES_LIMIT} lines and {BALLOTS_LIMIT} bytes: add fewer"
+        raise Fault(book.path, words, cure, Status.BAD_BALLOTS)
 
 
 # ---- whether it comes in time
@@ -98,14 +95,14 @@ def late_notes(election: Election, history: History, what: str) -> list[str]:
     return []
 
 
-def came_before_close(history: History, answer: str | None, not_done: str) -> bool | None:
+def came_before_close(history: History, answer: str | None) -> bool | None:
     """Whether what is entered came before the first close, by the option or by an answer at a
     terminal. None if that does not matter.
     """
     if not history.is_reopened:
         if answer is not None and not history.is_closed:
             words = "the vote was never closed"
-            raise bad_words(CAME_BEFORE_CLOSE, words, "leave it out", not_done)
+            raise bad_words(CAME_BEFORE_CLOSE, words, "leave it out")
         return None
     if answer is not None:
         return answer == "yes"
@@ -113,18 +110,18 @@ def came_before_close(history: History, answer: str | None, not_done: str) -> bo
     if not console.is_terminal():
         words = f"the {closed}, and only what came before counts"
         cure = f"say whether this came before that close: {CAME_BEFORE_CLOSE} yes, or {CAME_BEFORE_CLOSE} no, which makes it late"
-        raise Fault(CAME_BEFORE_CLOSE, words, cure, done=not_done)
+        raise Fault(CAME_BEFORE_CLOSE, words, cure)
     said = console.is_yes(f"The {closed}. Did this come before that close?")
     if said is None:
         words = "you did not say whether it came before the close"
-        raise Fault(None, words, "run the command again", done=not_done)
+        raise Fault(None, words, "run the command again")
     return said
 
 
 # ---- faults after which nothing was added
 def bad_ballots(where: object, reason: object, cure: str) -> Fault:
-    return Fault(where, reason, cure, Status.BAD_BALLOTS, NOTHING_ADDED)
+    return Fault(where, reason, cure, Status.BAD_BALLOTS)
 
 
 def doubtful(where: object, reason: str, cure: str) -> Fault:
-    return Fault(where, reason, cure, done=NOTHING_ADDED)
+    return Fault(where, reason, cure)

@@ -15,7 +15,7 @@ from debvote_tools.cli.console import tell
 from debvote_tools.cli.faults import Fault, bad_words, kept_in, stop_at
 from debvote_tools.files import BALLOTS_LIMIT, PACKED, PDF, kind_of
 from debvote_tools.inbox.mailbox import NotRead, are_letters, kind_not_read
-from debvote_tools.inbox.entering import NOTHING_ADDED, bad_ballots, doubtful
+from debvote_tools.inbox.entering import bad_ballots, doubtful
 from debvote_tools.poll.sealed import REQUIRED
 
 # what names standard input on the command line, and how messages name it
@@ -79,7 +79,7 @@ def read_files(election: Election, paths: Sequence[str]) -> tuple[GivenLetters, 
         names = ", ".join(STANDARD_INPUT if path == HYPHEN else path for path in letters)
         words = "it has letters, and the other files have none"
         cure = "add letters and other files with separate commands"
-        raise bad_words(names, words, cure, NOTHING_ADDED)
+        raise bad_words(names, words, cure)
     return letters, [*files.values()]
 
 

@@ -130,10 +130,6 @@ class ReadLetter(ParsedLetter):
         return {number for line in refused for number in line.numbers}
 
 
-# what the book keeps only of several questions
-OF_SEVERAL = ("more", "strays")
-
-
 # ---- letters
 def read_letters(vote: Vote, raws: Sequence[RawLetter]) -> list[ReadLetter]:
     """What letters say, with their signatures if they need one, and what their lines may be."""
@@ -393,7 +389,7 @@ def as_plain(value: object) -> object:
         return value.isoformat()
     if isinstance(value, Reason):
         return value.name
-    return {name: one for name, one in vars(value).items() if one or name not in OF_SEVERAL}
+    return vars(value)
 
 
 def from_json(text: str) -> ReadLetter:

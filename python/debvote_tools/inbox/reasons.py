@@ -11,33 +11,20 @@ import datetime
 import enum
 
 from debvote_tools.cli.console import shown_text
-from debvote_tools.text.language import marked
 
 Value = str | int | datetime.datetime
 
-# what electors read of several reasons
-UNCERTAIN = marked(
-    "The reason: its head or its parts can't be read with certainty. Send plain text alone."
-)
-LOOKED_AT = marked("The reason: the secretary has to look at it.")
-SIGNATURE_UNREAD = marked("The reason: its signature can't be checked.")
-ALONE = marked(
-    "The reason: the ballot is not the first line of it. Send the ballot alone, in a letter of its own."
-)
-OTHER_ADDRESS = marked(
-    "The reason: the list of members has another address for the name on the ballot."
-)
-
-NO_BALLOT_IN_IT = marked("The reason: no line of it is a ballot of this vote.")
-NO_MARK_IN_IT = marked(
-    "The reason: its subject has no mark of this vote. Answer a letter of this vote: its subject has the mark."
-)
-LATER_ONE = marked("The reason: a later ballot of this elector is in already.")
-ANOTHER_KEY = marked(
-    "The reason: it is signed with another key than the list of members has for the name on the ballot."
-)
-
-LAPSED_KEY = marked("The reason: the key with which it is signed has expired, or was revoked.")
+# what electors read of several reasons. What they read of any begins so, and has translations
+UNCERTAIN = "The reason: its head or its parts can't be read with certainty. Send plain text alone."
+LOOKED_AT = "The reason: the secretary has to look at it."
+SIGNATURE_UNREAD = "The reason: its signature can't be checked."
+ALONE = "The reason: the ballot is not the first line of it. Send the ballot alone, in a letter of its own."
+OTHER_ADDRESS = "The reason: the list of members has another address for the name on the ballot."
+NO_BALLOT_IN_IT = "The reason: no line of it is a ballot of this vote."
+NO_MARK_IN_IT = "The reason: its subject has no mark of this vote. Answer a letter of this vote: its subject has the mark."
+LATER_ONE = "The reason: a later ballot of this elector is in already."
+ANOTHER_KEY = "The reason: it is signed with another key than the list of members has for the name on the ballot."
+LAPSED_KEY = "The reason: the key with which it is signed has expired, or was revoked."
 
 
 @dataclasses.dataclass(frozen=True)
@@ -57,12 +44,8 @@ class Reason(enum.Enum):
     # (`told_of` in `outbox/due.py`)
     TAKEN_BACK = "its ballot was taken back", LOOKED_AT
     PUT_BACK = "it was put back to wait", LOOKED_AT
-    SET_ASIDE = "it was set aside", marked(
-        "The reason: the secretary has looked at it, and set it aside."
-    )
-    STRUCK = "its ballot was struck", marked(
-        "The reason: the secretary has taken its ballot out again."
-    )
+    SET_ASIDE = "it was set aside", "The reason: the secretary has looked at it, and set it aside."
+    STRUCK = "its ballot was struck", "The reason: the secretary has taken its ballot out again."
     # it can't be read with certainty
     PARTED_OFF = (
         "it may be part of the letter above it in the mailbox, or have other letters in it: look at the file, and save its letters as .eml",
@@ -71,8 +54,9 @@ class Reason(enum.Enum):
     TOO_LONG = "it has {length} {what}; at most {limit} are read", UNCERTAIN
     TOO_MANY_PARTS = "it has too many parts or lines, or its parts are nested too deep", UNCERTAIN
     AMBIGUOUS = "mail programs may read it in different ways, because of {what}", UNCERTAIN
-    RAW_NAME = "the name of its sender is not encoded, so programs may read it in different ways", marked(
-        "The reason: the name of its sender is not encoded. Send it with a name without accents, or by another program."
+    RAW_NAME = (
+        "the name of its sender is not encoded, so programs may read it in different ways",
+        "The reason: the name of its sender is not encoded. Send it with a name without accents, or by another program.",
     )
     ENCRYPTED = "it is encrypted", UNCERTAIN
     NO_PLAIN_TEXT = "it does not begin with plain text, and is not HTML alone", UNCERTAIN
@@ -86,18 +70,22 @@ class Reason(enum.Enum):
     )
     # when it arrived
     NO_ARRIVAL = "no Received line at its top says when it arrived", LOOKED_AT
-    BEFORE_THE_CALL = "it arrived before the call for votes, which was at {called}", marked(
-        "The reason: it arrived before the call for votes."
+    BEFORE_THE_CALL = (
+        "it arrived before the call for votes, which was at {called}",
+        "The reason: it arrived before the call for votes.",
     )
-    AFTER_THE_END = "it arrived after the end of the vote, {end}", marked(
-        "The reason: it arrived after the end of the vote."
+    AFTER_THE_END = (
+        "it arrived after the end of the vote, {end}",
+        "The reason: it arrived after the end of the vote.",
     )
-    AFTER_THE_CLOSE = "it arrived after the vote was closed, {close}", marked(
-        "The reason: it arrived after the vote was closed."
+    AFTER_THE_CLOSE = (
+        "it arrived after the vote was closed, {close}",
+        "The reason: it arrived after the vote was closed.",
     )
     IN_THE_FUTURE = "it arrived later than the clock of this computer says", LOOKED_AT
-    CLOSED = "the vote is closed: to enter it, reopen", marked(
-        "The reason: it arrived in time, but was read only after the vote was closed."
+    CLOSED = (
+        "the vote is closed: to enter it, reopen",
+        "The reason: it arrived in time, but was read only after the vote was closed.",
     )
     # who sent it
     NO_SENDER = "it does not come from one address alone: {sender}", OTHER_ADDRESS
@@ -110,8 +98,9 @@ class Reason(enum.Enum):
         "it came from {sender}, which is not the address of {elector} in the list of members, but its subject has the own mark of {elector}",
         OTHER_ADDRESS,
     )
-    NO_OWN_MARK = "its subject lacks the own mark of {elector}, so anybody may have sent it", marked(
-        "The reason: its subject does not end with your own mark. Answer a letter of this vote to you, or use the link in it."
+    NO_OWN_MARK = (
+        "its subject lacks the own mark of {elector}, so anybody may have sent it",
+        "The reason: its subject does not end with your own mark. Answer a letter of this vote to you, or use the link in it.",
     )
     # it came by the page of the vote
     OTHER_LINK = (
@@ -135,9 +124,7 @@ class Reason(enum.Enum):
     NO_NAME = "the ranks have no name before them", NO_BALLOT_IN_IT
     REAL_NAME = (
         "the name is not written as on the roll, and whose it is does not have the sender's address alone",
-        marked(
-            "The reason: the name is not written as in this vote. Write it as in a letter of this vote to you."
-        ),
+        "The reason: the name is not written as in this vote. Write it as in a letter of this vote to you.",
     )
     NO_COMMAS = "the ranks have blanks between them, and no commas", NO_BALLOT_IN_IT
     WORD = "a word is in place of the ranks", LOOKED_AT
@@ -166,10 +153,11 @@ class Reason(enum.Enum):
         ALONE,
     )
     # other ballots
-    TWO_BALLOTS = "two different ballots", marked("The reason: it has two ballots that differ.")
+    TWO_BALLOTS = "two different ballots", "The reason: it has two ballots that differ."
     ANOTHER_ANSWER = "line {number} may be an answer, and belongs to no ballot", LOOKED_AT
-    SEVERAL_ELECTORS = "ballots of several electors: {electors}", marked(
-        "The reason: it has ballots of several electors."
+    SEVERAL_ELECTORS = (
+        "ballots of several electors: {electors}",
+        "The reason: it has ballots of several electors.",
     )
     # which vote it is about
     NO_SUBJECT_MARK = (
@@ -180,22 +168,25 @@ class Reason(enum.Enum):
         "the mark of this vote in its subject, [{mark}], is cut off or changed; if it is about this vote, enter it",
         NO_MARK_IN_IT,
     )
-    OTHER_MARK = "it has the mark of another vote, [{mark}]; add it to that vote", marked(
-        "The reason: it has the mark of another vote. To vote here, answer a letter of this vote."
+    OTHER_MARK = (
+        "it has the mark of another vote, [{mark}]; add it to that vote",
+        "The reason: it has the mark of another vote. To vote here, answer a letter of this vote.",
     )
     # the ballots of the elector that are in
     LATER_BALLOT = "a later ballot of {elector}, of {time}, was entered already", LATER_ONE
-    SAME_TIME = "another ballot of {elector} has the same time, {time}", marked(
-        "The reason: another ballot of this elector has the same time."
+    SAME_TIME = (
+        "another ballot of {elector} has the same time, {time}",
+        "The reason: another ballot of this elector has the same time.",
     )
     CAME_BEFORE = (
         "it is a copy, of {time}, of a letter of {first} that was read before, and {elector} has a ballot of {between}, between the two",
-        marked("The reason: it came twice, and another ballot of this elector came between."),
+        "The reason: it came twice, and another ballot of this elector came between.",
     )
     # its signature
-    NOT_SIGNED = "not signed", marked("The reason: not signed.")
-    NOT_WHOLE = "the letter has more than the signed text", marked(
-        "The reason: it has more than what is signed."
+    NOT_SIGNED = "not signed", "The reason: not signed."
+    NOT_WHOLE = (
+        "the letter has more than the signed text",
+        "The reason: it has more than what is signed.",
     )
     ODD_LINES = (
         "the signed text has a control character, or a line of more than 998 bytes",
@@ -221,14 +212,17 @@ class Reason(enum.Enum):
         "signed with the key {key}, but the list of members has {listed} for {elector}",
         ANOTHER_KEY,
     )
-    SIGNED_BEFORE_THE_CALL = "signed at {time}, before the call for votes", marked(
-        "The reason: signed before the call for votes."
+    SIGNED_BEFORE_THE_CALL = (
+        "signed at {time}, before the call for votes",
+        "The reason: signed before the call for votes.",
     )
-    SIGNED_AHEAD = "signed at {time}, which is later than it arrived", marked(
-        "The reason: signed at a time that was not yet when it arrived."
+    SIGNED_AHEAD = (
+        "signed at {time}, which is later than it arrived",
+        "The reason: signed at a time that was not yet when it arrived.",
     )
-    NO_MARK = "no line of the signed text is the mark of this vote, [{mark}]", marked(
-        "The reason: no line of what is signed is the mark of this vote, which is in the subject of the call, in square brackets."
+    NO_MARK = (
+        "no line of the signed text is the mark of this vote, [{mark}]",
+        "The reason: no line of what is signed is the mark of this vote, which is in the subject of the call, in square brackets.",
     )
 
     def __call__(self, **values: Value) -> ReasonWithValues:

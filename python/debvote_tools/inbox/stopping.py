@@ -12,7 +12,7 @@ from collections.abc import Iterable, Iterator, Sequence
 from debvote_tools.book import queries
 from debvote_tools.book.book import DoneAct
 from debvote_tools.book.election import Election, History
-from debvote_tools.cli.faults import NOTHING_CHANGED, Fault
+from debvote_tools.cli.faults import Fault
 from debvote_tools.inbox.asked import unasked_fault
 
 # the kinds of what stops, as the page names the doubts about them
@@ -48,20 +48,16 @@ class Pending:
 
 
 def what_stops(
-    election: Election,
-    history: History,
-    step: str,
-    pending: Pending,
-    done: str = NOTHING_CHANGED,
+    election: Election, history: History, step: str, pending: Pending
 ) -> dict[str, Fault]:
     """Why a step has to wait, by kind: `close` or, before the end, `early`; `count`, `publish`, or the letters
     of the `result`. What can be forced each command says.
     """
-    unasked = unasked_fault(election, history, step, done)
+    unasked = unasked_fault(election, history, step)
     found = {BOX: unasked} if unasked else {}
     if pending.stopping:
         cure = letters_cure(election, step, is_closed=history.is_closed)
-        found[LETTERS] = Fault(None, pending.why_they_stop, cure, done=done)
+        found[LETTERS] = Fault(None, pending.why_they_stop, cure)
     return found
 
 

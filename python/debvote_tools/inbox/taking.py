@@ -16,7 +16,7 @@ from debvote_tools.cli.console import count_of, is_terminal, listed, shown_text,
 from debvote_tools.cli.faults import Fault
 from debvote_tools.inbox import letter_words
 from debvote_tools.inbox.given_files import GivenLetters, safe
-from debvote_tools.inbox.entering import NOTHING_ADDED, Entry, bad_ballots
+from debvote_tools.inbox.entering import Entry, bad_ballots
 from debvote_tools.inbox.judging import judged
 from debvote_tools.inbox.letter_lines import ReadLetter, read_letters, to_json
 from debvote_tools.inbox.mailbox import RawLetter, letters_of_file, letters_of_folder
@@ -106,7 +106,7 @@ def keep(vote: Vote, raws: Sequence[RawLetter], read: Sequence[ReadLetter], deta
         return
     with vote.book.act("letters", {"letters": len(raws), **detail}) as act:
         # their lines were read by the poll of this call
-        vote.demand_same_call(vote.election.history(), NOTHING_ADDED)
+        vote.demand_same_call(vote.election.history())
         kept = queries.kept_digests(vote.book)
         for raw, letter in zip(raws, read):
             # another command may have kept it meanwhile
@@ -152,8 +152,11 @@ class GoingIn(LetterEntry):
             tell(*self.end)
         elif self.question and not is_terminal():
             ballots = count_of(len(self.letters), "ballot")
-            cure, done = "agree with --yes, or run it at a terminal", "and the letters are kept"
-            raise Fault(None, f"{ballots} would go in", cure, done=f"{NOTHING_ADDED}, {done}")
+            cure, done = (
+                "agree with --yes, or run it at a terminal",
+                "nothing was added, and the letters are kept",
+            )
+            raise Fault(None, f"{ballots} would go in", cure, done=done)
 
     def declined(self, _: bool | None) -> None:
         waits = letter_words.wait_words(sum(letter.is_pending for letter in self.found))
@@ -164,7 +167,7 @@ def what_goes_in(
     vote: Vote, previewed: Sequence[ReadLetter] = (), *, of_box: bool, is_agreed: bool
 ) -> GoingIn:
     history = vote.election.history()
-    vote.demand_same_call(history, NOTHING_ADDED)
+    vote.demand_same_call(history)
     every = judged(vote, history, queries.kept_letters(vote.book), previewed)
     found = [letter for letter in every if letter.read.link or not of_box]
     new = going_in(found)

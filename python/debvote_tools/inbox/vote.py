@@ -126,12 +126,10 @@ class Vote:
     def names_on_roll(self) -> frozenset[str]:
         return frozenset(self.roll)
 
-    def demand_same_call(
-        self, history: History, not_done: str, cure: str = "run the command again"
-    ) -> None:
+    def demand_same_call(self, history: History, cure: str = "run the command again") -> None:
         """Stops if lines were read by the poll of another call."""
         if history.call != self.call:
-            raise Fault(None, "the call for votes was made anew meanwhile", cure, done=not_done)
+            raise Fault(None, "the call for votes was made anew meanwhile", cure)
 
     @functools.cached_property
     def names(self) -> Names:

@@ -27,7 +27,6 @@ from debvote_tools.text.times import now
 # how long a run of reminders goes on, and how soon after it the next one is asked about
 LASTING = datetime.timedelta(days=1)
 
-NOTHING_WRITTEN = "nothing was written"
 
 # what a letter to an elector says
 TextOf = Callable[[Elector, OutgoingLetter], str]
@@ -178,10 +177,10 @@ def demand_due(election: Election, history: History, kind: str, *, is_over: bool
     if history.has_codes_on_roll:
         words = "codes are on the roll, and nobody knows whose they are, so no letters can be written to electors"
         cure = "with your mail program send call/call.txt, letters/closed.txt and letters/result.txt to all"
-        raise Fault("letters", words, cure, done=NOTHING_WRITTEN)
+        raise Fault("letters", words, cure)
     if kind == "result" and history.is_closed:
         pending = pending_letters(election, history)
-        stop_at([*what_stops(election, history, kind, pending, NOTHING_WRITTEN).values()])
+        stop_at([*what_stops(election, history, kind, pending).values()])
     if kind in ("call", "reminders") and is_over:
         words = "the vote is over, so nobody is asked to vote"
         cure = f"see {election.command('status')}"
@@ -194,7 +193,7 @@ def demand_due(election: Election, history: History, kind: str, *, is_over: bool
         words, cure = "nothing is published", f"run {election.command('publish')} first"
     else:
         return
-    raise Fault(kind, words, cure, done=NOTHING_WRITTEN)
+    raise Fault(kind, words, cure)
 
 
 def call_data_of(
@@ -207,10 +206,10 @@ def call_data_of(
     if kind == "result" and publication is not None:
         if call.at is None:
             why, cure = "the letter must say where the result is published", "give it: --at URL"
-            raise bad_words("--at", why, cure, NOTHING_WRITTEN)
+            raise bad_words("--at", why, cure)
         if (code := publication.detail["words"]["language"]) is not None:
             call = dataclasses.replace(call, language=language_of(code))
-    fault = unasked_fault(election, history, kind, NOTHING_WRITTEN)
+    fault = unasked_fault(election, history, kind)
     if fault is None:
         return call, {}
     if not has_reason(because):

@@ -3,16 +3,13 @@ letters and for what a letter after an extension says. `status` asks it, so noth
 that judges letters or makes pages.
 """
 
-from collections.abc import Sequence
 
 from debvote_tools.book import queries, outgoing
 from debvote_tools.book.election import Election, History
 from debvote_tools.book.queries import Elector
-from debvote_tools.book.outgoing import REFUSED
-from debvote_tools.inbox.mime import address_key
 from debvote_tools.poll.announced import address_in
 
-NO_LETTER, WAS_REFUSED, CAME_BACK = "no letter", "refused", "came back"
+WAS_REFUSED, CAME_BACK = "refused", "came back"
 
 # an elector, why the call has not reached them, by what came last, and what the server said
 Unreached = tuple[Elector, str, str]
@@ -24,18 +21,9 @@ def unreached(election: Election, history: History, *, without: int = 0) -> list
     letter since; and from whose address a letter came back, unless a ballot of theirs came by
     letter since. `without` is an act whose letters reach nobody yet.
     """
-    electors, call = queries.electors(election.book), election.called(history).number
-    found = outgoing.letters_by_address(election.book, call, without)
-    back, not_reached = came_back(election, electors, call), list[Unreached]()
-    for elector in electors:
-        place = elector.number, address_in(elector.addresses)
-        act, state, reply, has_call = found.get(place, (0, "", "", 0))
-        failures = [(act, WAS_REFUSED, reply)] if state == REFUSED else []
-        failures += [(back[place], CAME_BACK, "")] if place in back else []
-        if failures or not has_call:
-            _, why, said = max(failures, default=(0, NO_LETTER, ""))
-            not_reached.append((elector, why, said))
-    return not_reached
+    electors = {one.number: one for one in queries.electors(election.book)}
+    found = outgoing.unreached(election.book, election.called(history).number, without)
+    return [(electors[number], why, said) for number, why, said in found]
 
 
 def unreached_and_printed(
@@ -50,17 +38,3 @@ def unreached_and_printed(
     electors = queries.electors(election.book)
     printed = [one.name for one in electors if not address_in(one.addresses)]
     return [one for one in unreached(election, history) if address_in(one[0].addresses)], printed
-
-
-def came_back(
-    election: Election, electors: Sequence[Elector], call: int
-) -> dict[tuple[int, str], int]:
-    """From which addresses of electors letters came back since the call, each with the last act
-    with which one did. Such a letter is from no address of its elector.
-    """
-    found, on_list = dict[tuple[int, str], int](), {elector.number: elector for elector in electors}
-    for act, sender, number, address in outgoing.returned(election.book, call):
-        addresses = on_list[number].addresses if number in on_list else ()
-        if sender not in map(address_key, addresses):
-            found[number, address_in(addresses) if address is None else address] = act
-    return found

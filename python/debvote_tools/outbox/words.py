@@ -32,73 +32,76 @@ TWO_SIDES = 112
 QUOTED = re.compile(rb"[A-Za-z0-9.-]{1,32}[0-9 ,;:._-]{0,100}")
 
 # the letters that go out, as the command and the book name them, with their subjects
-SUBJECTS = {
-    "call": marked("Vote: {title}"),
-    "receipts": marked("Receipt: {title}"),
-    "reminders": marked("Not yet voted: {title}"),
-    "closed": marked("Vote closed: {title}"),
-    "result": marked("Result: {title}"),
-}
+SUBJECTS = marked(
+    {
+        "call": "Vote: {title}",
+        "receipts": "Receipt: {title}",
+        "reminders": "Not yet voted: {title}",
+        "closed": "Vote closed: {title}",
+        "result": "Result: {title}",
+    }
+)
 # in place of that of the call
 EXTENSION = marked("Vote ends later: {title}")
 
 
 # what became of a ballot
-OF_BALLOT = {
-    Became.COUNTS: marked(
-        "Your ballot of {time} has arrived. It counts unless you send a later one."
-    ),
-    Became.REPLACED: marked(
-        "Your ballot of {time} has arrived. Another ballot of yours, which was entered after it, counts instead."
-    ),
-    Became.LATE: marked(
-        "Your ballot of {time} has arrived. It was entered after the close, so it is late and does not count."
-    ),
-    Became.STRUCK: marked(
-        "Your ballot of {time} was entered, and the secretary has struck it. It does not count."
-    ),
-    Became.TAKEN_BACK: marked(
-        "Your ballot of {time} was entered, and the secretary has taken it back. It does not count unless it is entered again."
-    ),
-    Became.REFUSED: marked(
-        "A line with your name has arrived ({time}). It is not a valid ballot of this vote, so it does not count."
-    ),
-}
+OF_BALLOT = marked(
+    {
+        Became.COUNTS: "Your ballot of {time} has arrived. It counts unless you send a later one.",
+        Became.REPLACED: "Your ballot of {time} has arrived. Another ballot of yours, which was entered after it, counts instead.",
+        Became.LATE: "Your ballot of {time} has arrived. It was entered after the close, so it is late and does not count.",
+        Became.STRUCK: "Your ballot of {time} was entered, and the secretary has struck it. It does not count.",
+        Became.TAKEN_BACK: "Your ballot of {time} was entered, and the secretary has taken it back. It does not count unless it is entered again.",
+        Became.REFUSED: "A line with your name has arrived ({time}). It is not a valid ballot of this vote, so it does not count.",
+    }
+)
 AT_THE_END = marked("Your ballot of {time} has arrived, and it counts.")
 NOT_ALL = marked(
     "These of its answers do not count; others of yours, which were entered after them, count instead: {questions}."
 )
 # what became of a letter: whether it came from an address of the elector, and whether nobody looks
 # at it any more
-OF_LETTER = {
-    (True, False): marked(
-        "Your letter of {time} has arrived. No ballot from it is entered yet: the secretary has to look at it first."
-    ),
-    (True, True): marked("Your letter of {time} has arrived. No ballot from it was entered."),
-    (False, False): marked(
-        "A letter in your name came from another address, and waits until the secretary has looked at it."
-    ),
-    (False, True): marked(
-        "A letter in your name came from another address. The secretary has set it aside."
-    ),
-}
+OF_LETTER = marked(
+    {
+        (
+            True,
+            False,
+        ): "Your letter of {time} has arrived. No ballot from it is entered yet: the secretary has to look at it first.",
+        (True, True): "Your letter of {time} has arrived. No ballot from it was entered.",
+        (
+            False,
+            False,
+        ): "A letter in your name came from another address, and waits until the secretary has looked at it.",
+        (
+            False,
+            True,
+        ): "A letter in your name came from another address. The secretary has set it aside.",
+    }
+)
 
 
 # the same of a ballot that came by the page of the vote: whether by the link of the elector
-OF_RECORD = {
-    (True, False): marked(
-        "A ballot of {time} came by the page of the vote, with your link. It is not entered yet: the secretary has to look at it first."
-    ),
-    (True, True): marked(
-        "A ballot of {time} came by the page of the vote, with your link. It was not entered."
-    ),
-    (False, False): marked(
-        "A ballot in your name came by the page of the vote, but not with your present link. It waits until the secretary has looked at it."
-    ),
-    (False, True): marked(
-        "A ballot in your name came by the page of the vote, but not with your present link. The secretary has set it aside."
-    ),
-}
+OF_RECORD = marked(
+    {
+        (
+            True,
+            False,
+        ): "A ballot of {time} came by the page of the vote, with your link. It is not entered yet: the secretary has to look at it first.",
+        (
+            True,
+            True,
+        ): "A ballot of {time} came by the page of the vote, with your link. It was not entered.",
+        (
+            False,
+            False,
+        ): "A ballot in your name came by the page of the vote, but not with your present link. It waits until the secretary has looked at it.",
+        (
+            False,
+            True,
+        ): "A ballot in your name came by the page of the vote, but not with your present link. The secretary has set it aside.",
+    }
+)
 
 
 @dataclasses.dataclass(frozen=True)

@@ -28,22 +28,16 @@ KEY_BYTES, LINK_LENGTH = 32, 16
 LOOPBACK = ("localhost", "127.0.0.1", "::1")
 
 # the sentences of box.js, those of an answer by its first word
-SENTENCES = {
-    "sending": marked("It is being sent .."),
-    "received": marked(
-        "It has arrived, {time}. The secretary fetches it, and you get a receipt by e-mail that says how it was read. If none comes, or it says otherwise, tell the secretary."
-    ),
-    "unknown": marked(
-        "It was not taken: this page does not know your link. Open the newest letter of this vote, or send your ballot by e-mail."
-    ),
-    "many": marked(
-        "It was not taken: too many ballots came by your link. Send your ballot by e-mail."
-    ),
-    "lost": marked("It was not taken. Send your ballot by e-mail."),
-    "unsure": marked(
-        "Nobody knows whether it has arrived. Press the button again: it counts once. Or send your ballot by e-mail."
-    ),
-}
+SENTENCES = marked(
+    {
+        "sending": "It is being sent ..",
+        "received": "It has arrived, {time}. The secretary fetches it, and you get a receipt by e-mail that says how it was read. If none comes, or it says otherwise, tell the secretary.",
+        "unknown": "It was not taken: this page does not know your link. Open the newest letter of this vote, or send your ballot by e-mail.",
+        "many": "It was not taken: too many ballots came by your link. Send your ballot by e-mail.",
+        "lost": "It was not taken. Send your ballot by e-mail.",
+        "unsure": "Nobody knows whether it has arrived. Press the button again: it counts once. Or send your ballot by e-mail.",
+    }
+)
 
 
 # ---- the key, and what is made of it

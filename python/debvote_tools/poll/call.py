@@ -17,7 +17,7 @@ from debvote_tools.text.language import Language, marked
 from debvote_tools.text.motions import Words
 from debvote_tools.text.rendering import render_letter, render_page, resources
 from debvote_tools.poll import box
-from debvote_tools.poll.questions import Questions, quorums_in
+from debvote_tools.poll.questions import Questions
 from debvote_tools.poll.sealed import SealedPoll, in_brackets
 
 # a first line that greets: it ends as one does, or begins so in one of the languages
@@ -33,23 +33,19 @@ SUBJECT = marked("Ballot: {title}")
 PACKAGE = "debvote_tools.poll"
 
 # the sentences of the script on the page
-SENTENCES = {
-    "subject": SUBJECT,
-    "type_name": marked("Type your name."),
-    "on_roll": marked("On the roll: {names}"),
-    "not_on_roll": marked(
-        "{name} is not on the roll of this poll; the names on the roll are below."
-    ),
-    "no_name": marked(
-        "Names on the roll have only small letters without accents, digits, points and hyphens, and at most 32 of them."
-    ),
-    "rank_missing": marked("Give at least one option a rank."),
-    "more": marked("Read on"),
-    "selected": marked(
-        "The line is selected. Copy it with Ctrl+C, or Cmd+C on a Mac; on a telephone hold a finger on it."
-    ),
-    "copied": marked("The line is copied."),
-}
+SENTENCES = marked(
+    {
+        "subject": SUBJECT,
+        "type_name": "Type your name.",
+        "on_roll": "On the roll: {names}",
+        "not_on_roll": "{name} is not on the roll of this poll; the names on the roll are below.",
+        "no_name": "Names on the roll have only small letters without accents, digits, points and hyphens, and at most 32 of them.",
+        "rank_missing": "Give at least one option a rank.",
+        "more": "Read on",
+        "selected": "The line is selected. Copy it with Ctrl+C, or Cmd+C on a Mac; on a telephone hold a finger on it.",
+        "copied": "The line is copied.",
+    }
+)
 OF_SEVERAL = {"unanswered": marked("Not answered: {questions}")}
 
 
@@ -255,7 +251,7 @@ def current_call(
     return CallData(
         language=election.language,
         questions=sealed.public,
-        quorum_votes=quorums_in(value_of("quorum_votes")),
+        quorum_votes=value_of("quorum_votes"),
         until=until_of(saying) or now.until,
         to=value_of("to"),
         at=value_of("at"),

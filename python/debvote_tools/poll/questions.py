@@ -119,14 +119,3 @@ def read_questions(
 def place_of(label: str, file: str) -> str:
     """Where a file of a question is, in the folder of the election."""
     return str(pathlib.PurePath(label, file))
-
-
-def quorums_in(said: int | dict[str, int]) -> dict[str, int]:
-    """How many electors have to prefer an option to the default option, by question, as the act of a
-    call keeps it: a number is that of the one question.
-    """
-    return said if isinstance(said, dict) else {"": said}
-
-
-def quorums_said(quorums: Mapping[str, int]) -> int | dict[str, int]:
-    return quorums[""] if "" in quorums else dict(quorums)

@@ -47,11 +47,11 @@ def new_code(name: str = "") -> str:
             return code
 
 
-def demand_no_code(name: str, data: bytes, codes: Collection[str], done: str) -> None:
+def demand_no_code(name: str, data: bytes, codes: Collection[str]) -> None:
     """Stops if a file for everybody would have a code: the list of codes may be one of the texts."""
     if codes and not {code.decode() for code in CODE_WITHIN.findall(data)}.isdisjoint(codes):
         words = f"{name} would have the code of an elector in it"
-        raise Fault(None, words, "check the texts that you gave", done=done)
+        raise Fault(None, words, "check the texts that you gave")
 
 
 def codes_csv(electors: Iterable[Elector], *, is_several: bool = False) -> bytes:

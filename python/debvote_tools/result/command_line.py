@@ -71,7 +71,7 @@ def main(program_folder: pathlib.Path, given: Sequence[str] | None = None) -> in
             [outcome] = folder.filled(new.folder, {"": facts}, program_folder).outcomes.values()
             new.take_place(target_folder)
     except Fault as fault:
-        return console.failed(PROGRAM, fault.words, fault.status)
+        return console.failed(PROGRAM, fault.after((), "published").words, fault.status)
     except OSError as error:
         words = f"the folder can't be made ({error}): name a place where you can write"
         return console.failed(PROGRAM, words, Status.BAD_OUTPUT)
@@ -98,7 +98,7 @@ def facts_of(arguments: Arguments, program_folder: pathlib.Path) -> Facts:
         poll,
         ballots,
         language_of(arguments.language),
-        words=PublishedWords(casting=arguments.casting),
+        words=PublishedWords({"": arguments.casting} if arguments.casting else {}),
         desks=arguments.desks,
         given_checksum=sha256_of(poll_bytes),
     )
@@ -164,4 +164,4 @@ def is_right(key: str, value: Any, options: int) -> bool:
 
 
 def refused(file: str, words: str, cure: str, status: int = Status.BAD_POLL) -> Fault:
-    return Fault(file, words, cure, status, folder.NOTHING_DONE)
+    return Fault(file, words, cure, status)

@@ -12,7 +12,7 @@ from debvote_tools.debvote import Finding, casting_words, standing_in
 from debvote_tools.poll.questions import Questions
 from debvote_tools.text.ballots import ballot_lines
 from debvote_tools.poll.sealed import SealedPoll
-from debvote_tools.result.sheet import Castings, Sheet, castings_kept
+from debvote_tools.result.sheet import Castings, Sheet
 from debvote_tools.result.why import Why
 from debvote_tools.text.language import ENGLISH, Language
 from debvote_tools.text.times import time_in_words
@@ -60,9 +60,9 @@ class PublishedWords:
     made again.
     """
 
-    # the options that casting votes choose, as `castings_said` has them; whose these were and on which
+    # the options that casting votes choose; whose these were and on which
     # day, if that is said. No count can show it
-    casting: str | Castings | None = None
+    castings: Castings = dataclasses.field(default_factory=dict)
     cast_by: str | None = None
     cast_on: str | None = None
     about: str | None = None
@@ -70,10 +70,6 @@ class PublishedWords:
     is_forced: bool = False
     because: str | None = None
     language: str | None = None
-
-    @property
-    def castings(self) -> Castings:
-        return castings_kept(self.casting)
 
     @property
     def cast_day(self) -> datetime.date | None:

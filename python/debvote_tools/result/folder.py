@@ -41,7 +41,6 @@ from debvote_tools.result.sheet import (
     votes_csv,
 )
 
-NOTHING_DONE = "nothing was published"
 
 # programs and guide: what each is, where the package has it, and where a checkout has it
 HERE = pathlib.Path(__file__).resolve().parent
@@ -125,7 +124,7 @@ def demand_outside(target_folder: pathlib.Path) -> None:
     for above in real_place(target_folder).parents:
         if all((above / name).is_file() for name in (CHECKSUMS, PAGE)):
             words = f"it would be in {above}, whose files are published as they are"
-            raise bad_words(target_folder, words, "name a folder outside of it", NOTHING_DONE)
+            raise bad_words(target_folder, words, "name a folder outside of it")
 
 
 def is_publication(folder: pathlib.Path, checksum: str) -> bool:
@@ -147,7 +146,7 @@ def is_publication(folder: pathlib.Path, checksum: str) -> bool:
 
 
 def in_use(target_folder: pathlib.Path, words: str, cure: str) -> Fault:
-    return bad_words(target_folder, f"it exists already, and is not {words}", cure, NOTHING_DONE)
+    return bad_words(target_folder, f"it exists already, and is not {words}", cure)
 
 
 @contextlib.contextmanager
@@ -205,7 +204,7 @@ class Filling:
         codes = next(iter(self.given.values())).codes
         for name, data in files.items():
             place = place_of(label, name)
-            demand_no_code(place, data, codes, NOTHING_DONE)
+            demand_no_code(place, data, codes)
             with naming(self.folder.parent):
                 write_public(self.folder / place, data)
             self.checksums[place] = sha256_of(data)
@@ -302,7 +301,7 @@ def demand_publishable(outcomes: Mapping[str, Outcome]) -> dict[str, list[Doubt]
         its = list(never_published(outcomes[label])) if label in outcomes else []
         reasons = "; ".join(doubt.for_secretary() for doubt in about if doubt.stops)
         if reasons and not passes and not its:
-            its = [Fault(where, reasons, cure, done=NOTHING_DONE)]
+            its = [Fault(where, reasons, cure)]
         faults += its
         note = ": ".join(filter(None, ["Note", where]))
         notes += (f"{note}: {doubt.for_secretary()}; the result page says so" for doubt in about)
@@ -319,7 +318,7 @@ def never_published(outcome: Outcome) -> Iterator[Fault]:
         shown = " and ".join(f"{option} {name}" for name, option in left.items())
         words = f"no casting vote can choose {given.casting}, which is not left; left {'are' if len(left) > 1 else 'is'} {shown}"
         cure = "name an option that is left"
-        yield Fault("--casting", words, cure, Status.CASTING_OUTSIDE, NOTHING_DONE)
+        yield Fault("--casting", words, cure, Status.CASTING_OUTSIDE)
     if given.poll.secret and not (
         sheet.last_envelope is None and sheet.lines == sheet.valid == sheet.voters
     ):
@@ -364,7 +363,7 @@ def further_files(outcome: Outcome, picture: bytes | None) -> dict[str, bytes]:
 # ---- the second count
 def unlike(what: str | None, words: str) -> Fault:
     """The fault of files that do not belong together."""
-    return Fault(what, words, "keep all files, and tell the maintainers", done=NOTHING_DONE)
+    return Fault(what, words, "keep all files, and tell the maintainers")
 
 
 def demand_same(folder: pathlib.Path, outcome: Outcome) -> None:

@@ -24,7 +24,7 @@ from debvote_tools.poll.questions import Questions, place_of
 from debvote_tools.poll.sealed import SealedPoll
 from debvote_tools.result.facts import Act, Doubt, Facts, PublishedWords
 from debvote_tools.result.file_names import BALLOTS
-from debvote_tools.result.sheet import castings_kept, sheet_in
+from debvote_tools.result.sheet import sheet_in
 from debvote_tools.text.ballots import ballot_file, in_normal_form
 from debvote_tools.text.language import Language, language_of
 from debvote_tools.text.rendering import render_letter
@@ -196,9 +196,7 @@ def doubts_of(
         # at the end `close --force` has agreed to it
         yield Doubt(BOX, stops=BOX in stopping)
     names = dict(zip(poll.plain_names, poll.names))
-    earlier = dict.fromkeys(
-        castings_kept(act.detail["casting"]).get(label) for act in history.named("publish")
-    )
+    earlier = dict.fromkeys(act.detail["casting"].get(label) for act in history.named("publish"))
     for option in earlier:
         if option is not None and casting not in (None, option):
             yield Doubt("other casting vote", {"option": names[option]})
@@ -297,9 +295,7 @@ def texts_of(questions: Questions) -> dict[str, str]:
     }
 
 
-def agreed_texts(
-    history: History, texts: Mapping[str, str], *, is_agreed: bool, done: str
-) -> list[str]:
+def agreed_texts(history: History, texts: Mapping[str, str], *, is_agreed: bool) -> list[str]:
     """The checksums of the texts that are new, for the act that makes them public. Shows these, and
     asks about them once, unless the command line agrees.
     """
@@ -309,14 +305,14 @@ def agreed_texts(
     if new and not is_agreed:
         for where in new.values():
             tell_aside(f"{where}:", *(f"  {line}" for line in texts[where].strip().split("\n")))
-        demand_yes("May everybody read this?", "these texts may tell who voted what", done)
+        demand_yes("May everybody read this?", "these texts may tell who voted what")
     return list(new)
 
 
-def demand_yes(question: str, why: str, done: str) -> None:
+def demand_yes(question: str, why: str) -> None:
     """Asks at a terminal, and stops unless the answer is yes; elsewhere it stops."""
     if not is_terminal():
         cure = "check that this is all right, then repeat the command with --yes"
-        raise Fault(None, f"the vote is secret, and {why}", cure, done=done)
+        raise Fault(None, f"the vote is secret, and {why}", cure)
     if not is_yes(f"The vote is secret. {question}"):
-        raise Fault(None, "you did not say yes", "put it right, then repeat the command", done=done)
+        raise Fault(None, "you did not say yes", "put it right, then repeat the command")

@@ -6,11 +6,11 @@ counted now.
 import csv
 import dataclasses
 import io
-import itertools
 import json
 import re
 import shlex
 from collections.abc import Iterable, Iterator, Mapping, Sequence
+from typing import Any
 
 from debvote_tools.book.election import Election, History, Sealed
 from debvote_tools.cli.faults import Fault, Status, other_format
@@ -20,10 +20,30 @@ from debvote_tools.poll.sealed import SealedPoll
 
 Pair = tuple[int, int]
 
-OPTION_LINE = re.compile(r" *(\d+) (?:ratio (\d+)|default) (.*)")
-QUORUM_LINE = re.compile(r"(\d+)Q, (\d+) votes")
-DEFEAT_LINE = re.compile(r" *(?:drop +)?(\d+) over +(\d+).*")
-
+# a sheet, as FORMATS has it: its facts, the parts below them, its rounds and its last line
+SHEET = re.compile(
+    r"""Poll: (?P<title>.*)
+Electors: (?P<electors>\d+)
+Quorum: (?P<quorum_multiple>\d+)Q, (?P<quorum>\d+) votes
+(?P<majority>Majority: more than
+)?Lines: (?P<lines>\d+)
+(?:Last envelope: (?P<last_envelope>\d+)
+)?Valid: (?P<valid>\d+)
+Refused: (?P<refused>\d+)
+Voters: (?P<voters>\d+)
+Options:
+(?P<options>(?: .*\n)+)Votes:
+(?P<votes>(?: .*\n)+)Dropped:
+(?P<dropped>(?: .*\n)+)Defeats:
+(?P<defeats>(?: .*\n)+)(?P<rounds>(?:Round .*\n(?: .*\n)*)+)(?P<last_line>Winner: (?P<winner>\d+) (?P<name>.*)|Tie: [\d ]+(?:, casting option (?P<casting_outside>\d+) is not among them)?)\n?"""
+)
+NUMBERS = (
+    "electors quorum_multiple quorum lines last_envelope valid refused voters winner casting_outside"
+).split()
+OPTION = re.compile(r"(?m)^ *(\d+) (?:ratio (\d+)|default) (.*)$")
+DROPPED = re.compile(r"(?m)^ *(\d+) (\w+)$")
+DEFEAT = re.compile(r"(?m)^ *(?:drop +)?(\d+) over +(\d+)")
+ROUND = re.compile(r"Round \d+: (.*)\n((?: .*\n)*)")
 # a spreadsheet would run a name that begins so; an apostrophe before it keeps it from that
 STEERING = ("=", "+", "-", "@", "'")
 
@@ -88,93 +108,44 @@ class Sheet:
 
 def sheet_in(text: str) -> Sheet:
     """The sheet of a text. That of another version of debvote may have another format."""
-    try:
-        return sheet_of(text)
-    except (ValueError, LookupError):
-        raise other_format("the sheet of this debvote") from None
-
-
-# the parts of a sheet below its facts; what follows the last one, up to the last line, are its rounds
-HEADS = ("Options:", "Votes:", "Dropped:", "Defeats:")
-
-
-def sheet_of(text: str) -> Sheet:
-    """Raises ValueError or LookupError if the text is no sheet."""
-    lines = text.removesuffix("\n").split("\n")
-    # the first line is the title's, which may be any of these words
-    starts = [lines.index(head, 1) for head in HEADS]
-    starts.append(
-        next(
-            (at for at, line in enumerate(lines) if at > starts[-1] and line.startswith("Round ")),
-            len(lines),
-        )
-    )
-    options, votes, dropped, defeats = (
-        [line for line in lines[start + 1 : end] if line != "  none"]
-        for start, end in itertools.pairwise(starts)
-    )
-    facts = dict(line.split(": ", 1) for line in lines[: starts[0]])
-    multiple, quorum = parts_of(QUORUM_LINE, facts["Quorum"])
-    shown = [parts_of(OPTION_LINE, line) for line in options]
+    found = SHEET.fullmatch(text)
+    if found is None:
+        raise other_format("the sheet of this debvote")
+    numbers: dict[str, Any] = {key: found[key] and int(found[key]) for key in NUMBERS}
+    shown = OPTION.findall(found["options"])
     names = {int(option): name for option, _, name in shown}
-    winner = re.fullmatch(r"Winner: (\d+) (.*)", lines[-1])
-    outside = re.fullmatch(r"Tie: [\d ]+, casting option (\d+) is not among them", lines[-1])
     return Sheet(
         text=text,
-        title=facts["Poll"],
-        quorum_multiple=int(multiple),
-        quorum=int(quorum),
-        is_more_than="Majority" in facts,
-        last_envelope=int(facts["Last envelope"]) if "Last envelope" in facts else None,
-        **{
-            number: int(facts[number.title()])
-            for number in "electors lines valid refused voters".split()
-        },
+        title=found["title"],
+        is_more_than=found["majority"] is not None,
         names=names,
         ratios={int(option): int(ratio) for option, ratio, _ in shown if ratio},
-        # below the numbers of the columns
-        votes=dict(itertools.chain.from_iterable(map(votes_in, votes[1:]))),
-        dropped={int(option): cause for option, cause in map(str.split, dropped)},
-        defeats=list(map(pair_in, defeats)),
-        rounds=rounds_in(lines[starts[-1] : -1]),
-        last_line=lines[-1],
-        winner=int(winner[1]) if winner else None,
+        votes=dict(votes_in(found["votes"])),
+        dropped={int(option): cause for option, cause in DROPPED.findall(found["dropped"])},
+        defeats=pairs_in(found["defeats"]),
+        rounds=[
+            ([int(option) for option in left.split()], pairs_in(removed))
+            for left, removed in ROUND.findall(found["rounds"])
+        ],
+        last_line=found["last_line"],
         # a name may itself end with the words that mark a casting vote
-        is_by_casting=winner is not None and winner[2] != names[int(winner[1])],
-        casting_outside=int(outside[1]) if outside else None,
+        is_by_casting=found["name"] != names.get(numbers["winner"]),
+        **numbers,
     )
 
 
-def votes_in(line: str) -> Iterator[tuple[Pair, int]]:
-    """The votes of a row: how many electors prefer its option to each other one."""
-    option, *cells = line.split()
-    for other, cell in enumerate(cells, start=1):
-        if cell != "-":
-            yield (int(option), other), int(cell)
+def votes_in(text: str) -> Iterator[tuple[Pair, int]]:
+    """How many electors prefer each option to each other one, below the numbers of the columns."""
+    for line in text.splitlines()[1:]:
+        option, *cells = line.split()
+        for other, cell in enumerate(cells, start=1):
+            if cell != "-":
+                yield (int(option), other), int(cell)
 
 
-def rounds_in(lines: list[str]) -> list[tuple[list[int], list[Pair]]]:
-    rounds: list[tuple[list[int], list[Pair]]] = []
-    for line in lines:
-        if line.startswith("Round "):
-            rounds.append(([int(option) for option in line.split(": ")[1].split()], []))
-        else:
-            rounds[-1][1].append(pair_in(line))
-    return rounds
-
-
-def pair_in(line: str) -> Pair:
-    """The two options of a line such as `1 over 2 by 4 to 2`."""
-    a, b = parts_of(DEFEAT_LINE, line)
-    return int(a), int(b)
-
-
-def parts_of(pattern: re.Pattern[str], line: str) -> tuple[str, ...]:
-    """The parts of a line, empty where a part is missing. Raises ValueError if it does not fit."""
-    parts = pattern.fullmatch(line)
-    if parts is None:
-        raise ValueError(line)
-    return parts.groups("")
+def pairs_in(text: str) -> list[Pair]:
+    """The two options of each line such as `1 over 2 by 4 to 2`."""
+    return [(int(a), int(b)) for a, b in DEFEAT.findall(text)]
 
 
 # ---- as data
@@ -256,7 +227,6 @@ def votes_csv(sheet: Sheet) -> str:
 
 
 # ---- before a count
-NOTHING_COUNTED = "nothing was counted"
 
 # the words of the option --casting
 CASTING = (
@@ -273,9 +243,7 @@ def demand_countable(election: Election, history: History, sealed: Sealed) -> No
     """Stops at a secret vote that is not closed: whoever sees its numbers grow sees who voted what."""
     if sealed.counted.is_secret and not history.is_closed:
         words = "the vote is secret, and can be counted only after the close"
-        raise Fault(
-            None, words, f"close it first: {election.command('close')}", done=NOTHING_COUNTED
-        )
+        raise Fault(None, words, f"close it first: {election.command('close')}")
 
 
 def castings_in(given: Sequence[str] | None, questions: Questions) -> Castings:
@@ -305,16 +273,6 @@ def named(label: str) -> str:
     return f"question {label}" if label else "it"
 
 
-def castings_said(castings: Castings) -> str | Castings | None:
-    """As the act of a publication keeps them: that of the one question without a label."""
-    return dict(castings) if any(castings) else castings.get("")
-
-
-def castings_kept(said: str | Castings | None) -> Castings:
-    """The casting votes that the act of a publication has kept."""
-    return {} if said is None else {"": said} if isinstance(said, str) else said
-
-
 def with_label(label: str, casting: str) -> str:
     """A casting vote as --casting names it."""
     return f"{label}={casting}" if label else casting
@@ -329,7 +287,7 @@ def publishing(election: Election, castings: Castings) -> str:
 
 def bad_casting(text: str, words: str, cure: str) -> Fault:
     where = f"--casting={shlex.quote(text)}"
-    return Fault(where, words, cure, Status.CASTING_OUTSIDE, NOTHING_COUNTED)
+    return Fault(where, words, cure, Status.CASTING_OUTSIDE)
 
 
 def in_shell(names: Iterable[str]) -> str:

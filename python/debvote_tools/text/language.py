@@ -10,6 +10,7 @@ import io
 import json
 import pathlib
 from collections.abc import Iterable, Mapping
+from typing import TypeVar
 
 # each by the code that the pages have for it, with its name in English
 LANGUAGES = {"en": "English", "de": "German", "fr": "French", "es": "Spanish"}
@@ -17,18 +18,11 @@ LANGUAGES = {"en": "English", "de": "German", "fr": "French", "es": "Spanish"}
 LOCALE = pathlib.Path(__file__).parent.parent / "locale"
 
 
-def marked(text: str) -> str:
-    """Returns the text as it is: it marks a sentence that has translations, and is said elsewhere."""
-    return text
+Marked = TypeVar("Marked")
 
 
-def marked_each(*texts: str) -> tuple[str, ...]:
-    """The same for several sentences."""
-    return texts
-
-
-def marked_by_name(**texts: str) -> dict[str, str]:
-    """The same for sentences that have names."""
+def marked(texts: Marked) -> Marked:
+    """Returns a sentence, or a table of some, as it is: it has translations, and is said elsewhere."""
     return texts
 
 

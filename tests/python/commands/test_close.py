@@ -14,7 +14,7 @@ from tests.support.called import LettersTest
 from tests.support.letters import letter
 from tests.support.terminal import Terminal
 
-MEANWHILE = "another command changed the election meanwhile; nothing was changed"
+MEANWHILE = "another command changed the election meanwhile; nothing was published"
 
 
 class Close(LettersTest):

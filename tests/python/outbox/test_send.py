@@ -614,7 +614,7 @@ class SeveralRuns(SendTest):
         self.assert_sent("reminders")
         words = ("letters", "reminders", "--send", "--server", self.server.name)
         for how in (words[2:], ()):
-            said = "Reminders were written at 2026-11-23 10:00:00 UTC; nothing was written or sent: if it is right, remind again with --yes"
+            said = "Reminders were written at 2026-11-23 10:00:00 UTC; nothing was written: if it is right, remind again with --yes"
             self.assert_refused(("letters", "reminders", *how), 9, said)
         desk = terminal.Terminal(self, *words)
         self.assertIn("Reminders were written at 2026-11-23 10:00:00 UTC. Remind again? [y/n] ", desk.until("[y/n] "))
