@@ -7,14 +7,15 @@ import re
 import subprocess
 from collections.abc import Collection, Mapping, Sequence
 
-from debvote_tools.book.queries import Elector
+from debvote_tools.book import queries
+from debvote_tools.book.queries import Elector, KeptLetter
 from debvote_tools.debvote import findings_in
 from debvote_tools.inbox.judging import Ballot, judge_all
 from debvote_tools.inbox.letter import ParsedLetter, parse
 from debvote_tools.inbox.letter_lines import Names, ReadLetter, from_json, to_json, with_lines
 from debvote_tools.inbox.mailbox import NotRead, RawLetter
 from debvote_tools.inbox.reasons import ReasonWithValues, for_secretary
-from debvote_tools.inbox.rules import Circumstances, LetterCase, LetterOutcome
+from debvote_tools.inbox.rules import NOT_KEPT, Circumstances, LetterCase, LetterOutcome
 from debvote_tools.poll.questions import LONGEST_LINE
 
 from tests.support import elections
@@ -89,7 +90,7 @@ def circumstances(
     }
     usual: dict[str, object] = {
         "mark": MARK, "subject": BY_PAGE, "electors": electors, "is_marked": False, "is_signed": keys is not None,
-        "called": at(9, day=20), "end": None, "first_close": None, "is_closed": False, "now": at(9, day=25), "our_ids": OURS, "decisions": {},
+        "called": at(9, day=20), "end": None, "first_close": None, "is_closed": False, "now": at(9, day=25), "our_ids": OURS,
         "marks": {MARK}, "own_marks": {*filter(None, own_marks.values()), *own_marks_before},
     }  # fmt: skip
     return Circumstances(**{**usual, **other})  # type: ignore[arg-type]
@@ -147,12 +148,25 @@ def read(*letters: bytes | ParsedLetter, reader: DebvoteReader | None = None, **
 
 
 def judged(
-    *letters: bytes | ParsedLetter, reader: DebvoteReader | None = None, ballots: Mapping[str, Sequence[Ballot]] | None = None, **other: object
-) -> list[LetterCase]:
-    """What becomes of letters, in the order of their times."""
+    *letters: bytes | ParsedLetter, reader: DebvoteReader | None = None, ballots: Mapping[str, Sequence[Ballot]] | None = None,
+    decisions: Mapping[str, str] = {}, **other: object,
+) -> list[LetterCase]:  # fmt: skip
+    """What becomes of letters, in the order of their times; `decisions` are those of acts, by the digests of letters."""
     of_names = {name: value for name, value in other.items() if name in ("roll", "language", "real_names", "words")}
     of_others = {name: value for name, value in other.items() if name not in ("language", "real_names")}
-    return judge_all(read(*letters, reader=reader, **of_names), circumstances(**of_others), lambda _: ballots or {})
+    now = circumstances(**of_others)
+    cases = [LetterCase(one, now, as_kept(decisions.get(one.digest))) for one in read(*letters, reader=reader, **of_names)]
+    return judge_all(cases, lambda _: ballots or {})
+
+
+def as_kept(state: str | None) -> KeptLetter:
+    """A letter that the book has, by what the last act decided of it."""
+    return NOT_KEPT._replace(state=state or queries.NEVER_DECIDED)
+
+
+def judged_alone(one: ReadLetter, now: Circumstances) -> LetterCase:
+    [found] = judge_all([LetterCase(one, now)], lambda _: {})
+    return found
 
 
 def label(why: ReasonWithValues) -> str:

@@ -197,7 +197,7 @@ def what_is_entered(vote: Vote, arguments: Arguments, typed: Sequence[BallotLine
     wanted = chosen_letters(found, arguments.numbers)
     last = {}
     if not arguments.numbers:
-        wanted = [one for one in found if one.decision == queries.TAKEN_BACK]
+        wanted = [one for one in found if one.state == queries.TAKEN_BACK]
         taken_back = queries.envelopes(vote.book, "letter IS NOT NULL AND struck IS NOT NULL")
         last = {one.letter: history.act(one.act) for one in taken_back}
     chosen, faults = list[Chosen](), list[Fault]()

@@ -45,18 +45,10 @@ def judged(
     """
     if not kept and not previewed:
         return []
-    found = read_kept(vote, kept)
-    by_key = {letter.key: kept_letter for letter, kept_letter in zip(found, kept)}
-    circumstances = circumstances_now(vote, history, by_key)
-    letters_now = judge_all(
-        [*found, *previewed], circumstances, lambda names: ballots_in(vote, names)
-    )
-    for letter in letters_now:
-        if (kept_letter := by_key.get(letter.read.key)) is not None:
-            letter.number, letter.source = kept_letter.number, kept_letter.source
-        if vote.questions.is_secret and not vote.has_codes:
-            letter.code_lines = letter.read.code_lines
-    return letters_now
+    found, circumstances = read_kept(vote, kept), circumstances_now(vote, history)
+    cases = [LetterCase(read, circumstances, letter) for read, letter in zip(found, kept)]
+    cases += (LetterCase(read, circumstances) for read in previewed)
+    return judge_all(cases, lambda names: ballots_in(vote, names))
 
 
 # ---- what they are judged by
@@ -108,15 +100,12 @@ def ballots_in(
     return by_elector
 
 
-def circumstances_now(
-    vote: Vote, history: History, by_key: Mapping[str, KeptLetter]
-) -> Circumstances:
-    """What letters are judged by, as the election is now. `by_key` has the letters of the book."""
+def circumstances_now(vote: Vote, history: History) -> Circumstances:
+    """What letters are judged by, as the election is now."""
     election, call = vote.election, history.call
     assert call is not None
     public, electors = election.sealed().public, queries.electors(election.book)
     ids = queries.our_message_ids(election.book)
-    states = ((key, kept.state) for key, kept in by_key.items())
     no_answers = {elector.who for elector in electors}
     if vote.names.words or vote.names.labels:
         letter = call_letter(current_call(election, history))
@@ -129,13 +118,13 @@ def circumstances_now(
         electors={elector.name: elector for elector in electors},
         is_marked=bool(history.announced("marked")),
         is_signed=vote.is_signed,
+        is_of_names=vote.questions.is_secret and not vote.has_codes,
         called=call.time,
         end=history.until,
         first_close=history.closes[0].time if history.closes else None,
         is_closed=history.is_closed,
         now=times.now(),
         our_ids={elector.name: ids.get(elector.number, []) for elector in electors},
-        decisions={key: state for key, state in states if state != queries.NEVER_DECIDED},
         box_key=queries.sealed(election.book, BOX_KEY) or b"",
         words=vote.names.words,
         no_answers=no_answers,
@@ -145,25 +134,23 @@ def circumstances_now(
 
 # ---- one letter beside the others
 def judge_all(
-    letters: Sequence[ReadLetter],
-    circumstances: Circumstances,
+    cases: Iterable[LetterCase],
     ballots_of: Callable[[Collection[str]], Mapping[str, Sequence[Ballot]]],
 ) -> list[LetterCase]:
     """Judges letters, and returns them by their times; those without a time come last. What an act
     decided holds; a letter that breaks a rule waits. Of the letters of one identity, mostly one alone,
     the first that breaks none is the original, whose time is its own; the others may be its copies.
     """
-    cases = [LetterCase(letter, circumstances) for letter in letters]
-    cases.sort(key=lambda case: (case.time is None, case.time or circumstances.now))
+    cases = sorted(cases, key=lambda case: (case.time is None, case.time or case.circumstances.now))
     electors = {elector for case in cases for elector in case.electors}
     by_elector: BallotsByElector = collections.defaultdict(list)
     for elector, ballots in ballots_of(electors).items():
         by_elector[elector] = sorted(ballots, key=queries.by_time)
     for case in cases:
         case.outcome, case.reason = (
-            (LetterOutcome.WAITS, case.first_broken_rule)
-            if case.decision is None
-            else DECIDED[case.decision]
+            DECIDED[case.state]
+            if case.is_decided
+            else (LetterOutcome.WAITS, case.first_broken_rule)
         )
     groups = grouped((case.read.identity, case) for case in cases).values()
     originals = set(filter(None, map(original_of, groups)))
@@ -176,7 +163,7 @@ def judge_all(
         for elector, its in by_elector.items()
     }
     for case in cases:
-        if case.decision is None and case.outcome is LetterOutcome.WAITS and case.other_vote:
+        if not case.is_decided and case.outcome is LetterOutcome.WAITS and case.other_vote:
             case.outcome, case.reason = LetterOutcome.OTHER_VOTE, Reason.OTHER_MARK(
                 mark=case.other_vote
             )
@@ -200,9 +187,9 @@ def original_of(group: Sequence[LetterCase]) -> LetterCase | None:
     """Of the letters of one identity the first that may go in, unless an act decided of one that hides
     the others.
     """
-    may_go_in = (one for one in group if one.decision is None and one.first_broken_rule is None)
+    may_go_in = (one for one in group if not one.is_decided and one.first_broken_rule is None)
     original = next(may_go_in, None)
-    is_settled = original and any(one.decision is not None and one.can_hide_all for one in group)
+    is_settled = original and any(one.is_decided and one.can_hide_all for one in group)
     return None if is_settled else original
 
 
@@ -217,7 +204,7 @@ def judge_originals(
     # each once: of a thousand letters of one time each is compared with all
     at_its_time = grouped(dict.fromkeys(ballots))
     # copies of these are not known as such, while gpgv does not answer
-    unchecked = [case for case in cases if case.decision is not None and case.read.is_slow]
+    unchecked = [case for case in cases if case.is_decided and case.read.is_slow]
     unchecked_ballots = {line.as_entered for case in unchecked for line in case.ballots}
     for case in in_order:
         assert case.time is not None
@@ -275,18 +262,16 @@ def judge_copies(
     taken back or struck since, or that breaks no rule. One that breaks a rule, and never went in,
     hides only those with the same reason and body.
     """
-    others = {case for case in group if case.decision is None and case not in originals}
+    others = {case for case in group if not case.is_decided and case not in originals}
     if not others:
         return
     hiding = [case for case in group if case.can_hide_all]
     # the one that went in, else the one that an act decided of, else the one that arrived first
-    hiding.sort(key=lambda case: (case.decision not in WENT_IN, case.decision is None))
+    hiding.sort(key=lambda case: (case.state not in WENT_IN, not case.is_decided))
     hider = next(iter(hiding), None)
-    is_done = hider is not None and (
-        hider.decision is not None or hider.outcome is not LetterOutcome.WAITS
-    )
+    is_done = hider is not None and (hider.is_decided or hider.outcome is not LetterOutcome.WAITS)
     first_alike: dict[tuple[ReasonWithValues | None, Body, bool], LetterCase] = {}
-    for case in sorted(group, key=lambda case: case.decision is None):
+    for case in sorted(group, key=lambda case: not case.is_decided):
         same = case.first_broken_rule, case.read.body, case.arrived_in_time
         before = first_alike.setdefault(same, case)
         if hider is not None and (is_done or case.first_broken_rule is None):

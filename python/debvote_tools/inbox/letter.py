@@ -147,13 +147,6 @@ class ParsedLetter:
     behind: int = 0
 
     @property
-    def key(self) -> str:
-        """Identifies the letter. The same bytes are two letters if they came on their own, and where
-        they may be text of another letter.
-        """
-        return f"{self.digest}, parted off" if self.is_parted_off else self.digest
-
-    @property
     def is_never_signed(self) -> bool:
         """Whether it has no good signature with any keyring."""
         never = (Reason.NOT_SIGNED, Reason.NOT_WHOLE, Reason.ODD_LINES)

@@ -17,7 +17,7 @@ from collections.abc import Collection, Mapping, Sequence
 from typing import NamedTuple
 
 from debvote_tools.book import queries
-from debvote_tools.book.queries import Elector
+from debvote_tools.book.queries import Elector, KeptLetter
 from debvote_tools.grouping import grouped
 from debvote_tools.inbox.letter import END, is_quoted, is_server, without_quote_signs
 from debvote_tools.inbox.letter_lines import MAX_BALLOTS, MAX_NEAR, Near, ReadLetter, ReadLine
@@ -67,6 +67,8 @@ class LetterOutcome(enum.Enum):
 
 # what acts decided of a letter whose ballot was entered, though it may be struck since
 WENT_IN = (queries.ENTERED, queries.TAKEN_BACK, queries.STRUCK)
+# in place of what the book has of a letter that is only looked at
+NOT_KEPT = KeptLetter(0, 0, 0, "", "", queries.NEVER_DECIDED)
 
 
 @dataclasses.dataclass(frozen=True)
@@ -94,10 +96,10 @@ class Circumstances:
     now: datetime.datetime
     # the Message-IDs of the letters that were written to each elector
     our_ids: Mapping[str, Collection[str]]
-    # what acts decided, by the keys of the letters: states of the book
-    decisions: Mapping[str, str]
     # the key of the box of the web host
     box_key: bytes = b""
+    # whether it is a secret vote with names on the roll: then no line needs a code or an alias
+    is_of_names: bool = False
     # of motions: their words; of these and of several questions the lines that are no answers although
     # they look like one; and the Message-IDs of the letters that ask to vote
     words: Words = dataclasses.field(default_factory=dict)
@@ -184,13 +186,15 @@ class LetterCase:
     has_voted_since = False
     # the labels of the questions to which its elector has a later answer
     answered_since: Collection[str] = ()
-    # its number and its source in the book; 0 if it is only looked at
-    number = source = 0
-    # in a secret vote with names on the roll: the lines with what looks like a code or an alias
-    code_lines: tuple[int, ...] = ()
 
-    def __init__(self, letter: ReadLetter, circumstances: Circumstances) -> None:
-        self.read, self.circumstances = letter, circumstances
+    def __init__(
+        self, letter: ReadLetter, circumstances: Circumstances, kept: KeptLetter = NOT_KEPT
+    ) -> None:
+        self.read, self.circumstances, self.state = letter, circumstances, kept.state
+        # in the book
+        self.number, self.source = kept.number, kept.source
+        # with what looks like a code or an alias
+        self.code_lines = letter.code_lines if circumstances.is_of_names else ()
         # the electors who have the sender's address, and the one whose own mark the subject has. A
         # subject with several, or with that of nobody, counts as one with the poll's mark alone
         self.sharing = circumstances.electors_by_address.get(letter.sender, [])
@@ -200,7 +204,6 @@ class LetterCase:
         # that of its ballot: if letters have to be signed, that of the signature
         signature = letter.signature if circumstances.is_signed else None
         self.time = letter.arrived if signature is None else signature.time
-        self.decision = circumstances.decisions.get(letter.key)
         asked_for = filter(self.is_asked_for, letter.read_lines)
         self.sent = [SentLine(line, self.elector_of(line)) for line in asked_for]
         # the ballots of an elector who is known, also those that debvote refuses
@@ -343,7 +346,12 @@ class LetterCase:
         """Whether it can hide all copies, also those that differ from it: it went in once, or breaks no
         rule. Which of them it hides, `judge_copies` says.
         """
-        return self.decision in WENT_IN or self.first_broken_rule is None
+        return self.state in WENT_IN or self.first_broken_rule is None
+
+    @property
+    def is_decided(self) -> bool:
+        """Whether an act decided what becomes of it."""
+        return self.state != queries.NEVER_DECIDED
 
     @property
     def is_pending(self) -> bool:

@@ -9,7 +9,6 @@ import unicodedata
 import unittest
 from collections.abc import Sequence
 
-from debvote_tools.inbox.judging import judge_all
 from debvote_tools.inbox.letter import is_quoted
 from debvote_tools.inbox.rules import LetterCase, LetterOutcome
 from debvote_tools.text.language import LANGUAGES
@@ -18,7 +17,7 @@ from debvote_tools.text.motions import RANKS, WORDS, Words, may_answer, words_of
 from tests.python.inbox.test_forgeries import ABOVE, BELOW, HEADS, IDS, OWNS, SENDERS, as_html, marked_by, sent
 from tests.support.called import LettersTest
 from tests.support.elections import members_of
-from tests.support.letters import BY_PAGE, HTML, MARK, NAMES, OWN, DebvoteReader, answer, circumstances, letter, marked, names, outcome, read
+from tests.support.letters import BY_PAGE, HTML, MARK, NAMES, OWN, DebvoteReader, answer, circumstances, judged_alone, letter, marked, names, outcome, read
 from tests.python.commands.test_desk import CAST, TerminalTest
 
 YES, NO, ABSTAIN = RANKS
@@ -49,7 +48,7 @@ def judged_by(data: Sequence[bytes], words: Words = WORDS_EN, **other: object) -
     usual: dict[str, object] = {"addresses": {name: [f"{name}@club.example"] for name in ROLL}, "own_marks": {**OWN, "kim-no": "kmn2345678"}, "roll": ROLL}
     usual |= {"words": words, "no_answers": {*REAL.values(), "Option 1: Yes"}, "asking_ids": ASKING}
     now = circumstances(**{**usual, **other})
-    return [judge_all([one], now, lambda _: {})[0] for one in found]
+    return [judged_alone(one, now) for one in found]
 
 
 def becomes(data: bytes, **other: object) -> str:

@@ -12,7 +12,7 @@ from debvote_tools.inbox.letter_lines import ReadLetter
 from debvote_tools.inbox.reasons import for_secretary
 from debvote_tools.inbox.rules import LetterCase, LetterOutcome
 
-from tests.support.letters import BALLOT, IN, OTHER, RANKS, alternatives, at, circumstances, judged, letter, lines_in, outcome, outcomes, parsed, read
+from tests.support.letters import BALLOT, IN, OTHER, RANKS, alternatives, at, as_kept, circumstances, judged, letter, lines_in, outcome, outcomes, parsed, read
 
 
 def hour(of_day: int, second: int = 0) -> str:
@@ -259,7 +259,7 @@ class World:
         reads = [(minute, self.chance.randrange(BOXES)) for minute in range(MINUTES) if self.chance.random() < 0.4]
         last = [(MINUTES, box) for box in self.chance.sample(range(BOXES), BOXES)]
         known = dict(zip(self.deliveries, read(*map(self.bytes_of, self.deliveries)))) if self.deliveries else {}
-        kept = list[ReadLetter]()
+        there, now = list[ReadLetter](), circumstances()
         decisions, box, lines = dict[str, str](), list[Ballot](), list[str]()
         found = list[LetterCase]()
         for minute in range(MINUTES + 1):
@@ -267,15 +267,15 @@ class World:
                 box.append(Ballot(at(10, minute), self.desk[minute]))
                 lines.append(self.desk[minute])
             for _, number in [one for one in (*reads, *last) if one[0] == minute]:
-                kept += [data for one, data in known.items() if one.box == number and one.minute <= minute and data not in kept]
-                found = judge_all(kept, circumstances(decisions=decisions), lambda _: {"ada": box})
+                there += [data for one, data in known.items() if one.box == number and one.minute <= minute and data not in there]
+                found = judge_all([LetterCase(one, now, as_kept(decisions.get(one.digest))) for one in there], lambda _: {"ada": box})
                 # it may be that nobody agrees, but in the end
                 for one in found if minute == MINUTES or self.chance.random() < 0.8 else ():
                     if one.outcome is LetterOutcome.GOES_IN and one.time is not None:
-                        decisions[one.read.key] = queries.ENTERED
+                        decisions[one.read.digest] = queries.ENTERED
                         box.append(Ballot(one.time, one.ballots[0].as_entered, True))
                         lines.append(box[-1].line)
-        found = judge_all(kept, circumstances(decisions=decisions), lambda _: {"ada": box})
+        found = judge_all([LetterCase(one, now, as_kept(decisions.get(one.digest))) for one in there], lambda _: {"ada": box})
         assert not any(one.outcome is LetterOutcome.GOES_IN for one in found)
         return next(reversed(lines), ""), any(one.outcome is LetterOutcome.WAITS for one in found)
 

@@ -16,7 +16,7 @@ from debvote_tools.text.motions import Words, words_of
 
 from tests.python.inbox import test_forgeries
 from tests.support import letters
-from tests.support.letters import NAMES, TEN, answer, at, circumstances, letter, marked, names, outcome, parsed
+from tests.support.letters import NAMES, TEN, answer, at, circumstances, judged_alone, letter, marked, names, outcome, parsed
 
 WORDS = words_of("en", motion=True)
 IN_WORDS = ("{A} {r}", "{A}: {R}", "{a}) {r}!", "{A} {r}.", "{r}", "I say {r}", "{A} {r} for the reasons that we have told you all", "{A}: {r} please")
@@ -54,7 +54,8 @@ def read(*given: bytes, words: Words = {}) -> list[ReadLetter]:
 
 
 def judged(*given: bytes, ballots: Mapping[str, Sequence[Ballot]] | None = None, words: Words = {}) -> list[LetterCase]:
-    return judge_all(read(*given, words=words), circumstances(no_answers=OURS, words=words), lambda _: ballots or {})
+    known = circumstances(no_answers=OURS, words=words)
+    return judge_all([LetterCase(one, known) for one in read(*given, words=words)], lambda _: ballots or {})
 
 
 def becomes(text: str, how: object = letter, words: Words = {}) -> str:
@@ -344,7 +345,7 @@ def that_go_in(count: int, *, has_words: bool = False, words: Words = {}) -> Ite
     given = [random_letter(rng, has_words=has_words) for _ in range(count)]
     known = circumstances(no_answers=OURS, words=words)
     for (data, stands), one in zip(given, read(*(data for data, _ in given), words=words)):
-        [case] = judge_all([one], known, lambda _: {})
+        case = judged_alone(one, known)
         if case.outcome is LetterOutcome.GOES_IN:
             name, *parts = case.ballots[0].as_entered.split(" ")
             assert name == "ada", data
@@ -392,7 +393,7 @@ class Forged(unittest.TestCase):
         one = test_forgeries.outcomes_of([test_forgeries.sent(text, own, message_id) for text in texts])
         several = [test_forgeries.sent(in_lines(text), own, message_id) for text in texts]
         known = circumstances(no_answers=OURS)
-        found = [outcome(judge_all([read_one], known, lambda _: {})[0]) for read_one in read(*several)]
+        found = [outcome(judged_alone(read_one, known)) for read_one in read(*several)]
         for text, single, its in zip(texts, one, found):
             if its.startswith("in: "):
                 self.assertTrue(single.startswith("in: "), (text, its))
