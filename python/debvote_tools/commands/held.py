@@ -18,7 +18,8 @@ from debvote_tools.inbox import letter_words
 from debvote_tools.inbox.letter_words import name_of, who_and_when, why
 from debvote_tools.inbox.judging import BallotsByElector, answered_by, ballots_in, judged
 from debvote_tools.inbox.reasons import Reason
-from debvote_tools.inbox.rules import BallotLine, LetterCase, LetterOutcome
+from debvote_tools.inbox.letter_lines import BallotLine
+from debvote_tools.inbox.rules import LetterCase, LetterOutcome
 from debvote_tools.inbox.taking import LetterEntry, envelope_of
 from debvote_tools.inbox.lines import Line, lines_in, name_in
 from debvote_tools.inbox.vote import Vote, said_of

@@ -15,7 +15,7 @@ import json
 import re
 import typing
 import unicodedata
-from collections.abc import Callable, Collection, Mapping, Sequence
+from collections.abc import Callable, Mapping, Sequence
 from typing import Any
 
 from debvote_tools.book import queries
@@ -27,7 +27,6 @@ from debvote_tools.inbox.lines import (
     RANKS,
     Names,
     has_code,
-    name_in,
     repaired_line,
 )
 from debvote_tools.inbox.mailbox import RawLetter
@@ -42,7 +41,7 @@ from debvote_tools.inbox.written import (
     begins_with_answer,
     may_answer_question,
 )
-from debvote_tools.text.ballots import answers_text
+from debvote_tools.text.ballots import answers_of, answers_text
 from debvote_tools.text.motions import may_answer, with_ranks
 
 # the grammar of a ballot line, and ranks alone
@@ -61,9 +60,6 @@ SEPARATOR = re.compile("[,;]")
 # the most lines that may be ballots, else the letter waits; the most other lines with a number that
 # are read; and the most near or quoted lines
 MAX_BALLOTS, MAX_OTHERS, MAX_NEAR = 200, 50, 5
-# for how many names that are not on the roll debvote looks for similar ones, and in how many parts
-# it gets such names at most
-MOST_SEARCHES, MOST_PARTS = 100, 10
 
 # debvote's answer to each line, as `bad rank count: ..`; None for a valid ballot
 Ask = Callable[[Sequence[bytes]], Mapping[bytes, str | None]]
@@ -77,6 +73,35 @@ class Near:
     ballot: str
     is_within: bool
     answer: str | None = None
+
+
+@dataclasses.dataclass(frozen=True)
+class BallotLine:
+    """What reads as a ballot: the numbers of its lines, from 1, none if it was typed; and the ballot
+    as it would be entered.
+    """
+
+    numbers: tuple[int, ...]
+    as_entered: str
+
+    @property
+    def number(self) -> int:
+        """That of its first line, by which it is entered; 0 if it was typed."""
+        return next(iter(self.numbers), 0)
+
+    @property
+    def elector(self) -> str:
+        return self.as_entered.partition(" ")[0]
+
+    @property
+    def high_rank(self) -> int:
+        """The number of options of the first answer with a rank above it, else 0: `Lars Winter 12,50`
+        may be money.
+        """
+        for ranks in (text.split(",") for text in answers_of(self.as_entered).values()):
+            if any(rank != "-" and int(rank) > len(ranks) for rank in ranks):
+                return len(ranks)
+        return 0
 
 
 @dataclasses.dataclass(frozen=True)
@@ -105,6 +130,12 @@ class ReadLine:
     def reads_as_ballot(self) -> bool:
         """Whether it is a ballot by itself, valid or not, if somebody is known by its name."""
         return bool(self.ranks) and self.offered_for is None
+
+    @property
+    def as_ballot(self) -> BallotLine:
+        """It with the name of its elector, or of one who may be meant: there is one."""
+        name = self.elector or (*self.real, *self.on_roll)[0]
+        return BallotLine(self.numbers, f"{name} {self.ranks}")
 
     @property
     def has_labels(self) -> bool:
@@ -145,7 +176,7 @@ def with_lines(letters: Sequence[ParsedLetter], names: Names, ask: Ask) -> list[
     found, stand_in = [find_lines(letter, names) for letter in letters], min(names.roll)
     lines = (line for letter in found for line in letter.read_lines)
     texts = dict.fromkeys(text for line in lines for text in texts_of(line, stand_in) if text)
-    answers = verdicts_on(list(texts), names.roll, ask) | {b"": None}
+    answers = dict(ask([*texts])) | {b"": None}
 
     def answered(line: ReadLine) -> ReadLine:
         own, near_text = texts_of(line, stand_in)
@@ -361,22 +392,6 @@ def texts_of(line: ReadLine, stand_in: str) -> tuple[bytes, bytes]:
     """
     own = f"{line.elector or stand_in} {line.ranks}" if line.ranks else ""
     return own.encode(), line.near.ballot.encode() if line.near else b""
-
-
-def verdicts_on(texts: Sequence[bytes], roll: Collection[str], ask: Ask) -> dict[bytes, str | None]:
-    """debvote's answer to each text. The names that are not on the roll it gets in some parts, each
-    with as many as it looks for similar names of; the last part has all that are left.
-    """
-    on_roll = [text for text in texts if name_in(text).decode() in roll]
-    others = [text for text in texts if name_in(text).decode() not in roll]
-    starts = range(0, MOST_SEARCHES * MOST_PARTS, MOST_SEARCHES)
-    parts = [others[start : start + MOST_SEARCHES] for start in starts]
-    parts[-1] += others[starts.stop :]
-    parts[0] += on_roll
-    answers = dict[bytes, str | None]()
-    for part in filter(None, parts):
-        answers.update(ask(part))
-    return answers
 
 
 # ---- as the book keeps it

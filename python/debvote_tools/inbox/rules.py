@@ -14,19 +14,24 @@ import itertools
 import re
 import unicodedata
 from collections.abc import Collection, Mapping, Sequence
-from typing import NamedTuple
 
 from debvote_tools.book import queries
 from debvote_tools.book.queries import Elector, KeptLetter
 from debvote_tools.grouping import grouped
 from debvote_tools.inbox.letter import END, is_quoted, is_server, without_quote_signs
-from debvote_tools.inbox.letter_lines import MAX_BALLOTS, MAX_NEAR, Near, ReadLetter, ReadLine
+from debvote_tools.inbox.letter_lines import (
+    MAX_BALLOTS,
+    MAX_NEAR,
+    BallotLine,
+    Near,
+    ReadLetter,
+    ReadLine,
+)
 from debvote_tools.inbox.mime import address_key
 from debvote_tools.inbox.reasons import Reason, ReasonWithValues
 from debvote_tools.inbox.written import GAP, UNFILLED
 from debvote_tools.poll.box import link_of
 from debvote_tools.poll.sealed import MARKS, marks_in
-from debvote_tools.text.ballots import answers_of
 from debvote_tools.text.motions import Words, may_answer, words_in
 
 # how far the clock of a mail server or of an elector may be ahead
@@ -133,48 +138,6 @@ class Circumstances:
         )
 
 
-# ---- what the lines are
-@dataclasses.dataclass(frozen=True)
-class BallotLine:
-    """What reads as a ballot: the numbers of its lines, from 1, none if it was typed; and the ballot
-    as it would be entered.
-    """
-
-    numbers: tuple[int, ...]
-    as_entered: str
-
-    @property
-    def number(self) -> int:
-        """That of its first line, by which it is entered; 0 if it was typed."""
-        return next(iter(self.numbers), 0)
-
-    @property
-    def elector(self) -> str:
-        return self.as_entered.partition(" ")[0]
-
-    @property
-    def high_rank(self) -> int:
-        """The number of options of the first answer with a rank above it, else 0: `Lars Winter 12,50`
-        may be money.
-        """
-        for ranks in (text.split(",") for text in answers_of(self.as_entered).values()):
-            if any(rank != "-" and int(rank) > len(ranks) for rank in ranks):
-                return len(ranks)
-        return 0
-
-
-class SentLine(NamedTuple):
-    """A line of a letter, and whose ballot it is by who sent it; None if that is not known."""
-
-    read: ReadLine
-    elector: str | None
-
-    @property
-    def as_ballot(self) -> BallotLine:
-        name = self.elector or next(iter((*self.read.real, *self.read.on_roll)), None)
-        return BallotLine(self.read.numbers, f"{name} {self.read.ranks}")
-
-
 # ---- a letter
 class LetterCase:
     """A letter with all that it is judged by. `judging.py` sets what has a value here already, such as
@@ -204,16 +167,18 @@ class LetterCase:
         # that of its ballot: if letters have to be signed, that of the signature
         signature = letter.signature if circumstances.is_signed else None
         self.time = letter.arrived if signature is None else signature.time
-        asked_for = filter(self.is_asked_for, letter.read_lines)
-        self.sent = [SentLine(line, self.elector_of(line)) for line in asked_for]
-        # the ballots of an elector who is known, also those that debvote refuses
-        self.named = [one for one in self.sent if one.elector and one.read.reads_as_ballot]
-        valid = [one.as_ballot for one in self.named if one.read.answer is None]
-        # beside these those with the real name of somebody else, as in the letter of a family
-        unknown = [
-            one for one in self.sent if self.named and one.read.reads_as_ballot and not one.elector
+        # with the elector whose ballot each is by who sent it, if that is known
+        self.sent = [
+            dataclasses.replace(line, elector=self.elector_of(line) or "")
+            for line in filter(self.is_asked_for, letter.read_lines)
         ]
-        others = [one.as_ballot for one in unknown if one.read.real and one.read.answer is None]
+        ballots = [line for line in self.sent if line.reads_as_ballot]
+        # the ballots of an elector who is known, also those that debvote refuses
+        self.named = [line for line in ballots if line.elector]
+        valid = [line.as_ballot for line in self.named if line.answer is None]
+        # beside these those with the real name of somebody else, as in the letter of a family
+        unknown = [line for line in ballots if self.named and not line.elector]
+        others = [line.as_ballot for line in unknown if line.real and line.answer is None]
         # the ballot that may go in, and the indices of its lines
         end = above_end(letter.body.lines)
         self.ballot = next((line for line in valid if max(line.numbers) <= end), None)
@@ -274,13 +239,13 @@ class LetterCase:
         is_marked = marked is not None and marked in (self.sharing or [marked])
         return marked if is_marked else sender if marked is None else None
 
-    def why_offered(self, line: SentLine) -> Reason | None:
+    def why_offered(self, line: ReadLine) -> Reason | None:
         """Why a valid line is no ballot by itself, and is offered; None if it is not."""
-        read, why = line.read, line.read.offered_for
-        if read.answer is not None:
+        why = line.offered_for
+        if line.answer is not None:
             return None
-        if line.elector is None:
-            return Reason.REAL_NAME if len({*read.on_roll, *read.real}) == 1 else None
+        if not line.elector:
+            return Reason.REAL_NAME if len({*line.on_roll, *line.real}) == 1 else None
         is_money = why is not Reason.NO_NAME and line.as_ballot.high_rank
         # a line of our letter that is filled in is offered for whoever may have sent it
         senders = (*self.sharing, self.marked_elector)
@@ -293,20 +258,18 @@ class LetterCase:
         can be entered by its number. Of several answers all are offered, or none.
         """
         lines = () if self.named else self.sent
-        found = {one.as_ballot: why for one in lines if (why := self.why_offered(one))}
-        has_labels = any(one.read.has_labels for one in lines)
-        is_all = len(found) == 1 and self.other_answers.issubset(*(line.numbers for line in found))
+        found = {line.as_ballot: why for line in lines if (why := self.why_offered(line))}
+        has_labels = any(line.has_labels for line in lines)
+        is_all = len(found) == 1 and self.other_answers.issubset(*(one.numbers for one in found))
         return found if is_all or not has_labels else {}
 
     @functools.cached_property
     def every_near(self) -> list[Near]:
         """What is near to a ballot; beside ballots that is what debvote refuses."""
-        refused = grouped(
-            (one.as_ballot.as_entered, one.read) for one in self.named if one.read.answer
-        )
+        refused = grouped((line.as_ballot.as_entered, line) for line in self.named if line.answer)
         near = [Near(its[0].number, of, False, its[0].answer) for of, its in refused.items()]
         if not self.named:
-            near = [one.read.near for one in self.sent if one.read.near]
+            near = [line.near for line in self.sent if line.near]
         return near[:MAX_NEAR]
 
     @property

@@ -466,7 +466,7 @@ class Held(LettersTest):
         self.assertIn("\n1 counted  ben: In the town hall", said)
         [envelope] = self.envelopes()
         self.assertEqual((envelope.line.decode(), envelope.letter, envelope.time.hour), (f"ben {OTHER}", 2, 10))
-        self.assertEqual(self.acts()[-1][1], {"letter": 2, "lines": []})
+        self.assertEqual(self.acts()[-1][1], {"letters": [2], "lines": []})
         self.assertIn("It was entered.", self.told("held", 2))
         self.assertNotIn("held --enter", self.told("undo", "--yes"))
         # its own line may say something else
@@ -852,7 +852,7 @@ class Couple(LettersTest):
         self.assertIn(f"1 counted  ada: {LAKE}\n2 counted  ben: In the town hall", said)
         self.assertNotIn("waits on", said)
         self.assert_left(0, self.ada, self.ben)
-        self.assertEqual(self.acts()[-1], ("enter", {"letter": 1, "lines": []}))
+        self.assertEqual(self.acts()[-1], ("enter", {"letters": [1], "lines": []}))
         self.told("undo", "--yes")
         self.assert_left(1)
         said = "letter 1: 2 of these lines are ballots of ada; nothing was changed: name the one that counts"
