@@ -54,11 +54,11 @@ complete -c debvote-election -n "__fish_seen_subcommand_from add" -l came-before
 complete -c debvote-election -n "__fish_seen_subcommand_from add" -l moved -d "Go on although the election was moved here, or an older copy was restored; the result page says so."
 complete -c debvote-election -n "__fish_seen_subcommand_from add" -l because -x -d "The reason, in your words, for --moved, --force, strike or reopen."
 complete -c debvote-election -n "__fish_seen_subcommand_from add" -F
-complete -c debvote-election -n "__fish_seen_subcommand_from held" -l enter -x -d "Enter these lines of a letter, by the numbers that held NUMBER shows; without LINE the one ballot of each letter, and without NUMBER too those of the letters that were taken back."
+complete -c debvote-election -n "__fish_seen_subcommand_from held" -l enter -x -d "Enter these lines of a letter, by the numbers that held NUMBER shows; without LINE the one ballot of each letter."
 complete -c debvote-election -n "__fish_seen_subcommand_from held" -l as -x -d "Enter this line as a ballot of the letter, with the letter's time; once for each of its electors."
 complete -c debvote-election -n "__fish_seen_subcommand_from held" -l set-aside -d "Set the letters aside: they are dealt with, and wait no longer."
 complete -c debvote-election -n "__fish_seen_subcommand_from held" -l wait -d "Have the letters wait again."
-complete -c debvote-election -n "__fish_seen_subcommand_from held" -l force -d "Enter the ballot although its elector has voted since, the letter has the mark of another vote or, with --as, nothing ties the elector to the letter."
+complete -c debvote-election -n "__fish_seen_subcommand_from held" -l force -d "Enter the ballot although its elector has voted since, the letter has the mark of another vote, its ballot was typed and taken back or, with --as, nothing ties the elector to the letter."
 complete -c debvote-election -n "__fish_seen_subcommand_from held" -l yes -d "Enter the ballots without asking."
 complete -c debvote-election -n "__fish_seen_subcommand_from held" -l moved -d "Go on although the election was moved here, or an older copy was restored; the result page says so."
 complete -c debvote-election -n "__fish_seen_subcommand_from held" -l because -x -d "The reason, in your words, for --moved, --force, strike or reopen."

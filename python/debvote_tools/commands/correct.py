@@ -19,6 +19,7 @@ from debvote_tools.inbox.entering import Entry
 from debvote_tools.inbox.judging import judged
 from debvote_tools.inbox.lines import name_in
 from debvote_tools.inbox.rules import LetterCase
+from debvote_tools.inbox.taking import MOST_NAMED
 from debvote_tools.inbox.vote import envelope_words, standing_words, Vote
 from debvote_tools.text.times import now
 
@@ -50,7 +51,10 @@ def undo(election: Election, arguments: UndoArguments) -> None:
     following = f"{election.command('status')}; another {election.command('undo')} takes back the act before"
     # what was typed for a letter has to be typed again
     if change.letters and not change.undone.is_typed:
-        following += f"; {election.command('held', '--enter')} enters these letters again"
+        numbers = map(str, change.letters)
+        enter = (*numbers, "--enter") if len(change.letters) <= MOST_NAMED else ()
+        does = "enters these letters again" if enter else "lists these letters"
+        following += f"; {election.command('held', *enter)} {does}"
     tell(f"Next: {following}")
 
 

@@ -38,8 +38,7 @@ class Arguments(Acting):
     numbers: list[int] = positional("NUMBER", "The numbers of letters", type=int, nargs="*")
     enter: list[str] | None = option(
         "LINE,..",
-        "Enter these lines of a letter, by the numbers that held NUMBER shows; without LINE the one ballot of each letter, "
-        "and without NUMBER too those of the letters that were taken back",
+        "Enter these lines of a letter, by the numbers that held NUMBER shows; without LINE the one ballot of each letter",
         nargs="?",
         const=THE_ONE,
         action="append",
@@ -53,8 +52,8 @@ class Arguments(Acting):
     set_aside: bool = flag("Set the letters aside: they are dealt with, and wait no longer")
     wait: bool = flag("Have the letters wait again")
     force: bool = flag(
-        "Enter the ballot although its elector has voted since, the letter has the mark of another vote or, with --as, nothing ties "
-        "the elector to the letter"
+        "Enter the ballot although its elector has voted since, the letter has the mark of another vote, its ballot was typed and "
+        "taken back or, with --as, nothing ties the elector to the letter"
     )
     yes: bool = flag("Enter the ballots without asking")
 
@@ -105,7 +104,7 @@ def demand_words(arguments: Arguments) -> bool:
         name = "--enter" if arguments.typed is None else "--as"
         cure = f"name one number before {name}"
         raise bad_words(name, "a line is of one letter", cure)
-    if chosen and not arguments.numbers and arguments.enter is None:
+    if chosen and not arguments.numbers:
         raise bad_words("held", "no letter is named", "name its number")
     return bool(chosen)
 
@@ -193,45 +192,29 @@ class Chosen(NamedTuple):
 
 
 def what_is_entered(vote: Vote, arguments: Arguments, typed: Sequence[BallotLine]) -> LetterEntry:
-    """The act that enters ballots of letters, of all that were taken back if none is named."""
-    history, found, entered = vote.election.history(), all_letters(vote), entered_in(vote.book)
-    wanted = chosen_letters(found, arguments.numbers)
-    last = {}
-    if not arguments.numbers:
-        wanted = [one for one in found if one.state == queries.TAKEN_BACK]
-        taken_back = queries.envelopes(vote.book, "letter IS NOT NULL AND struck IS NOT NULL")
-        last = {one.letter: history.act(one.act) for one in taken_back}
+    """The act that enters ballots of letters."""
+    history, entered = vote.election.history(), entered_in(vote.book)
+    wanted = chosen_letters(all_letters(vote), arguments.numbers)
     chosen, faults = list[Chosen](), list[Fault]()
     for letter in sorted(wanted, key=lambda one: (one.time is None, one.time or one.number)):
         with kept_in(faults):
-            if letter.number in last and last[letter.number].is_typed:
-                # its own lines may say something else
-                cure = f"type it again with {vote.election.command('held', str(letter.number), '--as')} LINE"
-                raise Fault(name_of(letter), "its ballot was typed, and taken back", cure)
-            is_one = len(arguments.numbers) == 1
+            is_one = len(wanted) == 1
             lines = typed or named_lines(letter, arguments.enter or [], is_one=is_one)
             chosen.append(Chosen(letter, lines, entered.get(letter.number, ())))
     electors = {line.elector for one in chosen for line in one.lines}
     chosen, left_out = without_answered(chosen, ballots_in(vote, electors, IN_TIME))
-    against = [*why_not_now(vote, history, chosen)]
+    faults += why_not_now(vote, history, chosen)
     if not arguments.force:
         # of what was entered nothing more is said: no --force enters it again
         not_entered = [one for one in chosen if not one.again]
-        against += why_not_unforced(not_entered, ballots_in(vote, electors))
-    faults += (fault for _, fault in against)
-    stopped = {letter.number for letter, _ in against}
-    chosen = [one for one in chosen if one.letter.number not in stopped]
-    if arguments.numbers or not chosen:
-        stop_at(faults)
-    if not chosen:
-        words = "no letter was taken back"
-        raise Fault("--enter", words, "name letters by their numbers, as held lists them")
+        faults += why_not_unforced(not_entered, ballots_in(vote, electors))
+        faults += why_typed_again(vote, history, not_entered)
+    stop_at(faults)
     if len({would_be_late(history, one.letter) for one in chosen}) > 1:
         words = "some of these letters arrived before the first close, and some after it"
         raise Fault("--enter", words, "enter those that arrived before it apart")
     demand_one_order(chosen)
-    left = left_out + [f"Waits on: {fault.file}: {fault.reason}" for fault in faults]
-    return entry_of(vote, history, chosen, left, is_agreed=arguments.yes)
+    return entry_of(vote, history, chosen, left_out, is_agreed=arguments.yes)
 
 
 def entry_of(
@@ -375,10 +358,7 @@ def named_lines(letter: LetterCase, enter: Sequence[str], *, is_one: bool) -> li
 
 
 # ---- what stands against it
-Against = Iterator[tuple[LetterCase, Fault]]
-
-
-def why_not_now(vote: Vote, history: History, chosen: Sequence[Chosen]) -> Against:
+def why_not_now(vote: Vote, history: History, chosen: Sequence[Chosen]) -> Iterator[Fault]:
     """What can't be forced."""
     for one in chosen:
         letter, name = one.letter, name_of(one.letter)
@@ -393,20 +373,20 @@ def why_not_now(vote: Vote, history: History, chosen: Sequence[Chosen]) -> Again
                 reopen = vote.election.command("reopen", "--in-time", *late, "--because", "TEXT")
                 words = f"{words}, and is late"
                 cure = f"if it came before the first close, have the vote closed, then run {reopen}"
-            yield letter, Fault(name, words, cure)
+            yield Fault(name, words, cure)
         elif letter.outcome is LetterOutcome.COPY:
             cure = "to enter its ballot once more, have the letter wait first with --wait"
-            yield letter, Fault(name, "it is a copy of another letter", cure)
+            yield Fault(name, "it is a copy of another letter", cure)
         elif history.is_closed and letter.arrived_in_time:
             reopen = vote.election.command("reopen", "--because", "TEXT")
             words = "it arrived in time, and the vote is closed"
-            yield letter, Fault(name, words, f"if it has a ballot, run {reopen} first")
+            yield Fault(name, words, f"if it has a ballot, run {reopen} first")
         elif count > 1:
             words = f"{count} of these lines are ballots of {twice}"
-            yield letter, Fault(name, words, "name the one that counts")
+            yield Fault(name, words, "name the one that counts")
 
 
-def why_not_unforced(chosen: Sequence[Chosen], by_elector: BallotsByElector) -> Against:
+def why_not_unforced(chosen: Sequence[Chosen], by_elector: BallotsByElector) -> Iterator[Fault]:
     """The letter is of another vote; nothing ties the elector of a typed ballot to it; or the
     elector has a later ballot, or another one of its time.
     """
@@ -415,18 +395,30 @@ def why_not_unforced(chosen: Sequence[Chosen], by_elector: BallotsByElector) -> 
         name, time = name_of(letter), letter.time
         if mark := letter.other_vote:
             words = f"it has the mark of another vote, [{mark}]"
-            yield letter, Fault(name, words, f"add it to that vote; {cure}")
+            yield Fault(name, words, f"add it to that vote; {cure}")
         tied = {*letter.electors, *letter.sharing, letter.marked_elector}
         for line in lines:
             there = by_elector.get(line.elector, [])
             if not line.number and line.elector not in tied:
                 words = f"neither its sender nor a line of {name} is of {line.elector}"
-                yield letter, Fault("--as", words, f"check the name; {cure}")
+                yield Fault("--as", words, f"check the name; {cure}")
             if answered_by(line.as_entered, queries.later(there, time)):
-                yield letter, Fault(name, "its elector has voted since", cure)
+                yield Fault(name, "its elector has voted since", cure)
             elif any(one.time == time and differ(one.line, line.as_entered) for one in there):
                 words = "another ballot of its elector with the same time was entered"
-                yield letter, Fault(name, words, cure)
+                yield Fault(name, words, cure)
+
+
+def why_typed_again(vote: Vote, history: History, chosen: Sequence[Chosen]) -> Iterator[Fault]:
+    """What was typed for a letter, and taken back: its own lines may say something else."""
+    struck = queries.envelopes(vote.book, "letter IS NOT NULL AND struck IS NOT NULL")
+    was_typed = {one.letter: history.act(one.act).is_typed for one in struck}
+    for letter, lines, _ in chosen:
+        is_taken_back = letter.state == queries.TAKEN_BACK and was_typed[letter.number]
+        if is_taken_back and any(line.number for line in lines):
+            again = vote.election.command("held", str(letter.number), "--as")
+            cure = f"type it again with {again} LINE; if this line is meant, repeat it with --force"
+            yield Fault(name_of(letter), "its ballot was typed, and taken back", cure)
 
 
 def demand_one_order(chosen: Sequence[Chosen]) -> None:

@@ -224,12 +224,12 @@ class SequencesTest(LettersTest):
         return Step(["held", *map(str, chosen), "--enter", "--force"], None, [model])
 
     def bringing_back(self, model: Model, chance: random.Random) -> Step | None:
-        """All letters that were taken back, but for those in which a ballot was read that is not there."""
+        """All letters that were taken back, and have one ballot."""
         numbers = [number for number in model.with_a_ballot() if model.letters[number - 1].is_taken_back]
         if not numbers:
             return None
         model.enter_letters([(number, self.ballot(model, number)) for number in numbers])
-        return Step(["held", "--enter", "--force"], None, [model])
+        return Step(["held", *map(str, numbers), "--enter", "--force"], None, [model])
 
     def typing(self, model: Model, chance: random.Random) -> Step | None:
         """What was read in a letter: the ballots of one or of both who sent it, also after it went in."""

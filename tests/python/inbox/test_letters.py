@@ -246,7 +246,7 @@ class Adding(LettersTest):
     def test_undo_and_strike_of_ballots_of_letters(self) -> None:
         box = (letter("ada", f"ada {RANKS}"), letter("ben", f"ben {RANKS}"), letter("cleo", f"cleo {RANKS}"), letter("dan", "hello"))
         self.add(*box)
-        self.assertIn("debvote-election held --enter enters these letters again\n", self.told("undo", "--yes"))
+        self.assertIn("debvote-election held 1 2 3 --enter enters these letters again\n", self.told("undo", "--yes"))
         self.assertEqual(self.exported()[0], "")
         self.assertIn("its ballot was taken back", self.told("held"))
         self.assert_fault(self.election("close"), 9, "these letters arrived in time, and wait: 1, 2, 3, 4")
@@ -254,14 +254,13 @@ class Adding(LettersTest):
         self.assertIn("4 letters wait", self.add(*(b"X-Status: R\n" + one for one in box)))
         self.assert_fault(self.election("close"), 9, "these letters arrived in time, and wait: 1, 2, 3, 4")
         self.assertIn("0 ballots of letters went in; 4 letters wait", self.add(*box))
-        # all come back by one command
+        # all come back by one command, but for those that stop it
         self.told("desk", given=f"ben {OTHER}\n")
-        said = self.told("held", "--enter")
-        self.assertIn("Waits on: letter 2: its elector has voted since\n", said)
+        self.assert_refused(("held", 1, 2, 3, "--enter"), 9, "letter 2: its elector has voted since")
+        said = self.told("held", 1, 3, "--enter")
         self.assertIn("\n5 counted  ada: At the lake", said)
         self.assertIn("\n2 letters wait.\n", said)
         self.assertEqual(self.exported()[0], f"ben {OTHER}\nada {RANKS}\ncleo {RANKS}\n")
-        self.assert_fault(self.election("held", "--enter"), 9, "letter 2: its elector has voted since")
         self.told("strike", "5", "--because", "she asked for it")
         listed = self.told("held")
         self.assertIn("2 letters wait", listed)
@@ -468,9 +467,7 @@ class Held(LettersTest):
         self.assertEqual((envelope.line.decode(), envelope.letter, envelope.time.hour), (f"ben {OTHER}", 2, 10))
         self.assertEqual(self.acts()[-1][1], {"letters": [2], "lines": []})
         self.assertIn("It was entered.", self.told("held", 2))
-        self.assertNotIn("held --enter", self.told("undo", "--yes"))
-        # its own line may say something else
-        self.assert_refused(("held", "--enter"), 9, "letter 2: its ballot was typed, and taken back", "held 2 --as LINE")
+        self.assertNotIn("--enter", self.told("undo", "--yes"))
         # what can't be the ballot of a letter
         for line, *parts in (
             ("ben 1,2", "--as: `ben 1,2` is no ballot of this poll: bad rank count: 2 ranks, the poll has 4 options", "A valid line in this poll"),
@@ -499,6 +496,21 @@ class Held(LettersTest):
         self.told("held", 5, "--as", f"gus {RANKS}")
         self.assertEqual(self.lines()[2:], [f"fay {OTHER}", "gus 1,2", f"fay {RANKS}", f"gus {RANKS}"])
 
+    def test_what_was_typed_and_taken_back_is_typed_again(self) -> None:
+        """Its own line may say something else."""
+        self.told("held", 1, "--as", f"ada {OTHER}")
+        self.told("undo", "--yes")
+        for line in ((), (5,)):
+            said = "letter 1: its ballot was typed, and taken back; nothing was changed: type it again with debvote-election held 1 --as LINE"
+            self.assert_refused(("held", 1, "--enter", *line), 9, said, "--force")
+        self.told("held", 1, "--as", f"ada {OTHER}")
+        self.told("undo", "--yes")
+        self.told("held", 1, "--enter", "--force")
+        # the last one that was taken back was not typed
+        self.assertIn("held 1 --enter", self.told("undo", "--yes"))
+        self.told("held", 1, "--enter")
+        self.assertEqual(self.exported()[0], f"ada {RANKS}\n")
+
     def test_it_asks_once_at_a_terminal_and_wrong_words(self) -> None:
         self.add(letter("cleo", OTHER))
         desk = Terminal(self, "held", "1", "3", "--enter")
@@ -515,7 +527,7 @@ class Held(LettersTest):
         self.assertEqual(self.exported()[0], f"dan {RANKS}\ncleo {RANKS}\n")
         shown, status = Terminal(self, "held", "1", "--enter", "--yes").end()
         self.assertEqual((status, "[y/n]" in shown), (0, False), shown)
-        wrong = [("--set-aside",), ("1", "2", "--enter", "5"), ("1", "--enter", "5", "--wait"), ("9",), ("--enter", "5"), ("1", "2", "--as", "ada 1")]
+        wrong = [("--set-aside",), ("1", "2", "--enter", "5"), ("1", "--enter", "5", "--wait"), ("9",), ("--enter",), ("--enter", "5"), ("1", "2", "--as", "ada 1")]
         for words in (*wrong, ("--as", "ada 1,2,4,3"), ("1", "--enter", "--as", "ada 1")):
             with self.subTest(words):
                 self.assertEqual(self.election("held", *words).status, 2)

@@ -138,9 +138,7 @@ class Taken(LettersTest):
         self.told("held", "1", "--enter", "--yes")
         self.told("held", "2", "--enter", "1", "--yes")
         self.assertEqual(self.lines(), ["cleo 2,1", "dan 1,1", "ada 1,2", "ben 2,1"])
-        # those that are taken back are several, and one alone has no name
         self.told("undo", "--yes")
-        self.assert_stops(self.election("held", "--enter", "--yes"), self.last_act(), 9, "letter 2: it has a word without a name")
         self.told("held", "2", "--enter", "--yes")
         self.told("letters", "receipts")
         self.assertIn("(ada 1,2), in Worten: Ja: Wir kaufen a second boat.", self.receipt("ada"))
