@@ -161,11 +161,7 @@ class Reason(enum.Enum):
     )
     # which vote it is about
     NO_SUBJECT_MARK = (
-        "its subject has no mark of this vote, [{mark}]; if it is about this vote, enter it",
-        NO_MARK_IN_IT,
-    )
-    CHANGED_MARK = (
-        "the mark of this vote in its subject, [{mark}], is cut off or changed; if it is about this vote, enter it",
+        "its subject has no mark of this vote, [{mark}], or one that is cut off or changed; if it is about this vote, enter it",
         NO_MARK_IN_IT,
     )
     OTHER_MARK = (

@@ -36,8 +36,6 @@ from debvote_tools.text.motions import Words, may_answer, words_in
 
 # how far the clock of a mail server or of an elector may be ahead
 AHEAD = datetime.timedelta(minutes=10)
-# in digits: a subject with this much of the poll's mark has a mark that was cut off or changed
-PIECE = 6
 # the most digits in which a mark differs from one that was copied by hand
 MISCOPIED = 2
 
@@ -501,12 +499,7 @@ def why_not_of_this_vote(case: LetterCase) -> ReasonWithValues | None:
     there = {*marks, *(mark for line in signed for mark, _ in marks_in(line))}
     if others := sorted(mark for mark in there if not are_alike(mark, own)):
         return Reason.OTHER_MARK(mark=others[0])
-    if marks and there == {own}:
-        return None
-    subject = "".join(case.read.subject.split()).lower()
-    pieces = (own[place : place + PIECE] for place in range(len(own) - PIECE + 1))
-    is_changed = there > {own} or any(piece in subject for piece in pieces)
-    return (Reason.CHANGED_MARK if is_changed else Reason.NO_SUBJECT_MARK)(mark=own)
+    return None if marks and there == {own} else Reason.NO_SUBJECT_MARK(mark=own)
 
 
 def are_alike(mark: str, other: str) -> bool:
