@@ -5,7 +5,7 @@ holds.
 import datetime
 import json
 from collections.abc import Iterable, Iterator
-from typing import Any, NamedTuple
+from typing import NamedTuple
 
 from debvote_tools.book.book import Book, NewAct, from_text
 from debvote_tools.grouping import grouped
@@ -76,13 +76,15 @@ def note(act: NewAct, letters: Iterable[OutgoingLetter]) -> None:
 
 
 def detail_of(letter: OutgoingLetter) -> str:
-    detail: dict[str, Any] = {"message_id": letter.message_id, "address": letter.address}
-    detail["for_act"] = letter.for_act
-    if letter.state == WRITTEN:
-        detail |= {"time": letter.time.isoformat(), "about": letter.about}
-        detail["by_server"] = letter.by_server
-    elif letter.reply:
-        detail["reply"] = letter.reply
+    detail = {
+        "message_id": letter.message_id,
+        "address": letter.address,
+        "for_act": letter.for_act,
+        "time": letter.time.isoformat(),
+        "about": letter.about,
+        "by_server": letter.by_server,
+        "reply": letter.reply,
+    }
     return json.dumps(detail, ensure_ascii=False)
 
 
