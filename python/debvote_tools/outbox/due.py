@@ -113,7 +113,7 @@ class LettersDue(Run):
     @property
     def reminded(self) -> datetime.datetime | None:
         """When others were reminded, if this run would do so again within a day."""
-        if self.kind != "reminders" or not self.new:
+        if self.kind != "reminders" or self.going_again or not self.new:
             return None
         times = (one.time for one in self.noted_before if self.time - one.time < LASTING)
         return max(times, default=None)
@@ -268,44 +268,32 @@ def letters_pending_in(fates: Mapping[str, Sequence[Fate]]) -> int:
 
 def reminders_due(run: Run) -> LettersDue:
     """A letter to each elector whose ballot does not count yet. A run of this day goes on if it
-    was cut off, or the server refused some for now; else each run is a new one.
+    was cut off, or the server refused some for now: then those are reminded, too, who came to it
+    since. Else each run is a new one.
     """
     fates = fates_of(run.election, run.history)
     counting = queries.what_counts(run.election.book)
     silent = {
         number: elector for number, elector in run.electors.items() if elector.name not in counting
     }
-    last = max((letter.for_act for letter in run.noted_before), default=0)
-    # to the address of now
-    written = [
-        letter
-        for letter in run.noted_before
-        if letter.for_act == last
-        and letter.elector in silent
-        and letter.address == address_in(silent[letter.elector].addresses)
-    ]
-    are_unsent = (
-        letter.address and letter.state != TAKEN and not letter.is_refused_for_good
-        for letter in written
-        if run.time - letter.time < LASTING
-    )
-    # a letter that came back is tried again, but not in the same run
-    goes_on = run.is_sending and any(are_unsent)
-    for_act = last if goes_on else run.next_act
+    # whose letter came back is reminded again, but not in the same run
+    run = dataclasses.replace(run, electors=silent, returned_ids=())
 
     def text_of(elector: Elector, letter: OutgoingLetter) -> str:
         told = told_of(fates[elector.name]).values()
         left = [one for one in told if one.became is not LetterOutcome.SET_ASIDE]
         return run.composer.reminder(elector, left)
 
-    return LettersDue(
-        **vars(run),
-        for_act=for_act,
-        text_of=text_of,
-        new=[] if goes_on else [run.letter_to(one, for_act) for one in silent.values()],
-        going_again=[one for one in written if one.state != TAKEN] if goes_on else [],
-        letters_pending=letters_pending_in(fates),
+    last = max((letter.for_act for letter in run.noted_before), default=0)
+    due = to_each(run, last, text_of)
+    are_unsent = (
+        run.can_be_sent(letter) and not letter.is_refused_for_good
+        for letter in due.going_again
+        if run.time - letter.time < LASTING
     )
+    if not (run.is_sending and any(are_unsent)):
+        due = to_each(run, run.next_act, text_of)
+    return dataclasses.replace(due, letters_pending=letters_pending_in(fates))
 
 
 def receipts_due(run: Run) -> LettersDue:

@@ -566,13 +566,13 @@ class SeveralRuns(SendTest):
         self.assert_sent("reminders", status=9)
         self.assertEqual(len(self.server.taken), 6)
         self.server.rcpt_answers = {}
-        # who has voted meanwhile is not reminded, nor does an address that its elector no longer has hold up a new run
+        # who has voted meanwhile is not reminded, who has a new address is, and the old one holds up no new run
         self.add_lines("dan 1,2,4,3")
         self.change_roll("cleo@club", "cleo@new")
         self.assert_sent("reminders")
-        self.assertEqual(self.server.addresses()[6:], ["ben@club.example"])
+        self.assertEqual(self.server.addresses()[6:], ["ben@club.example", "cleo@new.example"])
         self.assert_sent("reminders")
-        self.assertEqual(self.server.addresses()[7:], [*ALL[:2], "cleo@new.example", *ALL[4:]])
+        self.assertEqual(self.server.addresses()[8:], [*ALL[:2], "cleo@new.example", *ALL[4:]])
 
     def test_a_reminder_that_no_server_can_take_holds_up_no_new_run(self) -> None:
         """One to be printed, or to an address that was wrong, or that the server postpones for days."""
