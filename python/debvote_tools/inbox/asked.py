@@ -1,5 +1,5 @@
 """Whether the box of the web host was asked lately enough: the one answer for all commands that need
-it. What an asking brings is in `records.py`.
+it. What an asking brings is in `box_records.py`.
 """
 
 import datetime

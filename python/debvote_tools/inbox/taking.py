@@ -20,7 +20,7 @@ from debvote_tools.inbox.entering import Entry, bad_ballots
 from debvote_tools.inbox.judging import judged
 from debvote_tools.inbox.letter_lines import ReadLetter, read_letters, to_json
 from debvote_tools.inbox.mailbox import RawLetter, letters_of_file, letters_of_folder
-from debvote_tools.inbox.records import asked_box
+from debvote_tools.inbox.box_records import asked_box
 from debvote_tools.inbox.rules import LetterCase, LetterOutcome
 from debvote_tools.inbox.vote import Vote
 from debvote_tools.inbox.stopping import other_votes_words

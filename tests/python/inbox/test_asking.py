@@ -13,11 +13,10 @@ import unittest.mock
 from collections.abc import Callable, Iterable
 
 from debvote_tools.cli.faults import Fault, Status
-from debvote_tools.inbox import asking
-from debvote_tools.inbox.asking import Asked, ask
+from debvote_tools.inbox import box_records
+from debvote_tools.inbox.box_records import Asked, ask, box_words
 from debvote_tools.inbox.letter import parse
 from debvote_tools.inbox.mailbox import are_letters, letters_of_file
-from debvote_tools.inbox.records import box_words
 from debvote_tools.poll.box import list_digest, script_of
 from debvote_tools.text import times
 
@@ -283,14 +282,14 @@ class Dishonest(AskingTest):
 
     def test_it_has_an_end_in_time_and_in_bytes(self) -> None:
         good = head(times.now())
-        with unittest.mock.patch.object(asking, "PATIENCE", 0.5):
+        with unittest.mock.patch.object(box_records, "PATIENCE", 0.5):
             for sent in (
                 [1.5],
                 [part for byte in answered(good) for part in (bytes([byte]), 0.05)],
                 [answered(good + RECORD * 2)[:-20], *[0.1] * 20, RECORD[-20:]],
             ):
                 self.refuses(sent, "it does not answer: no end after 0.5 seconds")
-        with unittest.mock.patch.object(asking, "LONGEST_ANSWER", len(good + RECORD)):
+        with unittest.mock.patch.object(box_records, "LONGEST_ANSWER", len(good + RECORD)):
             with Liar(lambda request: [answered(good + RECORD)]) as host:
                 self.assertEqual(ask(host.at, MARK, WORD).records, RECORD)
             self.refuses(
@@ -437,7 +436,7 @@ class Certificates(AskingTest):
             self.stopped(host.at, "its certificate is not right: IP address mismatch")
             self.assertEqual(host.requests, [])
         # a server without TLS
-        with Liar(lie) as host, unittest.mock.patch.object(asking, "PATIENCE", 0.5):
+        with Liar(lie) as host, unittest.mock.patch.object(box_records, "PATIENCE", 0.5):
             self.stopped(host.at.replace("http:", "https:"), "it does not answer: ")
 
 

@@ -14,7 +14,7 @@ from concurrent.futures import ThreadPoolExecutor
 
 from debvote_tools.inbox.judging import Ballot
 from debvote_tools.inbox.letter import ParsedLetter
-from debvote_tools.inbox.records import MOST
+from debvote_tools.inbox.box_records import MOST
 from debvote_tools.poll.box import asking_word, link_of, list_digest
 from debvote_tools.poll.sealed import OWN_SIGNS
 

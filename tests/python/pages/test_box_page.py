@@ -16,7 +16,7 @@ import unittest
 from collections.abc import Callable, Iterable
 from typing import Any
 
-from debvote_tools.inbox.records import MOST
+from debvote_tools.inbox.box_records import MOST
 from debvote_tools.poll.box import SENTENCES, link_of, records_file, script_of
 from debvote_tools.poll.call import CallData, call_files
 from debvote_tools.poll.questions import Questions

@@ -8,7 +8,7 @@ import re
 import unittest
 
 from debvote_tools.cli.faults import Fault
-from debvote_tools.inbox.records import MOST
+from debvote_tools.inbox.box_records import MOST
 from debvote_tools.poll.box import (
     SCRIPT,
     SENTENCES,
