@@ -1,7 +1,6 @@
 """What came from each elector, and what became of it, by all lines and letters as they are now."""
 
 import datetime
-import enum
 from typing import NamedTuple
 
 from debvote_tools.book import queries
@@ -14,18 +13,8 @@ from debvote_tools.inbox.vote import Vote
 
 # what belongs to no elector has this in place of a name
 NOBODY = ""
-
-
-class Became(enum.Enum):
-    """What became of an envelope, in the words of the view `fate`; of a letter it is the outcome."""
-
-    COUNTS = "counts"
-    # a later ballot counts
-    REPLACED = "replaced"
-    LATE = "late"
-    STRUCK = "struck"
-    TAKEN_BACK = "taken back"
-    REFUSED = "refused"
+# of what became of envelopes, in the words of the view `fate`
+COUNTS, REFUSED = "counts", "refused"
 
 
 class Fate(NamedTuple):
@@ -34,7 +23,8 @@ class Fate(NamedTuple):
     """
 
     time: datetime.datetime
-    became: Became | LetterOutcome
+    # of an envelope as the view `fate` says; of a letter its outcome
+    became: str | LetterOutcome
     envelope: Envelope | None = None
     letter: LetterCase | None = None
     is_own: bool = False
@@ -47,10 +37,10 @@ class Fate(NamedTuple):
     @property
     def replaced(self) -> list[str]:
         """The labels of the answers that do not count, if others in the envelope do."""
-        if self.envelope is None or self.became is not Became.COUNTS:
+        if self.envelope is None or self.became != COUNTS:
             return []
         its = self.envelope.by_question.items()
-        return [label for label, became in its if became != Became.COUNTS.value]
+        return [label for label, became in its if became != COUNTS]
 
     @property
     def answers(self) -> str:
@@ -75,10 +65,7 @@ def fates_of(
         one.number: one.name for one in (queries.electors(book) if elector is None else [elector])
     }
     came = queries.envelopes(book) if elector is None else queries.envelopes_of(book, names)
-    fates = [
-        (names.get(one.elector or 0, NOBODY), Fate(one.time, Became(one.became), one))
-        for one in came
-    ]
+    fates = [(names.get(one.elector or 0, NOBODY), Fate(one.time, one.became, one)) for one in came]
     kept = queries.kept_letters(book)
     kept_at = {letter.number: history.act(letter.act).time for letter in kept}
     for letter in judged(Vote(election), history, kept):

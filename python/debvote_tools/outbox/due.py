@@ -13,7 +13,7 @@ from debvote_tools.cli.arguments import demand_reason, has_reason
 from debvote_tools.cli.faults import Fault, bad_words, stop_at
 from debvote_tools.grouping import grouped
 from debvote_tools.inbox.asked import unasked_fault
-from debvote_tools.inbox.fates import NOBODY, Became, Fate, fates_of
+from debvote_tools.inbox.fates import COUNTS, NOBODY, Fate, fates_of
 from debvote_tools.inbox.rules import LetterOutcome
 from debvote_tools.inbox.stopping import pending_letters, what_stops
 from debvote_tools.outbox.reached import CAME_BACK, unreached_and_printed, unreached
@@ -73,13 +73,12 @@ class Run:
         self,
         elector: Elector,
         for_act: int,
-        address: str | None = None,
+        address: str,
         about: Sequence[About] = (),
     ) -> OutgoingLetter:
         """A new letter. Nobody can guess its Message-ID, so an answer that names it comes from
         whoever got the letter.
         """
-        address = address_in(elector.addresses) if address is None else address
         domain = self.sender.partition("@")[2]
         message_id = f"<{secrets.token_hex(16)}@{domain}>" if address else ""
         return OutgoingLetter(
@@ -235,7 +234,11 @@ def to_each(run: Run, for_act: int, text_of: TextOf, had_call: Collection[int] =
         **vars(run),
         for_act=for_act,
         text_of=text_of,
-        new=[run.letter_to(one, for_act) for place, one in places.items() if place not in before],
+        new=[
+            run.letter_to(elector, for_act, place[1])
+            for place, elector in places.items()
+            if place not in before
+        ],
         going_again=[before[place] for place in places if place in before],
         had_call=had_call,
     )
@@ -446,4 +449,4 @@ def beside_what_counts(about: Sequence[About], told: Mapping[About, Fate]) -> li
     waits, or does not count, learns that an earlier ballot does.
     """
     now = about_now(about, told)
-    return [one for key, one in told.items() if key in now or one.became is Became.COUNTS]
+    return [one for key, one in told.items() if key in now or one.became == COUNTS]

@@ -13,7 +13,7 @@ from collections.abc import Collection, Iterator, Sequence
 
 from debvote_tools.book.queries import Elector
 from debvote_tools.inbox.rules import LetterOutcome
-from debvote_tools.inbox.fates import Became, Fate
+from debvote_tools.inbox.fates import COUNTS, REFUSED, Fate
 from debvote_tools.inbox.reasons import for_elector
 from debvote_tools.poll.announced import address_in
 from debvote_tools.poll.call import CallData
@@ -45,15 +45,15 @@ SUBJECTS = marked(
 EXTENSION = marked("Vote ends later: {title}")
 
 
-# what became of a ballot
+# what became of a ballot, as the view `fate` says
 OF_BALLOT = marked(
     {
-        Became.COUNTS: "Your ballot of {time} has arrived. It counts unless you send a later one.",
-        Became.REPLACED: "Your ballot of {time} has arrived. Another ballot of yours, which was entered after it, counts instead.",
-        Became.LATE: "Your ballot of {time} has arrived. It was entered after the close, so it is late and does not count.",
-        Became.STRUCK: "Your ballot of {time} was entered, and the secretary has struck it. It does not count.",
-        Became.TAKEN_BACK: "Your ballot of {time} was entered, and the secretary has taken it back. It does not count unless it is entered again.",
-        Became.REFUSED: "A line with your name has arrived ({time}). It is not a valid ballot of this vote, so it does not count.",
+        COUNTS: "Your ballot of {time} has arrived. It counts unless you send a later one.",
+        "replaced": "Your ballot of {time} has arrived. Another ballot of yours, which was entered after it, counts instead.",
+        "late": "Your ballot of {time} has arrived. It was entered after the close, so it is late and does not count.",
+        "struck": "Your ballot of {time} was entered, and the secretary has struck it. It does not count.",
+        "taken back": "Your ballot of {time} was entered, and the secretary has taken it back. It does not count unless it is entered again.",
+        REFUSED: "A line with your name has arrived ({time}). It is not a valid ballot of this vote, so it does not count.",
     }
 )
 AT_THE_END = marked("Your ballot of {time} has arrived, and it counts.")
@@ -152,11 +152,9 @@ class Composer:
         """What became of what came from an elector. It has the right line if the last of it was
         refused, waits or was set aside. What was struck, taken back or late asks nobody to vote again.
         """
-        decides = (
-            one for one in fates if one.is_own or one.became in (Became.COUNTS, Became.REFUSED)
-        )
-        last = next(reversed([one.became for one in decides]), Became.COUNTS)
-        has_right_line = not self.is_over and last is not Became.COUNTS
+        decides = (one for one in fates if one.is_own or one.became in (COUNTS, REFUSED))
+        last = next(reversed([one.became for one in decides]), COUNTS)
+        has_right_line = not self.is_over and last != COUNTS
         return self.text("receipts.txt", elector, fates=fates, has_right_line=has_right_line)
 
     def text(self, template: str, elector: Elector, **values: object) -> str:
@@ -204,12 +202,12 @@ class Composer:
         language, questions = self.call_data.language, self.call_data.questions
         faults = functools.partial(faults_of, is_of_several=questions.is_several)
         zone = self.call_data.until.tzinfo if self.call_data.until else datetime.UTC
-        if not isinstance(fate.became, Became):
+        if isinstance(fate.became, LetterOutcome):
             is_done = fate.became in (LetterOutcome.SET_ASIDE, LetterOutcome.OLDER)
             of_kind = OF_RECORD if fate.letter and fate.letter.read.link else OF_LETTER
             said = of_kind[fate.is_own, is_done]
         else:
-            is_final = self.is_over and fate.became is Became.COUNTS
+            is_final = self.is_over and fate.became == COUNTS
             said = AT_THE_END if is_final else OF_BALLOT[fate.became]
         sentences = [language.say(said, time=time_in_words(fate.time.astimezone(zone), language))]
         sentences += self.more_of(fate)
@@ -230,7 +228,7 @@ class Composer:
                 f"{why}. {advice}" if advice and not self.is_over else f"{why.rstrip('.')}."
             )
             sentences += dict.fromkeys(near)
-        elif fate.became is Became.REFUSED:
+        elif fate.became == REFUSED:
             sentences += faults(fate.why_refused, name, language)
         return " ".join(sentences)
 

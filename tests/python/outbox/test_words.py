@@ -15,11 +15,11 @@ import unittest
 from debvote_tools.book.queries import Elector, Envelope
 from debvote_tools.book.outgoing import OutgoingLetter
 from debvote_tools.inbox.letter_lines import Near
-from debvote_tools.inbox.fates import Became, Fate
+from debvote_tools.inbox.fates import REFUSED, Fate
 from debvote_tools.inbox.reasons import Reason, for_elector
 from debvote_tools.inbox.rules import LetterOutcome
 from debvote_tools.outbox.letter_folder import message, rows_to_print
-from debvote_tools.outbox.words import PACKAGE, SUBJECTS, Composer
+from debvote_tools.outbox.words import OF_BALLOT, PACKAGE, SUBJECTS, Composer
 from debvote_tools.poll.announced import is_mail_address
 from debvote_tools.poll.call import CallData, call_page
 from debvote_tools.poll.sealed import SealedPoll
@@ -55,16 +55,16 @@ def all_that_came() -> list[Fate]:
         Near(5, "ada 1,2,3", False, None), Near(6, "ada 1,2,3", True, None),
     )  # fmt: skip
 
-    def envelope(number: int, became: Became, answer: str | None = None) -> Fate:
+    def envelope(number: int, became: str, answer: str | None = None) -> Fate:
         line = b"ada 1,2,3" if answer is None else b"ada 1"
         return Fate(TIME, became, Envelope(number, number, 1, line, None, 1, "", TIME, False, None, answer))
 
-    ballots = [envelope(number, became) for number, became in enumerate(Became) if became is not Became.REFUSED]
+    ballots = [envelope(number, became) for number, became in enumerate(OF_BALLOT) if became != REFUSED]
     refused = ["bad rank count: 1 ranks, the poll has 3 options", 'bad shape: column 2: "!"']
     letter = types.SimpleNamespace(reason=Reason.NO_BALLOT(), near=near, read=types.SimpleNamespace(link=""))
     outcomes = itertools.product((LetterOutcome.WAITS, LetterOutcome.SET_ASIDE), (True, False))
     letters = [Fate(TIME, outcome, letter=letter, is_own=is_own) for outcome, is_own in outcomes]  # type: ignore[arg-type]
-    return [*ballots, *(envelope(9, Became.REFUSED, answer) for answer in refused), *letters]
+    return [*ballots, *(envelope(9, REFUSED, answer) for answer in refused), *letters]
 
 
 WAITS = next(one for one in all_that_came() if one.became is LetterOutcome.WAITS and one.is_own)
