@@ -10,7 +10,7 @@ from collections.abc import Collection, Mapping, Sequence
 from debvote_tools.book import queries
 from debvote_tools.book.queries import Elector, KeptLetter
 from debvote_tools.debvote import findings_in
-from debvote_tools.inbox.judging import Ballot, judge_all
+from debvote_tools.inbox.judging import Ballot, BallotsByElector, judge_all
 from debvote_tools.inbox.letter import ParsedLetter, parse
 from debvote_tools.inbox.letter_lines import Names, ReadLetter, from_json, to_json, with_lines
 from debvote_tools.inbox.mailbox import NotRead, RawLetter
@@ -156,7 +156,12 @@ def judged(
     of_others = {name: value for name, value in other.items() if name not in ("language", "real_names")}
     now = circumstances(**of_others)
     cases = [LetterCase(one, now, as_kept(decisions.get(one.digest))) for one in read(*letters, reader=reader, **of_names)]
-    return judge_all(cases, lambda _: ballots or {})
+    return judge_all(cases, lambda _: in_order(ballots or {}))
+
+
+def in_order(ballots: Mapping[str, Sequence[Ballot]]) -> BallotsByElector:
+    """The ballots of electors, as the book gives them."""
+    return BallotsByElector(list, {name: sorted(its, key=queries.by_time) for name, its in ballots.items()})
 
 
 def as_kept(state: str | None) -> KeptLetter:
@@ -165,7 +170,7 @@ def as_kept(state: str | None) -> KeptLetter:
 
 
 def judged_alone(one: ReadLetter, now: Circumstances) -> LetterCase:
-    [found] = judge_all([LetterCase(one, now)], lambda _: {})
+    [found] = judge_all([LetterCase(one, now)], lambda _: in_order({}))
     return found
 
 

@@ -182,7 +182,7 @@ class Chosen(NamedTuple):
         """A ballot without the answers to which its elector has later ones, and without those that were
         entered; and the labels of both, by why.
         """
-        there = queries.later(by_elector.get(line.elector, []), self.letter.time)
+        there = queries.later(by_elector[line.elector], self.letter.time)
         later, entered = answered_by(line.as_entered, there), self.entered
         done = {
             one for one in answers_of(line.as_entered) if (line.elector, one) in entered
@@ -398,7 +398,7 @@ def why_not_unforced(chosen: Sequence[Chosen], by_elector: BallotsByElector) -> 
             yield Fault(name, words, f"add it to that vote; {cure}")
         tied = {*letter.electors, *letter.sharing, letter.marked_elector}
         for line in lines:
-            there = by_elector.get(line.elector, [])
+            there = by_elector[line.elector]
             if not line.number and line.elector not in tied:
                 words = f"neither its sender nor a line of {name} is of {line.elector}"
                 yield Fault("--as", words, f"check the name; {cure}")

@@ -33,7 +33,7 @@ DECIDED = {
 # what becomes of a letter, and why it waits or was set aside
 Judgement = tuple[LetterOutcome, ReasonWithValues | None]
 # the ballots of each elector, in the order `queries.by_time`
-BallotsByElector = dict[str, list[Ballot]]
+BallotsByElector = collections.defaultdict[str, list[Ballot]]
 TIME, IS_BY_LETTER = operator.attrgetter("time"), operator.attrgetter("is_by_letter")
 
 
@@ -88,7 +88,7 @@ def ballots_in(
     """
     numbers = queries.elector_numbers(vote.book, names)
     by_number = {number: name for name, number in numbers.items()}
-    by_elector: BallotsByElector = collections.defaultdict(list)
+    by_elector = BallotsByElector(list)
     clocks = queries.letter_clocks(vote.book)
     there = queries.envelopes_of(vote.book, by_number, condition)
     for envelope in sorted(there, key=queries.by_time):
@@ -134,18 +134,14 @@ def circumstances_now(vote: Vote, history: History) -> Circumstances:
 
 # ---- one letter beside the others
 def judge_all(
-    cases: Iterable[LetterCase],
-    ballots_of: Callable[[Collection[str]], Mapping[str, Sequence[Ballot]]],
+    cases: Iterable[LetterCase], ballots_of: Callable[[Collection[str]], BallotsByElector]
 ) -> list[LetterCase]:
     """Judges letters, and returns them by their times; those without a time come last. What an act
     decided holds; a letter that breaks a rule waits. Of the letters of one identity, mostly one alone,
     the first that breaks none is the original, whose time is its own; the others may be its copies.
     """
     cases = sorted(cases, key=lambda case: (case.time is None, case.time or case.circumstances.now))
-    electors = {elector for case in cases for elector in case.electors}
-    by_elector: BallotsByElector = collections.defaultdict(list)
-    for elector, ballots in ballots_of(electors).items():
-        by_elector[elector] = sorted(ballots, key=queries.by_time)
+    by_elector = ballots_of({elector for case in cases for elector in case.electors})
     for case in cases:
         case.outcome, case.reason = (
             DECIDED[case.state]
@@ -265,10 +261,12 @@ def judge_copies(
     others = {case for case in group if not case.is_decided and case not in originals}
     if not others:
         return
-    hiding = [case for case in group if case.can_hide_all]
     # the one that went in, else the one that an act decided of, else the one that arrived first
-    hiding.sort(key=lambda case: (case.state not in WENT_IN, not case.is_decided))
-    hider = next(iter(hiding), None)
+    hider = min(
+        (case for case in group if case.can_hide_all),
+        key=lambda case: (case.state not in WENT_IN, not case.is_decided),
+        default=None,
+    )
     is_done = hider is not None and (hider.is_decided or hider.outcome is not LetterOutcome.WAITS)
     first_alike: dict[tuple[ReasonWithValues | None, Body, bool], LetterCase] = {}
     for case in sorted(group, key=lambda case: not case.is_decided):

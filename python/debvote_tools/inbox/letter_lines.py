@@ -281,12 +281,17 @@ def read_answers(letter: ParsedLetter, names: Names) -> tuple[list[ReadLine], tu
     """
     body = list(enumerate(letter.body.lines, start=1))
     rest = enumerate(letter.body.other_lines, start=len(body) + 1)
-    others = [(number, line) for number, line in rest if not is_quoted(line)]
+    # what the elector wrote, and what is quoted, each with a stroke where the other stands: it ends a
+    # ballot. Lines of other parts stand alone
     own = [(number, "-" if is_quoted(line) else line) for number, line in body]
-    bare = [(number, without_quote_signs(line)) for number, line in body if is_quoted(line)]
+    bare = [
+        (number, without_quote_signs(line) if is_quoted(line) else "-") for number, line in body
+    ]
+    others = [(number, line) for number, line in rest if not is_quoted(line)]
     apart = [one for line in others for one in ballots_written([line], names)]
     quoted = [one for line in bare for one in ballots_written([line], names)]
     found = [(one, read_written(one, names)) for one in (*ballots_written(own, names), *apart)]
+    # the lines of ballots with a name, and those that repeat only answers of these
     named = [one for one, line in found if line and line.reads_as_ballot]
     answers = {answer for one in named for answer in one.answers.items()}
     repeated = (one for one in (*apart, *quoted) if one.answers.items() <= answers)
@@ -299,7 +304,7 @@ def read_answers(letter: ParsedLetter, names: Names) -> tuple[list[ReadLine], tu
     filled = {one.numbers[0] for one in quoted}
     filled |= {number for number, line in bare if begins_with_answer(line, names)}
     read = [line for _, line in found if line]
-    read += read_filled(body, names)
+    read += read_filled(bare, names)
     for number, line in strays[:MAX_NEAR]:
         text = " ".join(line.split())[:MAX_LOOKED_THROUGH]
         read.append(ReadLine(number, near=Near(number, text, False)))
@@ -321,13 +326,10 @@ def read_written(one: Written, names: Names) -> ReadLine | None:
 
 
 def read_filled(lines: Sequence[tuple[int, str]], names: Names) -> list[ReadLine]:
-    """The ballot of our letter that was filled in where it is quoted, if nothing in it is in doubt."""
-    bare = [
-        (number, without_quote_signs(line) if is_quoted(line) else "-") for number, line in lines
-    ]
-    found = ballots_written(bare, names)
+    """The ballot of our letter that was filled in where these lines quote it, if nothing in it is in doubt."""
+    found = ballots_written(lines, names)
     filled = {number for one in found for number in one.numbers}
-    in_doubt = any(begins_with_answer(line, names) for one, line in bare if one not in filled)
+    in_doubt = any(begins_with_answer(line, names) for one, line in lines if one not in filled)
     if in_doubt or len(found) != 1:
         return []
     whole = read_written(found[0]._replace(why=Reason.FILLED_IN), names)

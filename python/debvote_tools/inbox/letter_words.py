@@ -218,8 +218,7 @@ def quoted_of_ours(letter: LetterCase) -> set[int]:
     ballots: it answers one of ours, or the quotation has the mark of the poll.
     """
     lines, circumstances = letter.read.body.lines, letter.circumstances
-    answered = letter.read.in_reply_to
-    is_reply = answered and any(answered in ids for ids in circumstances.our_ids.values())
+    is_reply = any(letter.read.in_reply_to in ids for ids in circumstances.our_ids.values())
     shown = indices_of_ballots(letter, letter.near)
     return {
         index

@@ -196,16 +196,15 @@ class LetterCase:
         """The lines that may be answers and are in no valid ballot, unless they stand so in our letter.
         What is quoted is none, since the elector may have written it before, but in our letter.
         """
-        shown, ours = self.read.shown_lines, self.circumstances.no_answers
-        bare = {
-            number: without_quote_signs(shown[number - 1]).strip() for number in self.read.strays
+        strays = {number: self.read.shown_lines[number - 1] for number in self.read.strays}
+        return self.read.refused_answers | {
+            number
+            for number, line in strays.items()
+            if without_quote_signs(line).strip() not in self.circumstances.no_answers
+            and (not is_quoted(line) or self.fills_in_our_letter)
         }
-        others = {number for number, line in bare.items() if line not in ours}
-        quoted = {number for number in others if is_quoted(shown[number - 1])}
-        kept = others if quoted and self.fills_in_our_letter else others - quoted
-        return kept | self.read.refused_answers
 
-    @property
+    @functools.cached_property
     def fills_in_our_letter(self) -> bool:
         """Whether it quotes our letter, and lacks a line of the form of a ballot there."""
         quoted = {
@@ -234,8 +233,9 @@ class LetterCase:
         if line.elector or line.on_roll or line.real:
             is_own = sender in (*line.on_roll, *line.real) and {sender}.issuperset(line.on_roll)
             return line.elector or (sender if is_own else None)
-        is_marked = marked is not None and marked in (self.sharing or [marked])
-        return marked if is_marked else sender if marked is None else None
+        if marked is None:
+            return sender
+        return marked if marked in (self.sharing or [marked]) else None
 
     def why_offered(self, line: ReadLine) -> Reason | None:
         """Why a valid line is no ballot by itself, and is offered; None if it is not."""
@@ -339,11 +339,10 @@ class LetterCase:
     def is_from(self, name: str) -> bool:
         """Whether it came from an address of an elector, or by their link."""
         now, link = self.circumstances, self.read.link
-        if (elector := now.electors.get(name)) is None:
-            return False
-        if link:
-            return link == link_of(now.box_key, name, elector.mark)
-        return self.read.sender in map(address_key, elector.addresses)
+        if not link:
+            return name in self.sharing
+        elector = now.electors.get(name)
+        return elector is not None and link == link_of(now.box_key, name, elector.mark)
 
     @property
     def arrived_in_time(self) -> bool:

@@ -16,7 +16,7 @@ from debvote_tools.text.motions import Words, words_of
 
 from tests.python.inbox import test_forgeries
 from tests.support import letters
-from tests.support.letters import NAMES, TEN, answer, at, circumstances, judged_alone, letter, marked, names, outcome, parsed
+from tests.support.letters import NAMES, TEN, answer, at, circumstances, in_order, judged_alone, letter, marked, names, outcome, parsed
 
 WORDS = words_of("en", motion=True)
 IN_WORDS = ("{A} {r}", "{A}: {R}", "{a}) {r}!", "{A} {r}.", "{r}", "I say {r}", "{A} {r} for the reasons that we have told you all", "{A}: {r} please")
@@ -55,7 +55,7 @@ def read(*given: bytes, words: Words = {}) -> list[ReadLetter]:
 
 def judged(*given: bytes, ballots: Mapping[str, Sequence[Ballot]] | None = None, words: Words = {}) -> list[LetterCase]:
     known = circumstances(no_answers=OURS, words=words)
-    return judge_all([LetterCase(one, known) for one in read(*given, words=words)], lambda _: ballots or {})
+    return judge_all([LetterCase(one, known) for one in read(*given, words=words)], lambda _: in_order(ballots or {}))
 
 
 def becomes(text: str, how: object = letter, words: Words = {}) -> str:
