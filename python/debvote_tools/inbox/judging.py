@@ -118,7 +118,7 @@ def circumstances_now(vote: Vote, history: History) -> Circumstances:
         electors={elector.name: elector for elector in electors},
         is_marked=bool(history.announced("marked")),
         is_signed=vote.is_signed,
-        is_of_names=vote.questions.is_secret and not vote.has_codes,
+        tells_codes=vote.questions.is_secret and not vote.has_codes,
         called=call.time,
         end=history.until,
         first_close=history.closes[0].time if history.closes else None,

@@ -101,8 +101,8 @@ class Circumstances:
     our_ids: Mapping[str, Collection[str]]
     # the key of the box of the web host
     box_key: bytes = b""
-    # whether it is a secret vote with names on the roll: then no line needs a code or an alias
-    is_of_names: bool = False
+    # whether lines with what looks like a code or an alias are told: in a secret vote with names on the roll
+    tells_codes: bool = False
     # of motions: their words; of these and of several questions the lines that are no answers although
     # they look like one; and the Message-IDs of the letters that ask to vote
     words: Words = dataclasses.field(default_factory=dict)
@@ -154,8 +154,8 @@ class LetterCase:
         self.read, self.circumstances, self.state = letter, circumstances, kept.state
         # in the book
         self.number, self.source = kept.number, kept.source
-        # with what looks like a code or an alias
-        self.code_lines = letter.code_lines if circumstances.is_of_names else ()
+        # the lines with what looks like a code or an alias, if they are told
+        self.code_lines = letter.code_lines if circumstances.tells_codes else ()
         # the electors who have the sender's address, and the one whose own mark the subject has. A
         # subject with several, or with that of nobody, counts as one with the poll's mark alone
         self.sharing = circumstances.electors_by_address.get(letter.sender, [])
