@@ -278,15 +278,13 @@ def left_out(vote: Vote, electors: Collection[str]) -> Iterator[str]:
         return
     entered, by_elector = entered_in(vote.book), ballots_in(vote, electors, IN_TIME)
     for letter in all_letters(vote):
+        if letter.outcome is not LetterOutcome.ENTERED:
+            continue
         one = Chosen(letter, (*letter.ballots, *letter.offered), entered.get(letter.number, ()))
-        partly = (
-            {elector for elector, _ in one.entered}
-            if letter.outcome is LetterOutcome.ENTERED
-            else ()
-        )
+        partly = {elector for elector, _ in one.entered if elector in electors}
         for line in one.lines:
             left, _ = one.left_of(line, by_elector)
-            if left and line.elector in electors and line.elector in partly:
+            if left and line.elector in partly:
                 enter = vote.election.command("held", str(letter.number), "--enter")
                 yield f"{name_of(letter)} has an answer that was left out, `{left}`: {enter}"
 

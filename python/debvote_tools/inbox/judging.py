@@ -268,6 +268,7 @@ def judge_copies(
         default=None,
     )
     is_done = hider is not None and (hider.is_decided or hider.outcome is not LetterOutcome.WAITS)
+    # each is a copy of the hider, if that hides it; else of the first one alike
     first_alike: dict[tuple[ReasonWithValues | None, Body, bool], LetterCase] = {}
     for case in sorted(group, key=lambda case: not case.is_decided):
         same = case.first_broken_rule, case.read.body, case.arrived_in_time

@@ -552,6 +552,7 @@ def why_not_first_in(case: LetterCase, joined: Collection[int]) -> ReasonWithVal
     is_reply = case.has_own_mark and letter.in_reply_to in ours
     is_by_page = case.has_own_mark and letter.is_new and is_subject_of_page(case)
     paragraphs = paragraphs_of(case, joined)
+    # in which of these the ballot begins and ends, and the first one above it that is quoted, or -1
     places = [at for at, one in enumerate(paragraphs) if not {*one}.isdisjoint(own)]
     place, last = places[0], places[-1]
     quoted = [any(is_quoted(lines[index]) for index in one) for one in paragraphs]
@@ -560,6 +561,7 @@ def why_not_first_in(case: LetterCase, joined: Collection[int]) -> ReasonWithVal
         return Reason.QUOTED()
     if first >= 0 and not has_only_a_head(lines, paragraphs[: first + 1]):
         return Reason.MUCH_QUOTED()
+    # what stands above the ballot, below that quotation, and within the ballot or beside it
     between = [one for one in range(first + 1, last + 1) if not quoted[one]]
     others = [index for one in between for index in paragraphs[one] if index not in own]
     # in an answer, what is beside the ballot below it is free, unless it may be the head of a
