@@ -66,6 +66,12 @@ def environment() -> dict[str, str]:
 TEMPLATES: dict[object, pathlib.Path] = {}
 
 
+def nothing_by(words: Sequence[str]) -> str:
+    """What a command says it has not done."""
+    done = {"add": "added", "desk": "entered", "count": "counted", "publish": "published", "letters": "written"}
+    return f"nothing was {done.get(words[0], 'changed')}"
+
+
 class ElectionTest(unittest.TestCase):
     """A test with its own folder, in which an election is called, with the poll above and no ballots."""
 

@@ -99,7 +99,8 @@ WITH marked AS MATERIALIZED (
 )"""
 # the letters with which mail servers sent letters of ours back, each with the act that kept its first
 # copy: by a Message-ID of ours in it with the address, by an own mark of now without one; but for those
-# from an address of their elector, and those after which a ballot of this elector came by letter. The order
+# from an address of their elector, and those after which a ballot of this elector came by letter, and is not
+# struck. The order
 # of the tables is that of the join
 UNREACHED = f"""
 {MARKED}, ours AS (
@@ -111,14 +112,18 @@ UNREACHED = f"""
     taken OR state = 'written' AND act >= since AND (address = '' OR NOT by_server)
   )) AS has_call, max(CASE WHEN state <> 'written' THEN last END) FROM ours GROUP BY elector, address
 ), back AS MATERIALIZED (
-  SELECT min(act) AS act, known ->> 'sender' AS sender, value FROM letter, json_each(known, '$.returned') GROUP BY identity, value
+  SELECT min(act) AS act, min(coalesce(known ->> 'arrived', time)) AS came, known ->> 'sender' AS sender, value
+  FROM letter JOIN act USING (act), json_each(known, '$.returned') GROUP BY identity, value
 ), found AS (
-  SELECT back.act, sender, elector, detail ->> 'address' AS address FROM sent CROSS JOIN back
+  SELECT back.act, came, sender, elector, detail ->> 'address' AS address FROM sent CROSS JOIN back
   ON value = substr(detail ->> 'message_id', 2, 32) WHERE sent.act > ?1 AND EXISTS (SELECT 1 FROM back)
-  UNION SELECT act, sender, elector, NULL FROM back JOIN elector_now ON value = mark
+  UNION SELECT act, came, sender, elector, NULL FROM back JOIN elector_now ON value = mark
 ), returned AS MATERIALIZED (
   SELECT elector, coalesce(address, address_in(mail)) AS address, max(found.act) AS act FROM found JOIN elector_now USING (elector)
-  WHERE NOT EXISTS (SELECT 1 FROM envelope WHERE elector = found.elector AND letter IS NOT NULL AND act > found.act)
+  WHERE NOT EXISTS (
+    SELECT 1 FROM entered WHERE elector = found.elector AND letter IS NOT NULL AND struck IS NULL
+    AND (substr(time, 1, 19), entered.act) > (substr(came, 1, 19), found.act)
+  )
   AND NOT EXISTS (SELECT 1 FROM json_each(mail) WHERE lower(trim(value)) = sender) GROUP BY 1, 2
 ), failed AS (
   SELECT elector, address, act, 'refused' AS why, coalesce(reply, '') AS said FROM answered WHERE state = 'refused'

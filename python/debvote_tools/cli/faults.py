@@ -52,12 +52,13 @@ class Fault(Exception):
 
     def after(self, acts: Sequence[str], nothing: str) -> "Fault":
         """The same fault, of a run that did these acts before, and otherwise `nothing`."""
-        if self.done == NOTHING_CHANGED:
-            self.done = f"{NOTHING}{nothing}"
-        if acts and self.done is not None and self.done.startswith(NOTHING):
-            rest = self.done.removeprefix(NOTHING_CHANGED).removeprefix("; ")
+        done = self.done or ""
+        rest = done.removeprefix(NOTHING_CHANGED)
+        if acts and done.startswith(NOTHING):
             self.done = acts_in_words(acts)
-            return self.with_done(rest)
+            return self.with_done(rest.removeprefix("; "))
+        if rest != done:
+            self.done = f"{NOTHING}{nothing}{rest}"
         return self
 
     def with_done(self, done: str) -> "Fault":

@@ -80,7 +80,7 @@ class BookTest(elections.ElectionTest):
         before = self.read("election.db")
         for words in acting:
             with self.subTest(words):
-                self.assert_fault(self.election(*words), 9, *parts, "nothing was changed")
+                self.assert_fault(self.election(*words), 9, *parts, elections.nothing_by(words))
         for words in reading:
             with self.subTest(words):
                 ended = self.election(*words)
@@ -110,7 +110,7 @@ class Copies(BookTest):
         self.assert_fault(self.election("add", "--yes", "--moved", "more"), 2, "--moved", "reason")
         for text in ("a\u202eb", "a\x1b[1m", "one line\nand one more"):
             odd = self.election("add", "--yes", "--moved", "--because", text, "more")
-            self.assert_fault(odd, 2, "--because: the text has the character U+", "nothing was changed")
+            self.assert_fault(odd, 2, "--because: the text has the character U+", "nothing was added")
         self.done("add", "--yes", *MOVED, "more")
         log = self.done("log").output
         self.assertEqual(([line.split()[4] for line in log.splitlines()[::2]][-2:], log.count(lacks)), (["moved", "add"], 1))
@@ -216,7 +216,7 @@ class Copies(BookTest):
             return self.traced("-P", following, "-e", f"inject={call}", words=("add", "--yes", "more"))
 
         for call in ("write:error=ENOSPC", "fsync:error=EIO"):
-            self.assert_fault(injected(call), 7, "this computer must note there", "nothing was changed")
+            self.assert_fault(injected(call), 7, "this computer must note there", "nothing was added")
             self.assertEqual((self.contents(), note.read_bytes()), (before, noted))
         ended = injected("rename:error=ENOSPC")
         self.assertEqual((ended.status, ended.faults, note.read_bytes()), (0, "", noted), ended)
@@ -410,7 +410,7 @@ class Rewritten(BookTest):
                     self.assertEqual(said, is_mended, ended)
                 self.assertGreater(len(self.formats()), 1)
                 # nothing is built on it, either
-                self.assert_fault(self.election("desk", given="hal 1,2,3,4\n"), 9, "election.db: the book is damaged", "nothing was changed")
+                self.assert_fault(self.election("desk", given="hal 1,2,3,4\n"), 9, "election.db: the book is damaged", "nothing was entered")
         copy = self.scratch / "copy"
         shutil.copy(self.book, copy)
         with contextlib.closing(sqlite3.connect(copy)) as connection:
@@ -450,7 +450,7 @@ class Rewritten(BookTest):
         strike, call = ("strike", "1", "--because", "x"), ("call", "--at", "https://club.example/")
         acting = (("add", "--yes", "more"), strike, ("undo", "--yes"), call)
         for words in acting:
-            self.assert_fault(self.election(*words), 9, "act 4 does not match its digest", "nothing was changed")
+            self.assert_fault(self.election(*words), 9, "act 4 does not match its digest", elections.nothing_by(words))
 
     def test_no_act_adopts_rows(self) -> None:
         """Rows with the number of the act to come, or of one after it, stop it, in whatever table they are."""
@@ -474,7 +474,7 @@ class Rewritten(BookTest):
         changed = self.read("election.db")
         self.write("more", "hal 1,2,3,4\n")
         for words in (("add", "--yes", "more"), ("undo", "--yes"), ("held", "1", "--wait"), ("close",), ("call", "--at", "https://x.example/")):
-            self.assert_fault(self.election(*words), 9, f"it has rows of act {last + 1}, and no such act", "nothing was changed")
+            self.assert_fault(self.election(*words), 9, f"it has rows of act {last + 1}, and no such act", elections.nothing_by(words))
         self.assertEqual(self.read("election.db"), changed)
 
     def made_whole(self, *statements: str) -> None:
@@ -606,7 +606,7 @@ class OnTheDisk(BookTest):
             done = self.last_act() - before
             if ended.status == 0:
                 said.append("done")
-            elif "nothing was changed" in ended.faults:
+            elif "nothing was entered" in ended.faults:
                 self.assert_fault(ended, 7, "election.db: ")
                 self.assertEqual(done, 0)
                 said.append("nothing")
@@ -700,7 +700,7 @@ class Places(BookTest):
         self.write("more", "hal 1,2,3,4\n")
         before = self.contents()
         for words in (("status",), ("add", "--yes", "more"), ("log", "--check"), ("close",)):
-            self.assert_fault(self.election(*words), 2, "it is a book of debvote-election 2.0.0 (version 3)", "nothing was changed")
+            self.assert_fault(self.election(*words), 2, "it is a book of debvote-election 2.0.0 (version 3)", elections.nothing_by(words))
             self.assertEqual(self.contents(), before)
 
     def test_damaged(self) -> None:

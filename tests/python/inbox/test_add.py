@@ -407,7 +407,7 @@ class Failing(CalledTest):
                 signal.signal(signal.SIGXFSZ, signal.SIG_IGN)
                 resource.setrlimit(resource.RLIMIT_FSIZE, (room, room))
 
-            said = "election.db: it can't be written (", "; nothing was changed: "
+            said = "election.db: it can't be written (", "; nothing was added: "
             self.assertEqual((self.assert_refused(("add",), 7, *said, given=given, preexec_fn=limit).output, self.lines()), ("", [f"ben {RANKS}"]))
         self.told("log", "--check")
         self.assertIn("2 counted  ada: ", self.told("add", given=f"ada {RANKS}\n"))

@@ -194,6 +194,15 @@ class Sending(SendTest):
         self.assertEqual(self.not_reached(), {"ben": "came back"})
         self.came_back("ada", "head")
         self.assertEqual(self.not_reached(), {"ada": "came back", "ben": "came back"})
+        # a ballot that is struck, or had come before, shows nothing either
+        self.add(letter("ada", f"ada {RANKS}\n", time="Mon, 23 Nov 2026 08:00:00 +0000", number="before"))
+        self.done("held", 6, "--enter", 1, "--force", "--yes")
+        self.assertEqual(self.not_reached(), {"ada": "came back", "ben": "came back"})
+        self.add(letter("ben", f"ben {OTHER_RANKS}\n", time="Mon, 23 Nov 2026 10:30:00 +0000", number="after"))
+        self.done("held", 7, "--enter", 1, "--force", "--yes")
+        self.assertEqual(self.not_reached(), {"ada": "came back"})
+        self.done("undo", "--yes")
+        self.assertEqual(self.not_reached(), {"ada": "came back", "ben": "came back"})
 
     def test_what_came_last_is_the_reason(self) -> None:
         self.server.rcpt_answers = {ALL[0]: "550 no"}
