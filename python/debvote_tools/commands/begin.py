@@ -53,7 +53,7 @@ from debvote_tools.poll.members import AGAIN, Member, NEW_MEMBERS, Roll, roll_of
 from debvote_tools.poll.plain_names import alike, ELECTOR_LIMIT, similar_names
 from debvote_tools.poll.questions import LABELS, POLL_FILE, TITLE_FILE, Questions
 from debvote_tools.poll.sealed import new_own_mark
-from debvote_tools.poll.secret import alias_of, codes_csv, new_code, slips
+from debvote_tools.poll.secret import alias_of, codes_csv, codes_for_roll, new_code, slips
 from debvote_tools.text.language import ENGLISH, LANGUAGES, Language
 from debvote_tools.text.motions import with_ranks
 
@@ -434,10 +434,9 @@ def make_codes(election: Election, arguments: CodesArguments) -> tuple[Questions
     with book.act("codes", detail, seen=history.last.number) as act:
         if arguments.on_roll:
             queries.put_electors(act, (elector._replace(position=None) for elector in electors))
-            names = sorted(new_code() for _ in electors)
             coded = [
-                queries.new_elector(act, name)._replace(position=at)
-                for at, name in enumerate(names, start=1)
+                queries.new_elector(act, code)._replace(position=at)
+                for at, code in enumerate(codes_for_roll(len(electors)), start=1)
             ]
         else:
             codes = [(one, new_code(one.name)) for one in without]

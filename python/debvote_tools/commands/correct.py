@@ -135,8 +135,8 @@ def demand_open(election: Election, history: History) -> None:
 
 
 # ---- strike
-# what can be a code of the roll or the most of one, as if a digit was left out
-LIKE_A_CODE = re.compile(rb"[0-9a-fA-F]{16,}")
+# what can be a code of the roll or half of one, as if it was typed with a gap
+LIKE_A_CODE = re.compile(rb"[0-9A-Za-z]{5,}")
 
 
 class StrikeArguments(Acting):

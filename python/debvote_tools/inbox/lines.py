@@ -21,6 +21,7 @@ from typing import NamedTuple
 
 from debvote_tools.grouping import grouped
 from debvote_tools.poll.plain_names import without_accents
+from debvote_tools.poll.sealed import OWN_LENGTH, OWN_SIGNS
 from debvote_tools.text.ballots import answers_text
 from debvote_tools.text.motions import WORDS, Words, with_ranks
 
@@ -40,8 +41,9 @@ WRITTEN_NAME = r"[^\W_](?:[\w .'\u2019-]*[^\W_])?"
 RIGHT_ANSWERS = re.compile(rf"([a-z0-9.-]+)((?: [A-Z] {RANKS})+)")
 NAMED = re.compile(rf"({WRITTEN_NAME})(?:\s*:\s*|\s+)({RANKS})")
 
-# the code or the alias of a secret vote, within other text
-CODE_WITHIN = re.compile(rb"(?<![0-9a-f])[0-9a-f]{32}(?![0-9a-f])")
+# the code or the alias of a secret vote, or a code on the roll, within other text
+ON_ROLL_WITHIN = f"(?<![{OWN_SIGNS}])[{OWN_SIGNS}]{{{OWN_LENGTH}}}(?![{OWN_SIGNS}])"
+CODE_WITHIN = re.compile(rb"(?<![0-9a-f])[0-9a-f]{32}(?![0-9a-f])|%b" % ON_ROLL_WITHIN.encode())
 # the same as people type it, with the gaps of a slip
 TYPED_CODE = re.compile(r"(?<![0-9a-f])(?:[0-9a-f][ \t-]?+){31}[0-9a-f](?![0-9a-f])", re.IGNORECASE)
 

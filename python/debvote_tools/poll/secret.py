@@ -13,7 +13,7 @@ from debvote_tools.files import sha256_of
 from debvote_tools.inbox.lines import CODE_WITHIN
 from debvote_tools.poll.call import PACKAGE, CallData
 from debvote_tools.poll.questions import Questions
-from debvote_tools.poll.sealed import with_roll
+from debvote_tools.poll.sealed import OWN_LENGTH, OWN_SIGNS, new_own_mark, with_roll
 from debvote_tools.text.ballots import in_normal_form
 from debvote_tools.text.rendering import render_page, resources
 
@@ -25,8 +25,8 @@ BY_OPENSSL = "printf %s NAME | openssl dgst -sha256 -hmac CODE -r | cut -c1-32"
 # how many rows of slips fit on a side, by the lines of each, which have at least so many columns
 ROWS, COLUMNS = {4: 20, 3: 27, 2: 40}, 45
 
-# what a code and an alias look like
-CODE = re.compile(r"[0-9a-f]{32}")
+# what is on the roll of a published secret poll: an alias, or a code in place of a name
+ON_PUBLIC_ROLL = re.compile(rf"[0-9a-f]{{32}}|[{OWN_SIGNS}]{{{OWN_LENGTH}}}")
 
 # a spreadsheet takes such a text for a number, and writes it in another way
 NUMBER = re.compile(r"\d*e?\d*")
@@ -39,12 +39,23 @@ FORMULA = re.compile(
 
 
 # ---- codes
-def new_code(name: str = "") -> str:
+def new_code(name: str) -> str:
     """Draws 16 random bytes in hex digits, until no spreadsheet takes code or alias for a number."""
     while True:
         code = secrets.token_hex(16)
         if not NUMBER.fullmatch(code) and not NUMBER.fullmatch(alias_of(code, name)):
             return code
+
+
+def codes_for_roll(count: int) -> list[str]:
+    """Draws codes that stand on the roll in place of names, in their order. People type them, so they have
+    the signs of own marks.
+    """
+    codes = set[str]()
+    while len(codes) < count:
+        if not NUMBER.fullmatch(code := new_own_mark()):
+            codes.add(code)
+    return sorted(codes)
 
 
 def demand_no_code(name: str, data: bytes, codes: Collection[str]) -> None:

@@ -23,7 +23,7 @@ from debvote_tools.poll.plain_names import bad_options, bad_title
 from debvote_tools.result import folder
 from debvote_tools.result.facts import Facts, PublishedWords
 from debvote_tools.poll.sealed import KEYS, REQUIRED, SealedPoll, poll_of
-from debvote_tools.poll.secret import CODE
+from debvote_tools.poll.secret import ON_PUBLIC_ROLL
 
 PROGRAM = "debvote-publish"
 
@@ -90,7 +90,7 @@ def facts_of(arguments: Arguments, program_folder: pathlib.Path) -> Facts:
     ballots = input_in(arguments.ballots, BALLOTS_LIMIT, "ballots", Status.BAD_BALLOTS)
     demand_in_order(poll_bytes, arguments, Debvote(pathlib.Path(), program_folder))
     poll = sealed_of(poll_bytes, arguments.poll)
-    if poll.secret and not all(map(CODE.fullmatch, poll.roll)):
+    if poll.secret and not all(map(ON_PUBLIC_ROLL.fullmatch, poll.roll)):
         cure = "publish it from its election, with debvote-election publish"
         words = "the vote is secret, and this would publish each name with its vote"
         raise Fault(arguments.poll, words, cure, done=None)

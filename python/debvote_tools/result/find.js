@@ -25,7 +25,6 @@ function joined(texts, and) {
 
 (() => {
   const DIGITS = 32;
-  const CODE = /^[0-9a-f]{32}$/;
   // among more electors no name is suggested, since it would take seconds
   const SUGGESTED_LIMIT = 20_000;
 
@@ -38,6 +37,7 @@ function joined(texts, and) {
   const nameInput = byId("Name");
   // only in a secret vote; where codes are on the roll, they are typed as the name
   const codeInput = byId("Code");
+  const CODE = codeInput === null ? /^[2-9a-hjkmnp-z]{10}$/ : /^[0-9a-f]{32}$/;
   const isByCode = "type_code" in words;
   // The questions of the page: all, of which it carries the ballot of each elector, null for those who have none; or its own one.
   const carriedQuestions = [...document.querySelectorAll("pre[data-options]")].map(({ dataset, textContent }) => ({

@@ -24,13 +24,12 @@ FIND = marked(
         type_name="Type your name.",
     )
 )
-CODE_DIGITS = marked("A code has 32 digits, 0 to 9 and a to f. Type yours as it was given to you.")
 FIND_BY_CODE = marked(
     dict(
         no_elector="No elector has this code. Type it as it is on your slip.",
         no_ballot="The code is on the roll, and no ballot counts under it.",
         type_name="Type your code as it is on your slip.",
-        type_code=CODE_DIGITS,
+        type_code="A code has 10 signs, digits and small letters. Type yours as it is on your slip.",
     )
 )
 FIND_IN_OPEN = marked(
@@ -46,7 +45,7 @@ FIND_IN_SECRET = marked(
         no_elector="No elector of this vote has the alias {alias}. Type name and code as they are in your letter or on your slip.",
         no_ballot="Your alias is {alias}. It is on the roll, and no ballot counts under it.",
         type_name="Type your name as it is in your letter or on your slip.",
-        type_code=CODE_DIGITS,
+        type_code="A code has 32 digits, 0 to 9 and a to f. Type yours as it was given to you.",
         no_alias="This browser makes no alias on a page that did not come by https. Use one of the commands below.",
     )
 )

@@ -336,17 +336,17 @@ class Secret(CallTest):
         self.done("codes", "--on-roll")
         self.assert_fault(self.election("call", "--marked"), 2, "--marked: codes are on the roll", "leave it out")
         for status in (self.done("status").output, self.done("status", "--json").output):
-            self.assertNotRegex(status.rpartition("digest")[0], r"[0-9a-f]{32}")
+            self.assertNotRegex(status.rpartition("digest")[0], r"[2-9a-hjkmnp-z]{10}")
         self.assertEqual([file.name for file in (self.folder / "private").iterdir()], ["slips.html"])
         self.assert_fault(self.election("roll"), 9, "codes are on the roll")
         self.assertIn("Made 0 codes.", self.done("codes").output)
         ended = self.done("call", *UNTIL)
         self.assertIn("no poll.toml.\nPrint private/slips.html, cut the slips out, and let each elector draw one.\n", ended.output)
         self.assertEqual(sorted(file.name for file in (self.folder / "call").iterdir()), ["SHA256SUMS", "call.txt", "index.html"])
-        codes = set(re.findall(r"\b[0-9a-f]{32}\b", self.done("export", self.scratch / "out").output + (self.scratch / "out" / "poll.toml").read_text()))
+        codes = set(re.findall(r"\b[2-9a-hjkmnp-z]{10}\b", self.done("export", self.scratch / "out").output + (self.scratch / "out" / "poll.toml").read_text()))
         self.assertEqual(len(codes), 9)
         for text in (ended.output, self.texts(), self.done("status").output, self.done("status", "--json").output, self.done("log").output):
-            self.assertFalse(codes & set(re.findall(r"[0-9a-f]{32}", text)))
+            self.assertFalse(codes & set(re.findall(r"[2-9a-hjkmnp-z]{10}", text)))
         self.assertIsNone(json.loads(self.done("status", "--json").output)["without_ballot"])
         # they lapse with the call
         self.assertIn("then run debvote-election roll\n", self.done("call", "--take-back").output)
@@ -356,7 +356,7 @@ class Secret(CallTest):
         self.done("roll")
         self.done("codes", "--on-roll")
         self.done("call", *UNTIL)
-        after = set(re.findall(r"\b([0-9a-f]{32}) _", self.read("private/slips.html").decode()))
+        after = set(re.findall(r"\b([2-9a-hjkmnp-z]{10}) _", self.read("private/slips.html").decode()))
         self.assertEqual((len(after), codes & after), (10, set()))
         self.assertIn("is void", self.texts())
 

@@ -197,11 +197,15 @@ class ScriptsTest(publishing.ResultPageTest):
 
     def test_finding_a_ballot_by_its_code(self):
         """Where codes are on the roll, half a code is not called the code of nobody."""
-        window, code = self.page_of(self.published(self.secret, "codes", has_codes=True)), alias_of(self.code, "zoe-muller")
-        self.expect("in groups", window.find(f"{code[:16].upper()} {code[16:]}")[-1], f"The line: {code} 2,1,-")
-        self.expect("half of it", window.find(code[:16]), ["A code has 32 digits, 0 to 9 and a to f. Type yours as it was given to you."])
-        self.expect("no ballot", window.find(alias_of(self.code, "cleo")), ["The code is on the roll, and no ballot counts under it."])
-        self.expect("nobody's", window.find("f" * 32), ["No elector has this code. Type it as it is on your slip."])
+        zoe, cleo = "7kq3m9xw2a", "b2c3d4e5f6"
+        poll = re.sub("roll = .*", f'roll = ["{zoe}", "{cleo}"]\nsecret = true', publishing.PLAIN_POLL)
+        room = plain_room(self.scratch / "drawn codes", poll, f"{zoe} 2,1,-\n")
+        window = self.page_of(self.published(room, "codes", has_codes=True))
+        self.expect("in groups", window.find(f"{zoe[:5].upper()} {zoe[5:]}")[-1], f"The line: {zoe} 2,1,-")
+        for half in (zoe[:5], f"{zoe}b", "l" * 10):
+            self.expect(half, window.find(half), ["A code has 10 signs, digits and small letters. Type yours as it is on your slip."])
+        self.expect("no ballot", window.find(cleo), ["The code is on the roll, and no ballot counts under it."])
+        self.expect("nobody's", window.find("f" * 10), ["No elector has this code. Type it as it is on your slip."])
 
     def test_the_checksum_of_the_close(self):
         """In a secret vote it covers the random line, too."""

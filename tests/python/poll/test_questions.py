@@ -11,7 +11,7 @@ import unittest
 from debvote_tools.book.election import Sealed
 from debvote_tools.book.queries import Elector
 from debvote_tools.poll.call import call_files
-from debvote_tools.poll.questions import LABELS, Questions, quorums_in, quorums_said, read_questions
+from debvote_tools.poll.questions import LABELS, Questions, read_questions
 from debvote_tools.poll.secret import alias_in, aliased, codes_csv, slips
 from debvote_tools.text.language import ENGLISH
 from debvote_tools.text.motions import words_of
@@ -55,10 +55,6 @@ class Value(unittest.TestCase):
         self.assertEqual((again.checksum, [label for label, poll in again.items() if poll.motion]), (SEVERAL.checksum, ["B"]))
         self.assertEqual(list(Sealed(again, again).files()), ["poll A", "poll B", "poll C", "motion B", "title"])
         self.assertEqual(list(Sealed(calls.alone(POLL), calls.alone(POLL)).files()), ["poll"])
-
-    def test_quorums_as_the_act_keeps_them(self) -> None:
-        for said, quorums in ((3, {"": 3}), ({"A": 3, "B": 0}, {"A": 3, "B": 0})):
-            self.assertEqual((quorums_in(said), quorums_said(quorums)), (quorums, said))
 
     def test_labels(self) -> None:
         self.assertEqual(LABELS, "".join(sorted({*"ABCDEFGHIJKLMNOPQRSTUVWXYZ"} - {"I", "O"})))

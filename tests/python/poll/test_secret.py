@@ -16,11 +16,26 @@ import unittest.mock
 from collections.abc import Sequence
 
 from debvote_tools.book.queries import Elector
+from debvote_tools.cli.faults import Fault
 from debvote_tools.inbox.letter_lines import with_lines
 from debvote_tools.inbox.lines import has_code
 from debvote_tools.poll.call import CallData
 from debvote_tools.poll.sealed import read_plain
-from debvote_tools.poll.secret import BY_OPENSSL, BY_PYTHON, NUMBER, alias_of, aliased_ballots, aliased, codes_csv, new_code, seal_line, sealed_checksum, slips
+from debvote_tools.poll.secret import (
+    BY_OPENSSL,
+    BY_PYTHON,
+    NUMBER,
+    alias_of,
+    aliased_ballots,
+    aliased,
+    codes_csv,
+    codes_for_roll,
+    demand_no_code,
+    new_code,
+    seal_line,
+    sealed_checksum,
+    slips,
+)
 from debvote_tools.text.language import LANGUAGES, language_of
 
 from tests.support import calls
@@ -66,8 +81,19 @@ class Codes(unittest.TestCase):
         with unittest.mock.patch("secrets.token_hex", return_value="c" * 32) as drawn:
             self.assertEqual(new_code("ada"), "c" * 32)
         drawn.assert_called_once_with(16)
-        codes = [code for code in (new_code() for _ in range(50)) if re.fullmatch("[0-9a-f]{32}", code)]
+        codes = [code for code in (new_code("ada") for _ in range(50)) if re.fullmatch("[0-9a-f]{32}", code)]
         self.assertEqual(len({code[start : start + 8] for code in codes for start in range(0, 32, 8)}), 200)
+
+    def test_codes_on_the_roll_are_typed_so_they_have_the_signs_of_own_marks(self) -> None:
+        with unittest.mock.patch("debvote_tools.poll.secret.new_own_mark", side_effect=["22222e2222", "b" * 10, "a2" * 5, "b" * 10, "c" * 10]):
+            self.assertEqual(codes_for_roll(3), ["a2" * 5, "b" * 10, "c" * 10])
+        codes = [code for code in codes_for_roll(500) if re.fullmatch("[2-9a-hjkmnp-z]{10}", code)]
+        self.assertEqual((len(codes), codes), (500, sorted(codes)))
+        # such a code is kept out of what everybody gets
+        for text in (b"my code is %b.", b"%b 1,2,3", b"\n%b\n", b"a-%b"):
+            with self.assertRaises(Fault):
+                demand_no_code("letter.txt", text % codes[0].encode(), codes)
+        demand_no_code("letter.txt", b"x%bx %b" % (codes[0].encode(), codes[0][:9].encode()), codes)
 
     def test_no_code_and_no_alias_can_be_taken_for_a_number(self) -> None:
         good = "a" * 32
