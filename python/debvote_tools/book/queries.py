@@ -241,12 +241,14 @@ def lines_to_count(book: Book) -> list[bytes]:
     """What debvote counts from: the line of each envelope that is in time and not struck, in their
     order; also those that it refuses, or that a later one replaces.
     """
-    return [line for _, line in numbered_lines_to_count(book)]
+    return lines(book, TO_COUNT)
 
 
-def numbered_lines_to_count(book: Book) -> list[tuple[int, bytes]]:
-    """The same lines, each with the number of its envelope."""
-    return book.rows("SELECT envelope, line FROM ballot ORDER BY envelope")
+def refused_places(book: Book) -> list[int]:
+    """The places, from 1, that the lines which debvote refuses have among these."""
+    places = "SELECT row_number() OVER (ORDER BY envelope) AS place, answer FROM ballot"
+    words = f"SELECT place FROM ({places}) WHERE answer IS NOT NULL ORDER BY place"
+    return [place for place, in book.rows(words)]
 
 
 def late_lines(book: Book) -> list[bytes]:

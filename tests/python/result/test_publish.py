@@ -627,7 +627,12 @@ class OfSecretVotes(OfElections):
         self.say("close")
         # answers for the private files that are not theirs
         differs = "the sheet under aliases differs from the sheet of the votes as they came"
-        for task, change, said in (("standing", "s/2,1,3/1,2,3/", "another thing than it keeps"), ("count", "s/Voters: 2/Voters: 3/", differs)):
+        kept = "another thing than it keeps"
+        for task, change, said in (
+            ("standing", "s/2,1,3/1,2,3/", kept),
+            ("count", "s/Voters: 2/Voters: 3/", kept),
+            ("count", "s/^Tie: .*/Winner: 1 x/", differs),
+        ):
             other = f'case "$*" in "{task} "*/dev/stdin*) {elections.PROGRAM} "$@" | sed "{change}"; exit ;; esac'
             self.stops("publish", path=self.other_debvote(other), said=[said])
         self.say("publish", status=1)
