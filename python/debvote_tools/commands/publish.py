@@ -83,11 +83,12 @@ def publish(election: Election, arguments: Arguments) -> int:
     again = before if given == PublishedWords(is_forced=arguments.force) else None
     words = given if again is None else PublishedWords(**again.detail["words"])
     pending = pending_letters(election, history) if history.is_closed else Pending()
-    facts = without_old_force(publication.facts_of(election, words, pending), again)
+    facts = publication.facts_of(election, words, pending)
+    is_forced = not has_new_doubt(facts, again) and bool(words.is_forced and words.because)
     # the folder is whole and counted before the act, and takes its place after the act: so a kill leaves
     # no folder that the book does not know
     with folder.beside(target) as new:
-        filled = folder.filled(new.folder, facts, election.program_folder)
+        filled = folder.filled(new.folder, facts, election.program_folder, is_forced=is_forced)
         # nobody is asked about a result that cannot be published
         agreed = agreed_in_secret(history, sealed.public, facts.values(), is_agreed=arguments.yes)
         detail = detail_of(words, filled)
@@ -118,25 +119,19 @@ def detail_of(words: PublishedWords, filled: folder.Filled) -> Detail:
         "checksums": {
             name: filled.checksums[name] for name in dict.fromkeys([*named, PAGE, CHECKSUMS])
         },
-        "doubts": [
-            doubt for one in outcomes.values() for doubt in one.facts.doubts_as_data(one.doubts)
-        ],
+        "doubts": [doubt.as_data() for its in filled.doubts.values() for doubt in its],
     }
 
 
-def without_old_force(facts: dict[str, Facts], again: DoneAct | None) -> dict[str, Facts]:
-    """The facts. Those of a result that is made again, with its words of then, are not forced if a doubt
-    that stops is new: the reason of then is not one for what came since.
+def has_new_doubt(facts: Mapping[str, Facts], again: DoneAct | None) -> bool:
+    """Whether a result that is made again, with its words of then, has a doubt that stops and is new: the
+    reason of then is not one for what came since.
     """
-    stopping = (
-        doubt
-        for its in facts.values()
-        for doubt in its.doubts_as_data(one for one in its.doubts if one.stops)
+    # these are the same for each
+    doubts = next(iter(facts.values())).doubts
+    return again is not None and any(
+        one.as_data() not in again.detail["doubts"] for one in doubts if one.stops
     )
-    if again is None or all(doubt in again.detail["doubts"] for doubt in stopping):
-        return facts
-    words = PublishedWords(**(again.detail["words"] | {"is_forced": False}))
-    return {label: dataclasses.replace(its, words=words) for label, its in facts.items()}
 
 
 def put_in_place(

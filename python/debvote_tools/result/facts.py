@@ -5,7 +5,7 @@ the result and the data. `told.jinja` says it in words.
 import dataclasses
 import datetime
 import functools
-from collections.abc import Callable, Collection, Iterable, Mapping, Sequence
+from collections.abc import Callable, Collection, Iterator, Mapping, Sequence
 from typing import Any
 
 from debvote_tools.debvote import Finding, casting_words, standing_in
@@ -86,33 +86,25 @@ class Doubt(Told):
     places: Mapping[str, Any] = dataclasses.field(default_factory=dict)
     # not so where an earlier act was forced although there was this doubt
     stops: bool = True
+    # that of the question that it is about; empty if it is about the whole vote
+    label: str = ""
 
     def as_data(self) -> dict[str, Any]:
         """As the act of a publication keeps it."""
-        return {"kind": self.kind, **self.shown(datetime.datetime.isoformat)}
+        question = {"question": self.label} if self.label else {}
+        return {"kind": self.kind, **self.shown(datetime.datetime.isoformat), **question}
 
     def for_secretary(self) -> str:
         return FOR_SECRETARY[self.kind].format(**self.shown(time_in_words))
 
 
-def doubts_about(sheet: Sheet) -> list[Doubt]:
-    """The doubts about what came, by the sheet of all lines that came."""
-    found = [] if sheet.voters else [Doubt("no ballot")]
+def doubts_about(sheet: Sheet, label: str) -> Iterator[Doubt]:
+    """The doubts about what came of a question, by the sheet of all lines that came."""
+    if not sheet.voters:
+        yield Doubt("no ballot", label=label)
     if 2 * sheet.refused > sheet.lines:
-        found.append(Doubt("mostly refused", {"refused": sheet.refused, "lines": sheet.lines}))
-    return found
-
-
-def told_apart(doubts: Mapping[str, Sequence[Doubt]]) -> dict[str, list[Doubt]]:
-    """The doubts about each question by its label, and without a label those that all questions have,
-    such as those about the whole vote: each is told once.
-    """
-    first, *others = doubts.values()
-    shared = [one for one in first if all(one in its for its in others)]
-    of_each = ((label, its) for label, its in doubts.items() if label)
-    return {"": shared} | {
-        label: [one for one in its if one not in shared] for label, its in of_each
-    }
+        numbers = {"refused": sheet.refused, "lines": sheet.lines}
+        yield Doubt("mostly refused", numbers, label=label)
 
 
 @dataclasses.dataclass(frozen=True)
@@ -175,7 +167,7 @@ class Facts:
     closed: bytes | None = None
     # by the names on the roll, if they are published
     real_names: Mapping[str, str] = dataclasses.field(default_factory=dict)
-    # those that are known before the count
+    # those that are known before the count, about all questions
     doubts: Sequence[Doubt] = ()
     # of a secret vote, and not published: the codes of the electors, of which none gets into the folder,
     # the sheet of the files with names, and the electors whose votes a comparison with the last
@@ -237,11 +229,6 @@ class Facts:
     def casting_words(self) -> list[str]:
         return casting_words(self.casting)
 
-    def doubts_as_data(self, doubts: Iterable[Doubt]) -> list[dict[str, Any]]:
-        """Doubts as the act of a publication keeps them, each with the label of the question."""
-        question = {"question": self.label} if self.label else {}
-        return [doubt.as_data() | question for doubt in doubts]
-
 
 @dataclasses.dataclass(frozen=True)
 class Outcome:
@@ -265,8 +252,10 @@ class Outcome:
 
     @property
     def doubts(self) -> list[Doubt]:
-        """All doubts; those about what came by the sheet of all lines that came."""
-        return [*doubts_about(self.facts.private or self.sheet), *self.facts.doubts]
+        """Those about the question and about the whole vote."""
+        label = self.facts.label
+        known = (one for one in self.facts.doubts if one.label in ("", label))
+        return [*doubts_about(self.facts.private or self.sheet, label), *known]
 
     def why(self, named: Callable[[SealedPoll], Mapping[int, str]]) -> Why:
         """Why it ended so; the options are named as parts of a sentence."""

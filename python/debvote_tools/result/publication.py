@@ -25,7 +25,7 @@ from debvote_tools.poll.questions import Questions, place_of
 from debvote_tools.poll.sealed import SealedPoll
 from debvote_tools.result.facts import Act, Doubt, Facts, PublishedWords
 from debvote_tools.result.file_names import BALLOTS
-from debvote_tools.result.sheet import Sheet, sheet_in
+from debvote_tools.result.sheet import Castings, Sheet, sheet_in
 from debvote_tools.text.ballots import ballot_file, in_normal_form
 from debvote_tools.text.language import Language, language_of
 from debvote_tools.text.rendering import render_letter
@@ -140,14 +140,12 @@ def facts_of(election: Election, words: PublishedWords, pending: Pending) -> dic
         "has_codes": history.has_codes_on_roll,
         "at": history.announced("at"),
         "questions": sealed.public,
+        "doubts": [*doubts_of(history, sealed.public, words.castings, pending, stopping)],
     }
     return {
         label: Facts(
             label=label,
             poll=poll,
-            doubts=tuple(
-                doubts_of(history, label, poll, words.castings.get(label), pending, stopping)
-            ),
             **facts_of_ballots(election, history, label, kept[label], words),
             **shared,
         )
@@ -213,15 +211,12 @@ def shown_by_comparison(election: Election, history: History, label: str, kept: 
 
 def doubts_of(
     history: History,
-    label: str,
-    poll: SealedPoll,
-    casting: str | None,
+    questions: Questions,
+    castings: Castings,
     pending: Pending,
     stopping: Collection[str],
 ) -> Iterator[Doubt]:
-    """The doubts that the book shows before the count. `casting` is the option of the casting vote
-    by its plain name, `stopping` what `what_stops` finds.
-    """
+    """The doubts that the book shows before the count; `stopping` is what `what_stops` finds."""
     if not history.is_closed:
         yield Doubt("not closed")
     if (until := early_end(history)) is not None:
@@ -231,11 +226,12 @@ def doubts_of(
     if is_unasked_since_end(history):
         # at the end `close --force` has agreed to it
         yield Doubt(BOX, stops=BOX in stopping)
-    names = dict(zip(poll.plain_names, poll.names))
-    earlier = dict.fromkeys(act.detail["casting"].get(label) for act in history.named("publish"))
-    for option in earlier:
-        if option is not None and casting not in (None, option):
-            yield Doubt("other casting vote", {"option": names[option]})
+    for label, casting in castings.items():
+        names = {one.plain: one.name for one in questions[label].choices}
+        given = (act.detail["casting"].get(label, casting) for act in history.named("publish"))
+        for option in dict.fromkeys(given):
+            if option != casting:
+                yield Doubt("other casting vote", {"option": names[option]}, label=label)
     if numbers := pending.untold:
         waits = {"number": len(numbers), "letters": ", ".join(map(str, numbers))}
         # an earlier publication may have had it

@@ -238,6 +238,10 @@ class OpenTest(PublishedTest):
         self.assertLess(letter.index(doubt), letter.index("Question A: "))
         for label in self.polls:
             self.assertIn("was not closed when this page was made", self.read(f"result/{label}/index.html").decode(), label)
+        # the act keeps it once, too
+        kept = [(one.get("question"), one["kind"]) for one in self.acts()[-1][1]["doubts"]]
+        self.assertEqual(kept, [(None, "not closed"), ("B", "mostly refused")])
+        self.assertIn("as it was published before", self.publish(status=1))
 
     def test_times_are_said_to_the_secretary_as_on_the_page(self) -> None:
         self.done("call", "--until", "2026-12-04 18:00", "--zone", "Europe/Berlin")
