@@ -17,9 +17,6 @@ from debvote_tools.result.why import Why
 from debvote_tools.text.language import ENGLISH, Language
 from debvote_tools.text.times import time_in_words
 
-# what the letter of the result does not tell, besides a close of which there is no more to say
-QUIET = ("called", "called until", "taken back", "keyring")
-
 # of each doubt, by its kind, what the secretary reads of it and can do about it
 FOR_SECRETARY = {
     "no ballot": "no elector has a ballot that counts; check that these are the ballots of this poll",
@@ -134,13 +131,6 @@ class Act(Told):
             for key, value in self.places.items()
         }
         return dataclasses.replace(self, places=places)
-
-    @property
-    def is_quiet(self) -> bool:
-        if self.done != "closed":
-            return self.done in QUIET
-        more = (self.places[key] for key in ("early", "waiting", "after_end"))
-        return not (any(more) or self.because or self.places["came"] is not None)
 
 
 @dataclasses.dataclass(frozen=True)

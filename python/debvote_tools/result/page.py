@@ -94,7 +94,6 @@ def letter_of(
         outcomes=outcomes,
         named=lambda poll: numbered_options(poll.names, facts.language),
         doubts=doubts,
-        acts=[act for act in facts.acts_about(outcomes) if not act.is_quiet],
         checksums=checksums,
     ).encode()
 
