@@ -267,7 +267,7 @@ class Election:
         public = queries.sealed_polls(self.book, POLL, act) or {"": b""}
         counted = queries.sealed_polls(self.book, POLL_WITH_NAMES, act) or public
         motions = queries.sealed_polls(self.book, MOTION, act)
-        title = (queries.sealed(self.book, TITLE, act) or b"").decode()
+        title = queries.sealed(self.book, TITLE, act).decode()
         try:
             read = (read_questions(polls, motions, title) for polls in (public, counted))
             return Sealed(*read)

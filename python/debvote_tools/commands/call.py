@@ -220,7 +220,7 @@ def sealed_by(
         current_call(election, said=said, sealed=sealed), letter_text=letter_text
     )
     files = {}
-    if letter_text.encode() != (queries.sealed(election.book, LETTER_TEXT) or b""):
+    if letter_text.encode() != queries.sealed(election.book, LETTER_TEXT):
         files[LETTER_TEXT] = letter_text.encode()
     files |= {f"{CALL}/{name}": content for name, content in call_files(data).items()}
     if sealed is None and "until" in said:
@@ -313,13 +313,13 @@ def make_folders(election: Election) -> None:
     call_act, sealed = election.called(history), queries.files_sealed(book, CALL)
     # not what a call that was taken back had alone
     there = {
-        name: queries.sealed(book, f"{CALL}/{name}") or b""
+        name: queries.sealed(book, f"{CALL}/{name}")
         for name, act in sealed.items()
         if act >= call_act.number
     }
     write_made(election.path(CALL), there, PUBLIC, sealed)
     extension = queries.sealed(book, f"{LETTERS}/{EXTENSION}")
-    if extension is not None and history.since_call("extend"):
+    if extension and history.since_call("extend"):
         write_made(election.path(LETTERS), {EXTENSION: extension}, OWN)
     if election.sealed().counted.is_secret:
         write_slips(election, election.sealed())
