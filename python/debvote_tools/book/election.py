@@ -274,6 +274,11 @@ class Election:
         except Fault:
             raise damaged(self.path(NAME), "its sealed poll is not in plain form") from None
 
+    @property
+    def questions(self) -> Questions:
+        """The questions of the call that holds, as ballots are counted."""
+        return self.sealed().counted
+
     def called(self, history: History) -> DoneAct:
         """The act of the call. Stops before it."""
         if history.call is None:

@@ -177,7 +177,7 @@ def take_back(election: Election) -> None:
         words = "ballots or letters have come, and electors rely on the call"
         raise Fault(None, words, "finish this vote, or hold it anew in another folder")
     electors, is_on_roll = queries.electors(book), history.has_codes_on_roll
-    coded = len(electors) if election.sealed().counted.is_secret else 0
+    coded = len(electors) if election.questions.is_secret else 0
     detail: Detail = {"call": call_act.number, "codes": coded}
     with book.act("take back", detail, seen=history.last.number) as act:
         # own marks lapse, and codes: whoever compares the roll of this call with that of the next
@@ -321,7 +321,7 @@ def make_folders(election: Election) -> None:
     extension = queries.sealed(book, f"{LETTERS}/{EXTENSION}")
     if extension and history.since_call("extend"):
         write_made(election.path(LETTERS), {EXTENSION: extension}, OWN)
-    if election.sealed().counted.is_secret:
+    if election.questions.is_secret:
         write_slips(election, election.sealed())
 
 

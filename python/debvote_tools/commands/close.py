@@ -8,7 +8,7 @@ from debvote_tools.text import times
 from debvote_tools.book.book import Detail, DoneAct
 from debvote_tools.book.change import Change, carried_out, terminal_question
 from debvote_tools.cli.console import act_time, count_of, tell
-from debvote_tools.book.election import LETTERS, Election, Fixed, History, Sealed, fixed_by
+from debvote_tools.book.election import LETTERS, Election, Fixed, History, fixed_by
 from debvote_tools.files import OWN, write_made
 from debvote_tools.inbox.stopping import other_votes_words, pending_letters, what_stops
 from debvote_tools.result.publication import (
@@ -38,12 +38,12 @@ class Arguments(Acting, checks=True):
 def close(election: Election, arguments: Arguments) -> None:
     """Close the vote; lines that are entered later are late, and do not count."""
     election.demand_right_book(arguments)
-    sealed, is_new = election.sealed(), not election.history().is_closed
+    public, is_new = election.sealed().public, not election.history().is_closed
     if is_new:
-        carried_out(election.book, lambda: what_is_closed(election, sealed, arguments))
+        carried_out(election.book, lambda: what_is_closed(election, arguments))
     history = election.history()
     act, path = history.closes[-1], election.path(LETTERS) / CLOSED
-    letter = closing_letter(history, sealed.public, election.language)
+    letter = closing_letter(history, public, election.language)
     written = write_made(path.parent, {CLOSED: letter}, OWN)
     fixed = fixed_by(act)
     if is_new:
@@ -121,7 +121,7 @@ def came_last(history: History, lines: str) -> str:
     return f"{came} Strikes: {strikes}. End of the vote: {end}."
 
 
-def what_is_closed(election: Election, sealed: Sealed, arguments: Arguments) -> Closing:
+def what_is_closed(election: Election, arguments: Arguments) -> Closing:
     """Stops at what stands against it."""
     history, now = election.history(), times.now()
     if history.is_closed:
@@ -139,7 +139,7 @@ def what_is_closed(election: Election, sealed: Sealed, arguments: Arguments) -> 
     if not is_forced:
         faults += stopping.values()
     stop_at(faults)
-    kept = kept_of(election, history, sealed.counted)
+    kept = kept_of(election, history, election.questions)
     fixed = {label: what_is_fixed(election, its) for label, its in kept.items()}
     detail: Detail = {
         "questions": {label: of_one._asdict() for label, of_one in fixed.items()},

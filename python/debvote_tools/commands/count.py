@@ -33,10 +33,10 @@ class Arguments(Acting, writes=False, checks=True, nothing="counted"):
 def count(election: Election, arguments: Arguments) -> int:
     """Print the result sheet; of several questions all, each with its label above it."""
     election.demand_right_book(arguments)
-    sealed, history = election.sealed(), election.history()
-    demand_countable(election, history, sealed)
-    castings = castings_in(arguments.casting, sealed.counted)
-    labels = labels_asked_for(sealed.counted, arguments.question)
+    questions, history = election.questions, election.history()
+    demand_countable(election, history)
+    castings = castings_in(arguments.casting, questions)
+    labels = labels_asked_for(questions, arguments.question)
     pending = pending_letters(election, history) if history.is_closed else Pending()
     if not history.is_closed:
         tell_aside(*asked_words(history))

@@ -19,7 +19,7 @@ from debvote_tools.files import sha256_of
 from debvote_tools.inbox.asked import is_unasked_since_end
 from debvote_tools.inbox.lines import name_in
 from debvote_tools.inbox.stopping import BOX, LETTERS, Pending, what_stops
-from debvote_tools.poll.call import zone_of
+from debvote_tools.poll.call import current_call, zone_of
 from debvote_tools.poll.secret import alias_in, aliased_ballots, sealed_checksum
 from debvote_tools.poll.questions import Questions, place_of
 from debvote_tools.poll.sealed import SealedPoll
@@ -54,7 +54,7 @@ def kept_of(election: Election, history: History, labels: Iterable[str]) -> dict
     """What the book has of these questions. Stops if an envelope is not kept for the elector whose name
     its line begins with, and if ballots are not those that the close has fixed.
     """
-    book, polls, kept = election.book, election.sealed().counted, dict[str, Kept]()
+    book, polls, kept = election.book, election.questions, dict[str, Kept]()
     with book.snapshot():
         demand_own_lines(book, polls.roll)
         for label in labels:
@@ -123,24 +123,20 @@ def counted(election: Election, kept: Kept, casting: str | None) -> Sheet:
 # ---- the facts
 def facts_of(election: Election, words: PublishedWords, pending: Pending) -> dict[str, Facts]:
     """The facts of each question, by its label."""
-    history, sealed, book = election.history(), election.sealed(), election.book
-    kept = kept_of(election, history, sealed.counted)
-    stopping = what_stops(election, history, "publish", pending)
-    electors = queries.electors(book)
-    has_names = history.announced("names")
+    history, book = election.history(), election.book
+    kept, call = kept_of(election, history, election.questions), current_call(election, history)
+    public, stopping = call.questions, what_stops(election, history, "publish", pending)
     shared: dict[str, Any] = {
         "words": words,
         "language": election.language if words.language is None else language_of(words.language),
-        "acts": acts_of(book, history, is_secret=sealed.counted.is_secret),
+        "acts": acts_of(book, history, is_secret=public.is_secret),
         "labels_after_end": labels_after_end(book, history),
-        "closed": closing_letter(history, sealed.public, election.language)
-        if history.closes
-        else None,
-        "real_names": {elector.name: elector.who for elector in electors} if has_names else {},
-        "has_codes": history.has_codes_on_roll,
-        "at": history.announced("at"),
-        "questions": sealed.public,
-        "doubts": [*doubts_of(history, sealed.public, words.castings, pending, stopping)],
+        "closed": closing_letter(history, public, election.language) if history.closes else None,
+        "real_names": call.real_names or {},
+        "has_codes": call.has_codes_on_roll,
+        "at": call.at,
+        "questions": public,
+        "doubts": [*doubts_of(history, public, words.castings, pending, stopping)],
     }
     return {
         label: Facts(
@@ -149,7 +145,7 @@ def facts_of(election: Election, words: PublishedWords, pending: Pending) -> dic
             **facts_of_ballots(election, history, label, kept[label], words),
             **shared,
         )
-        for label, poll in sealed.public.items()
+        for label, poll in public.items()
     }
 
 
@@ -205,7 +201,7 @@ def shown_by_comparison(election: Election, history: History, label: str, kept: 
         {name: in_normal_form(ranks) for name, ranks in votes.items()}
         for votes in (before, kept.counting)
     )
-    roll = election.sealed().counted.roll
+    roll = election.questions.roll
     return [name for name in roll if then.get(name) != now.get(name)]
 
 
