@@ -136,7 +136,7 @@ def circumstances_now(
         now=times.now(),
         our_ids={elector.name: ids.get(elector.number, []) for elector in electors},
         decisions={key: state for key, state in states if state != queries.NEVER_DECIDED},
-        box_key=queries.sealed(election.book, BOX_KEY),
+        box_key=queries.sealed(election.book, BOX_KEY) or b"",
         words=vote.names.words,
         no_answers=no_answers,
         asking_ids=queries.ids_that_ask(election.book),

@@ -35,7 +35,7 @@ def asked_box(vote: Vote) -> tuple[list[RawLetter], Detail, list[str]]:
     if not history.announced("box"):
         cure = f"add files; see {vote.election.command('status')}"
         raise bad_words("--box", "the call was made without it", cure)
-    key, at = queries.sealed(book, BOX_KEY), history.announced("at")
+    key, at = queries.sealed(book, BOX_KEY) or b"", history.announced("at")
     asked, before = ask(at, vote.questions.mark, asking_word(key)), last_box(history)
     letters, others = records_in(vote, asked, before, key)
     kept = queries.records_since(book, vote.call.number)
