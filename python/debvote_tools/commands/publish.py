@@ -284,7 +284,7 @@ def agreed_in_secret(
     if not questions.is_secret:
         return []
     # these are the same for each
-    words, acts = next((of_one.words, of_one.acts or ()) for of_one in facts)
+    words, acts = next((of_one.words, of_one.acts) for of_one in facts)
     texts = {"--about": words.about, "--because": words.because, "--cast-by": words.cast_by}
     texts |= {f"the reason for the act of {act_time(act.time)}": act.because for act in acts}
     given = {where: text for where, text in texts.items() if text is not None}

@@ -145,9 +145,9 @@ class Facts:
     desks: int = 1
     # of two files: the checksum of the file that was given as the poll
     given_checksum: str | None = None
-    # what was done, about all questions, None of two files; and of each line that came after the end,
-    # and is in time since the vote was not closed, the labels of the questions that it answers
-    acts: tuple[Act, ...] | None = None
+    # what was done, about all questions; and of each line that came after the end, and is in time since the
+    # vote was not closed, the labels of the questions that it answers
+    acts: Sequence[Act] = ()
     labels_after_end: Sequence[Collection[str]] = ()
     # the lines that were entered after the close: how many came late, without those that a reopen entered
     # anew; and unless the vote is secret the file of all, with these
@@ -177,7 +177,7 @@ class Facts:
     @property
     def is_of_two_files(self) -> bool:
         """Whether it is made from a poll and ballots alone, by debvote-publish, without a book."""
-        return self.acts is None
+        return self.given_checksum is not None
 
     @property
     def has_aliases(self) -> bool:
@@ -187,7 +187,7 @@ class Facts:
     def days(self) -> list[datetime.date]:
         """The day of the call that holds, and that of the first close."""
         days: list[datetime.date] = []
-        for act in self.acts or ():
+        for act in self.acts:
             if act.done in ("called", "called until"):
                 days = [act.time.date()]
             elif act.done == "closed":
@@ -198,7 +198,7 @@ class Facts:
         """What was done, as it is told of some questions."""
         return [
             act.told_of(labels)
-            for act in self.acts or ()
+            for act in self.acts
             if act.labels is None or any(label in act.labels for label in labels)
         ]
 

@@ -235,7 +235,7 @@ def doubts_of(
 
 
 # ---- what was done
-def acts_of(book: Book, history: History, *, is_secret: bool) -> tuple[Act, ...]:
+def acts_of(book: Book, history: History, *, is_secret: bool) -> list[Act]:
     """What the pages tell, with its times in the zone in which the end was announced."""
     in_zone = operator.methodcaller("astimezone", zone_of(history))
     found: list[Act] = []
@@ -243,9 +243,9 @@ def acts_of(book: Book, history: History, *, is_secret: bool) -> tuple[Act, ...]
         if before is not None and act.went_back(before):
             found.append(Act(act.time, "clock", {"before": before.time}))
         found += acts_of_page(act, book, history, is_secret=is_secret)
-    return tuple(
+    return [
         dataclasses.replace(one, time=in_zone(one.time), places=one.shown(in_zone)) for one in found
-    )
+    ]
 
 
 def labels_after_end(book: Book, history: History) -> list[Collection[str]]:
