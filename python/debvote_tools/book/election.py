@@ -74,11 +74,6 @@ class History(NamedTuple):
         return bool(acts and acts[-1].detail.get("on_roll"))
 
     @property
-    def has_lapsed_codes(self) -> bool:
-        """Whether codes were given out with a call that was taken back."""
-        return any(act.detail.get("codes") for act in self.named("take back"))
-
-    @property
     def until(self) -> datetime.datetime | None:
         """Until when one can vote, with the offset in which it was announced."""
         until = self.announced("until")

@@ -265,7 +265,7 @@ def current_call(
         letter_text=queries.sealed(election.book, LETTER_TEXT).decode(),
         has_aliases=sealed.is_aliased,
         has_codes_on_roll=now.has_codes_on_roll,
-        has_lapsed_codes=now.has_lapsed_codes,
+        has_lapsed_codes=any(act.detail.get("codes") for act in now.named("take back")),
     )
 
 

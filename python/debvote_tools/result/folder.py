@@ -26,7 +26,7 @@ from debvote_tools.files import (
     temporary_folder,
     write_public,
 )
-from debvote_tools.poll.questions import SUMS_FILE, TITLE_FILE, Questions, place_of
+from debvote_tools.poll.questions import Questions, place_of
 from debvote_tools.poll.secret import demand_no_code
 from debvote_tools.result import file_names
 from debvote_tools.result.facts import Doubt, Facts, Outcome
@@ -277,7 +277,6 @@ def files_above(
     """What is above the folders of several questions: their title and the list of their polls, as the
     call has them, and how each ended, as data.
     """
-    files = questions.files
     ended = {
         label: {
             "label": one.facts.poll.name,
@@ -287,8 +286,7 @@ def files_above(
         for label, one in outcomes.items()
     }
     data = {"format": "debvote results 1", "title": questions.name, "questions": ended}
-    above = {name: files[name] for name in (TITLE_FILE, SUMS_FILE)}
-    return above | {file_names.DATA: as_json(data).encode()}
+    return questions.beside | {file_names.DATA: as_json(data).encode()}
 
 
 # ---- doubts
