@@ -243,11 +243,9 @@ def lines_to_count(book: Book) -> list[bytes]:
     return lines(book, TO_COUNT)
 
 
-def refused_places(book: Book) -> list[int]:
-    """The places, from 1, that the lines which debvote refuses have among these."""
-    places = "SELECT row_number() OVER (ORDER BY envelope) AS place, answer FROM ballot"
-    words = f"SELECT place FROM ({places}) WHERE answer IS NOT NULL ORDER BY place"
-    return [place for place, in book.rows(words)]
+def answered_lines(book: Book) -> list[tuple[bytes, str | None]]:
+    """The same lines, each with why debvote refuses it; None of a ballot."""
+    return book.rows("SELECT line, answer FROM ballot ORDER BY envelope")
 
 
 def late_lines(book: Book) -> list[bytes]:

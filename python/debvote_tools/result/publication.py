@@ -69,14 +69,17 @@ def kept_of(election: Election, history: History, labels: Iterable[str]) -> dict
 
 def kept_of_question(book: Book, label: str, poll: SealedPoll) -> Kept:
     """What the book has of the question that is seen alone."""
-    ballots, counting = ballot_file(queries.lines_to_count(book)), queries.what_counts(book)
+    answered, counting = queries.answered_lines(book), queries.what_counts(book)
+    ballots = ballot_file(line for line, _ in answered)
+    refused = [place for place, (_, why) in enumerate(answered, start=1) if why is not None]
+    lines, bad = len(answered), len(refused)
     aliases = {one.name: alias_in(label, one) for one in queries.electors(book)}
     return Kept(
         poll=poll,
         ballots=ballots,
         public=aliased_ballots(counting, aliases) if poll.secret else ballots,
-        numbers=queries.numbers(book),
-        refused=queries.refused_places(book),
+        numbers=queries.Numbers(lines, lines - bad, bad, len(counting)),
+        refused=refused,
         counting=counting,
         late=ballot_file(queries.late_lines(book)),
         late_number=len(queries.lines(book, queries.LEFT_LATE)),
