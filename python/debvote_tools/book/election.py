@@ -271,7 +271,7 @@ class Election:
 
     @property
     def questions(self) -> Questions:
-        """The questions of the call that holds, as ballots are counted."""
+        """The questions as ballots are counted. Stops before the call."""
         return self.sealed().counted
 
     def called(self, history: History) -> DoneAct:

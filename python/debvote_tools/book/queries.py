@@ -64,7 +64,7 @@ def put_electors(act: NewAct, electors: Iterable[Elector]) -> None:
 
 # ---- what is sealed
 def sealed(book: Book, name: str, act: int | None = None) -> bytes:
-    """What was sealed under a name by the last act that did so; empty if none did."""
+    """What was sealed under a name by the last act that did so; nothing if none did."""
     words = "SELECT data FROM sealed WHERE name = ?1 AND act = coalesce(?2, act) ORDER BY act DESC LIMIT 1"
     return bytes(book.value(f"SELECT coalesce(({words}), x'')", name, act))
 

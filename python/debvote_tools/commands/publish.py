@@ -175,8 +175,8 @@ def tell_published(
         send = election.to_all("result", election.path(LETTERS) / RESULT_LETTER)
         tell(f"Next: put the folder {target} on the web site as it is, then {send}")
     if election.history().announced("box"):
-        records = records_file(queries.sealed(election.book, BOX_KEY))
-        tell(f"Where it takes the place of the page, remove {SCRIPT} and {records}.")
+        key = queries.sealed(election.book, BOX_KEY)
+        tell(f"Where it takes the place of the page, remove {SCRIPT} and {records_file(key)}.")
 
 
 def demand_place(target_folder: pathlib.Path, history: History) -> None:
