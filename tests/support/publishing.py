@@ -103,6 +103,6 @@ class ResultPageTest(PublishTest):
         two = command_line.facts_of(command_line.Arguments(**files, casting=None, desks=1, language="en", target="result"), programs)
         made_room = plain_room(self.scratch / name)
         with folder.beside(made_room / "result") as new:
-            folder.filled(new.folder, {"": dataclasses.replace(two, **changes)}, programs)
+            folder.filled(new.folder, {"": dataclasses.replace(two, **changes)}, programs, is_forced=True)
             new.take_place(made_room / "result")
         return made_room

@@ -74,11 +74,6 @@ class History(NamedTuple):
         return bool(acts and acts[-1].detail.get("on_roll"))
 
     @property
-    def has_lapsed_codes(self) -> bool:
-        """Whether codes were given out with a call that was taken back."""
-        return any(act.detail.get("codes") for act in self.named("take back"))
-
-    @property
     def until(self) -> datetime.datetime | None:
         """Until when one can vote, with the offset in which it was announced."""
         until = self.announced("until")
@@ -267,12 +262,17 @@ class Election:
         public = queries.sealed_polls(self.book, POLL, act) or {"": b""}
         counted = queries.sealed_polls(self.book, POLL_WITH_NAMES, act) or public
         motions = queries.sealed_polls(self.book, MOTION, act)
-        title = (queries.sealed(self.book, TITLE, act) or b"").decode()
+        title = queries.sealed(self.book, TITLE, act).decode()
         try:
             read = (read_questions(polls, motions, title) for polls in (public, counted))
             return Sealed(*read)
         except Fault:
             raise damaged(self.path(NAME), "its sealed poll is not in plain form") from None
+
+    @property
+    def questions(self) -> Questions:
+        """The questions as ballots are counted. Stops before the call."""
+        return self.sealed().counted
 
     def called(self, history: History) -> DoneAct:
         """The act of the call. Stops before it."""

@@ -63,11 +63,10 @@ def put_electors(act: NewAct, electors: Iterable[Elector]) -> None:
 
 
 # ---- what is sealed
-def sealed(book: Book, name: str, act: int | None = None) -> bytes | None:
-    """What was sealed under a name by the last act that did so."""
+def sealed(book: Book, name: str, act: int | None = None) -> bytes:
+    """What was sealed under a name by the last act that did so; nothing if none did."""
     words = "SELECT data FROM sealed WHERE name = ?1 AND act = coalesce(?2, act) ORDER BY act DESC LIMIT 1"
-    data: bytes | None = book.value(f"SELECT ({words})", name, act)
-    return data
+    return bytes(book.value(f"SELECT coalesce(({words}), x'')", name, act))
 
 
 def sealed_polls(book: Book, name: str, act: int) -> dict[str, bytes]:
@@ -241,12 +240,12 @@ def lines_to_count(book: Book) -> list[bytes]:
     """What debvote counts from: the line of each envelope that is in time and not struck, in their
     order; also those that it refuses, or that a later one replaces.
     """
-    return [line for _, line in numbered_lines_to_count(book)]
+    return lines(book, TO_COUNT)
 
 
-def numbered_lines_to_count(book: Book) -> list[tuple[int, bytes]]:
-    """The same lines, each with the number of its envelope."""
-    return book.rows("SELECT envelope, line FROM ballot ORDER BY envelope")
+def answered_lines(book: Book) -> list[tuple[bytes, str | None]]:
+    """The same lines, each with why debvote refuses it; None of a ballot."""
+    return book.rows("SELECT line, answer FROM ballot ORDER BY envelope")
 
 
 def late_lines(book: Book) -> list[bytes]:

@@ -155,7 +155,7 @@ def roll(election: Election, arguments: RollArguments) -> None:
         keep_electors(book, roll, history.last.number)
         tell(*roll_in_words(roll, has_all=arguments.all))
     else:
-        is_secret = election.sealed().counted.is_secret
+        is_secret = election.questions.is_secret
         went = outgoing.call_addresses(book, history.call.number) if is_secret else {}
         changes = {one: changes_in_words(one, went) for one in roll.electors if one.changes}
         changed = {
@@ -317,7 +317,7 @@ def check(election: Election, arguments: CheckArguments) -> None:
     history = election.history()
     if history.call is not None:
         sealed = "poll, and poll.toml is"
-        if election.sealed().counted.is_several:
+        if election.questions.is_several:
             sealed = "polls, and polls/ is"
         tell(f"The call has sealed the {sealed} no longer read. Next: {election.command('status')}")
         return

@@ -177,7 +177,7 @@ def take_back(election: Election) -> None:
         words = "ballots or letters have come, and electors rely on the call"
         raise Fault(None, words, "finish this vote, or hold it anew in another folder")
     electors, is_on_roll = queries.electors(book), history.has_codes_on_roll
-    coded = len(electors) if election.sealed().counted.is_secret else 0
+    coded = len(electors) if election.questions.is_secret else 0
     detail: Detail = {"call": call_act.number, "codes": coded}
     with book.act("take back", detail, seen=history.last.number) as act:
         # own marks lapse, and codes: whoever compares the roll of this call with that of the next
@@ -220,7 +220,7 @@ def sealed_by(
         current_call(election, said=said, sealed=sealed), letter_text=letter_text
     )
     files = {}
-    if letter_text.encode() != (queries.sealed(election.book, LETTER_TEXT) or b""):
+    if letter_text.encode() != queries.sealed(election.book, LETTER_TEXT):
         files[LETTER_TEXT] = letter_text.encode()
     files |= {f"{CALL}/{name}": content for name, content in call_files(data).items()}
     if sealed is None and "until" in said:
@@ -313,15 +313,15 @@ def make_folders(election: Election) -> None:
     call_act, sealed = election.called(history), queries.files_sealed(book, CALL)
     # not what a call that was taken back had alone
     there = {
-        name: queries.sealed(book, f"{CALL}/{name}") or b""
+        name: queries.sealed(book, f"{CALL}/{name}")
         for name, act in sealed.items()
         if act >= call_act.number
     }
     write_made(election.path(CALL), there, PUBLIC, sealed)
     extension = queries.sealed(book, f"{LETTERS}/{EXTENSION}")
-    if extension is not None and history.since_call("extend"):
+    if extension and history.since_call("extend"):
         write_made(election.path(LETTERS), {EXTENSION: extension}, OWN)
-    if election.sealed().counted.is_secret:
+    if election.questions.is_secret:
         write_slips(election, election.sealed())
 
 

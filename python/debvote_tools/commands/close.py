@@ -5,23 +5,20 @@ from collections.abc import Mapping
 
 from debvote_tools.cli.arguments import Acting, demand_reason, flag, has_reason
 from debvote_tools.text import times
-from debvote_tools.book import queries
 from debvote_tools.book.book import Detail, DoneAct
 from debvote_tools.book.change import Change, carried_out, terminal_question
 from debvote_tools.cli.console import act_time, count_of, tell
-from debvote_tools.book.election import LETTERS, Election, Fixed, History, Sealed, fixed_by
-from debvote_tools.files import OWN, sha256_of, write_made
+from debvote_tools.book.election import LETTERS, Election, Fixed, History, fixed_by
+from debvote_tools.files import OWN, write_made
 from debvote_tools.inbox.stopping import other_votes_words, pending_letters, what_stops
 from debvote_tools.result.publication import (
+    Kept,
     closing_letter,
     demand_kept,
-    demand_own_lines,
-    public_ballots,
+    kept_of,
 )
 from debvote_tools.cli.faults import Fault, stop_at
-from debvote_tools.text.ballots import ballot_file
 from debvote_tools.result.file_names import CLOSED
-from debvote_tools.poll.sealed import SealedPoll
 from debvote_tools.poll.secret import seal_line, sealed_checksum
 
 
@@ -41,12 +38,12 @@ class Arguments(Acting, checks=True):
 def close(election: Election, arguments: Arguments) -> None:
     """Close the vote; lines that are entered later are late, and do not count."""
     election.demand_right_book(arguments)
-    sealed, is_new = election.sealed(), not election.history().is_closed
+    public, is_new = election.sealed().public, not election.history().is_closed
     if is_new:
-        carried_out(election.book, lambda: what_is_closed(election, sealed, arguments))
+        carried_out(election.book, lambda: what_is_closed(election, arguments))
     history = election.history()
     act, path = history.closes[-1], election.path(LETTERS) / CLOSED
-    letter = closing_letter(history, sealed.public, election.language)
+    letter = closing_letter(history, public, election.language)
     written = write_made(path.parent, {CLOSED: letter}, OWN)
     fixed = fixed_by(act)
     if is_new:
@@ -124,7 +121,7 @@ def came_last(history: History, lines: str) -> str:
     return f"{came} Strikes: {strikes}. End of the vote: {end}."
 
 
-def what_is_closed(election: Election, sealed: Sealed, arguments: Arguments) -> Closing:
+def what_is_closed(election: Election, arguments: Arguments) -> Closing:
     """Stops at what stands against it."""
     history, now = election.history(), times.now()
     if history.is_closed:
@@ -142,9 +139,8 @@ def what_is_closed(election: Election, sealed: Sealed, arguments: Arguments) -> 
     if not is_forced:
         faults += stopping.values()
     stop_at(faults)
-    demand_own_lines(election)
-    polls = sealed.counted.items()
-    fixed = {label: what_is_fixed(election, label, poll) for label, poll in polls}
+    kept = kept_of(election, history, election.questions)
+    fixed = {label: what_is_fixed(election, its) for label, its in kept.items()}
     detail: Detail = {
         "questions": {label: of_one._asdict() for label, of_one in fixed.items()},
         "waiting": len(pending.arrived_in_time),
@@ -160,17 +156,10 @@ def what_is_closed(election: Election, sealed: Sealed, arguments: Arguments) -> 
     return Closing("close", detail, shown=shown, question=terminal_question(ALL, arguments.yes))
 
 
-def what_is_fixed(election: Election, label: str, poll: SealedPoll) -> Fixed:
-    """What the close fixes of a question."""
-    book = election.book
-    with book.question(label), book.snapshot():
-        lines, refused = queries.numbered_lines_to_count(book), queries.refused_lines(book)
-        ballots, numbers = ballot_file(line for _, line in lines), queries.numbers(book)
-        public = public_ballots(book, label, poll, ballots)
-    found = election.debvote.findings(poll.as_bytes(), ballots)
-    said = [lines[finding.line - 1][0] for finding in found.refused], found.voters
-    demand_kept(election, said, ([number for number, _, _ in refused], numbers.voters))
-    if not poll.secret:
-        return Fixed(len(lines), sha256_of(public))
-    seal = seal_line()
-    return Fixed(len(lines), sealed_checksum(seal, public), seal)
+def what_is_fixed(election: Election, kept: Kept) -> Fixed:
+    """What the close fixes of a question. Stops if the book keeps other verdicts on its lines."""
+    found = election.debvote.findings(kept.poll.as_bytes(), kept.ballots)
+    said = [finding.line for finding in found.refused], found.voters
+    demand_kept(election, said, (kept.refused, kept.numbers.voters))
+    seal = seal_line() if kept.poll.secret else ""
+    return Fixed(kept.numbers.lines, sealed_checksum(seal, kept.public), seal)

@@ -1,24 +1,15 @@
 """The command `count`."""
 
-from collections.abc import Mapping
+from collections.abc import Collection, Mapping
 
 from debvote_tools.cli.arguments import Acting, flag, option
-from debvote_tools.book import queries
 from debvote_tools.cli.console import tell_as_it_is, tell_aside
 from debvote_tools.cli.faults import bad_words, stop_at
-from debvote_tools.debvote import casting_words
 from debvote_tools.book.election import Election, History
 from debvote_tools.inbox.asked import asked_words
 from debvote_tools.inbox.stopping import Pending, pending_letters, what_stops
-from debvote_tools.text.ballots import ballot_file
 from debvote_tools.poll.questions import Questions
-from debvote_tools.poll.sealed import SealedPoll
-from debvote_tools.result.publication import (
-    demand_as_closed,
-    demand_kept,
-    demand_own_lines,
-    public_ballots,
-)
+from debvote_tools.result.publication import counted, kept_of
 from debvote_tools.result.sheet import (
     CASTING,
     Castings,
@@ -28,7 +19,6 @@ from debvote_tools.result.sheet import (
     named,
     publishing,
     Sheet,
-    sheet_in,
 )
 
 
@@ -43,19 +33,18 @@ class Arguments(Acting, writes=False, checks=True, nothing="counted"):
 def count(election: Election, arguments: Arguments) -> int:
     """Print the result sheet; of several questions all, each with its label above it."""
     election.demand_right_book(arguments)
-    sealed, history = election.sealed(), election.history()
-    demand_countable(election, history, sealed)
-    castings = castings_in(arguments.casting, sealed.counted)
-    polls = polls_asked_for(sealed.counted, arguments.question)
+    questions, history = election.questions, election.history()
+    demand_countable(election, history)
+    castings = castings_in(arguments.casting, questions)
+    labels = labels_asked_for(questions, arguments.question)
     pending = pending_letters(election, history) if history.is_closed else Pending()
     if not history.is_closed:
         tell_aside(*asked_words(history))
     elif not arguments.force:
         stop_at([*what_stops(election, history, "count", pending).values()])
-    demand_own_lines(election)
     sheets = {
-        label: counted_again(election, history, label, poll, castings.get(label))
-        for label, poll in polls.items()
+        label: counted(election, kept, castings.get(label))
+        for label, kept in kept_of(election, history, labels).items()
     }
     for label, sheet in sheets.items():
         # the sheet alone, so that it can go into a file
@@ -67,30 +56,15 @@ def count(election: Election, arguments: Arguments) -> int:
     return max(sheet.status for sheet in sheets.values())
 
 
-def polls_asked_for(questions: Questions, label: str | None) -> Mapping[str, SealedPoll]:
-    """The polls of all questions, or of that which is asked for. Stops if there is none."""
+def labels_asked_for(questions: Questions, label: str | None) -> Collection[str]:
+    """The labels of all questions, or of that which is asked for. Stops if there is none."""
     if label is None:
         return questions
     label = label.upper()
     if not label or label not in questions:
         cure = f"name one of {', '.join(questions)}" if any(questions) else "leave it out"
         raise bad_words("--question", f"there is no question {label}", cure)
-    return {label: questions[label]}
-
-
-def counted_again(
-    election: Election, history: History, label: str, poll: SealedPoll, casting: str | None
-) -> Sheet:
-    """What debvote counts of one question. Stops if it is not what the book keeps."""
-    book = election.book
-    with book.question(label), book.snapshot():
-        ballots, kept = ballot_file(queries.lines_to_count(book)), queries.numbers(book)
-        demand_as_closed(history, label, public_ballots(book, label, poll, ballots))
-    words = casting_words(casting)
-    sheet = sheet_in(election.debvote.answer("count", poll.as_bytes(), ballots, *words).text)
-    said = queries.Numbers(sheet.lines, sheet.valid, sheet.refused, sheet.voters)
-    demand_kept(election, said, kept)
-    return sheet
+    return [label]
 
 
 def what_next(

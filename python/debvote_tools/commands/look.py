@@ -101,7 +101,7 @@ def state_of(election: Election, history: History) -> tuple[State, list[Refused]
         "act": history.last.number,
         "digest": history.last.digest,
     }
-    if history.call is not None and election.sealed().counted.is_several:
+    if history.call is not None and election.questions.is_several:
         state["questions"] = questions_in(election, history, has_late=bool(state["late"]))
     labels = queries.labels_of(book)
     refused = [
@@ -114,7 +114,7 @@ def state_of(election: Election, history: History) -> tuple[State, list[Refused]
 
 def questions_in(election: Election, history: History, *, has_late: bool) -> State:
     """The numbers of each of several questions."""
-    book, titles = election.book, election.sealed().counted
+    book, titles = election.book, election.questions
     return {
         label: {
             "title": titles[label].name,
@@ -141,7 +141,7 @@ def stage_words(election: Election, history: History, state: State) -> Iterator[
     if history.call is None:
         yield from ("Call for votes: not made yet", "Closed: not yet")
         return
-    questions = election.sealed().counted
+    questions = election.questions
     yield f"Title: {questions.name}"
     if questions.is_secret:
         under = "codes" if history.has_codes_on_roll else "aliases"
@@ -346,7 +346,7 @@ def export(election: Election, arguments: ExportArguments) -> None:
     """Write the poll, the ballots and everything that came into a new folder that only you can read."""
     book, target_folder = election.whole_book(), pathlib.Path(arguments.target_folder)
     demand_new(election, target_folder, "folder")
-    questions = election.sealed().counted
+    questions = election.questions
     with whole_folder(target_folder) as folder:
         (folder / "came").mkdir(mode=0o700)
         for name, data in exported(book, questions).items():

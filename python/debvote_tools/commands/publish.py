@@ -22,7 +22,7 @@ from debvote_tools.book.election import (
     History,
 )
 from debvote_tools.poll.box import SCRIPT, records_file
-from debvote_tools.poll.questions import Questions, place_of
+from debvote_tools.poll.questions import Questions
 from debvote_tools.files import OWN, locked, read_text, uninterrupted, write_made
 from debvote_tools.inbox.stopping import Pending, pending_letters
 from debvote_tools.cli.faults import Fault, bad_words
@@ -30,6 +30,7 @@ from debvote_tools.text.language import LANGUAGES
 from debvote_tools.result import folder, publication
 from debvote_tools.result.sheet import (
     CASTING,
+    Castings,
     castings_in,
     demand_countable,
     publishing,
@@ -40,6 +41,9 @@ from debvote_tools.result.file_names import BALLOTS, CHECKSUMS, PAGE, POLL
 
 # of the text for the page in bytes, and of the name of who gave the casting vote in characters
 TEXT_LIMIT, NAME_LIMIT = 65_536, 200
+
+# the files whose checksums the act keeps, of each question and above several
+NAMED = (POLL, BALLOTS, PAGE, CHECKSUMS)
 
 # the name is between quotation marks, so that nothing in it reads as words of the program
 REFUSED_IN_NAME = '"\u201c\u201d\u201e\u201f\u2033\uff02\u00ab\u00bb'
@@ -74,22 +78,23 @@ class Arguments(Acting, checks=True, nothing="published"):
 def publish(election: Election, arguments: Arguments) -> int:
     """Make the folder of the result for a web site; without options, make the last one again."""
     election.demand_right_book(arguments)
-    history, sealed = election.history(), election.sealed()
-    demand_countable(election, history, sealed)
+    history, questions = election.history(), election.questions
+    demand_countable(election, history)
     target = pathlib.Path(arguments.target) if arguments.target else election.path(RESULT)
-    given = published_words(arguments, sealed.public)
+    given = published_words(arguments, questions)
     demand_place(target, history)
     before = history.last_publication
     again = before if given == PublishedWords(is_forced=arguments.force) else None
     words = given if again is None else PublishedWords(**again.detail["words"])
     pending = pending_letters(election, history) if history.is_closed else Pending()
-    facts = without_old_force(publication.facts_of(election, words, pending), again)
+    facts = publication.facts_of(election, words, pending)
+    is_forced = not has_new_doubt(facts, again) and bool(words.is_forced and words.because)
     # the folder is whole and counted before the act, and takes its place after the act: so a kill leaves
     # no folder that the book does not know
     with folder.beside(target) as new:
-        filled = folder.filled(new.folder, facts, election.program_folder)
+        filled = folder.filled(new.folder, facts, election.program_folder, is_forced=is_forced)
         # nobody is asked about a result that cannot be published
-        agreed = agreed_in_secret(history, sealed.public, facts.values(), is_agreed=arguments.yes)
+        agreed = agreed_in_secret(history, questions, facts.values(), is_agreed=arguments.yes)
         detail = detail_of(words, filled)
         if pending.arrived_in_time:
             detail["left"] = pending.arrived_in_time
@@ -99,7 +104,7 @@ def publish(election: Election, arguments: Arguments) -> int:
         if agreed:
             detail["agreed"] = agreed
         put_in_place(election, history, new, filled.letter, target, detail if is_new else None)
-    tell_published(election, filled.outcomes, target, is_new=is_new)
+    tell_published(election, filled.outcomes, detail["casting"], target, is_new=is_new)
     return max(one.sheet.status for one in filled.outcomes.values())
 
 
@@ -107,36 +112,26 @@ def detail_of(words: PublishedWords, filled: folder.Filled) -> Detail:
     """The detail of the act, with the checksums that the letter of the result names; and the casting
     votes that decide.
     """
-    outcomes = filled.outcomes
-    by_casting = [label for label, one in outcomes.items() if one.sheet.is_by_casting]
-    named = [
-        place_of(label, name) for label in outcomes for name in (POLL, BALLOTS, PAGE, CHECKSUMS)
-    ]
+    ended, checksums = filled.outcomes.items(), filled.checksums.items()
     return {
         "words": dataclasses.asdict(words),
-        "casting": {label: words.castings[label] for label in by_casting},
-        "checksums": {
-            name: filled.checksums[name] for name in dict.fromkeys([*named, PAGE, CHECKSUMS])
+        "casting": {
+            label: words.castings[label] for label, one in ended if one.sheet.is_by_casting
         },
-        "doubts": [
-            doubt for one in outcomes.values() for doubt in one.facts.doubts_as_data(one.doubts)
-        ],
+        "checksums": {place: its for place, its in checksums if place.endswith(NAMED)},
+        "doubts": [doubt.as_data() for its in filled.doubts.values() for doubt in its],
     }
 
 
-def without_old_force(facts: dict[str, Facts], again: DoneAct | None) -> dict[str, Facts]:
-    """The facts. Those of a result that is made again, with its words of then, are not forced if a doubt
-    that stops is new: the reason of then is not one for what came since.
+def has_new_doubt(facts: Mapping[str, Facts], again: DoneAct | None) -> bool:
+    """Whether a result that is made again, with its words of then, has a doubt that stops and is new: the
+    reason of then is not one for what came since.
     """
-    stopping = (
-        doubt
-        for its in facts.values()
-        for doubt in its.doubts_as_data(one for one in its.doubts if one.stops)
+    # these are the same for each
+    doubts = next(iter(facts.values())).doubts
+    return again is not None and any(
+        one.as_data() not in again.detail["doubts"] for one in doubts if one.stops
     )
-    if again is None or all(doubt in again.detail["doubts"] for doubt in stopping):
-        return facts
-    words = PublishedWords(**(again.detail["words"] | {"is_forced": False}))
-    return {label: dataclasses.replace(its, words=words) for label, its in facts.items()}
 
 
 def put_in_place(
@@ -160,8 +155,14 @@ def put_in_place(
 
 
 def tell_published(
-    election: Election, outcomes: Mapping[str, Outcome], target: pathlib.Path, *, is_new: bool
+    election: Election,
+    outcomes: Mapping[str, Outcome],
+    castings: Castings,
+    target: pathlib.Path,
+    *,
+    is_new: bool,
 ) -> None:
+    """Tells what was published, with these casting votes, and what comes next."""
     as_before = "" if is_new else ", as it was published before; nothing was changed in the book"
     for label, one in outcomes.items():
         tell(f"{label and f'{label}: '}{one.sheet.last_line}", one.verified)
@@ -169,17 +170,12 @@ def tell_published(
     if tied := [label for label, one in outcomes.items() if one.sheet.winner is None]:
         ask = "it is a tie: ask for the casting vote, and then give its option, its holder and its day"
         # the next result has the casting votes of its own command alone
-        cast = {
-            label: one.facts.words.castings[label]
-            for label, one in outcomes.items()
-            if one.sheet.is_by_casting
-        }
-        tell(f"Next: {ask}: {publishing(election, cast | dict.fromkeys(tied, 'NAME'))}")
+        tell(f"Next: {ask}: {publishing(election, {**castings, **dict.fromkeys(tied, 'NAME')})}")
     else:
         send = election.to_all("result", election.path(LETTERS) / RESULT_LETTER)
         tell(f"Next: put the folder {target} on the web site as it is, then {send}")
     if election.history().announced("box"):
-        key = queries.sealed(election.book, BOX_KEY) or b""
+        key = queries.sealed(election.book, BOX_KEY)
         tell(f"Where it takes the place of the page, remove {SCRIPT} and {records_file(key)}.")
 
 
@@ -288,7 +284,7 @@ def agreed_in_secret(
     if not questions.is_secret:
         return []
     # these are the same for each
-    words, acts = next((of_one.words, of_one.acts or ()) for of_one in facts)
+    words, acts = next((of_one.words, of_one.acts) for of_one in facts)
     texts = {"--about": words.about, "--because": words.because, "--cast-by": words.cast_by}
     texts |= {f"the reason for the act of {act_time(act.time)}": act.because for act in acts}
     given = {where: text for where, text in texts.items() if text is not None}

@@ -48,7 +48,7 @@ def last_box(history: History) -> Detail:
 
 def has_list_of_now(election: Election, digest: str) -> bool:
     """Whether this is the digest of the electors in the script of now."""
-    return digest == list_digest(queries.sealed(election.book, BOX_SCRIPT) or b"")
+    return digest == list_digest(queries.sealed(election.book, BOX_SCRIPT))
 
 
 def asked_last(election: Election, history: History) -> Detail | None:

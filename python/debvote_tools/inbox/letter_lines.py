@@ -166,7 +166,7 @@ def read_letters(vote: Vote, raws: Sequence[RawLetter]) -> list[ReadLetter]:
     """What letters say, with their signatures if they need one, and what their lines may be."""
     found = list(map(parse, raws))
     if found and vote.is_signed:
-        keyring = queries.sealed(vote.book, KEYRING) or b""
+        keyring = queries.sealed(vote.book, KEYRING)
         found = verified(raws, found, keyring, find_gpgv())
     return with_lines(found, vote.names, vote.why_each_refused)
 

@@ -110,7 +110,7 @@ class Vote:
         history = election.history()
         self.call = election.called(history)
         # as ballots are counted
-        self.questions = questions = election.sealed().counted
+        self.questions = questions = election.questions
         # the one question that is answered without a label, if there is one
         self.label, self.poll = label, questions.get(label)
         self.roll = questions.roll

@@ -390,7 +390,7 @@ def results_due(run: Run) -> LettersDue:
     """The letter of the last publication to each elector, with the ballot of theirs that counts."""
     act = run.history.publications[-1].number
     name = f"{LETTERS}/{RESULT_LETTER}"
-    letter = (queries.sealed(run.election.book, name, act) or b"").decode()
+    letter = queries.sealed(run.election.book, name, act).decode()
     # since the close no other ballot counts than in the publication
     fates = fates_of(run.election, run.history)
     counting = queries.what_counts(run.election.book)

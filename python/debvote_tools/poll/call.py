@@ -261,11 +261,11 @@ def current_call(
         is_signed=bool(value_of("signed")),
         is_marked=bool(value_of("marked")),
         has_box=bool(value_of("box")),
-        box_key=queries.sealed(election.book, BOX_KEY) or b"",
-        letter_text=(queries.sealed(election.book, LETTER_TEXT) or b"").decode(),
+        box_key=queries.sealed(election.book, BOX_KEY),
+        letter_text=queries.sealed(election.book, LETTER_TEXT).decode(),
         has_aliases=sealed.is_aliased,
         has_codes_on_roll=now.has_codes_on_roll,
-        has_lapsed_codes=now.has_lapsed_codes,
+        has_lapsed_codes=any(act.detail.get("codes") for act in now.named("take back")),
     )
 
 

@@ -151,5 +151,7 @@ def seal_line() -> str:
 
 
 def sealed_checksum(seal: str, ballots: bytes) -> str:
-    """The checksum that the close publishes: that of the seal's line, followed by the ballots."""
-    return sha256_of(seal.encode() + b"\n" + ballots)
+    """The checksum of the ballots that the close publishes; in a secret vote that of the seal's line,
+    followed by the ballots.
+    """
+    return sha256_of((f"{seal}\n".encode() if seal else b"") + ballots)

@@ -68,7 +68,8 @@ def main(program_folder: pathlib.Path, given: Sequence[str] | None = None) -> in
             raise folder.in_use(target_folder, "an empty folder", "name another folder")
         facts = facts_of(arguments, program_folder)
         with folder.beside(target_folder) as new:
-            [outcome] = folder.filled(new.folder, {"": facts}, program_folder).outcomes.values()
+            # whoever has two files looks at the doubts on the page
+            filled = folder.filled(new.folder, {"": facts}, program_folder, is_forced=True)
             new.take_place(target_folder)
     except Fault as fault:
         return console.failed(PROGRAM, fault.after((), "published").words, fault.status)
@@ -76,6 +77,7 @@ def main(program_folder: pathlib.Path, given: Sequence[str] | None = None) -> in
         words = f"the folder can't be made ({error}): name a place where you can write"
         return console.failed(PROGRAM, words, Status.BAD_OUTPUT)
     try:
+        outcome = filled.outcomes[""]
         console.tell_as_it_is(f"{outcome.sheet.last_line}\n{outcome.verified}\n")
     except console.OutputFailed as fault:
         words = f"the output failed; the folder {arguments.target} was made nevertheless: look at its page index.html"

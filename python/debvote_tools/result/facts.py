@@ -5,7 +5,7 @@ the result and the data. `told.jinja` says it in words.
 import dataclasses
 import datetime
 import functools
-from collections.abc import Callable, Collection, Iterable, Mapping, Sequence
+from collections.abc import Callable, Collection, Iterator, Mapping, Sequence
 from typing import Any
 
 from debvote_tools.debvote import Finding, casting_words, standing_in
@@ -16,9 +16,6 @@ from debvote_tools.result.sheet import Castings, Sheet
 from debvote_tools.result.why import Why
 from debvote_tools.text.language import ENGLISH, Language
 from debvote_tools.text.times import time_in_words
-
-# what the letter of the result does not tell, besides a close of which there is no more to say
-QUIET = ("called", "called until", "taken back", "keyring")
 
 # of each doubt, by its kind, what the secretary reads of it and can do about it
 FOR_SECRETARY = {
@@ -86,33 +83,25 @@ class Doubt(Told):
     places: Mapping[str, Any] = dataclasses.field(default_factory=dict)
     # not so where an earlier act was forced although there was this doubt
     stops: bool = True
+    # that of the question that it is about; empty if it is about the whole vote
+    label: str = ""
 
     def as_data(self) -> dict[str, Any]:
         """As the act of a publication keeps it."""
-        return {"kind": self.kind, **self.shown(datetime.datetime.isoformat)}
+        question = {"question": self.label} if self.label else {}
+        return {"kind": self.kind, **self.shown(datetime.datetime.isoformat), **question}
 
     def for_secretary(self) -> str:
         return FOR_SECRETARY[self.kind].format(**self.shown(time_in_words))
 
 
-def doubts_about(sheet: Sheet) -> list[Doubt]:
-    """The doubts about what came, by the sheet of all lines that came."""
-    found = [] if sheet.voters else [Doubt("no ballot")]
+def doubts_about(sheet: Sheet, label: str) -> Iterator[Doubt]:
+    """The doubts about what came of a question, by the sheet of all lines that came."""
+    if not sheet.voters:
+        yield Doubt("no ballot", label=label)
     if 2 * sheet.refused > sheet.lines:
-        found.append(Doubt("mostly refused", {"refused": sheet.refused, "lines": sheet.lines}))
-    return found
-
-
-def told_apart(doubts: Mapping[str, Sequence[Doubt]]) -> dict[str, list[Doubt]]:
-    """The doubts about each question by its label, and without a label those that all questions have,
-    such as those about the whole vote: each is told once.
-    """
-    first, *others = doubts.values()
-    shared = [one for one in first if all(one in its for its in others)]
-    of_each = ((label, its) for label, its in doubts.items() if label)
-    return {"": shared} | {
-        label: [one for one in its if one not in shared] for label, its in of_each
-    }
+        numbers = {"refused": sheet.refused, "lines": sheet.lines}
+        yield Doubt("mostly refused", numbers, label=label)
 
 
 @dataclasses.dataclass(frozen=True)
@@ -143,13 +132,6 @@ class Act(Told):
         }
         return dataclasses.replace(self, places=places)
 
-    @property
-    def is_quiet(self) -> bool:
-        if self.done != "closed":
-            return self.done in QUIET
-        more = (self.places[key] for key in ("early", "waiting", "after_end"))
-        return not (any(more) or self.because or self.places["came"] is not None)
-
 
 @dataclasses.dataclass(frozen=True)
 class Facts:
@@ -163,9 +145,9 @@ class Facts:
     desks: int = 1
     # of two files: the checksum of the file that was given as the poll
     given_checksum: str | None = None
-    # what was done, about all questions, None of two files; and of each line that came after the end,
-    # and is in time since the vote was not closed, the labels of the questions that it answers
-    acts: tuple[Act, ...] | None = None
+    # what was done, about all questions; and of each line that came after the end, and is in time since the
+    # vote was not closed, the labels of the questions that it answers
+    acts: Sequence[Act] = ()
     labels_after_end: Sequence[Collection[str]] = ()
     # the lines that were entered after the close: how many came late, without those that a reopen entered
     # anew; and unless the vote is secret the file of all, with these
@@ -175,7 +157,7 @@ class Facts:
     closed: bytes | None = None
     # by the names on the roll, if they are published
     real_names: Mapping[str, str] = dataclasses.field(default_factory=dict)
-    # those that are known before the count
+    # those that are known before the count, about all questions
     doubts: Sequence[Doubt] = ()
     # of a secret vote, and not published: the codes of the electors, of which none gets into the folder,
     # the sheet of the files with names, and the electors whose votes a comparison with the last
@@ -195,7 +177,7 @@ class Facts:
     @property
     def is_of_two_files(self) -> bool:
         """Whether it is made from a poll and ballots alone, by debvote-publish, without a book."""
-        return self.acts is None
+        return self.given_checksum is not None
 
     @property
     def has_aliases(self) -> bool:
@@ -205,7 +187,7 @@ class Facts:
     def days(self) -> list[datetime.date]:
         """The day of the call that holds, and that of the first close."""
         days: list[datetime.date] = []
-        for act in self.acts or ():
+        for act in self.acts:
             if act.done in ("called", "called until"):
                 days = [act.time.date()]
             elif act.done == "closed":
@@ -216,7 +198,7 @@ class Facts:
         """What was done, as it is told of some questions."""
         return [
             act.told_of(labels)
-            for act in self.acts or ()
+            for act in self.acts
             if act.labels is None or any(label in act.labels for label in labels)
         ]
 
@@ -236,11 +218,6 @@ class Facts:
     @property
     def casting_words(self) -> list[str]:
         return casting_words(self.casting)
-
-    def doubts_as_data(self, doubts: Iterable[Doubt]) -> list[dict[str, Any]]:
-        """Doubts as the act of a publication keeps them, each with the label of the question."""
-        question = {"question": self.label} if self.label else {}
-        return [doubt.as_data() | question for doubt in doubts]
 
 
 @dataclasses.dataclass(frozen=True)
@@ -265,8 +242,10 @@ class Outcome:
 
     @property
     def doubts(self) -> list[Doubt]:
-        """All doubts; those about what came by the sheet of all lines that came."""
-        return [*doubts_about(self.facts.private or self.sheet), *self.facts.doubts]
+        """Those about the question and about the whole vote."""
+        label = self.facts.label
+        known = (one for one in self.facts.doubts if one.label in ("", label))
+        return [*doubts_about(self.facts.private or self.sheet, label), *known]
 
     def why(self, named: Callable[[SealedPoll], Mapping[int, str]]) -> Why:
         """Why it ended so; the options are named as parts of a sentence."""

@@ -11,7 +11,7 @@ import pathlib
 import runpy
 import shutil
 import sys
-from collections.abc import Iterator, Mapping
+from collections.abc import Iterator, Mapping, Sequence
 from typing import NamedTuple
 
 from debvote_tools.cli.console import tell_aside, tell_aside_as_it_is
@@ -26,10 +26,10 @@ from debvote_tools.files import (
     temporary_folder,
     write_public,
 )
-from debvote_tools.poll.questions import SUMS_FILE, TITLE_FILE, Questions, place_of
+from debvote_tools.poll.questions import Questions, place_of
 from debvote_tools.poll.secret import demand_no_code
 from debvote_tools.result import file_names
-from debvote_tools.result.facts import Doubt, Facts, Outcome, told_apart
+from debvote_tools.result.facts import Doubt, Facts, Outcome
 from debvote_tools.result.file_names import BALLOTS, CHECKSUMS, PAGE, POLL, RECOUNT, SHEET
 from debvote_tools.result.page import front_page_of, letter_of, page_of, pictures_of
 from debvote_tools.result.sheet import (
@@ -60,11 +60,13 @@ BESIDE_PLACE = f"{TEMPORARY}result-"
 
 
 class Filled(NamedTuple):
-    """A folder that is whole: how each question ended, the checksums of all files, by their places in
-    it, and the letter of the result.
+    """A folder that is whole: how each question ended, the doubts about each, and without a label those
+    about the whole vote, the checksums of all files, by their places in it, and the letter of the
+    result.
     """
 
     outcomes: Mapping[str, Outcome]
+    doubts: Mapping[str, Sequence[Doubt]]
     checksums: Mapping[str, str]
     letter: bytes
 
@@ -165,7 +167,11 @@ def beside(target_folder: pathlib.Path) -> Iterator[NewFolder]:
 
 # ---- what is in it
 def filled(
-    folder: pathlib.Path, given: Mapping[str, Facts], program_folder: pathlib.Path | None
+    folder: pathlib.Path,
+    given: Mapping[str, Facts],
+    program_folder: pathlib.Path | None,
+    *,
+    is_forced: bool,
 ) -> Filled:
     """Writes all files of a result into an empty folder, those of each of several questions into one
     with its label, and has each question counted by debvote and by `recount.py`. Stops at doubts that
@@ -174,7 +180,8 @@ def filled(
     """
     filling = Filling(folder, given)
     outcomes = {label: filling.counted(label, program_folder) for label in given}
-    doubts = demand_publishable(outcomes)
+    doubts = doubts_by_question(outcomes)
+    demand_publishable(outcomes, doubts, is_forced=is_forced)
     for (label, one), picture in zip(outcomes.items(), pictures_of(outcomes.values())):
         filling.write(label, further_files(one, picture))
         demand_same(folder / label, one)
@@ -189,7 +196,7 @@ def filled(
         # two files have no other folder for it
         filling.write("", {file_names.LETTER: letter})
     filling.end()
-    return Filled(outcomes, filling.checksums, letter)
+    return Filled(outcomes, doubts, filling.checksums, letter)
 
 
 class Filling:
@@ -270,7 +277,6 @@ def files_above(
     """What is above the folders of several questions: their title and the list of their polls, as the
     call has them, and how each ended, as data.
     """
-    files = questions.files
     ended = {
         label: {
             "label": one.facts.poll.name,
@@ -280,18 +286,22 @@ def files_above(
         for label, one in outcomes.items()
     }
     data = {"format": "debvote results 1", "title": questions.name, "questions": ended}
-    above = {name: files[name] for name in (TITLE_FILE, SUMS_FILE)}
-    return above | {file_names.DATA: as_json(data).encode()}
+    return questions.beside | {file_names.DATA: as_json(data).encode()}
 
 
 # ---- doubts
-def demand_publishable(outcomes: Mapping[str, Outcome]) -> dict[str, list[Doubt]]:
-    """All doubts, told apart. Stops at those of an election that are not forced, and at what is never
-    published.
-    """
-    facts = next(iter(outcomes.values())).facts
-    doubts = told_apart({label: one.doubts for label, one in outcomes.items()})
-    passes = facts.is_of_two_files or (facts.words.is_forced and facts.words.because)
+def doubts_by_question(outcomes: Mapping[str, Outcome]) -> dict[str, list[Doubt]]:
+    """All doubts, by the labels of the questions; those about the whole vote have none."""
+    found: dict[str, list[Doubt]] = {}
+    for label, one in outcomes.items():
+        found |= {its: [doubt for doubt in one.doubts if doubt.label == its] for its in ("", label)}
+    return found
+
+
+def demand_publishable(
+    outcomes: Mapping[str, Outcome], doubts: Mapping[str, Sequence[Doubt]], *, is_forced: bool
+) -> None:
+    """Stops at doubts that are not forced, and at what is never published. Tells the others."""
     cure = (
         'put it right, or publish as it is with --force --because "TEXT" (the result page says so)'
     )
@@ -300,14 +310,13 @@ def demand_publishable(outcomes: Mapping[str, Outcome]) -> dict[str, list[Doubt]
         where = f"question {label}" if label else None
         its = list(never_published(outcomes[label])) if label in outcomes else []
         reasons = "; ".join(doubt.for_secretary() for doubt in about if doubt.stops)
-        if reasons and not passes and not its:
+        if reasons and not is_forced and not its:
             its = [Fault(where, reasons, cure)]
         faults += its
         note = ": ".join(filter(None, ["Note", where]))
         notes += (f"{note}: {doubt.for_secretary()}; the result page says so" for doubt in about)
     stop_at(faults)
     tell_aside(*notes)
-    return doubts
 
 
 def never_published(outcome: Outcome) -> Iterator[Fault]:

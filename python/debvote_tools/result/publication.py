@@ -1,16 +1,17 @@
 """What is published of an election, from its book: the letter of the close, and the facts of a
-result.
+result. What the book has of the questions `close`, `count` and `publish` read in one way (`kept_of`);
+then each compares it with what it asks of debvote.
 """
 
 import dataclasses
 import datetime
 import operator
-from collections.abc import Collection, Iterator, Mapping
-from typing import Any
+from collections.abc import Collection, Iterable, Iterator, Mapping
+from typing import Any, NamedTuple
 
 from debvote_tools.book import queries
-from debvote_tools.book.book import NAME, Book, DoneAct, as_text, from_text
-from debvote_tools.book.election import TEXTS, Election, History, fixed_by
+from debvote_tools.book.book import Book, DoneAct, as_text, from_text
+from debvote_tools.book.election import TEXTS, Election, Fixed, History, fixed_by
 from debvote_tools.cli.console import is_terminal, is_yes, tell_aside
 from debvote_tools.cli.faults import Fault
 from debvote_tools.debvote import casting_words
@@ -18,77 +19,153 @@ from debvote_tools.files import sha256_of
 from debvote_tools.inbox.asked import is_unasked_since_end
 from debvote_tools.inbox.lines import name_in
 from debvote_tools.inbox.stopping import BOX, LETTERS, Pending, what_stops
-from debvote_tools.poll.call import zone_of
+from debvote_tools.poll.call import current_call, zone_of
 from debvote_tools.poll.secret import alias_in, aliased_ballots, sealed_checksum
 from debvote_tools.poll.questions import Questions, place_of
 from debvote_tools.poll.sealed import SealedPoll
 from debvote_tools.result.facts import Act, Doubt, Facts, PublishedWords
 from debvote_tools.result.file_names import BALLOTS
-from debvote_tools.result.sheet import sheet_in
+from debvote_tools.result.sheet import Castings, Sheet, sheet_in
 from debvote_tools.text.ballots import ballot_file, in_normal_form
 from debvote_tools.text.language import Language, language_of
 from debvote_tools.text.rendering import render_letter
 
 
+# ---- what the book has of the questions
+class Kept(NamedTuple):
+    """What the book has of a question at one time."""
+
+    poll: SealedPoll
+    # all lines in time, as debvote counts them, and as they are published: in a secret vote those that
+    # count, by alias
+    ballots: bytes
+    public: bytes
+    # what it keeps of debvote's verdicts: the numbers of a sheet, the places of the lines that are
+    # refused, and what counts of each elector
+    numbers: queries.Numbers
+    refused: list[int]
+    counting: dict[str, str]
+    # the lines that came late; how many they are without those that were entered anew as in time
+    late: bytes
+    late_number: int
+
+
+def kept_of(election: Election, history: History, labels: Iterable[str]) -> dict[str, Kept]:
+    """What the book has of these questions. Stops if an envelope is not kept for the elector whose name
+    its line begins with, and if ballots are not those that the close has fixed.
+    """
+    book, polls, kept = election.book, election.questions, dict[str, Kept]()
+    with book.snapshot():
+        demand_own_lines(book, polls.roll)
+        for label in labels:
+            with book.question(label):
+                kept[label] = kept_of_question(book, label, polls[label])
+    if history.is_closed:
+        fixed = fixed_by(history.closes[-1])
+        for label, its in kept.items():
+            demand_as_closed(fixed[label], its.public)
+    return kept
+
+
+def kept_of_question(book: Book, label: str, poll: SealedPoll) -> Kept:
+    """What the book has of the question that is seen alone."""
+    answered, counting = queries.answered_lines(book), queries.what_counts(book)
+    ballots = ballot_file(line for line, _ in answered)
+    refused = [place for place, (_, why) in enumerate(answered, start=1) if why is not None]
+    lines, bad = len(answered), len(refused)
+    aliases = {one.name: alias_in(label, one) for one in queries.electors(book)}
+    return Kept(
+        poll=poll,
+        ballots=ballots,
+        public=aliased_ballots(counting, aliases) if poll.secret else ballots,
+        numbers=queries.Numbers(lines, lines - bad, bad, len(counting)),
+        refused=refused,
+        counting=counting,
+        late=ballot_file(queries.late_lines(book)),
+        late_number=len(queries.lines(book, queries.LEFT_LATE)),
+    )
+
+
+KEEP = "keep the folder as it is, and tell the maintainers"
+
+
+def demand_own_lines(book: Book, roll: Collection[str]) -> None:
+    """Stops if an envelope is not kept for the elector whose name its line begins with."""
+    names = frozenset(roll)
+    for number, name, line in queries.names_and_lines(book):
+        if names.intersection([name_in(line).decode()]) != set(filter(None, [name])):
+            words = f"envelope {number} is kept for another elector than the one whose name its line begins with"
+            raise Fault(book.path, words, KEEP)
+
+
+def demand_as_closed(fixed: Fixed, ballots: bytes) -> None:
+    """Stops if the ballots of a question, as they are published, are not those that the close has fixed."""
+    if (checksum := sealed_checksum(fixed.seal, ballots)) != fixed.checksum:
+        words = f"the ballots have the checksum {checksum}, and the close recorded {fixed.checksum}"
+        raise Fault(None, words, KEEP)
+
+
+def demand_kept(election: Election, said: object, kept: object) -> None:
+    """Stops if debvote, asked anew, says another thing of the lines than the book keeps of it."""
+    if said != kept:
+        words = "debvote says of its lines another thing than it keeps: a verdict was changed, or another version of debvote judges"
+        raise Fault(election.book.path, words, KEEP)
+
+
+def counted(election: Election, kept: Kept, casting: str | None) -> Sheet:
+    """What debvote counts of a question, with the option of the casting vote. Stops if the book keeps other
+    numbers.
+    """
+    task = "count", kept.poll.as_bytes(), kept.ballots
+    sheet = sheet_in(election.debvote.answer(*task, *casting_words(casting)).text)
+    numbers = queries.Numbers(sheet.lines, sheet.valid, sheet.refused, sheet.voters)
+    demand_kept(election, numbers, kept.numbers)
+    return sheet
+
+
 # ---- the facts
 def facts_of(election: Election, words: PublishedWords, pending: Pending) -> dict[str, Facts]:
     """The facts of each question, by its label."""
-    history, sealed, book = election.history(), election.sealed(), election.book
-    demand_own_lines(election)
-    stopping = what_stops(election, history, "publish", pending)
-    electors = queries.electors(book)
-    has_names = history.announced("names")
+    history, book = election.history(), election.book
+    kept, call = kept_of(election, history, election.questions), current_call(election, history)
+    public, stopping = call.questions, what_stops(election, history, "publish", pending)
     shared: dict[str, Any] = {
         "words": words,
         "language": election.language if words.language is None else language_of(words.language),
-        "acts": acts_of(book, history, is_secret=sealed.counted.is_secret),
+        "acts": acts_of(book, history, is_secret=public.is_secret),
         "labels_after_end": labels_after_end(book, history),
-        "closed": closing_letter(history, sealed.public, election.language)
-        if history.closes
-        else None,
-        "real_names": {elector.name: elector.who for elector in electors} if has_names else {},
-        "has_codes": history.has_codes_on_roll,
-        "at": history.announced("at"),
-        "questions": sealed.public,
+        "closed": closing_letter(history, public, election.language) if history.closes else None,
+        "real_names": call.real_names or {},
+        "has_codes": call.has_codes_on_roll,
+        "at": call.at,
+        "questions": public,
+        "doubts": [*doubts_of(history, public, words.castings, pending, stopping)],
     }
     return {
         label: Facts(
             label=label,
             poll=poll,
-            doubts=tuple(
-                doubts_of(history, label, poll, words.castings.get(label), pending, stopping)
-            ),
-            **facts_of_ballots(election, history, label, words),
+            **facts_of_ballots(election, history, label, kept[label], words),
             **shared,
         )
-        for label, poll in sealed.public.items()
+        for label, poll in public.items()
     }
 
 
 def facts_of_ballots(
-    election: Election, history: History, label: str, words: PublishedWords
+    election: Election, history: History, label: str, kept: Kept, words: PublishedWords
 ) -> dict[str, Any]:
     """The facts about the ballots of a question. Stops if debvote does not find them as they are kept."""
-    poll, book = election.sealed().counted[label], election.book
-    with book.question(label), book.snapshot():
-        ballots, late = map(ballot_file, (queries.lines_to_count(book), queries.late_lines(book)))
-        # what was entered anew as in time came in time
-        late_number = len(queries.lines(book, queries.LEFT_LATE))
-        public, counting = public_ballots(book, label, poll, ballots), queries.what_counts(book)
-    demand_kept(election, election.debvote.standing(poll.as_bytes(), ballots), counting)
-    demand_as_closed(history, label, public)
-    if not poll.secret:
-        return {"ballots": public, "late": late, "late_number": late_number}
-    casting = casting_words(words.castings.get(label))
-    return {
-        "ballots": public,
-        "late_number": late_number,
-        "codes": frozenset(one.code for one in queries.electors(book) if one.code),
+    standing = election.debvote.standing(kept.poll.as_bytes(), kept.ballots)
+    demand_kept(election, standing, kept.counting)
+    found = {"ballots": kept.public, "late_number": kept.late_number}
+    if not kept.poll.secret:
+        return found | {"late": kept.late}
+    return found | {
+        "codes": frozenset(one.code for one in queries.electors(election.book) if one.code),
         "seal": fixed_by(history.closes[-1])[label].seal,
-        "private": sheet_in(
-            election.debvote.answer("count", poll.as_bytes(), ballots, *casting).text
-        ),
-        "compared": shown_by_comparison(election, history, label, counting, public),
+        "private": counted(election, kept, words.castings.get(label)),
+        "compared": shown_by_comparison(election, history, label, kept),
     }
 
 
@@ -114,78 +191,31 @@ def closing_letter(history: History, questions: Questions, language: Language) -
     return render_letter(__package__, "closed.txt", language, **values).encode()
 
 
-def public_ballots(book: Book, label: str, poll: SealedPoll, ballots: bytes) -> bytes:
-    """The file of all lines of a question as it is published: in a secret vote the ballots that count,
-    by alias.
-    """
-    if not poll.secret:
-        return ballots
-    aliases = {one.name: alias_in(label, one) for one in queries.electors(book)}
-    return aliased_ballots(queries.what_counts(book), aliases)
-
-
-KEEP = "keep the folder as it is, and tell the maintainers"
-
-
-def demand_kept(election: Election, said: object, kept: object) -> None:
-    """Stops if debvote, asked anew, says another thing of the lines than the book keeps of it."""
-    if said != kept:
-        words = "debvote says of its lines another thing than it keeps: a verdict was changed, or another version of debvote judges"
-        raise Fault(election.path(NAME), words, KEEP)
-
-
-def demand_own_lines(election: Election) -> None:
-    """Stops if an envelope is not kept for the elector whose name its line begins with."""
-    roll = frozenset(election.sealed().counted.roll)
-    for number, name, line in queries.names_and_lines(election.book):
-        if roll.intersection([name_in(line).decode()]) != set(filter(None, [name])):
-            words = f"envelope {number} is kept for another elector than the one whose name its line begins with"
-            raise Fault(election.path(NAME), words, KEEP)
-
-
-def demand_as_closed(history: History, label: str, ballots: bytes) -> None:
-    """Stops if the ballots of a question are not those that the close has fixed; of a secret vote the
-    public ones.
-    """
-    if not history.is_closed:
-        return
-    fixed = fixed_by(history.closes[-1])[label]
-    checksum = sealed_checksum(fixed.seal, ballots) if fixed.seal else sha256_of(ballots)
-    if checksum != fixed.checksum:
-        words = f"the ballots have the checksum {checksum}, and the close recorded {fixed.checksum}"
-        raise Fault(None, words, KEEP)
-
-
-def shown_by_comparison(
-    election: Election, history: History, label: str, counting: Mapping[str, str], ballots: bytes
-) -> list[str]:
+def shown_by_comparison(election: Election, history: History, label: str, kept: Kept) -> list[str]:
     """The electors of a secret vote whose ballots differ from those of the last publication: a
     comparison shows theirs alone.
     """
     earlier, file = history.named("publish"), place_of(label, BALLOTS)
-    if not earlier or earlier[-1].detail["checksums"][file] == sha256_of(ballots):
+    if not earlier or earlier[-1].detail["checksums"][file] == sha256_of(kept.public):
         return []
     with election.book.question(label):
         before = queries.what_counted(election.book, earlier[-1].number)
     then, now = (
         {name: in_normal_form(ranks) for name, ranks in votes.items()}
-        for votes in (before, counting)
+        for votes in (before, kept.counting)
     )
-    roll = election.sealed().counted.roll
+    roll = election.questions.roll
     return [name for name in roll if then.get(name) != now.get(name)]
 
 
 def doubts_of(
     history: History,
-    label: str,
-    poll: SealedPoll,
-    casting: str | None,
+    questions: Questions,
+    castings: Castings,
     pending: Pending,
     stopping: Collection[str],
 ) -> Iterator[Doubt]:
-    """The doubts that the book shows before the count. `casting` is the option of the casting vote
-    by its plain name, `stopping` what `what_stops` finds.
-    """
+    """The doubts that the book shows before the count; `stopping` is what `what_stops` finds."""
     if not history.is_closed:
         yield Doubt("not closed")
     if (until := early_end(history)) is not None:
@@ -195,11 +225,12 @@ def doubts_of(
     if is_unasked_since_end(history):
         # at the end `close --force` has agreed to it
         yield Doubt(BOX, stops=BOX in stopping)
-    names = dict(zip(poll.plain_names, poll.names))
-    earlier = dict.fromkeys(act.detail["casting"].get(label) for act in history.named("publish"))
-    for option in earlier:
-        if option is not None and casting not in (None, option):
-            yield Doubt("other casting vote", {"option": names[option]})
+    for label, casting in castings.items():
+        names = {one.plain: one.name for one in questions[label].choices}
+        given = (act.detail["casting"].get(label, casting) for act in history.named("publish"))
+        for option in dict.fromkeys(given):
+            if option != casting:
+                yield Doubt("other casting vote", {"option": names[option]}, label=label)
     if numbers := pending.untold:
         waits = {"number": len(numbers), "letters": ", ".join(map(str, numbers))}
         # an earlier publication may have had it
@@ -207,7 +238,7 @@ def doubts_of(
 
 
 # ---- what was done
-def acts_of(book: Book, history: History, *, is_secret: bool) -> tuple[Act, ...]:
+def acts_of(book: Book, history: History, *, is_secret: bool) -> list[Act]:
     """What the pages tell, with its times in the zone in which the end was announced."""
     in_zone = operator.methodcaller("astimezone", zone_of(history))
     found: list[Act] = []
@@ -215,9 +246,9 @@ def acts_of(book: Book, history: History, *, is_secret: bool) -> tuple[Act, ...]
         if before is not None and act.went_back(before):
             found.append(Act(act.time, "clock", {"before": before.time}))
         found += acts_of_page(act, book, history, is_secret=is_secret)
-    return tuple(
+    return [
         dataclasses.replace(one, time=in_zone(one.time), places=one.shown(in_zone)) for one in found
-    )
+    ]
 
 
 def labels_after_end(book: Book, history: History) -> list[Collection[str]]:

@@ -12,7 +12,7 @@ import shlex
 from collections.abc import Iterable, Iterator, Mapping, Sequence
 from typing import Any
 
-from debvote_tools.book.election import Election, History, Sealed
+from debvote_tools.book.election import Election, History
 from debvote_tools.cli.faults import Fault, Status, other_format
 from debvote_tools.debvote import casting_words
 from debvote_tools.poll.questions import Questions
@@ -239,9 +239,9 @@ CASTING = (
 Castings = Mapping[str, str]
 
 
-def demand_countable(election: Election, history: History, sealed: Sealed) -> None:
+def demand_countable(election: Election, history: History) -> None:
     """Stops at a secret vote that is not closed: whoever sees its numbers grow sees who voted what."""
-    if sealed.counted.is_secret and not history.is_closed:
+    if election.questions.is_secret and not history.is_closed:
         words = "the vote is secret, and can be counted only after the close"
         raise Fault(None, words, f"close it first: {election.command('close')}")
 

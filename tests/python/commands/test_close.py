@@ -94,8 +94,8 @@ class Meanwhile(LettersTest):
         self.done("close")
         filled = result_folder.filled
 
-        def before_a_line(*found: object) -> object:
-            made = filled(*found)
+        def before_a_line(*found: object, **said: object) -> object:
+            made = filled(*found, **said)
             self.entered("dan 1,2,3,4")
             return made
 

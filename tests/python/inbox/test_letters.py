@@ -809,7 +809,7 @@ class Secret(OwnMarks):
     poll = elections.POLL + "secret = true\n"
 
     def test_the_mark_of_the_poll_with_names_is_that_of_another_vote(self) -> None:
-        of_names = hashlib.sha256(queries.sealed(self.book, POLL_WITH_NAMES) or b"").hexdigest()[:16]
+        of_names = hashlib.sha256(queries.sealed(self.book, POLL_WITH_NAMES)).hexdigest()[:16]
         said = self.add(letter("ada", f"ada {RANKS}").replace(elections.ANY_MARK.encode(), of_names.encode()))
         self.assertIn(f"\nLetters of other votes, which are passed over here: 1 with [{of_names}].\n", said)
         self.add(self.marked("ada", f"ada {RANKS}", number=2))

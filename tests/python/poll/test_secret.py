@@ -147,6 +147,7 @@ class Published(unittest.TestCase):
         ballots, seal = aliased_ballots({"ben": "2,1,3", "ada": "1,2,3"}, ALIASES), seals.pop()
         self.assertEqual(sealed_checksum(seal, ballots), hashlib.sha256(f"{seal}\n".encode() + ballots).hexdigest())
         self.assertNotEqual(sealed_checksum(seals.pop(), ballots), sealed_checksum(seal, ballots))
+        self.assertEqual(sealed_checksum("", ballots), hashlib.sha256(ballots).hexdigest())
 
 
 class Slips(unittest.TestCase):

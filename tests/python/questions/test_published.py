@@ -238,6 +238,10 @@ class OpenTest(PublishedTest):
         self.assertLess(letter.index(doubt), letter.index("Question A: "))
         for label in self.polls:
             self.assertIn("was not closed when this page was made", self.read(f"result/{label}/index.html").decode(), label)
+        # the act keeps it once, too
+        kept = [(one.get("question"), one["kind"]) for one in self.acts()[-1][1]["doubts"]]
+        self.assertEqual(kept, [(None, "not closed"), ("B", "mostly refused")])
+        self.assertIn("as it was published before", self.publish(status=1))
 
     def test_times_are_said_to_the_secretary_as_on_the_page(self) -> None:
         self.done("call", "--until", "2026-12-04 18:00", "--zone", "Europe/Berlin")
@@ -264,8 +268,8 @@ class OpenTest(PublishedTest):
         sums = ", ".join(f"{label} {digest}" for label, (digest, _) in zip(self.polls, second[1:]))
         self.assertEqual(letter.count(f"The vote was closed. Lines in time: A 4, B 2, C 3. Checksum: {sums}."), 1)
         self.assertIn("lines that came in: A 1, B 0, C 0; lines that were struck: A 0, B 0, C 0.", letter)
-        times = [letter.index(text) for text in ("struck envelope 5", "The vote was opened again", "The vote was closed.")]
-        self.assertEqual(times, sorted(times))
+        found = re.findall("struck envelope 5|The vote was opened again|The vote was closed", letter)
+        self.assertEqual(found, ["struck envelope 5", "The vote was closed", "The vote was opened again", "The vote was closed"])
         for label in self.polls:
             text = self.read(f"result/{label}/index.html").decode()
             self.assertEqual("struck envelope 5" in text, label == "C", label)

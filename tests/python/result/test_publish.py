@@ -321,8 +321,8 @@ class OfOpenVotes(OfElections):
         end = "one could vote until Friday, 4 December 2099, 18:00 (UTC+01:00)."
         first = next(fixed_by(act)[""].checksum for act in self.acts() if act.name == "close")
         early = "That was before the time until which one could vote."
-        quiet = ["The call was made; it named no time until which one could vote.", "This call was taken back, before any ballot had come."]
-        quiet += [f"The call was made; {end}", "The secretary took newer keys of the electors."]
+        called = ["The call was made; it named no time until which one could vote.", "This call was taken back, before any ballot had come."]
+        called += [f"The call was made; {end}", "The secretary took newer keys of the electors."]
         told = [
             "The time was extended: one could vote until Saturday, 5 December 2099, 18:00 (UTC+01:00).",
             "1 elector got another address or key.",
@@ -334,13 +334,13 @@ class OfOpenVotes(OfElections):
             "1 letter that had arrived after the end did not go in. "
             f"Since the close before this one, lines that came in: 2; lines that were struck: 1.{because} in a hurry",
         ]
-        self.expect("on the page", self.what_was_done(), [*quiet[:3], *told[:-1], quiet[3], told[-1]])
+        self.expect("on the page", self.what_was_done(), [*called[:3], *told[:-1], called[3], told[-1]])
         self.expect("the late ones stay late", self.files()["late.txt"], b"zoe-mueller 1,2,3\ncleo 1,2,3\n")
         self.expect("the times are in one zone", self.sections()["What-was-done"].text().count("(UTC+01:00): "), 11)
         self.say("publish", "--language", "de")
         letters = self.texts_of_messages()
         acts = re.findall(r"(?m)^- ((?:.+\n)+(?:  .+\n)*)", letters[0].partition("WAS GESCHEHEN IST\n\n")[2])
-        self.expect("in the letters", (len(letters), len(acts)), (3, len(told)))
+        self.expect("in the letters", (len(letters), len(acts)), (3, len(called) + len(told)))
         close = " ".join(acts[-1].split())
         words = ("2 rechtzeitig eingetroffene Nachrichten", "1 Nachricht, die nach dem Ende", "(in a hurry)")
         self.expect(f"the close: {close}", [word in close for word in words], [True] * 3)
@@ -627,7 +627,12 @@ class OfSecretVotes(OfElections):
         self.say("close")
         # answers for the private files that are not theirs
         differs = "the sheet under aliases differs from the sheet of the votes as they came"
-        for task, change, said in (("standing", "s/2,1,3/1,2,3/", "another thing than it keeps"), ("count", "s/Voters: 2/Voters: 3/", differs)):
+        kept = "another thing than it keeps"
+        for task, change, said in (
+            ("standing", "s/2,1,3/1,2,3/", kept),
+            ("count", "s/Voters: 2/Voters: 3/", kept),
+            ("count", "s/^Tie: .*/Winner: 1 x/", differs),
+        ):
             other = f'case "$*" in "{task} "*/dev/stdin*) {elections.PROGRAM} "$@" | sed "{change}"; exit ;; esac'
             self.stops("publish", path=self.other_debvote(other), said=[said])
         self.say("publish", status=1)
