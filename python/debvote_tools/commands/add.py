@@ -443,6 +443,8 @@ def report_of_files(
     if numbers:
         yield from entering.late_notes(vote.election, new.history, "what is added")
     for file in new.files:
+        if b"\r\n" in file.file.data:
+            yield f"{file.name}: its lines end as Windows ends them"
         yield from (f"{line.where}: it is empty, and was left out" for line in file.empty)
         yield from repeated_words(file)
     yield from vote.report_of_lines(new.lines, numbers, replies)

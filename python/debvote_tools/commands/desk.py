@@ -95,11 +95,11 @@ class Desk:
             # with labels it may be meant for another desk
             return line._replace(unframed=NO_LINE)
         if (found := self.names.taken_apart(self.names.with_ranks(text))) is None:
-            return line._replace(as_it_came=line.unframed, repaired=line.unframed)
+            return line
         name, ranks = found
         right = name.lower() if name.lower() in names.roll else name
         full = f"{right} {self.vote.label} {ranks}".encode()
-        return line._replace(as_it_came=full, unframed=full, repaired=full)
+        return line._replace(unframed=full, repaired=full)
 
     def demand_no_table(self, lines: list[CheckedLine]) -> None:
         """Stops at the head of a table: below a ballot no line is one."""
@@ -289,7 +289,7 @@ def completed(desk: Desk, line: Line) -> Line | None:
     if (chosen := chosen_of(found, shown_text(name))) is None:
         return None
     full = f"{chosen.name} {answers}".encode()
-    return Line(line.file_name, line.number, full, full, full)
+    return line._replace(unframed=full, repaired=full)
 
 
 def chosen_of(found: Sequence[Elector], name: str) -> Elector | None:

@@ -18,7 +18,6 @@ from debvote_tools.inbox.lines import (
     RIGHT_ANSWERS,
     Line,
     Names,
-    differences,
     has_code,
     name_in,
 )
@@ -58,8 +57,8 @@ class CheckedLine(NamedTuple):
     as_entered: bytes
     # why debvote refuses it; None if it is a ballot
     finding: Finding | None = None
-    # why it would refuse the line with the changes, if it would for another reason
-    finding_if_changed: Finding | None = None
+    # why it refuses the line with the changes that are allowed, too
+    lasting: Finding | None = None
     # names on the roll that fit as well as the one that debvote offers
     other_names: tuple[str, ...] = ()
     # whose name it has, if these are several
@@ -75,16 +74,6 @@ class CheckedLine(NamedTuple):
         name of several electors.
         """
         return self.finding is not NO_FORM
-
-    @property
-    def lasting(self) -> Finding | None:
-        """The reason that stays after the changes that are allowed."""
-        return self.finding_if_changed or self.finding
-
-    @property
-    def changed(self) -> bytes:
-        """The whole line with what was changed of it."""
-        return self.as_entered if self.as_entered == self.original.unframed else self.as_meant
 
     @property
     def why_refused(self) -> str | None:
@@ -166,14 +155,14 @@ class Vote:
 
     def why_too_long(self, line: Line) -> str | None:
         """Why a line is no ballot, if it is longer than any."""
-        words = f"the line has {len(line.as_it_came)} bytes, and a ballot has a few dozen"
-        return words if len(line.as_it_came) > self.questions.longest_line else None
+        words = f"the line has {len(line.unframed)} bytes, and a ballot has a few dozen"
+        return words if len(line.unframed) > self.questions.longest_line else None
 
     def why_not_entered(self, line: CheckedLine) -> str:
         """Why a line is not entered unless somebody forces it, or at all; empty if it is."""
         if line.can_be_entered:
             return line.why_unclear
-        is_none = f"`{shown_line(line.original.as_reported)}` is no ballot"
+        is_none = f"`{shown_line(line.original.repaired)}` is no ballot"
         hint = NO_FORM.hint if self.poll is None else WITHOUT_LABEL
         return line.why_unclear or self.why_too_long(line.original) or f"{is_none}: {hint}"
 
@@ -215,10 +204,8 @@ class Vote:
             yield CheckedLine(line, meant, meant)
         elif of_meant := its.get(""):
             found = refused[line.unframed].get("", of_meant)
-            other = None if (found.word, found.hint) == (of_meant.word, of_meant.hint) else of_meant
-            yield CheckedLine(
-                line, meant, line.unframed, found, other, self.other_names(found), why
-            )
+            others = self.other_names(found)
+            yield CheckedLine(line, meant, line.unframed, found, of_meant, others, why)
         else:
             name, _, answers = meant.decode("ascii").partition(" ")
             by_finding = grouped(
@@ -226,7 +213,7 @@ class Vote:
             )
             for finding in sorted(by_finding, key=lambda finding: finding is not None):
                 text = line_of(name, dict(by_finding[finding])).encode()
-                yield CheckedLine(line, meant, text, finding, None, self.other_names(finding))
+                yield CheckedLine(line, meant, text, finding, finding, self.other_names(finding))
 
     def why_each_refused(self, lines: Sequence[bytes]) -> dict[bytes, str | None]:
         """What debvote says of each line, such as `bad rank count: ..`; None for a valid ballot. What
@@ -296,12 +283,10 @@ class Vote:
         self, lines: Sequence[CheckedLine], numbers: Iterable[int], replies: Sequence[str]
     ) -> Iterator[str]:
         """Each line that went in, or would, by the number of its envelope and the reply to it."""
-        yield from frame_words(line.original for line in lines)
         for number, reply, line in zip(numbers, replies, lines):
-            if line.original.as_it_came != line.changed:
-                yield from change_words(line)
+            yield from change_words(line)
             yield f"{number} {reply}  {self.in_words(line, reply)}"
-            if other := line.finding_if_changed:
+            if (other := line.lasting) and other != line.finding:
                 written = f"written as `{shown_line(line.as_meant)}` it is refused too"
                 yield f"  it goes in as it came; {written}: {other.word}: {other.hint}"
         if not all(line.is_ballot for line in lines):
@@ -396,22 +381,11 @@ def in_parts(lines: Sequence[bytes]) -> Iterator[list[bytes]]:
         yield part
 
 
-def frame_words(lines: Iterable[Line]) -> Iterator[str]:
-    """The marks and line ends of Windows that were removed, once a file."""
-    changed = (one for one in lines if one.as_it_came != one.repaired)
-    for name, its in grouped((line.file_name, line) for line in changed).items():
-        if any(line.had_mark for line in its):
-            yield f"{name}: it begins with a mark that Windows writes (byte-order mark); it was removed"
-        if count := sum(line.had_return for line in its):
-            verb, they = ("ends", "it") if count == 1 else ("end", "them")
-            yield f"{name}: {count_of(count, 'line')} {verb} as Windows ends {they} (carriage return); that was removed"
-
-
 def change_words(line: CheckedLine) -> Iterator[str]:
-    before, after = line.original.as_reported, line.changed
-    if before != after:
-        how = ", ".join(differences(before, after)) or "labels"
-        yield f"{line.original.where}: `{shown_line(before)}` was changed to `{shown_line(after)}` ({how})"
+    """What was changed of a line that is not entered as it came."""
+    came, meant = line.original.unframed, line.as_meant
+    if came not in (line.as_entered, meant):
+        yield f"{line.original.where}: `{shown_line(came)}` was changed to `{shown_line(meant)}`"
 
 
 def summary(replies: Sequence[str]) -> str:
