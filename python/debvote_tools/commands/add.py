@@ -2,6 +2,7 @@
 
 import collections
 import dataclasses
+import itertools
 import operator
 import re
 from collections.abc import Iterable, Iterator, Mapping, Sequence
@@ -15,7 +16,7 @@ from debvote_tools.book.queries import Envelope, NewEnvelope
 from debvote_tools.cli.console import count_of, shown_line, tell, tell_many
 from debvote_tools.cli.faults import Fault, bad_words, stop_at
 from debvote_tools.debvote import TABLE
-from debvote_tools.grouping import grouped, several
+from debvote_tools.grouping import grouped
 from debvote_tools.inbox import entering
 from debvote_tools.inbox.given_files import GivenFile, read_files
 from debvote_tools.inbox.lines import MARK, Line, lines_in
@@ -385,24 +386,18 @@ def new_one_above(file: ComparedLines) -> tuple[CheckedLine, CheckedLine] | None
 
 def few_ballots(vote: Vote, files: Sequence[FileLines]) -> Iterator[Fault]:
     """A fault for each file in which fewer than half of the lines are ballots. If no file has so
-    few, all files together are looked at. If some lines are ballots, it prints the first of the
-    others.
+    few, all files together are looked at.
     """
     all_lines = tuple(line for file in files for line in file.lines)
     few = [file for file in files if has_few_ballots(file.lines)]
     if not few and len(files) > 1 and has_few_ballots(all_lines):
         few = [dataclasses.replace(files[0], lines=all_lines)]
     for file in few:
-        refused = [line for line in file.lines if not line.is_ballot]
         lines, count = lines_and_ballots(file.lines)
-        for line in refused[:MAX_REFUSED] if count else ():
-            tell(f"{line.original.where}: not a ballot: {vote.in_words(line)}")
-        if count and len(refused) > MAX_REFUSED:
-            tell(f"and {len(refused) - MAX_REFUSED} more lines that are not ballots")
         reason = (
             f"debvote takes {f'only {count}' if count else 'none'} of the {lines} lines as ballots"
         )
-        yield doubtful(file.name, reason, f"{cure_of(file, refused[0])}, or {FORCE}")
+        yield doubtful(file.name, reason, f"{cure_of(vote, file)}, or {FORCE}")
 
 
 def has_few_ballots(lines: Sequence[CheckedLine]) -> bool:
@@ -419,21 +414,12 @@ def lines_and_ballots(lines: Sequence[CheckedLine]) -> tuple[int, int]:
     return len(came), len(ballots)
 
 
-def cure_of(file: FileLines, refused: CheckedLine) -> str:
+def cure_of(vote: Vote, file: FileLines) -> str:
     head = file.file.data.removeprefix(MARK).lstrip().partition(b"\n")[0].decode("utf-8", "replace")
     if MEMBERS_HEADS <= {cell.strip(' \t\r"').casefold() for cell in re.split("[,;\t]", head)}:
         return "it looks like the list of members: name the file of ballots"
-    words = [line.finding.word for line in file.lines if line.finding is not None]
-    lines = [line.original.unframed for line in file.lines]
-    counts = [{line.count(sign) for line in lines} for sign in (b",", b";", b"\t")]
-    # most have no shape of a ballot, and all the same number of delimiters
-    if words.count("bad shape") * 2 > len(lines) and any(
-        len(one) == 1 and one != {0} for one in counts
-    ):
-        return f"it looks like a table: {IN_ORDER}"
-    why = "" if refused.finding is None else f", {refused.finding.word}: {refused.finding.hint}"
-    which = "its first line is" if refused is file.lines[0] else "one of its lines is"
-    return f"look at the file ({which} `{shown_line(refused.as_entered)}`{why})"
+    refused = next(itertools.filterfalse(is_ballot, file.lines))
+    return f"look at the file ({refused.original.where}: {vote.in_words(refused)}), and {IN_ORDER}"
 
 
 # ---- what is printed
@@ -448,8 +434,6 @@ def report_of_files(
         yield from (f"{line.where}: it is empty, and was left out" for line in file.empty)
         yield from repeated_words(file)
     yield from vote.report_of_lines(new.lines, numbers, replies)
-    for file in new.files:
-        yield from several_ballots_words(file)
 
 
 def repeated_words(file: ComparedLines) -> Iterator[str]:
@@ -465,16 +449,3 @@ def repeated_words(file: ComparedLines) -> Iterator[str]:
         yield f"  and {len(changed) - MAX_REPEATED} more"
     if changed:
         yield "  To enter such a line again, type it at a desk."
-
-
-def several_ballots_words(file: ComparedLines) -> Iterator[str]:
-    by_voter = several((one.voter, one) for one in filter(is_ballot, file.new))
-    for voter, ballots in by_voter.items():
-        answered = collections.Counter(
-            label for one in ballots for label in ranks_by_label(one.ranks)
-        )
-        if max(answered.values()) > 1:
-            places = [one.original.number for one in ballots]
-            listed = ", ".join(map(str, places[:5])) + (", .." if places[5:] else "")
-            last = "last one" if "" in answered else "last answer to each question"
-            yield f"Note: {file.name} has {len(places)} ballots of {voter} ({listed}); the {last} counts."

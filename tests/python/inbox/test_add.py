@@ -22,12 +22,7 @@ class Added(CalledTest):
     def test_envelope_reply_and_words(self) -> None:
         self.write("more.txt", "ada 1,2,4,3\nben 2,1,4,3\nada 2,1,4,3\n")
         replies = f"1 counted  ada: {LAKE}\n2 counted  ben: {HALL}\n3 replaced  ada: {HALL}\n"
-        note = "Note: more.txt has 2 ballots of ada (1, 3); the last one counts.\n"
-        self.assertEqual(self.told("add", "more.txt"), f"{replies}{note}Added 3 lines (2 counted, 1 replaced).\n{NEXT}\n")
-        # of many the first places
-        for places in ("1, 2, 3, 4, 5", "1, 2, 3, 4, 5, .."):
-            self.write("many", f"ben {RANKS}\n" * (places.count(",") + 1))
-            self.assertIn(f"Note: many has {places.count(',') + 1} ballots of ben ({places}); the last one counts.\n", self.told("add", "--look", "many"))
+        self.assertEqual(self.told("add", "more.txt"), f"{replies}Added 3 lines (2 counted, 1 replaced).\n{NEXT}\n")
         self.assertEqual(self.sources(), [("more.txt", self.read("more.txt"))])
         self.assertEqual(self.acts(), [("add", {"files": ["more.txt"], "lines": 3, "passed_over": 0})])
         [act] = self.book.acts()[self.first_act - 1 :]
@@ -253,12 +248,12 @@ class NoBallots(CalledTest):
         self.told("undo")
 
     def test_by_what_it_looks_like(self) -> None:
-        table = "it looks like a table: write each line as a name and its ranks in the order of the options"
+        table = "look at the file (wrong:1: When"
         for data, said in (
             ('\ufeff"Name";who;mail\r\nada;Ada;ada@club.example\r\n', "it looks like the list of members: name "),
             *((f"When{sign}Your name{sign}a\nMonday{sign}ada{sign}1\n", table) for sign in ",;\t"),
-            ("Dear all,\nwe meet on Monday\n", "look at the file (its first line is `Dear all,`, bad shape: "),
-            ("ada 1,2\nben 2,1\n", "its first line is `ada 1,2`, bad rank count: 2 ranks, the poll has 4 options)"),
+            ("Dear all,\nwe meet on Monday\n", "look at the file (wrong:1: Dear all,: bad shape: "),
+            ("ada 1,2\nben 2,1\n", "look at the file (wrong:1: ada 1,2: bad rank count: 2 ranks, the poll has 4 options), and write each line as a name and its ranks in the order of the options"),
         ):
             self.assert_stops_without_force(data, said)
 
@@ -275,16 +270,13 @@ class NoBallots(CalledTest):
         self.assertEqual(len(self.lines()), 5)
 
     def test_fewer_than_half_of_a_file_or_of_all(self) -> None:
-        said = "monday: debvote takes only 1 of the 3 lines as ballots; nothing was added: look at the file (its first line is `Dear "
+        said = "monday: debvote takes only 1 of the 3 lines as ballots; nothing was added: look at the file (monday:1: Dear all,: bad shape: "
         files = {"good": "ada 1,2,4,3\nben 1,2,4,3\ncleo 1,2,4,3\n", "one": "one\n", "two": "two\n", "monday": "Dear all,\nada 1,2,4,3\nGreetings\n"}
         for name, text in files.items():
             self.write(name, text)
         self.assert_refused(("add", "good", "monday"), 9, said)
         self.assert_refused(("add", "one", "two"), 9, "one: debvote takes none of the 2 lines ")
-        ended = self.assert_refused(("add", "monday"), 9, said, "--force")
-        self.assertIn("monday:1: not a ballot: Dear all,: ", ended.output)
-        self.assertIn("monday:3: not a ballot: Greetings: ", ended.output)
-        self.assertNotIn("monday:2: ", ended.output)
+        self.assertEqual(self.assert_refused(("add", "monday"), 9, said, "--force").output, "")
         self.told("add", "--force", "monday")
         self.assertEqual(self.lines(), ["Dear all,", "ada 1,2,4,3", "Greetings"])
         # half of them stop nothing, and one line alone does not; that --force was needless is not told
