@@ -113,10 +113,8 @@ class NewLines:
 
 def new_lines(vote: Vote, files: Sequence[FileLines]) -> NewLines:
     """It asks nothing of debvote, so it is found again within the act."""
-    history = vote.election.history()
-    vote.demand_same_call(history)
-    found = compared_with_book(vote.book, files, history)
-    return NewLines(history, history.timing, found)
+    history = vote.history()
+    return NewLines(history, history.timing, compared_with_book(vote.book, files, history))
 
 
 @dataclasses.dataclass(frozen=True, kw_only=True)

@@ -65,12 +65,6 @@ class Desk:
         electors = queries.electors(self.vote.book)
         return [(one, f"{alike(one.name)}\n{alike(one.who)}") for one in electors]
 
-    def history(self) -> History:
-        """The acts until now. Stops after another call."""
-        history = self.vote.election.history()
-        self.vote.demand_same_call(history, "start the desk again")
-        return history
-
     def ask_if_reopened(self, history: History) -> None:
         """If the vote was opened again, asks once whether what is cast came before the first close."""
         if self.came_before_close is None:
@@ -131,7 +125,7 @@ class Casting(Entry):
     def is_same_now(self) -> bool:
         """Whether nothing came of the elector of whom it is asked: else eight desks would ask without end."""
         there = queries.envelope_states(self.vote.book, self.elector)
-        return (self.desk.history().timing, there) == (self.timing, self.there)
+        return (self.vote.history().timing, there) == (self.timing, self.there)
 
     def declined(self, answer: bool | None) -> None:
         self.desk.is_over = answer is None
@@ -144,7 +138,7 @@ class Casting(Entry):
 
 def what_is_cast(desk: Desk, lines: list[CheckedLine], elector: int | None, asks: bool) -> Casting:
     """Lines that are cast. If it asks, it is about one, whose refused answers are lines of their own."""
-    history, book = desk.history(), desk.vote.book
+    history, book = desk.vote.history(), desk.vote.book
     desk.ask_if_reopened(history)
     detail: Detail = {"lines": len(lines)}
     if history.is_reopened:

@@ -115,10 +115,13 @@ class Vote:
     def names_on_roll(self) -> frozenset[str]:
         return frozenset(self.roll)
 
-    def demand_same_call(self, history: History, cure: str = "run the command again") -> None:
-        """Stops if lines were read by the poll of another call."""
+    def history(self) -> History:
+        """The acts until now. Stops after another call: lines were read by the poll of this one."""
+        history = self.election.history()
         if history.call != self.call:
-            raise Fault(None, "the call for votes was made anew meanwhile", cure)
+            words = "the call for votes was made anew meanwhile"
+            raise Fault(None, words, "run the command again")
+        return history
 
     @functools.cached_property
     def names(self) -> Names:

@@ -123,7 +123,7 @@ class AtATerminal(TerminalTest):
         self.told("call", "--to", "vote@club.example")
         desk.type(f"ada {RANKS}\nn\nq\n")
         output, status = desk.end()
-        self.assertIn("the call for votes was made anew meanwhile; nothing was entered: start the desk again", output)
+        self.assertIn("the call for votes was made anew meanwhile; nothing was entered: run the command again", output)
         self.assertEqual((status, self.lines()), (9, []))
 
     def test_after_reopen_it_asks_once(self) -> None:
