@@ -270,7 +270,7 @@ def completed(desk: Desk, line: Line) -> Line | None:
     """
     as_meant, meant = desk.vote.as_meant(line)
     name, answers = typed_parts(desk, as_meant)
-    if desk.vote.has_codes or not name or (name in desk.vote.names_on_roll and not meant):
+    if desk.vote.has_codes or not name or (name in desk.vote.names.roll and not meant):
         return line
     words = [alike(word) for word in name.split()]
     found = [

@@ -149,8 +149,7 @@ def state_words(
     yield from named("Electors without a ballot", state["without_ballot"])
     yield from refused_words(refused, has_codes=history.has_codes_on_roll)
     if state["waiting"]:
-        wait = count_of(state["waiting"], "letter waits", "letters wait")
-        yield f"{wait} until you have looked at them: {election.command('held')}"
+        yield f"{letter_words.wait_words(state['waiting'])} until you have looked at them: {election.command('held')}"
     if state["stopping"]:
         stops = "count and publish stop" if history.is_closed else "close stops"
         numbers = ", ".join(map(str, state["stopping"]))
@@ -221,7 +220,7 @@ def show(election: Election, arguments: ShowArguments) -> None:
 
 def elector_named(election: Election, vote: Vote, name: str) -> queries.Elector:
     on_roll = name.strip().lower()
-    meant = [on_roll] if on_roll in vote.names_on_roll else vote.names.meant_by(name)
+    meant = [on_roll] if on_roll in vote.names.roll else vote.names.meant_by(name)
     found = [one for one in queries.electors(election.book) if one.name in meant]
     if len(found) == 1:
         return found[0]

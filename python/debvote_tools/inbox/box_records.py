@@ -173,7 +173,7 @@ def asked_box(vote: Vote) -> tuple[list[RawLetter], Detail, list[str]]:
     if not history.announced("box"):
         cure = f"add files; see {vote.election.command('status')}"
         raise bad_words("--box", "the call was made without it", cure)
-    key, at = queries.sealed(book, BOX_KEY) or b"", history.announced("at")
+    key, at = queries.sealed(book, BOX_KEY), history.announced("at")
     asked, before = ask(at, vote.questions.mark, asking_word(key)), last_box(history)
     letters, others = records_in(vote, asked, before, key)
     kept = queries.records_since(book, vote.call.number)
@@ -227,7 +227,7 @@ def records_in(vote: Vote, asked: Asked, before: Detail, key: bytes) -> tuple[li
         data, link, name = found[1], found[2].decode(), found[3].decode()
         whose = link if any(link == link_of(key, name, own) for own in owns[name]) else name
         counts[whose] += 1
-        if name in vote.names_on_roll and counts[whose] <= MOST:
+        if name in vote.names.roll and counts[whose] <= MOST:
             where = f"box, record {len(letters) + 1}"
             letters.append(RawLetter(where, data, link=link, asked_before=earlier, behind=off))
     return letters, len(parts) - len(letters)

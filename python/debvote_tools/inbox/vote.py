@@ -102,7 +102,6 @@ class Vote:
         self.questions = questions = election.questions
         # the one question that is answered without a label, if there is one
         self.label, self.poll = label, questions.get(label)
-        self.roll = questions.roll
         # the roll has codes: none is printed that was not typed
         self.has_codes = history.has_codes_on_roll
         self.is_signed = bool(history.announced("signed"))
@@ -110,10 +109,6 @@ class Vote:
         self.known = dict[bytes, Mapping[str, Finding]]()
         # most ballots have one of a few orders
         self.answers_in_words = functools.lru_cache(4096)(questions.in_words())
-
-    @functools.cached_property
-    def names_on_roll(self) -> frozenset[str]:
-        return frozenset(self.roll)
 
     def history(self) -> History:
         """The acts until now. Stops after another call: lines were read by the poll of this one."""
@@ -132,7 +127,8 @@ class Vote:
         labels = tuple(filter(None, questions))
         motions = tuple(label for label in labels if questions[label].motion)
         longest, words = questions.longest_line, questions.words(language)
-        return Names(self.names_on_roll, language.code, real_names, longest, words, labels, motions)
+        roll = frozenset(questions.roll)
+        return Names(roll, language.code, real_names, longest, words, labels, motions)
 
     def as_meant(self, line: Line) -> tuple[bytes, list[str]]:
         """A line as it was repaired, with the name on the roll of the elector who is meant by its name, and
@@ -172,7 +168,7 @@ class Vote:
     def electors_of(self, lines: Sequence[bytes]) -> list[int | None]:
         """Of each line the elector whose name it begins with."""
         names = [name_in(line).decode("ascii") for line in lines]
-        numbers = queries.elector_numbers(self.book, self.names_on_roll.intersection(names))
+        numbers = queries.elector_numbers(self.book, self.names.roll.intersection(names))
         return list(map(numbers.get, names))
 
     # ---- what debvote says
@@ -279,7 +275,7 @@ class Vote:
 
     @functools.cached_property
     def names_by_bare_name(self) -> dict[str, list[str]]:
-        return grouped((NUMBER.sub("", name), name) for name in self.roll)
+        return grouped((NUMBER.sub("", name), name) for name in self.questions.roll)
 
     # ---- words
     def report_of_lines(
@@ -315,7 +311,7 @@ class Vote:
 
     @property
     def right_line(self) -> str:
-        right = self.questions.line("CODE" if self.has_codes else self.roll[0], str)
+        right = self.questions.line("CODE" if self.has_codes else self.questions.roll[0], str)
         part = part_of(right.encode(), self.label)
         return right if part is None else part.decode()
 
