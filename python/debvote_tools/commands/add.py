@@ -20,10 +20,10 @@ from debvote_tools.grouping import grouped
 from debvote_tools.inbox import entering
 from debvote_tools.inbox.given_files import GivenFile, read_files
 from debvote_tools.inbox.lines import MARK, Line, lines_in
-from debvote_tools.inbox.entering import Entry, doubtful
+from debvote_tools.inbox.entering import Entry
 from debvote_tools.inbox.option_names import OptionNames
 from debvote_tools.inbox.vote import IN_ORDER, CheckedLine, Vote, replies_to, summary
-from debvote_tools.text.ballots import part_of, ranks_by_label
+from debvote_tools.text.ballots import part_of
 
 FORCE = "add it anyway with --force"
 
@@ -190,11 +190,11 @@ def file_lines(vote: Vote, files: Sequence[GivenFile]) -> list[FileLines]:
     lists = [lines_in(file.data, file.name, longest) for file in files]
     what, cure = "it has only empty lines", "write one ballot on each line"
     empty = [file for file, lines in zip(files, lists) if all(line.is_empty for line in lines)]
-    stop_at([doubtful(file.name, what, cure) for file in empty])
+    stop_at([Fault(file.name, what, cure) for file in empty])
     checked = vote.checked_lines([line for lines in lists for line in lines if not line.is_empty])
     cure = f"write it as `{vote.right_line}`, or take it out"
     no_form = [line for line in checked if not line.can_be_entered][:MAX_REFUSED]
-    stop_at([doubtful(line.original.where, vote.why_not_entered(line), cure) for line in no_form])
+    stop_at([Fault(line.original.where, vote.why_not_entered(line), cure) for line in no_form])
     by_file, found = grouped((line.original.file_name, line) for line in checked), []
     for file, lines in zip(files, lists):
         its_lines = by_file[file.name]
@@ -321,7 +321,7 @@ def faults_of_lines(vote: Vote, new: NewLines, arguments: Arguments) -> Iterator
     if new.lines and vote.is_signed and not is_reasoned:
         words = "in this vote letters must be signed, and nothing shows who sent a line of a file"
         cure = "add the letters themselves; or, if you know by other means who sent each line, give --force --because TEXT"
-        yield doubtful(new.files[0].name, words, cure)
+        yield Fault(new.files[0].name, words, cure)
     if arguments.force:
         return
     for file in new.files:
@@ -329,7 +329,7 @@ def faults_of_lines(vote: Vote, new: NewLines, arguments: Arguments) -> Iterator
     with_new_lines = [file for file in new.files if file.new]
     for file in with_new_lines:
         if file.is_table:
-            yield doubtful(file.name, TABLE, f"{IN_ORDER}, or {FORCE}")
+            yield Fault(file.name, TABLE, f"{IN_ORDER}, or {FORCE}")
     no_tables = [file for file in with_new_lines if not file.is_table]
     yield from under_other_names(vote, no_tables)
     yield from few_ballots(vote, no_tables)
@@ -337,7 +337,7 @@ def faults_of_lines(vote: Vote, new: NewLines, arguments: Arguments) -> Iterator
         if pair := new_one_above(file):
             older, newer = (one.original.number for one in pair)
             words = f"the ballot of {pair[0].voter} in line {older} is older than that in line {newer}, which came before, and would replace it"
-            yield doubtful(file.name, words, f"take the older ballot out, or {FORCE}")
+            yield Fault(file.name, words, f"take the older ballot out, or {FORCE}")
 
 
 def odd_lines(vote: Vote, file: ComparedLines) -> Iterator[Fault]:
@@ -347,11 +347,11 @@ def odd_lines(vote: Vote, file: ComparedLines) -> Iterator[Fault]:
     long = (one.original for one in file.new if vote.why_too_long(one.original))
     if line := next(long, None):
         cure = f"take the line out if it is not a ballot, or {FORCE}"
-        yield doubtful(line.where, str(vote.why_too_long(line)), cure)
+        yield Fault(line.where, str(vote.why_too_long(line)), cure)
     cure = f"write the name on the roll of the one who is meant, or {FORCE}"
     for one in file.new:
         if one.why_unclear:
-            yield doubtful(one.original.where, one.why_unclear, cure)
+            yield Fault(one.original.where, one.why_unclear, cure)
 
 
 def under_other_names(vote: Vote, files: Sequence[FileLines]) -> Iterator[Fault]:
@@ -364,7 +364,7 @@ def under_other_names(vote: Vote, files: Sequence[FileLines]) -> Iterator[Fault]
                 place = f"line {line.original.number}"
                 words = f"{place} names options of the poll in another order than the poll has them: the ranks below it may stand in that order"
                 cure = f"if they do, put them into the order of the poll, and take {place} out; if they do not, {FORCE}"
-                yield doubtful(file.name, words, cure)
+                yield Fault(file.name, words, cure)
                 break
 
 
@@ -373,7 +373,7 @@ def new_one_above(file: ComparedLines) -> tuple[CheckedLine, CheckedLine] | None
     new = {line.original.number for line in file.new} if file.repeated else set()
     above: dict[tuple[str, str], tuple[str, CheckedLine]] = {}
     for line in filter(is_ballot, file.lines if new else ()):
-        for label, ranks in ranks_by_label(line.ranks).items():
+        for label, ranks in line.answers.items():
             last, ballot = above.get((line.voter, label), (ranks, line))
             if line.original.number in new:
                 above[line.voter, label] = ranks, line
@@ -395,7 +395,7 @@ def few_ballots(vote: Vote, files: Sequence[FileLines]) -> Iterator[Fault]:
         reason = (
             f"debvote takes {f'only {count}' if count else 'none'} of the {lines} lines as ballots"
         )
-        yield doubtful(file.name, reason, f"{cure_of(vote, file)}, or {FORCE}")
+        yield Fault(file.name, reason, f"{cure_of(vote, file)}, or {FORCE}")
 
 
 def has_few_ballots(lines: Sequence[CheckedLine]) -> bool:

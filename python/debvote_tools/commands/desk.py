@@ -331,7 +331,7 @@ def question(
 def earlier_words(vote: Vote, ballot: CheckedLine, elector: int) -> Iterator[str]:
     """What a ballot would replace, and which answers to other questions stay."""
     counting = queries.what_counts(vote.book, {elector})
-    earlier, new = ranks_by_label(counting.get(ballot.voter, "")), ranks_by_label(ballot.ranks)
+    earlier, new = ranks_by_label(counting.get(ballot.voter, "")), ballot.answers
     goes, stays = (
         answers_text({label: earlier[label] for label in earlier if (label in new) == is_new})
         for is_new in (True, False)

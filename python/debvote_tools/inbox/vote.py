@@ -21,7 +21,7 @@ from debvote_tools.inbox.lines import (
     has_code,
     name_in,
 )
-from debvote_tools.text.ballots import ballot_file, line_of, part_of, ranks_by_label
+from debvote_tools.text.ballots import answers_of, ballot_file, line_of, part_of, ranks_by_label
 from debvote_tools.text.language import ENGLISH
 
 # the cure where lines look like a table
@@ -85,8 +85,9 @@ class CheckedLine(NamedTuple):
         return self.as_entered.partition(b" ")[0].decode("ascii")
 
     @property
-    def ranks(self) -> str:
-        return self.as_entered.partition(b" ")[2].decode("ascii")
+    def answers(self) -> Mapping[str, str]:
+        """Of a ballot the ranks by question."""
+        return answers_of(self.as_entered.decode("ascii"))
 
 
 class Vote:
