@@ -344,10 +344,11 @@ def odd_lines(vote: Vote, file: ComparedLines) -> Iterator[Fault]:
     """A fault for the first line that is longer than any ballot, and for those with a name that
     several electors have.
     """
-    long = (one.original for one in file.new if vote.why_too_long(one.original))
-    if line := next(long, None):
-        cure = f"take the line out if it is not a ballot, or {FORCE}"
-        yield Fault(line.where, str(vote.why_too_long(line)), cure)
+    cure = f"take the line out if it is not a ballot, or {FORCE}"
+    for one in file.new:
+        if why := vote.why_too_long(one.original):
+            yield Fault(one.original.where, why, cure)
+            break
     cure = f"write the name on the roll of the one who is meant, or {FORCE}"
     for one in file.new:
         if one.why_unclear:

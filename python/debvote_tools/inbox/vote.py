@@ -59,8 +59,6 @@ class CheckedLine(NamedTuple):
     finding: Finding | None = None
     # why it refuses the line with the changes that are allowed, too
     lasting: Finding | None = None
-    # names on the roll that fit as well as the one that debvote offers
-    other_names: tuple[str, ...] = ()
     # whose name it has, if these are several
     why_unclear: str = ""
 
@@ -204,8 +202,7 @@ class Vote:
             yield CheckedLine(line, meant, meant)
         elif of_meant := its.get(""):
             found = refused[line.unframed].get("", of_meant)
-            others = self.other_names(found)
-            yield CheckedLine(line, meant, line.unframed, found, of_meant, others, why)
+            yield CheckedLine(line, meant, line.unframed, found, of_meant, why)
         else:
             name, _, answers = meant.decode("ascii").partition(" ")
             by_finding = grouped(
@@ -213,7 +210,7 @@ class Vote:
             )
             for finding in sorted(by_finding, key=lambda finding: finding is not None):
                 text = line_of(name, dict(by_finding[finding])).encode()
-                yield CheckedLine(line, meant, text, finding, finding, self.other_names(finding))
+                yield CheckedLine(line, meant, text, finding, finding)
 
     def why_each_refused(self, lines: Sequence[bytes]) -> dict[bytes, str | None]:
         """What debvote says of each line, such as `bad rank count: ..`; None for a valid ballot. What
@@ -267,12 +264,11 @@ class Vote:
                 found = self.debvote.findings(poll.as_bytes(), ballots)
                 yield label, [line for line, _ in parts], found
 
-    def other_names(self, finding: Finding | None) -> tuple[str, ...]:
+    def other_names(self, offered: Sequence[str]) -> list[str]:
         """All names that fit as well as those that debvote offers: `ada-2` beside `ada`."""
-        offered = finding.near if finding else ()
         bare_names = dict.fromkeys(NUMBER.sub("", near) for near in offered)
         alike = (name for bare in bare_names for name in self.names_by_bare_name[bare])
-        return tuple(name for name in alike if name not in offered)
+        return [name for name in alike if name not in offered]
 
     @functools.cached_property
     def names_by_bare_name(self) -> dict[str, list[str]]:
@@ -301,9 +297,10 @@ class Vote:
             return self.ballot_in_words(line.as_entered.decode("ascii"))
         word = "" if line.finding.word == reply else f"{line.finding.word}: "
         # so that nobody takes one elector for another
-        others = f" (or {ENGLISH.joined(list(line.other_names))})" if line.other_names else ""
+        others = self.other_names(line.finding.near)
+        names = f" (or {ENGLISH.joined(others)})" if others else ""
         is_code = has_code(line.as_meant.decode("utf-8", "replace")) and not self.has_codes
-        said = f"{shown_line(line.as_entered)}: {word}{line.finding.hint}{others}"
+        said = f"{shown_line(line.as_entered)}: {word}{line.finding.hint}{names}"
         return said + (IS_CODE if is_code else "")
 
     def ballot_in_words(self, ballot: str) -> str:
