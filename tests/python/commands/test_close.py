@@ -116,7 +116,7 @@ class Meanwhile(LettersTest):
         (self.folder / "letters").unlink()
         self.assertIn("Made letters/closed.txt", self.done("close").output)
         moved = self.election("publish", "--moved", "--because", "a new disk", "--casting", "nobody")
-        self.assert_fault(moved, 2, "; act 6 (moved) was done; nothing was published: ")
+        self.assert_fault(moved, 2, "; act 6 (moved) was done: ")
 
 
 class Asked(LettersTest):
