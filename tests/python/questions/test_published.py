@@ -91,9 +91,9 @@ class OpenTest(PublishedTest):
             ended = self.election("count", "--casting", casting)
             self.assert_fault(ended, 8, "no question has this label; nothing was counted: write it as A=NAME; the labels are A, B, C")
         self.assert_fault(self.election("publish", "--casting", "B=Slate", *CAST), 8, "--casting=B=Slate: no option has this name", "'Ada Lovelace'")
-        for command in ("count", "publish"):
+        for command, done in (("count", "counted"), ("publish", "published")):
             twice = self.election(command, "--casting", "B=Ada Lovelace", "--casting", "b=Mary Somerville", *CAST * (command == "publish"))
-            self.assert_fault(twice, 8, "--casting='b=Mary Somerville': question B has the casting vote 'Ada Lovelace' already", "was published: give one of them")
+            self.assert_fault(twice, 8, "--casting='b=Mary Somerville': question B has the casting vote 'Ada Lovelace' already", f"nothing was {done}: give one of them")
         both = "; ".join(f"question {label} is a tie between {names}" for label, names in TIES.items())
         chosen = "the holder of the casting vote chooses one of them: debvote-election publish --casting B=NAME --casting C=NAME --cast-by WHO --cast-on DATE"
         self.done("close", "--early")
