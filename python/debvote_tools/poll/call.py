@@ -272,8 +272,3 @@ def current_call(
 def until_of(said: Detail) -> datetime.datetime | None:
     """The end that the command line names."""
     return datetime.datetime.fromisoformat(said["until"]) if "until" in said else None
-
-
-def zone_of(history: History) -> datetime.tzinfo | None:
-    """The zone in which the end was announced."""
-    return history.until.tzinfo if history.until else datetime.UTC

@@ -216,7 +216,7 @@ class AfterTheEnd(CalledTest):
         # after the close it is late
         self.act("close", {"lines": 2, "checksum": "", "early": False})
         output = self.told("add", given="ada 2,1,4,3\nben x\n")
-        self.assertRegex(output, r"^Note: the vote was closed at \d{4}-\d\d-\d\d \d\d:\d\d:\d\d UTC; what is added now is late\.\n")
+        self.assertRegex(output, r"^Note: the vote was closed at \d{4}-\d\d-\d\d \d\d:\d\d:\d\d UTC\+01:00; what is added now is late\.\n")
         self.assertIn(f"3 late  ada: {HALL}\n", output)
         hint = "a ballot has a rank there: a number from 1 to 99, or a hyphen for an option that is not ranked, and so last"
         self.assertIn(f'4 late  ben x: bad shape: column 5: "x"; {hint}\n', output)

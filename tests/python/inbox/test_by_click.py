@@ -526,11 +526,11 @@ class Asked(boxes.BoxElectionTest):
         for seconds in (100, 200):
             self.off(seconds)
             self.done("add", "--box")
-            said = r"Box of the web host: 0 records when it was asked last, (\S+ \S+) UTC\n"
-            [found] = re.findall(said, self.done("status").output)
-            ahead = datetime.datetime.fromisoformat(f"{found}+00:00") - datetime.datetime.now(
-                datetime.UTC
-            )
+            said = r"Box of the web host: 0 records when it was asked last, (\S+ \S+) UTC(\S*)\n"
+            [(found, zone)] = re.findall(said, self.done("status").output)
+            self.assertEqual(zone, "+01:00")
+            asked = datetime.datetime.fromisoformat(f"{found}{zone}")
+            ahead = asked - datetime.datetime.now(datetime.UTC)
             self.assertAlmostEqual(ahead.total_seconds(), seconds, delta=50)
 
     def test_reminders_and_another_page(self) -> None:
