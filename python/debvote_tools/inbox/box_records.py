@@ -20,7 +20,7 @@ from debvote_tools.inbox.asked import has_list_of_now, last_box
 from debvote_tools.inbox.mailbox import RawLetter
 from debvote_tools.inbox.vote import Vote
 from debvote_tools.patience import within
-from debvote_tools.poll.box import SCRIPT, asking_word, link_of, script_address
+from debvote_tools.poll.box import SCRIPT, asking_word, third_part, script_address
 from debvote_tools.text import times
 
 # in seconds and in bytes: how long an answer may take and be
@@ -224,7 +224,7 @@ def records_in(vote: Vote, asked: Asked, before: Detail, key: bytes) -> tuple[li
         if (found := RECORD.fullmatch(part + END)) is None:
             continue
         data, link, name = found[1], found[2].decode(), found[3].decode()
-        whose = link if any(link == link_of(key, name, own) for own in owns[name]) else name
+        whose = link if any(link == third_part(key, name, own) for own in owns[name]) else name
         counts[whose] += 1
         if name in vote.names.roll and counts[whose] <= MOST:
             where = f"box, record {len(letters) + 1}"

@@ -81,7 +81,7 @@ def check_again(
 
 
 def ballots_in(
-    vote: Vote, names: Collection[str], condition: str = queries.VALID
+    vote: Vote, names: Collection[str], condition: str = queries.VALID_OR_LATE
 ) -> BallotsByElector:
     """The ballots of some electors that were entered and are not struck, also late ones, unless a
     condition says otherwise.
@@ -185,8 +185,8 @@ def original_of(group: Sequence[LetterCase]) -> LetterCase | None:
     """
     may_go_in = (one for one in group if not one.is_decided and one.first_broken_rule is None)
     original = next(may_go_in, None)
-    is_settled = original and any(one.is_decided and one.can_hide_all for one in group)
-    return None if is_settled else original
+    is_hidden = original and any(one.is_decided and one.can_hide_all for one in group)
+    return None if is_hidden else original
 
 
 def judge_originals(

@@ -6,7 +6,8 @@ ranks, capital letters of the name; and what mail programs and word processors w
 marks around the line, asterisks for bold letters, a full stop at its end, semicolons between all
 ranks in place of commas, a colon after the name, no-break spaces, a dash in place of a hyphen. A
 name that is that of one elector alone, on the roll or really, becomes the one on the roll, and in a
-motion a word becomes ranks (`Vote.as_meant`). Of a ballot of several answers each is changed so, and
+motion a word becomes ranks (`Vote.as_meant`); in a letter its sender decides whose real name it is
+(`LetterCase.elector_of`). Of a ballot of several answers each is changed so, and
 labels become capital letters in their order. Nothing is guessed: no rank, no name, no order.
 """
 
@@ -83,7 +84,7 @@ class Line(NamedTuple):
     number: int
     # as it came, without its end, and without the byte-order mark of its file
     unframed: bytes
-    # with the changes that are allowed, but for those of name and words, which `Vote.as_meant` makes
+    # with the changes that are allowed, but for whose name it is, and for words: see `Vote.as_meant`
     repaired: bytes
 
     @property
