@@ -54,12 +54,12 @@ class Arguments(Acting, checks=True, nothing="published"):
     cast_by: list[str] | None = option(
         "NAME",
         "Who had the casting vote; the page says so in your name. "
-        "Of several casting votes give it once for all, or once for each, in the order of --casting",
+        "Of several give it once for all, or once for each, in the order of their options --casting",
         action="append",
     )
     cast_on: list[str] | None = option(
         "DATE",
-        "The day of the casting vote, as 2026-12-05; of several as --cast-by",
+        "The day of the casting vote, as 2026-12-05. Of several give it once for all, or once for each",
         action="append",
     )
     about: str | None = option(
