@@ -6,7 +6,7 @@ import datetime
 import itertools
 import os
 import pathlib
-from collections.abc import Collection, Iterator, Mapping, Sequence
+from collections.abc import Collection, Iterator, Mapping
 
 from debvote_tools.cli.arguments import Acting, demand_reason, flag, option, positional
 from debvote_tools.text import times
@@ -239,9 +239,9 @@ def alone(election: Election) -> Iterator[None]:
 def published_words(arguments: Arguments, questions: Questions) -> PublishedWords:
     """What the command line says, checked."""
     reason, about = arguments.because if arguments.force else None, None
-    castings = castings_in(arguments.casting, questions)
-    by = said_of_each(castings, "--cast-by", arguments.cast_by or [])
-    on = said_of_each(castings, "--cast-on", arguments.cast_on or [])
+    number = len(arguments.casting or ())
+    by = said_of_each(number, "--cast-by", arguments.cast_by or [])
+    on = said_of_each(number, "--cast-on", arguments.cast_on or [])
     if reason is not None:
         reason = demand_reason(reason, "--force", has_paragraphs=True)
     if arguments.about is not None:
@@ -250,10 +250,11 @@ def published_words(arguments: Arguments, questions: Questions) -> PublishedWord
             "write it, or leave --about out",
         )
         about = read_text(arguments.about, TEXT_LIMIT, unread, empty, may_wait=True)
+    castings = castings_in(arguments.casting, questions)
     return PublishedWords(
         castings=castings,
-        cast_by={label: holder_in(one) for label, one in by.items()},
-        cast_on={label: day_in(one) for label, one in on.items()},
+        cast_by=dict(zip(castings, map(holder_in, by))),
+        cast_on=dict(zip(castings, map(day_in, on))),
         about=about,
         is_forced=arguments.force,
         because=reason,
@@ -261,20 +262,20 @@ def published_words(arguments: Arguments, questions: Questions) -> PublishedWord
     )
 
 
-def said_of_each(castings: Castings, option: str, given: Sequence[str]) -> dict[str, str]:
-    """What an option says of each casting vote, in their order, by the labels; given once, it holds for
+def said_of_each(number: int, option: str, given: list[str]) -> list[str]:
+    """What an option says of each of so many casting votes, in their order; given once, it holds for
     all. Stops if it is missing, or given another number of times.
     """
-    if given and not castings:
+    if given and not number:
         raise bad_words(option, "it describes the casting vote of --casting", "give --casting too")
-    if castings and not given:
+    if number and not given:
         words = "the page must say whose casting vote it was, and when it was given"
         raise bad_words("--casting", words, 'say it with --cast-by "NAME" --cast-on 2026-12-05')
-    if len(given) not in (1, len(castings)):
-        words = f"{len(given)} are given, and of --casting {len(castings)}"
+    if len(given) not in (1, number):
+        words = f"{len(given)} are given, and of --casting {number}"
         cure = "give it once for all, or once for each --casting, in their order"
         raise bad_words(option, words, cure)
-    return dict(zip(castings, itertools.cycle(given)))
+    return given * number if len(given) == 1 else given
 
 
 def holder_in(by: str) -> str:
