@@ -8,13 +8,7 @@ import subprocess
 from typing import NamedTuple
 
 from debvote_tools.cli.faults import Fault, Status, other_format
-from debvote_tools.files import (
-    BALLOTS_LIMIT,
-    LINES_LIMIT,
-    POLL_LIMIT,
-    demand_own_files,
-    in_memory,
-)
+from debvote_tools.files import BALLOTS_LIMIT, LINES_LIMIT, POLL_LIMIT, in_memory
 
 
 class Answer(NamedTuple):
@@ -76,8 +70,6 @@ class Debvote:
 
     def run(self, *words: str | os.PathLike[str], given: bytes = b"") -> Answer:
         """Runs debvote, with these bytes as its standard input."""
-        if given:
-            demand_own_files()
         try:
             ended = subprocess.run(
                 [self.path, *words], cwd=self.folder, capture_output=True, input=given

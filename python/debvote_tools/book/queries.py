@@ -200,6 +200,7 @@ def later(
 # conditions on envelopes, with the acts that no `undo` took back
 TO_COUNT, LATE = "NOT late AND struck IS NULL", "late AND struck IS NULL"
 VALID = "struck IS NULL AND answer IS NULL"
+REFUSED = f"{TO_COUNT} AND answer IS NOT NULL"
 NOT_UNDONE = "act NOT IN (SELECT json_extract(detail, '$.act') FROM act WHERE name = 'undo')"
 
 # the late envelopes that a `reopen` entered anew as in time, and those that none did

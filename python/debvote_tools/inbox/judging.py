@@ -125,7 +125,7 @@ def circumstances_now(vote: Vote, history: History) -> Circumstances:
         is_closed=history.is_closed,
         now=times.now(),
         our_ids={elector.name: ids.get(elector.number, []) for elector in electors},
-        box_key=queries.sealed(election.book, BOX_KEY) or b"",
+        box_key=queries.sealed(election.book, BOX_KEY),
         words=vote.names.words,
         no_answers=no_answers,
         asking_ids=queries.ids_that_ask(election.book),

@@ -94,7 +94,7 @@ class OpenTest(PublishedTest):
         self.assert_fault(self.election("publish", "--casting", "B=Slate", *CAST), 8, "--casting=B=Slate: no option has this name", "'Ada Lovelace'")
         for command, done in (("count", "counted"), ("publish", "published")):
             twice = self.election(command, "--casting", "B=Ada Lovelace", "--casting", "b=Mary Somerville", *CAST * (command == "publish"))
-            self.assert_fault(twice, 8, "--casting='b=Mary Somerville': question B has the casting vote 'Ada Lovelace' already", f"; nothing was {done}: give one of them")
+            self.assert_fault(twice, 8, "--casting='b=Mary Somerville': question B has the casting vote 'Ada Lovelace' already", f"nothing was {done}: give one of them")
         both = "; ".join(f"question {label} is a tie between {names}" for label, names in TIES.items())
         chosen = "the holder of the casting vote chooses one of them: debvote-election publish --casting B=NAME --cast-by WHO --cast-on DATE --casting C=NAME --cast-by WHO --cast-on DATE"
         self.done("close", "--early")
