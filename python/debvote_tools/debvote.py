@@ -115,10 +115,13 @@ def refusal(answer: Answer) -> Fault:
 
 
 def casting_words(name: str | None) -> list[str]:
-    """The arguments for a casting vote: a name with a hyphen would be read as an option."""
-    if name is None:
-        return []
-    return [f"--casting={name}"] if name.startswith("-") else ["--casting", name]
+    """The arguments for a casting vote."""
+    return [] if name is None else option_words("--casting", name)
+
+
+def option_words(option: str, value: str) -> list[str]:
+    """An option with its value, which would be read as an option if it began with a hyphen."""
+    return [f"{option}={value}"] if value.startswith("-") else [option, value]
 
 
 FINDING = re.compile(
