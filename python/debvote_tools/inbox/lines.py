@@ -65,9 +65,10 @@ LABEL = re.compile(
     rf"(?:^|(?<=[\s:]))([A-Za-z])(?:(?:\s*[:).]\s*|\s+)(?=[\d{DASHES}-])|(?=(?:\d{{1,2}}|[{DASHES}-])\s*[,;]))"
 )
 
-# a word behind a label, which is a capital letter or has a sign behind it
+# a word behind a label, which is a capital letter or has a sign behind it; one letter is no word, but may
+# be the label behind a name that ends in a letter, as in `Ben B A yes`
 WORD = re.compile(
-    r"(?:^|(?<=[\s:]))(?:([A-Z])\s+|([A-Za-z])\s*[:).]\s*)([^\W\d_][\w\u0300-\u036f]*) ?[.!]?(?=\s|$)"
+    r"(?:^|(?<=[\s:]))(?:([A-Z])\s+|([A-Za-z])\s*[:).]\s*)([^\W\d_][\w\u0300-\u036f]+) ?[.!]?(?=\s|$)"
 )
 
 # a name whose last word is one letter

@@ -9,7 +9,7 @@ from collections.abc import Callable
 
 from tests.support import terminal
 from tests.support.letters import TEN, letter
-from tests.support.questions import QuestionsTest, answering
+from tests.support.questions import FEE, QuestionsTest, answering
 from tests.support.terminal import Terminal
 
 # who can be taken for a label, or for the name of somebody else with one
@@ -133,6 +133,19 @@ class Lines(LabelsTest):
             self.assertEqual(tuple(re.findall(r"(?m)^(?:Lines|Valid|Refused): (\d)$", sheets[label])), numbers)
         self.done("undo", "--yes")
         self.assertEqual(self.lines(), [])
+
+
+class Words(LabelsTest):
+    polls = {**QuestionsTest.polls, "A": f"{FEE}motion = true\n"}
+    poll = "".join(polls.values())
+
+    def test_behind_a_name_that_ends_in_a_letter(self) -> None:
+        lines = {"A A yes": "a A 1,2", "A: A no": "a A 2,1", "Ben B a: Yes!": "ben-b A 1,2", "a B 1,2,3 A no": "a A 2,1 B 1,2,3"}
+        for command in ("add", "desk"):
+            self.done(command, given="".join(f"{line}\n" for line in lines))
+        self.add(letter("cleo", "I told you.\n"))
+        self.done("held", "1", "--as", "Ben B A abstain", "--force", "--yes")
+        self.demand_entered(*lines.values(), *lines.values(), "ben-b A 1,1")
 
 
 class Letters(LabelsTest):
