@@ -1,5 +1,6 @@
 """`add`: what is told, what is in the book, and that nothing is lost."""
 
+import itertools
 import os
 import re
 import resource
@@ -235,6 +236,9 @@ class AfterTheEnd(CalledTest):
         self.assertEqual([detail.get("came_before_close") for name, detail in self.acts() if name == "add"], [None, None, None, True, False])
         # a late line is not there to be replaced
         self.assertIn("7 counted  dan: ", self.told("desk", "--came-before-close", "yes", given="dan 2,1,4,3\n"))
+        # the announced end is of no matter any more
+        for command, answer in itertools.product(("add", "desk"), ("yes", "no")):
+            self.assertNotIn("Note", self.told(command, "--came-before-close", answer, given="eve 1,2,4,3\neve 2,1,4,3\n"))
 
 
 class NoBallots(CalledTest):
