@@ -151,6 +151,10 @@ class Vote:
                 text = f"{meant[0] if len(meant) == 1 else name.lower()} {answers}"
         return text.encode("utf-8", "surrogateescape"), unclear
 
+    def with_ranks(self, line: bytes) -> bytes:
+        text = self.names.with_ranks(line.decode("utf-8", "surrogateescape"))
+        return text.encode("utf-8", "surrogateescape")
+
     def why_too_long(self, line: Line) -> str | None:
         """Why a line is no ballot, if it is longer than any."""
         words = f"the line has {len(line.unframed)} bytes, and a ballot has a few dozen"
@@ -246,8 +250,10 @@ class Vote:
         return labels != [] and labels == [label for label in self.questions if label in labels]
 
     def are_table(self, lines: Sequence[Line]) -> bool:
-        """Whether lines look like a table to debvote, as they came; one line alone is none."""
-        given = [line.unframed for line in lines]
+        """Whether lines look like a table to debvote, as they came, but with ranks in place of words; one
+        line alone is none.
+        """
+        given = [self.with_ranks(line.unframed) for line in lines]
         return len(lines) > 1 and any(
             found.are_table for *_, found in self.findings_by_question(given)
         )

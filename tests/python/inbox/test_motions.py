@@ -111,6 +111,16 @@ class Taken(LettersTest):
         # no French
         self.assertEqual(self.lines(), ["ada 1,2", "ben: oui", "kim-no 2,1"])
 
+    def test_a_word_counts_as_a_rank_of_a_table(self) -> None:
+        said = "the lines look like a table"
+        for row in ("ada ja", "ada 1,2"):
+            table = f"Name;Vote\n{row}\n"
+            for command in ("add", "desk"):
+                self.assert_stops(self.election(command, given=table), self.first_act - 1, 4 if command == "desk" else 9, said)
+        self.told("add", given="ada ja\nben: Nein!\n")
+        self.told("desk", given="Cleo ja\ndan enthaltung\n")
+        self.assertEqual(self.lines(), ["ada 1,2", "ben 2,1", "cleo 1,2", "dan 1,1"])
+
     def test_what_was_typed_for_a_letter(self) -> None:
         self.add(letter("ada", "Bin dafür.\n"))
         self.told("held", "1", "--as", "Ada Lovelace: Ja", "--force", "--yes")
