@@ -84,16 +84,16 @@ class Desk:
 
     def with_label(self, line: Line) -> Line:
         """A line that answers one question without its label, with it."""
-        text, names = line.repaired.decode("utf-8", "replace"), self.vote.names
+        text, names = line.named.decode("utf-8", "replace"), self.vote.names
         if names.taken_apart(names.with_ranks(text)):
             # with labels it may be meant for another desk
             return line._replace(unframed=NO_LINE)
         if (found := self.names.taken_apart(self.names.with_ranks(text))) is None:
             return line
         name, ranks = found
-        right = name.lower() if name.lower() in names.roll else name
-        full = f"{right} {self.vote.label} {ranks}".encode()
-        return line._replace(unframed=full, repaired=full)
+        # behind a colon the label is no part of the name
+        colon = "" if name in names.roll else ":"
+        return line.written(f"{name}{colon} {self.vote.label} {ranks}".encode())
 
     def demand_no_table(self, lines: list[CheckedLine]) -> None:
         """Stops at the head of a table: below a ballot no line is one."""
@@ -282,8 +282,7 @@ def completed(desk: Desk, line: Line) -> Line | None:
         return line
     if (chosen := chosen_of(found, shown_text(name))) is None:
         return None
-    full = f"{chosen.name} {answers}".encode()
-    return line._replace(unframed=full, repaired=full)
+    return line.written(f"{chosen.name} {answers}".encode())
 
 
 def chosen_of(found: Sequence[Elector], name: str) -> Elector | None:

@@ -86,6 +86,12 @@ class Line(NamedTuple):
     unframed: bytes
     # with the changes that are allowed, but for those of name and words, which `Vote.as_meant` makes
     repaired: bytes
+    # the same with the capital letters of the name: with them it may be the real name of somebody else
+    named: bytes
+
+    def written(self, text: bytes) -> "Line":
+        """The line as if this had come, in which nothing has to be repaired."""
+        return self._replace(unframed=text, repaired=text, named=text)
 
     @property
     def place(self) -> str:
@@ -139,8 +145,7 @@ class Names:
         before, *rest = LABEL.split(bare_text(line)) if self.labels else [line]
         if not rest or RIGHT_ANSWERS.fullmatch(line.strip()) or before.rstrip().endswith(":"):
             return []
-        folds = {name.lower()} if name.lower() in self.roll else self.folds(name)
-        found = (one for fold in folds for one in self.by_all_but_letter.get(fold, ()))
+        found = (one for fold in self.folds(name) for one in self.by_all_but_letter.get(fold, ()))
         return [elector for letter, elector in found if letter == rest[0].upper()]
 
     def meant_by(self, name: str) -> list[str]:
@@ -153,8 +158,7 @@ class Names:
         """The same; of several questions a name as it is on the roll is of this elector alone, as it is
         where nothing has to be changed.
         """
-        is_on_roll = self.labels and name.lower() in self.roll
-        return [name.lower()] if is_on_roll else self.meant_by(name)
+        return [name] if self.labels and name in self.roll else self.meant_by(name)
 
     def taken_apart(self, line: str) -> tuple[str, str] | None:
         """The name in a line, as people write it, or nothing, and the answers behind it, as they are
@@ -198,7 +202,8 @@ def lines_in(data: bytes, name: str, longest: int, first: int = 1) -> list[Line]
     for number, line in enumerate(data.splitlines(keepends=True), start=first):
         unframed = line.removesuffix(b"\n").removesuffix(b"\r")
         unframed = unframed.removeprefix(MARK if number == 1 else b"")
-        lines.append(Line(name, number, unframed, repaired_line(unframed, longest)))
+        named = repaired_but_for_name(unframed, longest)
+        lines.append(Line(name, number, unframed, with_small_name(named), named))
     return lines
 
 
@@ -214,8 +219,19 @@ def has_code(text: str) -> bool:
 
 
 def repaired_line(line: bytes, longest: int) -> bytes:
-    """A line with the repairs that are allowed; of one with twice the bytes of the longest ballot
-    only blanks are.
+    """A line with the repairs that are allowed."""
+    return with_small_name(repaired_but_for_name(line, longest))
+
+
+def with_small_name(line: bytes) -> bytes:
+    """A line without capital letters in its name."""
+    name, blank, ranks = line.partition(b" ")
+    return name.lower() + blank + ranks if blank else line
+
+
+def repaired_but_for_name(line: bytes, longest: int) -> bytes:
+    """A line with the repairs that are allowed, but with the capital letters of its name; of one with
+    twice the bytes of the longest ballot only blanks are repaired.
     """
     if NOTHING_TO_REPAIR.fullmatch(line):
         return line
@@ -250,10 +266,9 @@ def written_answers(
 
 
 def spaced(line: bytes) -> bytes:
-    """The line with one space alone, after the name, and without capital letters in the name."""
+    """The line with one space alone, after the name."""
     joined = b",".join(part.strip(BLANKS) for part in line.split(b","))
-    name, *ranks = re.split(rb"[ \t]+", joined, maxsplit=1)
-    return name.lower() + b" " + ranks[0] if ranks else joined
+    return b" ".join(re.split(rb"[ \t]+", joined, maxsplit=1))
 
 
 def without_typography(text: str) -> str:

@@ -138,7 +138,11 @@ class Vote:
         given = line.unframed if labels else line.repaired
         text = names.with_ranks(given.decode("utf-8", "surrogateescape"))
         name, _, answers = text.partition(" ")
-        is_right = name in names.roll and (self.has_form(given) if labels else " " not in answers)
+        is_right = name in names.roll and (
+            self.has_form(given)
+            if labels
+            else line.named.startswith(name.encode()) and " " not in answers
+        )
         if is_right and not names.words:
             return line.repaired, []
         is_read = not (is_right or self.has_codes or self.why_too_long(line))
@@ -201,7 +205,10 @@ class Vote:
         that has not their form, or has the name of several electors, is never entered.
         """
         why = f"it has the name of {ENGLISH.joined(list(unclear))}" if unclear else ""
-        its = {"": NO_FORM} if why and self.names.labels else refused[meant]
+        # as it came, such a line is no ballot
+        its = (
+            {"": NO_FORM} if why and self.names.labels else refused[line.unframed if why else meant]
+        )
         if not its:
             yield CheckedLine(line, meant, meant)
         elif of_meant := its.get(""):

@@ -181,6 +181,16 @@ class Answering(LettersTest):
         self.assertIn("line 3 may be an answer, and belongs to no ballot", self.told("held"))
 
 
+class OneNameOfTwo(LettersTest):
+    poll = MOTION + "motion = true\n"
+    members = "who,name,mail\nMaximilian Mayer,max,\nMax,,max@club.example\n"
+
+    def test_in_words(self) -> None:
+        said = self.told("desk", given="max: yes\nMax: yes\nMAX no\nmax-2 no.\n")
+        self.assertEqual(re.findall(r"desk:(\d): it has the name of max and max-2; it was not entered", said), ["2", "3"])
+        self.assertEqual(self.lines(), ["max 1,2", "max-2 2,1"])
+
+
 class AtDesk(TerminalTest):
     poll = MOTION + "motion = true\n"
     members = members_of(NAMES) + "Kim No,kim@club.example\nGrace Hopper,\n"
