@@ -293,10 +293,9 @@ def notes_on(
     pairs = similar_names(one.name for one in electors)
     yield "Note: these names are easily mistaken for each other", list(map(" and ".join, pairs)), ""
     real_names = {one.name: one.who for one in electors}
-    by_real_name = Names(frozenset(), language.code, real_names, 0, {}).electors_by_real_name
-    taken = [one for one in electors if {*by_real_name.get(one.name, ())} - {one.name}]
+    taken = Names(frozenset(real_names), language.code, real_names, 0, {}).real_names_of_others
     words = "Note: these names on the roll are the real name of somebody else"
-    yield words, [one.label for one in taken], ". Give them other names."
+    yield words, [one.label for one in electors if one.name in taken], ". Give them other names."
     couples = [one.label for one in electors if SEVERAL_PEOPLE.search(one.who)]
     words = "Note: these look like several people, who have one ballot together"
     yield words, couples, ". Give each a line of their own."

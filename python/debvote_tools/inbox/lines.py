@@ -129,6 +129,12 @@ class Names:
         return grouped((fold, elector) for elector, who in names for fold in self.folds(who))
 
     @functools.cached_property
+    def real_names_of_others(self) -> frozenset[str]:
+        """The names on the roll that are the real name of somebody else, too."""
+        real = self.electors_by_real_name
+        return frozenset(name for name in self.roll if {*real.get(name, ())} - {name})
+
+    @functools.cached_property
     def by_all_but_letter(self) -> dict[str, list[tuple[str, str]]]:
         """The electors whose name, on the roll or really, ends in a word of one letter, which may be
         taken for a label: that letter and the elector, by what is folded before it.
