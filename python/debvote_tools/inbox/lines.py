@@ -144,15 +144,27 @@ class Names:
         folds = ((elector, fold) for elector, who in ending for fold in self.folds(who))
         return grouped((fold[:-2], (fold[-1].upper(), elector)) for elector, fold in folds)
 
-    def longer_than(self, name: str, line: str) -> list[str]:
-        """The electors whose name this is with the first label of a line behind it: `Ben B 1,2` may be of
-        Ben or of Ben B. A line as it is entered, or with a colon behind the name, is of one alone.
+    def label_behind_name(self, line: str) -> str:
+        """The first label of a line, if it may belong to the name before it: not so in a line as it is
+        entered, or with a colon behind the name.
         """
         before, *rest = LABEL.split(bare_text(line)) if self.labels else [line]
-        if not rest or RIGHT_ANSWERS.fullmatch(line.strip()) or before.rstrip().endswith(":"):
-            return []
+        name, is_right = before.strip(), RIGHT_ANSWERS.fullmatch(line.strip())
+        is_apart = name.endswith(":") or (is_right and name in self.roll)
+        return rest[0].upper() if rest and not is_apart else ""
+
+    def longer_than(self, name: str, line: str) -> list[str]:
+        """The electors whose name this is with the first label of a line behind it: `Ben B 1,2` may be of
+        Ben or of Ben B.
+        """
+        label = self.label_behind_name(line)
         found = (one for fold in self.folds(name) for one in self.by_all_but_letter.get(fold, ()))
-        return [elector for letter, elector in found if letter == rest[0].upper()]
+        return [elector for letter, elector in found if letter == label]
+
+    def words_of(self, *names: str) -> set[str]:
+        """The words of which names consist."""
+        folds = (fold for name in names for fold in self.folds(name))
+        return {word for fold in folds for word in re.split("[.-]", fold)}
 
     def meant_by(self, name: str) -> list[str]:
         """The electors whose name on the roll or real name this is, as people write it."""

@@ -33,6 +33,16 @@ RIGHT = {
     "Ben: B 3,2,1": "ben B 3,2,1",
     "Ben A 2,1 B 2,1,3": "ben A 2,1 B 2,1,3",
 }
+# and such lines with a part of a name
+RIGHT_AT_A_TERMINAL = {
+    "Ben A 1,2": "ben A 1,2",
+    "ben B 3,2,1": "ben B 3,2,1",
+    "Ben B B 1,2,3": "ben-b B 1,2,3",
+    "en-b B 2,1,3": "ben-b B 2,1,3",
+    "Adams: A 1,2": "a A 1,2",
+    "Adams B 1,2,3 A 2,1": "a A 2,1 B 1,2,3",
+    "leo B 1,2,3": "cleo B 1,2,3",
+}
 # lines that are no ballot of this vote, or could be one of two people
 WRONG = [
     "cleo 1,2", "cleo 1,2,3", "cleo: 1,2,3,4", "a 1,2", "ben-b 1,2,3",  # no question
@@ -106,17 +116,18 @@ class Lines(LabelsTest):
         self.assertEqual((count, re.findall(r"envelope \d+: (.*)", its)), ("3", ["cleo B 1", "zoe C 1", "a B 1"]))
 
     def test_at_a_terminal(self) -> None:
-        """A whole name, on the roll or really, is asked about only if it may be another's."""
+        """What may be the last letter of a name, or the label, is neither, for a part of a name, too."""
         desk = Terminal(self)
         desk.until("Ballot: ")
-        for typed, number in (("Ben A 1,2", ""), ("Ben B B 1,2,3", ""), ("Ben B 3,2,1", "1"), ("ben b 2,1,3", "2")):
-            shown = desk.after(f"{typed}\n", "Type the number of one, or n for none: " if number else "Enter it? [y/n] ")
-            self.assertEqual("`ben` is part of 2 names:\n  1 ben (Ben)\n  2 ben-b (Ben B)\n" in shown, bool(number), shown)
-            if number:
-                desk.after(f"{number}\n", "Enter it? [y/n] ")
+        for typed in ("Ben B 3,2,1", "ben b 2,1,3", "BEN B: 1,2,3 A 1,2", "en B 1,2,3", "be b 1,2,3", "Adams A 1,2", "ada a 1,2"):
+            shown = desk.after(f"{typed}\n", "It was not entered.\nBallot: ")
+            who = "a" if "a" in typed[:1].lower() else "ben-b"
+            self.assertIn(f" may be a label, or belong to the name of {who}: type the name on the roll, with a colon behind it\n", shown)
+        for typed, entered in RIGHT_AT_A_TERMINAL.items():
+            desk.after(f"{typed}\n", "Enter it? [y/n] ")
             desk.after("y\n", "Ballot: ")
         desk.type("q\n")
-        self.demand_entered("ben A 1,2", "ben-b B 1,2,3", "ben B 3,2,1", "ben-b B 2,1,3")
+        self.demand_entered(*RIGHT_AT_A_TERMINAL.values())
 
     def test_at_a_desk_of_one_question(self) -> None:
         self.done("desk", "--question", "B", given="Ben 1,2,3\nben 3,2,1\nben-b 1,2,3\n")
