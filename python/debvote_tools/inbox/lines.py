@@ -71,9 +71,6 @@ WORD = re.compile(
     r"(?:^|(?<=[\s:]))(?:([A-Z])\s+|([A-Za-z])\s*[:).]\s*)([^\W\d_][\w\u0300-\u036f]+) ?[.!]?(?=\s|$)"
 )
 
-# a name whose last word is one letter
-LETTER_LAST = re.compile(r"[^\w.]\w\W*$")
-
 
 class Line(NamedTuple):
     """A line that came. `file_name` names the file, as `more.txt`, and `number` is that of the line
@@ -134,16 +131,6 @@ class Names:
         real = self.electors_by_real_name
         return frozenset(name for name in self.roll if {*real.get(name, ())} - {name})
 
-    @functools.cached_property
-    def by_all_but_letter(self) -> dict[str, list[tuple[str, str]]]:
-        """The electors whose name, on the roll or really, ends in a word of one letter, which may be
-        taken for a label: that letter and the elector, by what is folded before it.
-        """
-        names = [*((name, name) for name in self.roll), *self.real_names.items()]
-        ending = ((elector, who) for elector, who in names if LETTER_LAST.search(who))
-        folds = ((elector, fold) for elector, who in ending for fold in self.folds(who))
-        return grouped((fold[:-2], (fold[-1].upper(), elector)) for elector, fold in folds)
-
     def label_behind_name(self, line: str) -> str:
         """The first label of a line, if it may belong to the name before it: not so in a line as it is
         entered, or with a colon behind the name.
@@ -151,15 +138,15 @@ class Names:
         before, *rest = LABEL.split(bare_text(line)) if self.labels else [line]
         name, is_right = before.strip(), RIGHT_ANSWERS.fullmatch(line.strip())
         is_apart = name.endswith(":") or (is_right and name in self.roll)
-        return rest[0].upper() if rest and not is_apart else ""
+        return rest[0].upper() if name and rest and not is_apart else ""
 
     def longer_than(self, name: str, line: str) -> list[str]:
         """The electors whose name this is with the first label of a line behind it: `Ben B 1,2` may be of
-        Ben or of Ben B.
+        Ben or of Ben B, who may write a full stop behind the letter.
         """
         label = self.label_behind_name(line)
-        found = (one for fold in self.folds(name) for one in self.by_all_but_letter.get(fold, ()))
-        return [elector for letter, elector in found if letter == label]
+        stops = ("", ".") if label else ()
+        return [one for stop in stops for one in self.meant_by(f"{name} {label}{stop}")]
 
     def words_of(self, *names: str) -> set[str]:
         """The words of which names consist."""

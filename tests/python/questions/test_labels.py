@@ -13,7 +13,7 @@ from tests.support.questions import FEE, QuestionsTest, answering
 from tests.support.terminal import Terminal
 
 # who can be taken for a label, or for the name of somebody else with one
-MEMBERS = "name,who,mail\na,A. Adams,a@club.example\nben,Ben,ben@club.example\nben-b,Ben B,benb@club.example\ncleo,Cleo,cleo@club.example\n"
+MEMBERS = "name,who,mail\na,A. Adams,a@club.example\nben,Ben,ben@club.example\nben-b,Ben B,benb@club.example\ncleo,Cleo,cleo@club.example\ndan,Dan,dan@club.example\ndc,Dan C.,dc@club.example\n"
 
 # lines that say one thing, and what is entered of them
 RIGHT = {
@@ -50,7 +50,7 @@ WRONG = [
     "cleo A 1,2 A 2,1", "cleo A 1,2 a 1,2", "cleo A 1,2 B 1,2,3 A 1,2",  # twice
     "cleo A B 1,2", "cleo A 1,2 B", "cleo A 1,2 1,2,3", "cleo 1,2 A",  # a label or ranks too many
     "A 1,2", "A cleo 1,2", "B 1,2,3 C 1,2,3,4",  # no name in front
-    "Ben B 1,2,3", "ben b 1,2,3",  # Ben, who answers B, or Ben B, who forgot the label
+    "Ben B 1,2,3", "ben b 1,2,3", "Dan C 1,2,3,4", "Dan C. 1,2,3,4",  # Ben, who answers B, or Ben B, who forgot the label
 ]  # fmt: skip
 
 
