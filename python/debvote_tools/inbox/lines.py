@@ -145,8 +145,8 @@ class Names:
         Ben or of Ben B, who may write a full stop behind the letter.
         """
         label = self.label_behind_name(line)
-        stops = ("", ".") if label else ()
-        return [one for stop in stops for one in self.meant_by(f"{name} {label}{stop}")]
+        folds = self.folds(f"{name} {label}") if label else set[str]()
+        return self.named({*folds, *(f"{fold}." for fold in folds)})
 
     def words_of(self, *names: str) -> set[str]:
         """The words of which names consist."""
@@ -155,7 +155,12 @@ class Names:
 
     def meant_by(self, name: str) -> list[str]:
         """The electors whose name on the roll or real name this is, as people write it."""
-        folds = self.folds(name)
+        small = name.lower()
+        is_of_one = small in self.roll and small not in self.real_names_of_others
+        return [small] if is_of_one else self.named(self.folds(name))
+
+    def named(self, folds: set[str]) -> list[str]:
+        """The electors whose name on the roll or real name is one of these, folded."""
         real = (elector for fold in folds for elector in self.electors_by_real_name.get(fold, ()))
         return sorted({*folds & self.roll, *real})
 
