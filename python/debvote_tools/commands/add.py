@@ -201,9 +201,7 @@ def file_lines(vote: Vote, files: Sequence[GivenFile]) -> list[FileLines]:
         # of a table no ranks are repaired
         if is_table := not is_right_as_it_came(its_lines[0]) and vote.are_table(lines):
             unrepaired = (line.original for line in its_lines)
-            its_lines = vote.checked_lines(
-                [one._replace(repaired=one.unframed) for one in unrepaired]
-            )
+            its_lines = vote.checked_lines([one.written(one.unframed) for one in unrepaired])
         found.append(FileLines(file, its_lines, [one for one in lines if one.is_empty], is_table))
     return found
 

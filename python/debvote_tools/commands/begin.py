@@ -44,6 +44,7 @@ from debvote_tools.files import (
     write_whole,
 )
 from debvote_tools.grouping import several
+from debvote_tools.inbox.lines import Names
 from debvote_tools.inbox.mime import address_key
 from debvote_tools.poll.announced import address_in
 from debvote_tools.poll.box import SCRIPT, box_files
@@ -152,7 +153,7 @@ def roll(election: Election, arguments: RollArguments) -> None:
     roll, after = read_roll(election, history), election.command("check")
     if history.call is None:
         keep_electors(book, roll, history.last.number)
-        tell(*roll_in_words(roll))
+        tell(*roll_in_words(roll, election.language))
     else:
         is_secret = election.questions.is_secret
         went = outgoing.call_addresses(book, history.call.number) if is_secret else {}
@@ -257,7 +258,7 @@ def changes_in_words(member: Member, went: Mapping[str, Sequence[str]]) -> str:
 
 
 # ---- what is told
-def roll_in_words(roll: Roll) -> Iterator[str]:
+def roll_in_words(roll: Roll, language: Language) -> Iterator[str]:
     electors = roll.electors
     yield f"{count_of(len(electors), 'elector')}, each with the name on the roll:"
     for one in electors:
@@ -265,14 +266,16 @@ def roll_in_words(roll: Roll) -> Iterator[str]:
     if proposed := sum(bool(one.proposal) for one in electors):
         how = f"To change a name, write it into a column `name` of {MEMBERS_FILE}, and run this again."
         yield f"{count_of(proposed, 'name was', 'names were')} proposed. {how}"
-    for words, names, after in notes_on(electors):
+    for words, names, after in notes_on(electors, language):
         if names:
             yield f"{words}: {listed(names, MAX_NAMED)}{after}"
     for gone in roll.gone:
         yield f"No longer on the list: {gone.name} ({shown_text(gone.who)})"
 
 
-def notes_on(electors: Sequence[Member]) -> Iterator[tuple[str, list[str], str]]:
+def notes_on(
+    electors: Sequence[Member], language: Language
+) -> Iterator[tuple[str, list[str], str]]:
     """What may be wrong with the list: words, the names that they are about, and words after."""
     by_address = (
         (key, one.name)
@@ -289,6 +292,10 @@ def notes_on(electors: Sequence[Member]) -> Iterator[tuple[str, list[str], str]]
     yield words, [one.label for one in cut], ""
     pairs = similar_names(one.name for one in electors)
     yield "Note: these names are easily mistaken for each other", list(map(" and ".join, pairs)), ""
+    real_names = {one.name: one.who for one in electors}
+    taken = Names(frozenset(real_names), language.code, real_names, 0, {}).real_names_of_others
+    words = "Note: these names on the roll are the real name of somebody else"
+    yield words, [one.label for one in electors if one.name in taken], ". Give them other names."
     couples = [one.label for one in electors if SEVERAL_PEOPLE.search(one.who)]
     words = "Note: these look like several people, who have one ballot together"
     yield words, couples, ". Give each a line of their own."

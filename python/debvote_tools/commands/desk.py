@@ -23,6 +23,7 @@ from debvote_tools.inbox.lines import Line, Names, lines_in
 from debvote_tools.inbox.vote import IN_ORDER, CheckedLine, Vote, change_words, summary
 from debvote_tools.poll.plain_names import alike
 from debvote_tools.text.ballots import answers_text, ranks_by_label
+from debvote_tools.text.language import ENGLISH
 
 QUIT = b"q"
 NOT_ENTERED = "It was not entered."
@@ -84,16 +85,16 @@ class Desk:
 
     def with_label(self, line: Line) -> Line:
         """A line that answers one question without its label, with it."""
-        text, names = line.repaired.decode("utf-8", "replace"), self.vote.names
+        text, names = line.named.decode("utf-8", "replace"), self.vote.names
         if names.taken_apart(names.with_ranks(text)):
             # with labels it may be meant for another desk
             return line._replace(unframed=NO_LINE)
         if (found := self.names.taken_apart(self.names.with_ranks(text))) is None:
             return line
         name, ranks = found
-        right = name.lower() if name.lower() in names.roll else name
-        full = f"{right} {self.vote.label} {ranks}".encode()
-        return line._replace(unframed=full, repaired=full)
+        # behind a colon the label is no part of the name
+        colon = "" if name in names.roll else ":"
+        return line.written(f"{name}{colon} {self.vote.label} {ranks}".encode())
 
     def demand_no_table(self, lines: list[CheckedLine]) -> None:
         """Stops at the head of a table: below a ballot no line is one."""
@@ -265,8 +266,8 @@ def ask_and_cast(desk: Desk, line: Line) -> None:
 
 def completed(desk: Desk, line: Line) -> Line | None:
     """A line with the name on the roll that was meant, if the typed words are that name or the real
-    one, or else parts of one; of several electors one is chosen by a number, or none. Codes are never
-    looked for.
+    one, or else parts of one; of several electors one is chosen by a number, or none. It is none where
+    the first label may be a part of the name. Codes are never looked for.
     """
     as_meant, meant = desk.vote.as_meant(line)
     name, answers = typed_parts(desk, as_meant)
@@ -280,10 +281,23 @@ def completed(desk: Desk, line: Line) -> Line | None:
     ]
     if not found:
         return line
+    if why := why_no_label(desk, line, name, found):
+        tell(why)
+        return None
     if (chosen := chosen_of(found, shown_text(name))) is None:
         return None
-    full = f"{chosen.name} {answers}".encode()
-    return line._replace(unframed=full, repaired=full)
+    return line.written(f"{chosen.name} {answers}".encode())
+
+
+def why_no_label(desk: Desk, line: Line, name: str, found: Sequence[Elector]) -> str:
+    """Why the first label of a line may be none, if it is a word of the name of one of these electors."""
+    names, text = desk.vote.names, line.unframed.decode("utf-8", "replace")
+    label = names.label_behind_name(names.with_ranks(text))
+    words = {label.lower()} - names.words_of(name)
+    longer = [one.name for one in found if label and words & names.words_of(one.name, one.who)]
+    said = f"the {label} behind `{shown_text(name)}` may be a label, or belong to the name of"
+    cure = "type the name on the roll, with a colon behind it"
+    return f"{said} {ENGLISH.joined(longer)}: {cure}" if longer else ""
 
 
 def chosen_of(found: Sequence[Elector], name: str) -> Elector | None:

@@ -80,12 +80,13 @@ def demand_room(book: Book, new: Sequence[NewEnvelope]) -> None:
 # ---- whether it comes in time
 def late_notes(election: Election, history: History, what: str) -> list[str]:
     """What is said of lines that are entered after the end; `what` says what is done with them. Of
-    lines that `add` enters it stands above the replies, after the act.
+    lines that `add` enters it stands above the replies, after the act. After `reopen` the end decides
+    nothing: only what came before the first close counts.
     """
     if history.is_closed:
         closed = act_time(history.closes[-1].time)
         return [f"Note: the vote was closed at {closed}; {what} now is late."]
-    if history.until is not None and now() >= history.until:
+    if history.until is not None and not history.closes and now() >= history.until:
         over = f"the announced end of the vote, {time_in_words(history.until)}, has passed"
         counts = f"{what} still counts until you close the vote"
         close = election.command("close")

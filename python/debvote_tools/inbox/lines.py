@@ -66,13 +66,11 @@ LABEL = re.compile(
     rf"(?:^|(?<=[\s:]))([A-Za-z])(?:(?:\s*[:).]\s*|\s+)(?=[\d{DASHES}-])|(?=(?:\d{{1,2}}|[{DASHES}-])\s*[,;]))"
 )
 
-# a word behind a label, which is a capital letter or has a sign behind it
+# a word behind a label, which is a capital letter or has a sign behind it; one letter is no word, but may
+# be the label behind a name that ends in a letter, as in `Ben B A yes`
 WORD = re.compile(
-    r"(?:^|(?<=[\s:]))(?:([A-Z])\s+|([A-Za-z])\s*[:).]\s*)([^\W\d_][\w\u0300-\u036f]*) ?[.!]?(?=\s|$)"
+    r"(?:^|(?<=[\s:]))(?:([A-Z])\s+|([A-Za-z])\s*[:).]\s*)([^\W\d_][\w\u0300-\u036f]+) ?[.!]?(?=\s|$)"
 )
-
-# a name whose last word is one letter
-LETTER_LAST = re.compile(r"[^\w.]\w\W*$")
 
 
 class Line(NamedTuple):
@@ -86,6 +84,12 @@ class Line(NamedTuple):
     unframed: bytes
     # with the changes that are allowed, but for whose name it is, and for words: see `Vote.as_meant`
     repaired: bytes
+    # the same with the capital letters of the name: with them it may be the real name of somebody else
+    named: bytes
+
+    def written(self, text: bytes) -> "Line":
+        """The line as if this had come, in which nothing has to be repaired."""
+        return self._replace(unframed=text, repaired=text, named=text)
 
     @property
     def place(self) -> str:
@@ -123,29 +127,41 @@ class Names:
         return grouped((fold, elector) for elector, who in names for fold in self.folds(who))
 
     @functools.cached_property
-    def by_all_but_letter(self) -> dict[str, list[tuple[str, str]]]:
-        """The electors whose name, on the roll or really, ends in a word of one letter, which may be
-        taken for a label: that letter and the elector, by what is folded before it.
+    def real_names_of_others(self) -> frozenset[str]:
+        """The names on the roll that are the real name of somebody else, too."""
+        real = self.electors_by_real_name
+        return frozenset(name for name in self.roll if {*real.get(name, ())} - {name})
+
+    def label_behind_name(self, line: str) -> str:
+        """The first label of a line, if it may belong to the name before it: not so in a line as it is
+        entered, or with a colon behind the name.
         """
-        names = [*((name, name) for name in self.roll), *self.real_names.items()]
-        ending = ((elector, who) for elector, who in names if LETTER_LAST.search(who))
-        folds = ((elector, fold) for elector, who in ending for fold in self.folds(who))
-        return grouped((fold[:-2], (fold[-1].upper(), elector)) for elector, fold in folds)
+        before, *rest = LABEL.split(bare_text(line)) if self.labels else [line]
+        name, is_right = before.strip(), RIGHT_ANSWERS.fullmatch(line.strip())
+        is_apart = name.endswith(":") or (is_right and name in self.roll)
+        return rest[0].upper() if name and rest and not is_apart else ""
 
     def longer_than(self, name: str, line: str) -> list[str]:
         """The electors whose name this is with the first label of a line behind it: `Ben B 1,2` may be of
-        Ben or of Ben B. A line as it is entered, or with a colon behind the name, is of one alone.
+        Ben or of Ben B, who may write a full stop behind the letter.
         """
-        before, *rest = LABEL.split(bare_text(line)) if self.labels else [line]
-        if not rest or RIGHT_ANSWERS.fullmatch(line.strip()) or before.rstrip().endswith(":"):
-            return []
-        folds = {name.lower()} if name.lower() in self.roll else self.folds(name)
-        found = (one for fold in folds for one in self.by_all_but_letter.get(fold, ()))
-        return [elector for letter, elector in found if letter == rest[0].upper()]
+        label = self.label_behind_name(line)
+        folds = self.folds(f"{name} {label}") if label else set[str]()
+        return self.named({*folds, *(f"{fold}." for fold in folds)})
+
+    def words_of(self, *names: str) -> set[str]:
+        """The words of which names consist."""
+        folds = (fold for name in names for fold in self.folds(name))
+        return {word for fold in folds for word in re.split("[.-]", fold)}
 
     def meant_by(self, name: str) -> list[str]:
         """The electors whose name on the roll or real name this is, as people write it."""
-        folds = self.folds(name)
+        small = name.lower()
+        is_of_one = small in self.roll and small not in self.real_names_of_others
+        return [small] if is_of_one else self.named(self.folds(name))
+
+    def named(self, folds: set[str]) -> list[str]:
+        """The electors whose name on the roll or real name is one of these, folded."""
         real = (elector for fold in folds for elector in self.electors_by_real_name.get(fold, ()))
         return sorted({*folds & self.roll, *real})
 
@@ -153,8 +169,7 @@ class Names:
         """The same; of several questions a name as it is on the roll is of this elector alone, as it is
         where nothing has to be changed.
         """
-        is_on_roll = self.labels and name.lower() in self.roll
-        return [name.lower()] if is_on_roll else self.meant_by(name)
+        return [name] if self.labels and name in self.roll else self.meant_by(name)
 
     def taken_apart(self, line: str) -> tuple[str, str] | None:
         """The name in a line, as people write it, or nothing, and the answers behind it, as they are
@@ -198,7 +213,8 @@ def lines_in(data: bytes, name: str, longest: int, first: int = 1) -> list[Line]
     for number, line in enumerate(data.splitlines(keepends=True), start=first):
         unframed = line.removesuffix(b"\n").removesuffix(b"\r")
         unframed = unframed.removeprefix(MARK if number == 1 else b"")
-        lines.append(Line(name, number, unframed, repaired_line(unframed, longest)))
+        named = repaired_but_for_name(unframed, longest)
+        lines.append(Line(name, number, unframed, with_small_name(named), named))
     return lines
 
 
@@ -214,8 +230,19 @@ def has_code(text: str) -> bool:
 
 
 def repaired_line(line: bytes, longest: int) -> bytes:
-    """A line with the repairs that are allowed; of one with twice the bytes of the longest ballot
-    only blanks are.
+    """A line with the repairs that are allowed."""
+    return with_small_name(repaired_but_for_name(line, longest))
+
+
+def with_small_name(line: bytes) -> bytes:
+    """A line without capital letters in its name."""
+    name, blank, ranks = line.partition(b" ")
+    return name.lower() + blank + ranks if blank else line
+
+
+def repaired_but_for_name(line: bytes, longest: int) -> bytes:
+    """A line with the repairs that are allowed, but with the capital letters of its name; of one with
+    twice the bytes of the longest ballot only blanks are repaired.
     """
     if NOTHING_TO_REPAIR.fullmatch(line):
         return line
@@ -250,10 +277,9 @@ def written_answers(
 
 
 def spaced(line: bytes) -> bytes:
-    """The line with one space alone, after the name, and without capital letters in the name."""
+    """The line with one space alone, after the name."""
     joined = b",".join(part.strip(BLANKS) for part in line.split(b","))
-    name, *ranks = re.split(rb"[ \t]+", joined, maxsplit=1)
-    return name.lower() + b" " + ranks[0] if ranks else joined
+    return b" ".join(re.split(rb"[ \t]+", joined, maxsplit=1))
 
 
 def without_typography(text: str) -> str:

@@ -139,6 +139,8 @@ class Vote:
         text = names.with_ranks(given.decode("utf-8", "surrogateescape"))
         name, _, answers = text.partition(" ")
         is_right = name in names.roll and (self.has_form(given) if labels else " " not in answers)
+        if is_right and not line.named.startswith(name.encode()):
+            is_right = name not in names.real_names_of_others
         if is_right and not names.words:
             return line.repaired, []
         is_read = not (is_right or self.has_codes or self.why_too_long(line))
@@ -150,6 +152,10 @@ class Vote:
             if labels or len(meant) == 1:
                 text = f"{meant[0] if len(meant) == 1 else name.lower()} {answers}"
         return text.encode("utf-8", "surrogateescape"), unclear
+
+    def with_ranks(self, line: bytes) -> bytes:
+        text = self.names.with_ranks(line.decode("utf-8", "surrogateescape"))
+        return text.encode("utf-8", "surrogateescape")
 
     def why_too_long(self, line: Line) -> str | None:
         """Why a line is no ballot, if it is longer than any."""
@@ -197,7 +203,10 @@ class Vote:
         that has not their form, or has the name of several electors, is never entered.
         """
         why = f"it has the name of {ENGLISH.joined(list(unclear))}" if unclear else ""
-        its = {"": NO_FORM} if why and self.names.labels else refused[meant]
+        # as it came, such a line is no ballot
+        its = (
+            {"": NO_FORM} if why and self.names.labels else refused[line.unframed if why else meant]
+        )
         if not its:
             yield CheckedLine(line, meant, meant)
         elif of_meant := its.get(""):
@@ -246,8 +255,10 @@ class Vote:
         return labels != [] and labels == [label for label in self.questions if label in labels]
 
     def are_table(self, lines: Sequence[Line]) -> bool:
-        """Whether lines look like a table to debvote, as they came; one line alone is none."""
-        given = [line.unframed for line in lines]
+        """Whether lines look like a table to debvote, as they came, but with ranks in place of words; one
+        line alone is none.
+        """
+        given = [self.with_ranks(line.unframed) for line in lines]
         return len(lines) > 1 and any(
             found.are_table for *_, found in self.findings_by_question(given)
         )

@@ -219,6 +219,19 @@ class WholeNames(TerminalTest):
         self.end(desk, "n\nq\n")
 
 
+class OneNameOfTwo(TerminalTest):
+    members = "who,name,mail\nMaximilian Mayer,max,\nMax,,m@club.example\n"
+
+    def test_it_is_asked_who_is_meant(self) -> None:
+        desk = self.at_terminal()
+        listed = "` is part of 2 names:\n  1 max (Maximilian Mayer)\n  2 max-2 (Max)\n"
+        self.assertIn(listed, desk.after(f"Max {RANKS}\n", "for none: "))
+        self.assertIn("\nmax-2: At the lake, ", desk.after("2\n", CAST))
+        # as it stands on the roll it is that of one
+        self.assertRegex(desk.after(f"n\nmax {RANKS}\n", CAST), "(?m)^(Ballot: )?max: At the lake, ")
+        self.end(desk, "n\nq\n")
+
+
 class FromAPipe(CalledTest):
     def test_each_line_is_answered_at_once(self) -> None:
         desk = self.desk()

@@ -49,10 +49,16 @@ class Roll(RollTest):
             (shared, ["Note: several electors have the address home@club.example: ada, ben. Is that one person?\n"], ["address e@"]),
             (["Zo\u00eb,z@club.example", "zoe,", "Zo\u00eb L,"], ["Note: these real names look alike: zoe-1, zoe-2. Is that one person?\n"], []),
             (of_several, [together], []),
+            (["Max,", "Mayer,", "Dr. Mayer,"], [], ["somebody else"]),
         ]:
             ended = self.roll(*rows)
             self.assertEqual(ended.status, 0, ended)
             self.assertEqual([text in ended.output for text in (*said, *unsaid)], [True] * len(said) + [False] * len(unsaid), ended.output)
+
+    def test_a_name_on_the_roll_that_is_the_real_name_of_somebody_else(self) -> None:
+        self.write("members.csv", "who,name,mail\nMaximilian Mayer,max,\nM\u00e1x,,\nKim,kim,\n")
+        said = "Note: these names on the roll are the real name of somebody else: max (Maximilian Mayer). Give them other names.\n"
+        self.assertIn(said, self.done("roll").output)
 
     def test_a_name_stays_with_its_person(self) -> None:
         self.roll("Anna Meier,a@club.example", "Ben,b@club.example")

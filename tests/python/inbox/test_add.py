@@ -1,5 +1,6 @@
 """`add`: what is told, what is in the book, and that nothing is lost."""
 
+import itertools
 import os
 import re
 import resource
@@ -9,7 +10,7 @@ import subprocess
 import sys
 
 from tests.support import elections
-from tests.support.called import HALL, LAKE, RANKS, CalledTest
+from tests.support.called import HALL, LAKE, OTHER_RANKS, RANKS, CalledTest
 
 RIGHT = (
     "A valid line in this poll: ada 1,2,3,4 (an elector of the roll, a space, and 4 ranks with commas between, "
@@ -198,6 +199,22 @@ class Added(CalledTest):
         self.assertIn("100002 late  dan: ", self.told("add", given=f"dan {RANKS}\n"))
 
 
+class OneNameOfTwo(CalledTest):
+    """Max has another name on the roll, since Maximilian has his."""
+
+    members = "who,name,mail\nMaximilian Mayer,max,\nMax,,m@club.example\nKim,kim,\n"
+
+    def test_as_it_came_it_is_that_on_the_roll_and_else_of_both(self) -> None:
+        unclear = "it has the name of max and max-2"
+        for line in (f"Max {RANKS}", f"MAX: {RANKS}", f"M\u00e1x {RANKS}", f"*Max* {RANKS}"):
+            self.assert_refused(("add",), 9, f"standard input:2: {unclear}; nothing was added: ", "name on the roll of the one who is meant", given=f"kim {RANKS}\n{line}\n")
+            self.assertIn(f"desk:1: {unclear}; it was not entered.", self.told("desk", given=f"{line}\n"))
+        # by force it goes in as it came
+        self.assertIn(f"1 bad shape  Max {RANKS}: ", self.told("add", "--force", given=f"Max {RANKS}\n"))
+        self.told("add", given=f'KIM {RANKS}\n"max: {RANKS}"\n  max-2 {RANKS}\nMAXIMILIAN Mayer {OTHER_RANKS}\n')
+        self.assertEqual(self.lines()[1:], [f"kim {RANKS}", f"max {RANKS}", f"max-2 {RANKS}", f"max {OTHER_RANKS}"])
+
+
 class AfterTheEnd(CalledTest):
     call_words = ("--until", "2099-12-04 18:00+01:00")
 
@@ -235,6 +252,9 @@ class AfterTheEnd(CalledTest):
         self.assertEqual([detail.get("came_before_close") for name, detail in self.acts() if name == "add"], [None, None, None, True, False])
         # a late line is not there to be replaced
         self.assertIn("7 counted  dan: ", self.told("desk", "--came-before-close", "yes", given="dan 2,1,4,3\n"))
+        # the announced end is of no matter any more
+        for command, answer in itertools.product(("add", "desk"), ("yes", "no")):
+            self.assertNotIn("Note", self.told(command, "--came-before-close", answer, given="eve 1,2,4,3\neve 2,1,4,3\n"))
 
 
 class NoBallots(CalledTest):

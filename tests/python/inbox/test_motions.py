@@ -111,6 +111,16 @@ class Taken(LettersTest):
         # no French
         self.assertEqual(self.lines(), ["ada 1,2", "ben: oui", "kim-no 2,1"])
 
+    def test_a_word_counts_as_a_rank_of_a_table(self) -> None:
+        said = "the lines look like a table"
+        for row in ("ada ja", "ada 1,2"):
+            table = f"Name;Vote\n{row}\n"
+            for command in ("add", "desk"):
+                self.assert_stops(self.election(command, given=table), self.first_act - 1, 4 if command == "desk" else 9, said)
+        self.told("add", given="ada ja\nben: Nein!\n")
+        self.told("desk", given="Cleo ja\ndan enthaltung\n")
+        self.assertEqual(self.lines(), ["ada 1,2", "ben 2,1", "cleo 1,2", "dan 1,1"])
+
     def test_what_was_typed_for_a_letter(self) -> None:
         self.add(letter("ada", "Bin dafür.\n"))
         self.told("held", "1", "--as", "Ada Lovelace: Ja", "--force", "--yes")
@@ -169,6 +179,16 @@ class Answering(LettersTest):
         self.add(*answers)
         self.assertEqual(self.lines(), ["ada 1,2"])
         self.assertIn("line 3 may be an answer, and belongs to no ballot", self.told("held"))
+
+
+class OneNameOfTwo(LettersTest):
+    poll = MOTION + "motion = true\n"
+    members = "who,name,mail\nMaximilian Mayer,max,\nMax,,max@club.example\n"
+
+    def test_in_words(self) -> None:
+        said = self.told("desk", given="max: yes\nMax: yes\nMAX no\nmax-2 no.\n")
+        self.assertEqual(re.findall(r"desk:(\d): it has the name of max and max-2; it was not entered", said), ["2", "3"])
+        self.assertEqual(self.lines(), ["max 1,2", "max-2 2,1"])
 
 
 class AtDesk(TerminalTest):

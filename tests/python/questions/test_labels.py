@@ -9,11 +9,11 @@ from collections.abc import Callable
 
 from tests.support import terminal
 from tests.support.letters import TEN, letter
-from tests.support.questions import QuestionsTest, answering
+from tests.support.questions import FEE, QuestionsTest, answering
 from tests.support.terminal import Terminal
 
 # who can be taken for a label, or for the name of somebody else with one
-MEMBERS = "name,who,mail\na,A. Adams,a@club.example\nben,Ben,ben@club.example\nben-b,Ben B,benb@club.example\ncleo,Cleo,cleo@club.example\n"
+MEMBERS = "name,who,mail\na,A. Adams,a@club.example\nben,Ben,ben@club.example\nben-b,Ben B,benb@club.example\ncleo,Cleo,cleo@club.example\ndan,Dan,dan@club.example\ndc,Dan C.,dc@club.example\n"
 
 # lines that say one thing, and what is entered of them
 RIGHT = {
@@ -33,6 +33,16 @@ RIGHT = {
     "Ben: B 3,2,1": "ben B 3,2,1",
     "Ben A 2,1 B 2,1,3": "ben A 2,1 B 2,1,3",
 }
+# and such lines with a part of a name
+RIGHT_AT_A_TERMINAL = {
+    "Ben A 1,2": "ben A 1,2",
+    "ben B 3,2,1": "ben B 3,2,1",
+    "Ben B B 1,2,3": "ben-b B 1,2,3",
+    "en-b B 2,1,3": "ben-b B 2,1,3",
+    "Adams: A 1,2": "a A 1,2",
+    "Adams B 1,2,3 A 2,1": "a A 2,1 B 1,2,3",
+    "leo B 1,2,3": "cleo B 1,2,3",
+}
 # lines that are no ballot of this vote, or could be one of two people
 WRONG = [
     "cleo 1,2", "cleo 1,2,3", "cleo: 1,2,3,4", "a 1,2", "ben-b 1,2,3",  # no question
@@ -40,7 +50,7 @@ WRONG = [
     "cleo A 1,2 A 2,1", "cleo A 1,2 a 1,2", "cleo A 1,2 B 1,2,3 A 1,2",  # twice
     "cleo A B 1,2", "cleo A 1,2 B", "cleo A 1,2 1,2,3", "cleo 1,2 A",  # a label or ranks too many
     "A 1,2", "A cleo 1,2", "B 1,2,3 C 1,2,3,4",  # no name in front
-    "Ben B 1,2,3", "ben b 1,2,3",  # Ben, who answers B, or Ben B, who forgot the label
+    "Ben B 1,2,3", "ben b 1,2,3", "Dan C 1,2,3,4", "Dan C. 1,2,3,4",  # Ben, who answers B, or Ben B, who forgot the label
 ]  # fmt: skip
 
 
@@ -106,17 +116,18 @@ class Lines(LabelsTest):
         self.assertEqual((count, re.findall(r"envelope \d+: (.*)", its)), ("3", ["cleo B 1", "zoe C 1", "a B 1"]))
 
     def test_at_a_terminal(self) -> None:
-        """A whole name, on the roll or really, is asked about only if it may be another's."""
+        """What may be the last letter of a name, or the label, is neither, for a part of a name, too."""
         desk = Terminal(self)
         desk.until("Ballot: ")
-        for typed, number in (("Ben A 1,2", ""), ("Ben B B 1,2,3", ""), ("Ben B 3,2,1", "1"), ("ben b 2,1,3", "2")):
-            shown = desk.after(f"{typed}\n", "Type the number of one, or n for none: " if number else "Enter it? [y/n] ")
-            self.assertEqual("`ben` is part of 2 names:\n  1 ben (Ben)\n  2 ben-b (Ben B)\n" in shown, bool(number), shown)
-            if number:
-                desk.after(f"{number}\n", "Enter it? [y/n] ")
+        for typed in ("Ben B 3,2,1", "ben b 2,1,3", "BEN B: 1,2,3 A 1,2", "en B 1,2,3", "be b 1,2,3", "Adams A 1,2", "ada a 1,2"):
+            shown = desk.after(f"{typed}\n", "It was not entered.\nBallot: ")
+            who = "a" if "a" in typed[:1].lower() else "ben-b"
+            self.assertIn(f" may be a label, or belong to the name of {who}: type the name on the roll, with a colon behind it\n", shown)
+        for typed, entered in RIGHT_AT_A_TERMINAL.items():
+            desk.after(f"{typed}\n", "Enter it? [y/n] ")
             desk.after("y\n", "Ballot: ")
         desk.type("q\n")
-        self.demand_entered("ben A 1,2", "ben-b B 1,2,3", "ben B 3,2,1", "ben-b B 2,1,3")
+        self.demand_entered(*RIGHT_AT_A_TERMINAL.values())
 
     def test_at_a_desk_of_one_question(self) -> None:
         self.done("desk", "--question", "B", given="Ben 1,2,3\nben 3,2,1\nben-b 1,2,3\n")
@@ -133,6 +144,34 @@ class Lines(LabelsTest):
             self.assertEqual(tuple(re.findall(r"(?m)^(?:Lines|Valid|Refused): (\d)$", sheets[label])), numbers)
         self.done("undo", "--yes")
         self.assertEqual(self.lines(), [])
+
+
+class OneNameOfTwo(QuestionsTest):
+    members = "who,name,mail\nMaximilian Mayer,max,\nMax,,max@club.example\nCleo,cleo,cleo@club.example\n"
+
+    def test_of_several_questions(self) -> None:
+        unclear = "it has the name of max and max-2"
+        self.assertIn(unclear, self.election("add", given="Max A 1,2\n").faults)
+        for words, line in (((), "MAX a: 1,2"), (("--question", "A"), "Max 1,2")):
+            self.assertIn(f"desk:1: {unclear}; it was not entered.", self.done("desk", *words, given=f"{line}\n").output)
+        self.add(letter("max", "I told you.\n"), letter("max", "Max A 2,1\n"))
+        self.assertIn(unclear, self.election("held", "1", "--as", "Max A 1,2", "--force", "--yes").faults)
+        self.done("desk", given="max A 1,2\nmax: B 1,2,3\nMaximilian Mayer C 1,2,3,4\n")
+        self.done("desk", "--question", "B", given="max 2,1,3\nmax-2 1,2,3\nMaximilian Mayer: 3,2,1\n")
+        self.assertEqual(self.lines(), ["max A 1,2", "max B 1,2,3", "max C 1,2,3,4", "max B 2,1,3", "max-2 B 1,2,3", "max B 3,2,1"])
+
+
+class Words(LabelsTest):
+    polls = {**QuestionsTest.polls, "A": f"{FEE}motion = true\n"}
+    poll = "".join(polls.values())
+
+    def test_behind_a_name_that_ends_in_a_letter(self) -> None:
+        lines = {"A A yes": "a A 1,2", "A: A no": "a A 2,1", "Ben B a: Yes!": "ben-b A 1,2", "a B 1,2,3 A no": "a A 2,1 B 1,2,3"}
+        for command in ("add", "desk"):
+            self.done(command, given="".join(f"{line}\n" for line in lines))
+        self.add(letter("cleo", "I told you.\n"))
+        self.done("held", "1", "--as", "Ben B A abstain", "--force", "--yes")
+        self.demand_entered(*lines.values(), *lines.values(), "ben-b A 1,1")
 
 
 class Letters(LabelsTest):
