@@ -10,7 +10,7 @@ from debvote_tools.book import queries
 from debvote_tools.book.book import ActName, Book
 from debvote_tools.book.change import Change, carried_out, terminal_question
 from debvote_tools.book.election import Election, History
-from debvote_tools.book.queries import Envelope
+from debvote_tools.book.queries import Ballot, Envelope
 from debvote_tools.cli.console import count_of, shown_line, shown_text, tell
 from debvote_tools.cli.faults import Fault, bad_words, kept_in, stop_at
 from debvote_tools.grouping import grouped
@@ -182,7 +182,7 @@ class Chosen(NamedTuple):
         """A ballot without the answers to which its elector has later ones, and without those that were
         entered; and the labels of both, by why.
         """
-        there = queries.later(by_elector[line.elector], self.letter.time)
+        there = surely_later(self.letter, line, by_elector[line.elector])
         later, entered = answered_by(line.as_entered, there), self.entered
         done = {
             one for one in answers_of(line.as_entered) if (line.elector, one) in entered
@@ -295,6 +295,17 @@ def entered_in(book: Book) -> dict[int, list[Envelope]]:
     return grouped((envelope.letter or 0, envelope) for envelope in found)
 
 
+def surely_later(
+    letter: LetterCase, line: BallotLine, ballots: Sequence[Ballot]
+) -> Sequence[Ballot]:
+    """Those ballots of an elector that are later than one in a letter, by whichever clock."""
+    later = queries.later(ballots, letter.time)
+    if letter.time is None:
+        return later
+    own = Ballot(letter.time, line.as_entered, behind=letter.read.behind)
+    return [one for one in later if not own.may_turn(one)]
+
+
 def elector_of(envelope: Envelope) -> str:
     return name_in(envelope.line).decode("ascii")
 
@@ -303,8 +314,7 @@ def would_be_late(history: History, letter: LetterCase) -> bool:
     """Whether what is entered of a letter now is late: the vote is closed; or it is open again, and
     the letter is known to have arrived after the first close.
     """
-    arrived, closes = letter.read.arrived, history.closes
-    return history.is_late(arrived is None or not closes or arrived <= closes[0].time)
+    return history.is_late(not letter.arrived_after(letter.circumstances.first_close))
 
 
 # ---- which lines
@@ -400,8 +410,11 @@ def why_not_unforced(chosen: Sequence[Chosen], by_elector: BallotsByElector) -> 
             if not line.number and line.elector not in tied:
                 words = f"neither its sender nor a line of {name} is of {line.elector}"
                 yield Fault("--as", words, f"check the name; {cure}")
-            if answered_by(line.as_entered, queries.later(there, time)):
+            if answered_by(line.as_entered, surely_later(letter, line, there)):
                 yield Fault(name, "its elector has voted since", cure)
+            elif answered_by(line.as_entered, queries.later(there, time)):
+                words = "its elector may have voted since, as the clock of the web host was off"
+                yield Fault(name, words, cure)
             elif any(one.time == time and differ(one.line, line.as_entered) for one in there):
                 words = "another ballot of its elector with the same time was entered"
                 yield Fault(name, words, cure)

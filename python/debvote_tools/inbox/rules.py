@@ -323,7 +323,8 @@ class LetterCase:
 
     @property
     def arrived_before_call(self) -> bool:
-        return self.read.arrived is not None and self.read.arrived <= self.circumstances.called
+        """Whether it is known to have arrived before the call."""
+        return any(last <= self.circumstances.called for last in self.arrivals[1:])
 
     @property
     def arrivals(self) -> list[datetime.datetime]:
@@ -331,10 +332,14 @@ class LetterCase:
         arrived, off = self.read.arrived, datetime.timedelta(seconds=self.read.behind)
         return sorted((arrived, arrived + off)) if arrived else []
 
+    def arrived_after(self, *ends: datetime.datetime | None) -> bool:
+        """Whether it is known to have arrived after one of these times."""
+        return any(first > end for first in self.arrivals[:1] for end in ends if end is not None)
+
     @property
     def arrived_after_end(self) -> bool:
         """Whether it is known to have arrived after the end or the first close."""
-        return any(first > end for first in self.arrivals[:1] for end in self.circumstances.ends)
+        return self.arrived_after(*self.circumstances.ends)
 
     def is_from(self, name: str) -> bool:
         """Whether it came from an address of an elector, or by their link."""
@@ -397,12 +402,11 @@ def why_not_in_time(case: LetterCase) -> ReasonWithValues | None:
         return Reason.NO_ARRIVAL()
     if case.arrived_before_call:
         return Reason.BEFORE_THE_CALL(called=circumstances.called)
-    first, last = case.arrivals
-    if circumstances.end is not None and first > circumstances.end:
+    if case.arrived_after(circumstances.end):
         return Reason.AFTER_THE_END(end=circumstances.end)
-    if circumstances.first_close is not None and first > circumstances.first_close:
+    if case.arrived_after(circumstances.first_close):
         return Reason.AFTER_THE_CLOSE(close=circumstances.first_close)
-    if any(last > end for end in circumstances.ends):
+    if any(last > end for last in case.arrivals[1:] for end in circumstances.ends):
         return Reason.CLOCK_AT_THE_END(seconds=abs(case.read.behind))
     if asked is not None and arrived < asked:
         return Reason.NOT_THERE_BEFORE(asked=asked)
