@@ -185,7 +185,7 @@ def original_of(group: Sequence[LetterCase]) -> LetterCase | None:
     """
     may_go_in = (one for one in group if not one.is_decided and one.first_broken_rule is None)
     original = next(may_go_in, None)
-    is_settled = original and any(one.is_decided and one.can_hide_all for one in group)
+    is_settled = original and any(one.is_decided and one.can_hide(original) for one in group)
     return None if is_settled else original
 
 
@@ -262,19 +262,18 @@ def judge_copies(
     if not others:
         return
     # the one that went in, else the one that an act decided of, else the one that arrived first
-    hider = min(
-        (case for case in group if case.can_hide_all),
+    hiders = sorted(
+        (case for case in group if case.can_hide(case)),
         key=lambda case: (case.state not in WENT_IN, not case.is_decided),
-        default=None,
     )
-    is_done = hider is not None and (hider.is_decided or hider.outcome is not LetterOutcome.WAITS)
     # each is a copy of the hider, if that hides it; else of the first one alike
     first_alike: dict[tuple[ReasonWithValues | None, Body, bool], LetterCase] = {}
     for case in sorted(group, key=lambda case: not case.is_decided):
         same = case.first_broken_rule, case.read.body, case.arrived_in_time
         before = first_alike.setdefault(same, case)
-        if hider is not None and (is_done or case.first_broken_rule is None):
-            before = hider
+        if hider := next((one for one in hiders if one.can_hide(case)), None):
+            is_done = hider.is_decided or hider.outcome is not LetterOutcome.WAITS
+            before = hider if is_done or case.first_broken_rule is None else before
         if case in others and before is not case:
             case.outcome, case.reason = outcome_of_copy(case, before, by_elector)
 

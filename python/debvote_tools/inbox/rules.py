@@ -302,12 +302,12 @@ class LetterCase:
         """
         return next(filter(None, (rule(self) for rule in RULES)), None)
 
-    @property
-    def can_hide_all(self) -> bool:
-        """Whether it can hide all copies, also those that differ from it: it went in once, or breaks no
-        rule. Which of them it hides, `judge_copies` says.
+    def can_hide(self, copy: "LetterCase") -> bool:
+        """Whether it can hide a copy, also one that differs from it: it went in once, or breaks no rule.
+        One that went in by hand, and arrived late, hides none that arrived in time.
         """
-        return self.state in WENT_IN or self.first_broken_rule is None
+        is_as_early = self.arrived_in_time or not copy.arrived_in_time
+        return is_as_early and (self.state in WENT_IN or self.first_broken_rule is None)
 
     @property
     def is_decided(self) -> bool:

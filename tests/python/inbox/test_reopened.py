@@ -190,6 +190,20 @@ class Reopened(LettersTest):
         self.reopen("--in-time", 1)
         self.assertEqual(self.lines(), [BALLOT])
 
+    def test_a_letter_whose_late_copy_was_entered(self) -> None:
+        """The first mailbox is added after the second one, which had it by forwarding after the end: it stops the count, and counts."""
+        self.told("call", "--until", "2026-11-25 10:00", "--zone", "UTC")
+        copies = [letter("ada", BALLOT, time=f"Wed, 25 Nov 2026 {time}:00 +0000") for time in ("11:00", "09:50")]
+        self.set_clock("2026-11-25T12:00:00+00:00")
+        self.told("close")
+        self.add(copies[0])
+        self.told("held", 1, "--enter")
+        self.assertIn("1 letter waits.", self.add(copies[1]))
+        self.assertIn("these letters arrived in time, and wait: 2;", self.election("count").faults)
+        self.reopen()
+        self.told("held", 2, "--enter", "--force")
+        self.assertEqual((self.lines(), self.late_lines()), ([BALLOT], [BALLOT]))
+
     def test_a_call_that_was_closed_and_taken_back(self) -> None:
         """A close stays; where an earlier version took the call back, the next one is open until its own close."""
         # letters for a call that was taken back
