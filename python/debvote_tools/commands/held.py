@@ -173,7 +173,8 @@ class Chosen(NamedTuple):
         is_typed = typed or any(history.act(one.act).is_typed for one in self.before)
         sharing = self.letter.sharing if is_typed and len(self.letter.sharing) > 1 else []
         having = {*(line.elector for line in self.lines), *map(elector_of, self.before)}
-        names = dict.fromkeys([*(line.elector for line in self.letter.ballots), *sharing])
+        lines = (*self.letter.ballots, *self.letter.likely)
+        names = dict.fromkeys([*(line.elector for line in lines), *sharing])
         return [name for name in names if name not in having]
 
     def left_of(

@@ -251,13 +251,18 @@ class LetterCase:
         return None if is_money or is_others else why
 
     @functools.cached_property
-    def offered(self) -> Mapping[BallotLine, Reason]:
-        """The lines that are no ballots by themselves, with the reasons why, if there is no ballot. Each
-        can be entered by its number. Of several answers all are offered, or none.
+    def likely(self) -> Mapping[BallotLine, Reason]:
+        """The lines that are no ballots by themselves, with the reasons why, of electors who have no
+        ballot in it.
         """
-        lines = () if self.named else self.sent
-        found = {line.as_ballot: why for line in lines if (why := self.why_offered(line))}
-        has_labels = any(line.has_labels for line in lines)
+        found = {line.as_ballot: why for line in self.sent if (why := self.why_offered(line))}
+        having = {line.elector for line in (*self.named, *self.ballots)}
+        return {line: why for line, why in found.items() if line.elector not in having}
+
+    @functools.cached_property
+    def offered(self) -> Mapping[BallotLine, Reason]:
+        """Those of them that can be entered by their numbers. Of several answers all can, or none."""
+        found, has_labels = self.likely, any(line.has_labels for line in self.sent)
         is_all = len(found) == 1 and self.other_answers.issubset(*(one.numbers for one in found))
         return found if is_all or not has_labels else {}
 
@@ -458,10 +463,13 @@ def why_not_signed_by_its_elector(case: LetterCase) -> ReasonWithValues | None:
 
 
 def why_several_ballots(case: LetterCase) -> ReasonWithValues | None:
-    """No other line reads as a ballot that differs. The next rule would say less of such a letter."""
-    if len({line.as_entered for line in case.ballots}) <= 1:
+    """No other line reads as a ballot that differs, nor may be that of somebody else. The next rule would
+    say less of such a letter.
+    """
+    lines = {*case.ballots, *case.likely} if case.ballots else ()
+    if len({line.as_entered for line in lines}) <= 1:
         return None
-    electors = sorted({line.elector for line in case.ballots})
+    electors = sorted({line.elector for line in lines})
     if len(electors) == 1:
         return Reason.TWO_BALLOTS()
     return Reason.SEVERAL_ELECTORS(electors=", ".join(electors))

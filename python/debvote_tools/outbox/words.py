@@ -79,7 +79,10 @@ OF_LETTER = marked(
         ): "A letter in your name came from another address. The secretary has set it aside.",
     }
 )
-
+# of one from which only ballots of others were entered
+OF_OTHERS = marked(
+    "A letter of {time} has a ballot of somebody else, which was entered. No ballot of yours from it was entered."
+)
 
 # the same of a ballot that came by the page of the vote: whether by the link of the elector
 OF_RECORD = marked(
@@ -205,7 +208,8 @@ class Composer:
         if isinstance(fate.became, LetterOutcome):
             is_done = fate.became in (LetterOutcome.SET_ASIDE, LetterOutcome.OLDER)
             of_kind = OF_RECORD if fate.letter and fate.letter.read.link else OF_LETTER
-            said = of_kind[fate.is_own, is_done]
+            is_of_others = fate.became is LetterOutcome.ENTERED
+            said = OF_OTHERS if is_of_others else of_kind[fate.is_own, is_done]
         else:
             is_final = self.is_over and fate.became == COUNTS
             said = AT_THE_END if is_final else OF_BALLOT[fate.became]

@@ -924,6 +924,15 @@ class Couple(LettersTest):
         self.assertIn("0 ballots of letters went in; 1 letter waits.", self.told("add", "--yes", box))
         self.assert_left(1)
 
+    def test_one_ballot_has_blanks_between_its_ranks(self) -> None:
+        """It is offered beside the other one, and the letter waits until both are entered."""
+        self.told("held", 1, "--set-aside")
+        said = self.add(letter("ada", f"{self.ada}\nben 2 1 4 3", number=2))
+        self.assertIn(f"ballots of several electors: ada, ben\n        line 1: {self.ada}\n        line 2: ben 2,1,4,3\n", said)
+        self.assertIn("letter 2 waits on, for a ballot of ben\n", self.told("held", 2, "--enter", 1))
+        self.assertNotIn("waits on", self.told("held", 2, "--enter", 2))
+        self.assert_left(0, self.ada, "ben 2,1,4,3")
+
     def test_several_enter(self) -> None:
         self.add(letter("dan", f"3 of us:\ndan {RANKS}\neve {RANKS}\nfay {RANKS}"))
         self.told("held", 2, "--enter", 2, "--enter", "3,4", "--force")
