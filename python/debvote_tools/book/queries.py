@@ -202,13 +202,17 @@ TO_COUNT, LATE = "NOT late AND struck IS NULL", "late AND struck IS NULL"
 VALID = "struck IS NULL AND answer IS NULL"
 NOT_UNDONE = "act NOT IN (SELECT json_extract(detail, '$.act') FROM act WHERE name = 'undo')"
 
-# the late envelopes that a `reopen` entered anew as in time, and those that none did
-ANEW = f"SELECT value FROM act, json_each(act.detail, '$.in_time') WHERE act.name = 'reopen' AND act.{NOT_UNDONE}"
-LEFT_LATE = f"{LATE} AND envelope NOT IN ({ANEW})"
+# the late envelopes of which no new one stands that a `reopen` entered as in time
+STANDS_ANEW = "SELECT late FROM anew WHERE envelope NOT IN (SELECT envelope FROM struck)"
+LEFT_LATE = f"{LATE} AND envelope NOT IN ({STANDS_ANEW})"
 
-# those that came in files of lines; a line that was entered anew came once, and is known by its new
-# envelope
-IN_FILES = f"source IS NOT NULL AND letter IS NULL AND {NOT_UNDONE} AND envelope NOT IN ({ANEW})"
+# those that came in files of lines; a line that was entered anew came once, and is known by its last
+# envelope, though that may be struck
+KNOWN_BY_LATER = f"""SELECT before.envelope FROM (SELECT late, late AS envelope FROM anew UNION SELECT late, envelope FROM anew) AS before
+JOIN anew USING (late) WHERE anew.envelope > before.envelope AND anew.{NOT_UNDONE}"""
+IN_FILES = (
+    f"source IS NOT NULL AND letter IS NULL AND {NOT_UNDONE} AND envelope NOT IN ({KNOWN_BY_LATER})"
+)
 
 COLUMNS = "envelope, act, elector, line, source, letter, place, time, late, struck, answer, became"
 
@@ -305,6 +309,16 @@ def last_envelope(book: Book) -> int:
 def elector_numbers(book: Book, names: Collection[str]) -> dict[str, int]:
     words = "SELECT name, elector FROM elector WHERE name IN (SELECT value FROM json_each(?))"
     return dict(book.rows(words, json.dumps(list(names))))
+
+
+def typed_envelopes(book: Book) -> set[int]:
+    """The envelopes of what the secretary typed for a letter, by `held --as`, also those in which a
+    `reopen` entered it anew.
+    """
+    acts = json.dumps([act.number for act in book.acts() if act.is_typed])
+    typed = "SELECT envelope FROM envelope WHERE act IN (SELECT value FROM json_each(?1))"
+    words = f"{typed} UNION SELECT envelope FROM anew WHERE late IN ({typed})"
+    return {number for number, in book.rows(words, acts)}
 
 
 # ---- lines by act, and those that came in files

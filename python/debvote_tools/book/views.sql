@@ -16,3 +16,12 @@ CREATE TEMP VIEW fate AS
     WHEN envelope IN (SELECT envelope FROM counting) THEN 'counts'
     ELSE 'replaced'
   END AS became FROM entered;
+
+-- The late envelopes that a `reopen` entered anew as in time, each with its new one and that act, which names them in the order of these.
+CREATE TEMP VIEW anew AS
+  SELECT late, envelope, act FROM (
+    SELECT act, key AS place, value AS late FROM act, json_each(detail, '$.in_time') WHERE act.name = 'reopen'
+  ) JOIN (
+    SELECT act, row_number() OVER (PARTITION BY act ORDER BY envelope) - 1 AS place, envelope FROM envelope
+    WHERE act IN (SELECT act FROM act WHERE name = 'reopen')
+  ) USING (act, place);

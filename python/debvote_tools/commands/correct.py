@@ -34,6 +34,8 @@ class TakenBack(Change):
     """What an `undo` takes back, or would."""
 
     undone: DoneAct
+    # whether it takes back what came late, or was typed for a letter: --enter enters neither again
+    is_typed_or_late: bool
     # what it changes, in words: current ballots, told once; and letters and receipts
     ballots: Sequence[str]
     others: Sequence[str]
@@ -49,8 +51,7 @@ def undo(election: Election, arguments: UndoArguments) -> None:
     tell(f"Took back {what(change.undone, change.struck)}.", *ballots, *change.others)
     tell_judged_anew(vote, change, judged_before)
     following = f"{election.command('status')}; another {election.command('undo')} takes back the act before"
-    # what was typed for a letter has to be typed again
-    if change.letters and not change.undone.is_typed:
+    if change.letters and not change.is_typed_or_late:
         numbers = map(str, change.letters)
         enter = (*numbers, "--enter") if len(change.letters) <= MOST_NAMED else ()
         does = "enters these letters again" if enter else "lists these letters"
@@ -94,6 +95,7 @@ def what_is_taken_back(vote: Vote, arguments: UndoArguments) -> TakenBack:
         struck=struck,
         letters=dict.fromkeys(letters, queries.TAKEN_BACK),
         undone=act,
+        is_typed_or_late=act.name == "reopen" or not queries.typed_envelopes(book).isdisjoint(struck),
         ballots=ballots,
         others=others,
     )

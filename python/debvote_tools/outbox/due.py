@@ -160,7 +160,7 @@ def letters_due(
     call_data, forced = call_data_of(election, history, kind, because)
     on_list, noted_before = queries.electors(book), outgoing.outgoing_letters(book, kind)
     electors = {elector.number: elector for elector in on_list}
-    typed = {act.number for act in history.acts if act.is_typed}
+    typed = queries.typed_envelopes(book)
     records = queries.records_since(book, called)
     composer = Composer(call_data, is_over, on_list, typed, records)
     not_reached, _ = unreached_and_printed(election, history)

@@ -13,7 +13,7 @@ from collections.abc import Collection, Iterator, Sequence
 
 from debvote_tools.book.queries import Elector
 from debvote_tools.inbox.rules import LetterOutcome
-from debvote_tools.inbox.fates import COUNTS, REFUSED, Fate
+from debvote_tools.inbox.fates import COUNTS, REFUSED, TAKEN_BACK, Fate
 from debvote_tools.inbox.reasons import for_elector
 from debvote_tools.poll.announced import address_in
 from debvote_tools.poll.call import CallData
@@ -52,7 +52,7 @@ OF_BALLOT = marked(
         "replaced": "Your ballot of {time} has arrived. Another ballot of yours, which was entered after it, counts instead.",
         "late": "Your ballot of {time} has arrived. It was entered after the close, so it is late and does not count.",
         "struck": "Your ballot of {time} was entered, and the secretary has struck it. It does not count.",
-        "taken back": "Your ballot of {time} was entered, and the secretary has taken it back. It does not count unless it is entered again.",
+        TAKEN_BACK: "Your ballot of {time} was entered, and the secretary has taken it back. It does not count unless it is entered again.",
         REFUSED: "A line with your name has arrived ({time}). It is not a valid ballot of this vote, so it does not count.",
     }
 )
@@ -114,8 +114,8 @@ class Composer:
     call_data: CallData
     is_over: bool
     electors: Sequence[Elector] = ()
-    # the acts that entered what the secretary typed for a letter
-    typed_acts: Collection[int] = ()
+    # the envelopes of what the secretary typed for a letter
+    typed: Collection[int] = ()
     # the letters that are records of the box
     records: Collection[int] = ()
 
@@ -244,7 +244,7 @@ class Composer:
             yield language.say(NOT_ALL, questions=language.joined(named))
         if fate.envelope is not None and fate.envelope.letter in self.records:
             yield language.say("It came by the page of the vote.")
-        if fate.envelope is not None and fate.envelope.act in self.typed_acts:
+        if fate.envelope is not None and fate.envelope.number in self.typed:
             yield language.say("The secretary typed it, by a letter that came.")
 
     def quotation_of(self, fate: Fate) -> str:

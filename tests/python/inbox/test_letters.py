@@ -890,6 +890,17 @@ class Couple(LettersTest):
         self.told("held", 1, "--set-aside")
         self.told("close")
 
+    def test_what_was_typed_for_one_is_taken_back_with_the_line_of_the_other(self) -> None:
+        """Once the line is entered again the letter waits on."""
+        self.told("held", 1, "--set-aside")
+        self.add(letter("ada", f"We are 2: Ben is for the town hall\n{self.ada}", number=2))
+        self.told("held", 2, "--as", self.ben)
+        self.assertNotIn("waits on", self.told("held", 2, "--enter"))
+        self.assertIn("held 2 --enter enters these letters again", self.told("undo", "--yes"))
+        self.assertNotIn("--enter", self.told("undo", "--yes"))
+        self.assertIn("letter 2 waits on, for a ballot of ben\n", self.told("held", 2, "--enter"))
+        self.assert_left(1, self.ada)
+
     def test_one_that_went_in_by_itself(self) -> None:
         """Where three have the address it waits again, for the third."""
         self.told("held", 1, "--set-aside")

@@ -117,6 +117,25 @@ class Reopened(LettersTest):
         self.add_lines(BALLOT, OTHER, BALLOT, words=("--came-before-close", "yes"))
         self.assertEqual(self.stands("ada"), RANKS)
 
+    def test_what_was_entered_anew_and_struck_is_entered_anew_again(self) -> None:
+        """As the fault of `held` says; a line of a file is known all the time, and once."""
+        self.told("close")
+        self.set_clock("2026-11-25T10:00:00+00:00")
+        self.add(letter("ben", f"ben {RANKS}", time="Wed, 25 Nov 2026 09:30:00 +0000"))
+        self.told("held", 1, "--enter")
+        self.add_lines(BALLOT)
+        self.reopen("--in-time", 1, 2)
+        self.told("strike", 3, "--because", "a slip")
+        self.told("strike", 4, "--because", "a slip")
+        self.assertIn("0 are new", self.add_lines(BALLOT, words=("--came-before-close", "yes")))
+        ended = self.election("held", 1, "--enter", "--yes")
+        self.assertIn("have the vote closed, then run debvote-election reopen --in-time 1 --because", ended.faults)
+        self.told("close")
+        self.reopen("--in-time", 1, 2)
+        self.assertEqual((self.lines(), self.late_lines()), ([f"ben {RANKS}", BALLOT], [f"ben {RANKS}", BALLOT]))
+        said = self.add_lines(BALLOT, BALLOT, words=("--came-before-close", "yes"))
+        self.assertIn("1 line is ignored, since it came before; 1 is new", said)
+
     def test_all_late_lines_by_the_command_that_is_told(self) -> None:
         """And by an option that is given several times. The late lines stay."""
         self.told("close")

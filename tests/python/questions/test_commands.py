@@ -176,6 +176,21 @@ class TakenAway(QuestionsTest):
         self.assert_refused(["held", "2", "--as", "ada B 1,2,3", "--yes"], 9, "its ballot of ada was entered")
         self.assertIn("The current ballot: ada A 1,2 B 1,2,3: ", self.told("show", "ada"))
 
+    def test_what_was_typed_stays_so_when_it_is_entered_anew(self) -> None:
+        """Nothing of the letter's own line is entered beside it or in its place."""
+        self.done("close", "--early", "--force", "--because", "x", "--yes")
+        self.set_clock("2026-11-25T10:00:00+00:00")
+        self.add(letter("ada", "ada A 2,1 B 1,2,3\n\nNo, the other way round, and nothing on the chair.\n", time="Wed, 25 Nov 2026 09:30:00 +0000"))
+        self.done("held", "1", "--as", "ada A 1,2", "--yes")
+        self.done("reopen", "--in-time", "1", "--because", "a slow server")
+        said = "its ballot was typed; nothing was changed: type it again with debvote-election held 1 --as LINE"
+        self.assert_refused(["held", "1", "--enter", "--yes"], 9, said)
+        self.done("letters", "receipts")
+        [receipt] = (self.folder / "letters" / "receipts").rglob("ada.eml")
+        self.assertEqual(" ".join(receipt.read_text().split()).count("The secretary typed it"), 2)
+        self.assertNotIn("--enter", self.told("undo", "--yes"))
+        self.assert_refused(["held", "1", "--enter", "--yes"], 9, "its ballot was typed, and taken back; ")
+
     def test_a_file_that_comes_again(self) -> None:
         """What came before is passed over, and of an answer that was replaced since it is told."""
         self.write("first", "ada A 1,2 B 1,2,3\nben C 1,2\n")
