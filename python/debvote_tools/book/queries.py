@@ -12,7 +12,7 @@ from typing import Final, NamedTuple, TypeVar
 
 from debvote_tools.book.book import Book, NewAct, as_text, from_text
 from debvote_tools.grouping import grouped
-from debvote_tools.text.ballots import answers_of, answers_text, differ
+from debvote_tools.text.ballots import answers_of, answers_text, differ, without
 
 
 # ---- electors
@@ -319,6 +319,31 @@ def typed_envelopes(book: Book) -> set[int]:
     typed = "SELECT envelope FROM envelope WHERE act IN (SELECT value FROM json_each(?1))"
     words = f"{typed} UNION SELECT envelope FROM anew WHERE late IN ({typed})"
     return {number for number, in book.rows(words, acts)}
+
+
+def left_out(book: Book) -> dict[int, str]:
+    """What was left out when the rest of a letter was entered, since its elector had later answers, and
+    has not been entered since: as a ballot, by the envelopes of the rest, if they are not struck.
+    """
+    left = {
+        act.number: act.detail.get("left_out", {}) for act in book.acts() if act.name == "enter"
+    }
+    if not any(left.values()):
+        return {}
+    standing = envelopes(book, "letter IS NOT NULL AND struck IS NULL")
+    there = grouped(((one.letter, one.elector), one.line.decode("ascii")) for one in standing)
+    found = {
+        one.number: without(ballot, {label for line in its for label in answers_of(line)})
+        for one in standing
+        for ballot in left.get(one.act, {}).get(str(one.letter), ())
+        if ballot.partition(" ")[0] == (its := there[one.letter, one.elector])[0].partition(" ")[0]
+    }
+    anew = {
+        new: found[late]
+        for late, new in book.rows("SELECT late, envelope FROM anew")
+        if late in found
+    }
+    return {number: ballot for number, ballot in (found | anew).items() if ballot}
 
 
 # ---- lines by act, and those that came in files

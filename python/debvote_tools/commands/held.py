@@ -148,6 +148,8 @@ class Chosen(NamedTuple):
     lines: Sequence[BallotLine]
     before: Sequence[Envelope]
     typed: Collection[int]
+    # the answers that are left out of these ballots, since their electors have later ones, as ballots
+    left_out: Sequence[str] = ()
 
     @property
     def entered(self) -> dict[tuple[str, str], Envelope]:
@@ -191,17 +193,16 @@ class Chosen(NamedTuple):
 
     def left_of(
         self, line: BallotLine, by_elector: BallotsByElector
-    ) -> tuple[str, dict[str, set[str]]]:
+    ) -> tuple[str, set[str], set[str]]:
         """A ballot without the answers to which its elector has later ones, and without those that were
-        entered; and the labels of both, by why.
+        entered; and the labels of both.
         """
         there = surely_later(self.letter, line, by_elector[line.elector])
         later, entered = answered_by(line.as_entered, there), self.entered
         done = {
             one for one in answers_of(line.as_entered) if (line.elector, one) in entered
         } - later
-        left = without(line.as_entered, later | done)
-        return left, {f"{line.elector} has a later answer": later, "it was entered": done}
+        return without(line.as_entered, later | done), later, done
 
 
 def what_is_entered(vote: Vote, arguments: Arguments, typed: Sequence[BallotLine]) -> LetterEntry:
@@ -239,10 +240,15 @@ def entry_of(
     """
     lines = [(one.letter, line) for one in chosen for line in one.lines]
     numbers = [one.letter.number for one in chosen]
+    left_out = {str(one.letter.number): one.left_out for one in chosen if one.left_out}
     waits = {one.letter: one.waits_for for one in chosen if one.waits_for}
     return LetterEntry(
         "enter",
-        {"letters": numbers, "lines": [line.number for _, line in lines if line.number]},
+        {
+            "letters": numbers,
+            "lines": [line.number for _, line in lines if line.number],
+            **({"left_out": left_out} if left_out else {}),
+        },
         shown=[
             *(
                 f"{who_and_when(letter)}: {vote.ballot_in_words(line.as_entered)}\n  {why(letter)}"
@@ -271,36 +277,42 @@ def without_answered(
     """The ballots without the answers that are left out, unless none is left; and what is said of these."""
     found, said = list[Chosen](), list[str]()
     for one in chosen:
-        kept = list[BallotLine]()
+        kept, left_out = list[BallotLine](), list[str]()
         for line in one.lines:
-            left, left_out = one.left_of(line, by_elector)
+            left, later, done = one.left_of(line, by_elector)
+            kept.append(BallotLine(line.numbers, left or line.as_entered))
+            whys = {f"{line.elector} has a later answer": later, "it was entered": done}
             said += (
                 f"Left out of {name_of(one.letter)}: {ENGLISH.joined(sorted(labels))}, since {why}"
-                for why, labels in left_out.items()
+                for why, labels in whys.items()
                 if labels and left
             )
-            kept.append(BallotLine(line.numbers, left or line.as_entered))
-        found.append(one._replace(lines=kept))
+            if later and left:
+                left_out.append(
+                    without(line.as_entered, answers_of(line.as_entered).keys() - later)
+                )
+        found.append(one._replace(lines=kept, left_out=left_out))
     return found, said
 
 
 def left_out(vote: Vote, electors: Collection[str]) -> Iterator[str]:
     """The answers of electors that were left out when the rest of a letter was entered, and to which
-    they have no later one now, since that was struck.
+    they have no later one now, since that was struck or taken back.
     """
-    if not vote.names.labels:
+    ballots = queries.left_out(vote.book)
+    if not any(ballot.partition(" ")[0] in electors for ballot in ballots.values()):
         return
-    entered, by_elector = entered_in(vote.book), ballots_in(vote, electors, IN_TIME)
-    for letter in all_letters(vote):
-        if letter.outcome is not LetterOutcome.ENTERED:
-            continue
-        one = Chosen(letter, (*letter.ballots, *letter.offered), entered.get(letter.number, ()), ())
-        partly = {elector for elector, _ in one.entered if elector in electors}
-        for line in one.lines:
-            left, _ = one.left_of(line, by_elector)
-            if left and line.elector in partly:
-                enter = vote.election.command("held", str(letter.number), "--enter")
-                yield f"{name_of(letter)} has an answer that was left out, `{left}`: {enter}"
+    letters = {letter.number: letter for letter in all_letters(vote)}
+    by_elector, typed = ballots_in(vote, electors, IN_TIME), queries.typed_envelopes(vote.book)
+    for number, envelopes in entered_in(vote.book).items():
+        for envelope in envelopes:
+            line = BallotLine((), ballots.get(envelope.number, ""))
+            later = surely_later(letters[number], line, by_elector[line.elector])
+            left = without(line.as_entered, answered_by(line.as_entered, later))
+            if left and line.elector in electors:
+                how = ("--as", left) if envelope.number in typed else ("--enter",)
+                enter = vote.election.command("held", str(number), *how)
+                yield f"letter {number} has an answer that was left out, `{left}`: {enter}"
 
 
 def entered_in(book: Book) -> dict[int, list[Envelope]]:

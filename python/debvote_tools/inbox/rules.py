@@ -256,7 +256,8 @@ class LetterCase:
         ballot in it.
         """
         found = {line.as_ballot: why for line in self.sent if (why := self.why_offered(line))}
-        having = {line.elector for line in (*self.named, *self.ballots)}
+        named = (line.as_ballot for line in self.named)
+        having = {line.elector for line in (*named, *self.ballots)}
         return {line: why for line, why in found.items() if line.elector not in having}
 
     @functools.cached_property
@@ -407,10 +408,11 @@ def why_not_in_time(case: LetterCase) -> ReasonWithValues | None:
         return Reason.NO_ARRIVAL()
     if case.arrived_before_call:
         return Reason.BEFORE_THE_CALL(called=circumstances.called)
-    if case.arrived_after(circumstances.end):
-        return Reason.AFTER_THE_END(end=circumstances.end)
-    if case.arrived_after(circumstances.first_close):
-        return Reason.AFTER_THE_CLOSE(close=circumstances.first_close)
+    end, close = circumstances.end, circumstances.first_close
+    if end is not None and case.arrived_after(end):
+        return Reason.AFTER_THE_END(end=end)
+    if close is not None and case.arrived_after(close):
+        return Reason.AFTER_THE_CLOSE(close=close)
     if any(last > end for last in case.arrivals[1:] for end in circumstances.ends):
         return Reason.CLOCK_AT_THE_END(seconds=abs(case.read.behind))
     if asked is not None and arrived < asked:

@@ -176,6 +176,26 @@ class TakenAway(QuestionsTest):
         self.assert_refused(["held", "2", "--as", "ada B 1,2,3", "--yes"], 9, "its ballot of ada was entered")
         self.assertIn("The current ballot: ada A 1,2 B 1,2,3: ", self.told("show", "ada"))
 
+    def test_an_answer_that_was_left_out_of_what_was_typed_comes_back(self) -> None:
+        """It is to be typed again, as `strike` and `undo` of the later answer say."""
+        for number, name in enumerate(("ada", "ben"), start=1):
+            self.done("desk", given=f"{name} B 3,2,1\n")
+            self.add(letter(name, "for it, and as listed\n", time=at(9)))
+            self.done("held", str(number), "--as", f"{name} A 1,2 B 1,2,3", "--yes")
+            self.done("undo", "--yes")
+            self.done("held", str(number), "--as", f"{name} A 2,1 B 2,1,3", "--yes")
+        said = self.told("strike", "1", "--because", "it was not her paper", "--yes")
+        self.assertIn("letter 1 has an answer that was left out, `ada B 2,1,3`: debvote-election held 1 --as 'ada B 2,1,3'\n", said)
+        self.assertEqual(said.count("left out"), 1)
+        self.done("held", "1", "--as", "ada B 2,1,3", "--yes")
+        self.assertIn("The current ballot: ada A 2,1 B 2,1,3: ", self.told("show", "ada"))
+        # of a later one that comes and is taken back
+        self.done("desk", given="ben B 1,2,3\n")
+        self.assertNotIn("left out", self.told("undo", "--yes"))
+        self.done("strike", "4", "--because", "x", "--yes")
+        self.done("desk", given="ben B 1,2,3\n")
+        self.assertIn("letter 2 has an answer that was left out, `ben B 2,1,3`", self.told("undo", "--yes"))
+
     def test_what_was_typed_stays_so_when_it_is_entered_anew(self) -> None:
         """Nothing of the letter's own line is entered beside it or in its place."""
         self.done("close", "--early", "--force", "--because", "x", "--yes")
