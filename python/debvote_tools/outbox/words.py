@@ -9,7 +9,7 @@ import dataclasses
 import datetime
 import functools
 import re
-from collections.abc import Collection, Iterator, Sequence
+from collections.abc import Collection, Iterator, Mapping, Sequence
 
 from debvote_tools.book.queries import Elector
 from debvote_tools.inbox.rules import LetterOutcome
@@ -18,7 +18,7 @@ from debvote_tools.inbox.reasons import for_elector
 from debvote_tools.poll.announced import address_in
 from debvote_tools.poll.call import CallData
 from debvote_tools.poll.plain_names import without_accents
-from debvote_tools.text.ballots import faults_of
+from debvote_tools.text.ballots import answers_of, faults_of
 from debvote_tools.text.language import marked
 from debvote_tools.text.rendering import one_line, render_letter
 from debvote_tools.text.times import time_in_words
@@ -60,6 +60,7 @@ AT_THE_END = marked("Your ballot of {time} has arrived, and it counts.")
 NOT_ALL = marked(
     "These of its answers do not count; others of yours, which were entered after them, count instead: {questions}."
 )
+LEFT_OUT = marked("These of its answers were not entered, since you had later ones: {questions}.")
 # what became of a letter: whether it came from an address of the elector, and whether nobody looks
 # at it any more
 OF_LETTER = marked(
@@ -116,6 +117,8 @@ class Composer:
     electors: Sequence[Elector] = ()
     # the envelopes of what the secretary typed for a letter
     typed: Collection[int] = ()
+    # the answers that were left out of letters, as ballots, by the envelopes of the others
+    left_out: Mapping[int, str] = dataclasses.field(default_factory=dict)
     # the letters that are records of the box
     records: Collection[int] = ()
 
@@ -238,13 +241,15 @@ class Composer:
 
     def more_of(self, fate: Fate) -> Iterator[str]:
         """What of a ballot does not count, and how it came."""
-        language = self.call_data.language
-        if fate.replaced:
-            named = list(map(self.call_data.questions.titled, fate.replaced))
-            yield language.say(NOT_ALL, questions=language.joined(named))
+        language, number = self.call_data.language, fate.envelope.number if fate.envelope else 0
+        left_out = answers_of(self.left_out.get(number, ""))
+        for said, labels in ((NOT_ALL, fate.replaced), (LEFT_OUT, left_out)):
+            if labels:
+                named = list(map(self.call_data.questions.titled, labels))
+                yield language.say(said, questions=language.joined(named))
         if fate.envelope is not None and fate.envelope.letter in self.records:
             yield language.say("It came by the page of the vote.")
-        if fate.envelope is not None and fate.envelope.number in self.typed:
+        if number in self.typed:
             yield language.say("The secretary typed it, by a letter that came.")
 
     def quotation_of(self, fate: Fate) -> str:

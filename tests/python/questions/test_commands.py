@@ -239,6 +239,20 @@ class Told(QuestionsTest):
         self.assertIn(f"It was read as ada (A 2,1), in words: {NO}.", texts["ada"])
         self.assertIn("It is not a valid ballot of this vote, so it does not count. One of its answers has 2 ranks, and the question has 3 options. |ben |B 1,2", texts["ben"])
 
+    def test_receipts_say_what_was_left_out_of_a_letter(self) -> None:
+        """Until that is entered, too."""
+        self.add_lines("ada B 3,2,1")
+        self.add(letter("ada", "ada A 1,2 B 1,2,3\n", number=1, time=at(9)))
+        self.done("held", "1", "--enter", "--yes")
+        left_out = "These of its answers were not entered, since you had later ones: B (The chair of the board)."
+        self.assertIn(f"{left_out} It was read as ada (A 1,2), in words: {YES}.", self.letters("receipts")["ada"])
+        self.done("strike", "1", "--because", "x", "--yes")
+        self.done("held", "1", "--enter", "--yes")
+        self.done("letters", "receipts")
+        receipt = " ".join((self.folder / f"letters/receipts/{self.last_act()}/ada.eml").read_text().split())
+        self.assertIn("It was read as ada (B 1,2,3)", receipt)
+        self.assertNotIn("not entered", receipt)
+
     def test_who_has_answered_one_question_is_not_reminded(self) -> None:
         self.add_lines("ada B 1,2,3", "ben B 1,2", words=["--force"])
         self.assertEqual({*self.letters("reminders")}, {*self.names} - {"ada"})
