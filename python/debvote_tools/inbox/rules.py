@@ -310,9 +310,9 @@ class LetterCase:
 
     def can_hide(self, copy: "LetterCase") -> bool:
         """Whether it can hide a copy, also one that differs from it: it went in once, or breaks no rule.
-        One that went in by hand, and arrived late, hides none that arrived in time.
+        One that went in by hand, and arrived after the end, hides none that did not.
         """
-        is_as_early = self.arrived_in_time or not copy.arrived_in_time
+        is_as_early = copy.arrived_after_end or not self.arrived_after_end
         return is_as_early and (self.state in WENT_IN or self.first_broken_rule is None)
 
     @property
