@@ -8,13 +8,7 @@ import subprocess
 from typing import NamedTuple
 
 from debvote_tools.cli.faults import Fault, Status, other_format
-from debvote_tools.files import (
-    BALLOTS_LIMIT,
-    LINES_LIMIT,
-    POLL_LIMIT,
-    demand_own_files,
-    in_memory,
-)
+from debvote_tools.files import BALLOTS_LIMIT, LINES_LIMIT, POLL_LIMIT, in_memory
 
 
 class Answer(NamedTuple):
@@ -76,8 +70,6 @@ class Debvote:
 
     def run(self, *words: str | os.PathLike[str], given: bytes = b"") -> Answer:
         """Runs debvote, with these bytes as its standard input."""
-        if given:
-            demand_own_files()
         try:
             ended = subprocess.run(
                 [self.path, *words], cwd=self.folder, capture_output=True, input=given
@@ -123,10 +115,13 @@ def refusal(answer: Answer) -> Fault:
 
 
 def casting_words(name: str | None) -> list[str]:
-    """The arguments for a casting vote: a name with a hyphen would be read as an option."""
-    if name is None:
-        return []
-    return [f"--casting={name}"] if name.startswith("-") else ["--casting", name]
+    """The arguments for a casting vote."""
+    return [] if name is None else option_words("--casting", name)
+
+
+def option_words(option: str, value: str) -> list[str]:
+    """An option with its value, which would be read as an option if it began with a hyphen."""
+    return [f"{option}={value}"] if value.startswith("-") else [option, value]
 
 
 FINDING = re.compile(

@@ -34,9 +34,6 @@ BEGINNINGS = {
     b"%PDF": PDF,
 }
 
-# where a process has its open files by their numbers
-OWN_FILES = "/proc/self/fd"
-
 # how each temporary begins, and no file of anybody else: an editor puts its own beside a file, as
 # `.poll.toml.swp`
 TEMPORARY = ".debvote-"
@@ -201,16 +198,9 @@ def locked(
         os.close(handle)
 
 
-def demand_own_files() -> None:
-    if not os.path.isdir(OWN_FILES):
-        words = "it is missing, and programs get their input through it"
-        raise Fault(OWN_FILES, words, "mount /proc, then run the command again", Status.BAD_OUTPUT)
-
-
 @contextlib.contextmanager
 def in_memory(data: bytes) -> Iterator[str]:
     """A file in memory, which other programs can read by this path while it lasts."""
-    demand_own_files()
     try:
         handle = os.memfd_create("debvote")
     except OSError as error:

@@ -20,7 +20,7 @@ import unittest.mock
 from collections.abc import Callable, Iterable, Mapping, Sequence
 from typing import NamedTuple
 
-from debvote_tools.poll.box import asking_word, link_of, records_file, script_of
+from debvote_tools.poll.box import asking_word, third_part, records_file, script_of
 
 PHP, STRACE = shutil.which("php"), shutil.which("strace")
 NEEDS_PHP = unittest.skipUnless(PHP, "php is not installed")
@@ -32,7 +32,7 @@ SECONDS = 60
 MARK, KEY = "1ac5041b936c7fc1", bytes(range(32))
 OWNS = {"ada": "23456789ab", "ben-lee": "3456789abc", "cleo.x": "456789abcd"}
 WORD, FILE = asking_word(KEY), records_file(KEY)
-LINKS = {name: link_of(KEY, name, own) for name, own in OWNS.items()}
+LINKS = {name: third_part(KEY, name, own) for name, own in OWNS.items()}
 # the first line of the file, and the end of each record
 FIRST, END = b"<?php exit; ?>\n", b"\n-- \n\n"
 

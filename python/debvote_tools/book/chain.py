@@ -152,8 +152,7 @@ def damage(connection: sqlite3.Connection) -> list[str]:
     """What is not as the acts of a book wrote it."""
     if (order := disorder(connection)) is not None:
         # in the rows of such a file there may be anything
-        mended = "; its tables are whole: on a copy of the file, REINDEX of sqlite3 mends it"
-        return [f"SQLite says: {order}{mended if is_mended_by_reindex(connection) else ''}"]
+        return [f"SQLite says: {order}"]
     found = []
     if (lost := connection.execute("PRAGMA foreign_key_check").fetchone()) is not None:
         found.append(f"row {lost[1]} of {lost[0]} names a row of {lost[2]} that is not there")
@@ -166,18 +165,6 @@ def disorder(connection: sqlite3.Connection) -> str | None:
     """What SQLite finds wrong with the file; None if nothing is."""
     words = "".join(words for words, in connection.execute("PRAGMA integrity_check(1)"))
     return None if words == "ok" else " ".join(words.split())
-
-
-def is_mended_by_reindex(connection: sqlite3.Connection) -> bool:
-    """Whether a copy, in memory, is whole once its indexes are made anew from the tables."""
-    with contextlib.closing(sqlite3.connect(":memory:")) as copy, contextlib.suppress(
-        sqlite3.Error
-    ):
-        connection.backup(copy)
-        prepare(copy)
-        copy.execute("REINDEX")
-        return disorder(copy) is None and break_in(copy) is None
-    return False
 
 
 def break_in(connection: sqlite3.Connection) -> str | None:

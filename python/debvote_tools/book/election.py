@@ -12,7 +12,7 @@ from typing import Any, Literal, NamedTuple
 from debvote_tools.book import queries
 from debvote_tools.book.book import NAME, ActName, Book, DoneAct, damaged, from_text, open_book
 from debvote_tools.cli.arguments import Acting, demand_reason
-from debvote_tools.cli.console import tell_aside
+from debvote_tools.cli.console import ZONE, tell_aside
 from debvote_tools.debvote import Debvote
 from debvote_tools.cli.faults import Fault, Status, bad_words, stop_at
 from debvote_tools.text.language import Language, language_of
@@ -78,6 +78,11 @@ class History(NamedTuple):
         """Until when one can vote, with the offset in which it was announced."""
         until = self.announced("until")
         return None if until is None else from_text(until)
+
+    @property
+    def zone(self) -> datetime.tzinfo | None:
+        """The zone in which the end was announced."""
+        return self.until.tzinfo if self.until else datetime.UTC
 
     def ends_after(self, time: datetime.datetime) -> bool:
         """Whether its announced end is still to come: to close before it takes `--early`."""
@@ -254,7 +259,10 @@ class Election:
         return language_of(self.book.acts()[0].detail["language"])
 
     def history(self) -> History:
-        return History(self.book.acts())
+        """The acts until now. From here on times are told in the zone of the vote."""
+        history = History(self.book.acts())
+        ZONE.set(history.zone)
+        return history
 
     def sealed(self, call: DoneAct | None = None) -> Sealed:
         """The questions of the call that holds, or of another one. Stops before the call."""

@@ -197,9 +197,10 @@ def later(
 
 
 # ---- envelopes by conditions
-# conditions on envelopes, with the acts that no `undo` took back
+# conditions on envelopes, where `answer` is why debvote refuses a line; and on acts that no `undo` took back
 TO_COUNT, LATE = "NOT late AND struck IS NULL", "late AND struck IS NULL"
-VALID = "struck IS NULL AND answer IS NULL"
+VALID_OR_LATE = "struck IS NULL AND answer IS NULL"
+REFUSED = f"{TO_COUNT} AND answer IS NOT NULL"
 NOT_UNDONE = "act NOT IN (SELECT json_extract(detail, '$.act') FROM act WHERE name = 'undo')"
 
 # the late envelopes of which no new one stands that a `reopen` entered as in time

@@ -6,7 +6,7 @@ which the parser is made.
         zone: str | None = option("ZONE", "The time zone of --until")
         take_back: bool = flag("Take the call back")
 
-    def run(election: Election, arguments: Arguments) -> None: ...
+    def call(election: Election, arguments: Arguments) -> None: ...
 
 The option of `take_back` is `--take-back`; `name="--from"` gives it another name. All other words
 are those of `argparse`. What a class inherits comes last in the help.

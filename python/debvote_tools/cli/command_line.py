@@ -15,8 +15,8 @@ from debvote_tools.cli.faults import Fault, Status, acts_in_words
 
 PROGRAM = "debvote-election"
 
-# in the order in which an election needs them. Each has a module with its help as docstring,
-# `Arguments` and `run`, but for those that share one: there a function has its name and its help
+# in the order in which an election needs them. Each is a function with this name, in a module with this
+# name or one of `SHARED`; its docstring is the help, and the class of its arguments has the options
 COMMANDS = (
     "new roll check codes call add held undo strike desk letters show status "
     "close reopen count publish log export backup"

@@ -6,6 +6,7 @@ wrote has none, and is written as it is. `shown_line` and `shown_text` are for w
 """
 
 import contextlib
+import contextvars
 import datetime
 import io
 import itertools
@@ -19,8 +20,12 @@ from collections.abc import Iterable, Sequence
 from typing import TextIO
 
 from debvote_tools.cli.faults import Fault, Status
+from debvote_tools.text.times import offset_of
 
 LINES_AT_ONCE = 1_000
+
+# the zone in which times are told: that of the announced end, once the acts are read
+ZONE = contextvars.ContextVar[datetime.tzinfo | None]("zone", default=datetime.UTC)
 
 
 class OutputFailed(Fault):
@@ -214,8 +219,9 @@ def bar(part: int, whole: int, width: int) -> str:
 
 
 def act_time(time: datetime.datetime) -> str:
-    """A time as `2026-12-04 17:00:00 UTC`."""
-    return f"{time.astimezone(datetime.UTC):%Y-%m-%d %H:%M:%S} UTC"
+    """A time in the zone of the vote, as `2026-12-04 18:00:00 UTC+01:00`."""
+    in_zone = time.astimezone(ZONE.get())
+    return f"{in_zone:%Y-%m-%d %H:%M:%S} {offset_of(in_zone)}"
 
 
 def wrapped(names: Iterable[str]) -> str:

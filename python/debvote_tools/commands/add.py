@@ -2,6 +2,7 @@
 
 import collections
 import dataclasses
+import itertools
 import operator
 import re
 from collections.abc import Iterable, Iterator, Mapping, Sequence
@@ -15,14 +16,14 @@ from debvote_tools.book.queries import Envelope, NewEnvelope
 from debvote_tools.cli.console import count_of, shown_line, tell, tell_many
 from debvote_tools.cli.faults import Fault, bad_words, stop_at
 from debvote_tools.debvote import TABLE
-from debvote_tools.grouping import grouped, several
+from debvote_tools.grouping import grouped
 from debvote_tools.inbox import entering
 from debvote_tools.inbox.given_files import GivenFile, read_files
 from debvote_tools.inbox.lines import MARK, Line, lines_in
-from debvote_tools.inbox.entering import Entry, doubtful
+from debvote_tools.inbox.entering import Entry
 from debvote_tools.inbox.option_names import OptionNames
 from debvote_tools.inbox.vote import IN_ORDER, CheckedLine, Vote, replies_to, summary
-from debvote_tools.text.ballots import part_of, ranks_by_label
+from debvote_tools.text.ballots import part_of
 
 FORCE = "add it anyway with --force"
 
@@ -112,10 +113,8 @@ class NewLines:
 
 def new_lines(vote: Vote, files: Sequence[FileLines]) -> NewLines:
     """It asks nothing of debvote, so it is found again within the act."""
-    history = vote.election.history()
-    vote.demand_same_call(history)
-    found = compared_with_book(vote.book, files, history)
-    return NewLines(history, history.timing, found)
+    history = vote.history()
+    return NewLines(history, history.timing, compared_with_book(vote.book, files, history))
 
 
 @dataclasses.dataclass(frozen=True, kw_only=True)
@@ -191,11 +190,11 @@ def file_lines(vote: Vote, files: Sequence[GivenFile]) -> list[FileLines]:
     lists = [lines_in(file.data, file.name, longest) for file in files]
     what, cure = "it has only empty lines", "write one ballot on each line"
     empty = [file for file, lines in zip(files, lists) if all(line.is_empty for line in lines)]
-    stop_at([doubtful(file.name, what, cure) for file in empty])
+    stop_at([Fault(file.name, what, cure) for file in empty])
     checked = vote.checked_lines([line for lines in lists for line in lines if not line.is_empty])
     cure = f"write it as `{vote.right_line}`, or take it out"
     no_form = [line for line in checked if not line.can_be_entered][:MAX_REFUSED]
-    stop_at([doubtful(line.original.where, vote.why_not_entered(line), cure) for line in no_form])
+    stop_at([Fault(line.original.where, vote.why_not_entered(line), cure) for line in no_form])
     by_file, found = grouped((line.original.file_name, line) for line in checked), []
     for file, lines in zip(files, lists):
         its_lines = by_file[file.name]
@@ -322,7 +321,7 @@ def faults_of_lines(vote: Vote, new: NewLines, arguments: Arguments) -> Iterator
     if new.lines and vote.is_signed and not is_reasoned:
         words = "in this vote letters must be signed, and nothing shows who sent a line of a file"
         cure = "add the letters themselves; or, if you know by other means who sent each line, give --force --because TEXT"
-        yield doubtful(new.files[0].name, words, cure)
+        yield Fault(new.files[0].name, words, cure)
     if arguments.force:
         return
     for file in new.files:
@@ -330,7 +329,7 @@ def faults_of_lines(vote: Vote, new: NewLines, arguments: Arguments) -> Iterator
     with_new_lines = [file for file in new.files if file.new]
     for file in with_new_lines:
         if file.is_table:
-            yield doubtful(file.name, TABLE, f"{IN_ORDER}, or {FORCE}")
+            yield Fault(file.name, TABLE, f"{IN_ORDER}, or {FORCE}")
     no_tables = [file for file in with_new_lines if not file.is_table]
     yield from under_other_names(vote, no_tables)
     yield from few_ballots(vote, no_tables)
@@ -338,21 +337,22 @@ def faults_of_lines(vote: Vote, new: NewLines, arguments: Arguments) -> Iterator
         if pair := new_one_above(file):
             older, newer = (one.original.number for one in pair)
             words = f"the ballot of {pair[0].voter} in line {older} is older than that in line {newer}, which came before, and would replace it"
-            yield doubtful(file.name, words, f"take the older ballot out, or {FORCE}")
+            yield Fault(file.name, words, f"take the older ballot out, or {FORCE}")
 
 
 def odd_lines(vote: Vote, file: ComparedLines) -> Iterator[Fault]:
     """A fault for the first line that is longer than any ballot, and for those with a name that
     several electors have.
     """
-    long = (one.original for one in file.new if vote.why_too_long(one.original))
-    if line := next(long, None):
-        cure = f"take the line out if it is not a ballot, or {FORCE}"
-        yield doubtful(line.where, str(vote.why_too_long(line)), cure)
+    cure = f"take the line out if it is not a ballot, or {FORCE}"
+    for one in file.new:
+        if why := vote.why_too_long(one.original):
+            yield Fault(one.original.where, why, cure)
+            break
     cure = f"write the name on the roll of the one who is meant, or {FORCE}"
     for one in file.new:
         if one.why_unclear:
-            yield doubtful(one.original.where, one.why_unclear, cure)
+            yield Fault(one.original.where, one.why_unclear, cure)
 
 
 def under_other_names(vote: Vote, files: Sequence[FileLines]) -> Iterator[Fault]:
@@ -365,7 +365,7 @@ def under_other_names(vote: Vote, files: Sequence[FileLines]) -> Iterator[Fault]
                 place = f"line {line.original.number}"
                 words = f"{place} names options of the poll in another order than the poll has them: the ranks below it may stand in that order"
                 cure = f"if they do, put them into the order of the poll, and take {place} out; if they do not, {FORCE}"
-                yield doubtful(file.name, words, cure)
+                yield Fault(file.name, words, cure)
                 break
 
 
@@ -374,7 +374,7 @@ def new_one_above(file: ComparedLines) -> tuple[CheckedLine, CheckedLine] | None
     new = {line.original.number for line in file.new} if file.repeated else set()
     above: dict[tuple[str, str], tuple[str, CheckedLine]] = {}
     for line in filter(is_ballot, file.lines if new else ()):
-        for label, ranks in ranks_by_label(line.ranks).items():
+        for label, ranks in line.answers.items():
             last, ballot = above.get((line.voter, label), (ranks, line))
             if line.original.number in new:
                 above[line.voter, label] = ranks, line
@@ -385,24 +385,18 @@ def new_one_above(file: ComparedLines) -> tuple[CheckedLine, CheckedLine] | None
 
 def few_ballots(vote: Vote, files: Sequence[FileLines]) -> Iterator[Fault]:
     """A fault for each file in which fewer than half of the lines are ballots. If no file has so
-    few, all files together are looked at. If some lines are ballots, it prints the first of the
-    others.
+    few, all files together are looked at.
     """
     all_lines = tuple(line for file in files for line in file.lines)
     few = [file for file in files if has_few_ballots(file.lines)]
     if not few and len(files) > 1 and has_few_ballots(all_lines):
         few = [dataclasses.replace(files[0], lines=all_lines)]
     for file in few:
-        refused = [line for line in file.lines if not line.is_ballot]
         lines, count = lines_and_ballots(file.lines)
-        for line in refused[:MAX_REFUSED] if count else ():
-            tell(f"{line.original.where}: not a ballot: {vote.in_words(line)}")
-        if count and len(refused) > MAX_REFUSED:
-            tell(f"and {len(refused) - MAX_REFUSED} more lines that are not ballots")
         reason = (
             f"debvote takes {f'only {count}' if count else 'none'} of the {lines} lines as ballots"
         )
-        yield doubtful(file.name, reason, f"{cure_of(file, refused[0])}, or {FORCE}")
+        yield Fault(file.name, reason, f"{cure_of(vote, file)}, or {FORCE}")
 
 
 def has_few_ballots(lines: Sequence[CheckedLine]) -> bool:
@@ -419,21 +413,12 @@ def lines_and_ballots(lines: Sequence[CheckedLine]) -> tuple[int, int]:
     return len(came), len(ballots)
 
 
-def cure_of(file: FileLines, refused: CheckedLine) -> str:
+def cure_of(vote: Vote, file: FileLines) -> str:
     head = file.file.data.removeprefix(MARK).lstrip().partition(b"\n")[0].decode("utf-8", "replace")
     if MEMBERS_HEADS <= {cell.strip(' \t\r"').casefold() for cell in re.split("[,;\t]", head)}:
         return "it looks like the list of members: name the file of ballots"
-    words = [line.finding.word for line in file.lines if line.finding is not None]
-    lines = [line.original.unframed for line in file.lines]
-    counts = [{line.count(sign) for line in lines} for sign in (b",", b";", b"\t")]
-    # most have no shape of a ballot, and all the same number of delimiters
-    if words.count("bad shape") * 2 > len(lines) and any(
-        len(one) == 1 and one != {0} for one in counts
-    ):
-        return f"it looks like a table: {IN_ORDER}"
-    why = "" if refused.finding is None else f", {refused.finding.word}: {refused.finding.hint}"
-    which = "its first line is" if refused is file.lines[0] else "one of its lines is"
-    return f"look at the file ({which} `{shown_line(refused.as_entered)}`{why})"
+    refused = next(itertools.filterfalse(is_ballot, file.lines))
+    return f"look at the file ({refused.original.where}: {vote.in_words(refused)}), and {IN_ORDER}"
 
 
 # ---- what is printed
@@ -443,11 +428,11 @@ def report_of_files(
     if numbers:
         yield from entering.late_notes(vote.election, new.history, "what is added")
     for file in new.files:
+        if b"\r\n" in file.file.data:
+            yield f"{file.name}: its lines end as Windows ends them"
         yield from (f"{line.where}: it is empty, and was left out" for line in file.empty)
         yield from repeated_words(file)
     yield from vote.report_of_lines(new.lines, numbers, replies)
-    for file in new.files:
-        yield from several_ballots_words(file)
 
 
 def repeated_words(file: ComparedLines) -> Iterator[str]:
@@ -463,16 +448,3 @@ def repeated_words(file: ComparedLines) -> Iterator[str]:
         yield f"  and {len(changed) - MAX_REPEATED} more"
     if changed:
         yield "  To enter such a line again, type it at a desk."
-
-
-def several_ballots_words(file: ComparedLines) -> Iterator[str]:
-    by_voter = several((one.voter, one) for one in filter(is_ballot, file.new))
-    for voter, ballots in by_voter.items():
-        answered = collections.Counter(
-            label for one in ballots for label in ranks_by_label(one.ranks)
-        )
-        if max(answered.values()) > 1:
-            places = [one.original.number for one in ballots]
-            listed = ", ".join(map(str, places[:5])) + (", .." if places[5:] else "")
-            last = "last one" if "" in answered else "last answer to each question"
-            yield f"Note: {file.name} has {len(places)} ballots of {voter} ({listed}); the {last} counts."

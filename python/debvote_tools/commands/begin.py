@@ -134,12 +134,11 @@ def make(folder: pathlib.Path, language: str, polls: Mapping[str, bytes]) -> Non
 # `Eve & Dan`, `Eve und Dan`, `Eve/Dan`
 SEVERAL_PEOPLE = re.compile(r"\w ?[&+/] ?\w|\w (?:and|und|et) \w", re.IGNORECASE)
 
-# how many electors `roll` and `check` print without --all: of more the list itself is easier to read
-MAX_SHOWN = 200
+# how many electors a note names
+MAX_NAMED = 200
 
 
 class RollArguments(Acting):
-    all: bool = flag("Print all electors, however many there are")
     yes: bool = flag("After the call: take the new addresses and keys without a question")
 
 
@@ -153,7 +152,7 @@ def roll(election: Election, arguments: RollArguments) -> None:
     roll, after = read_roll(election, history), election.command("check")
     if history.call is None:
         keep_electors(book, roll, history.last.number)
-        tell(*roll_in_words(roll, has_all=arguments.all))
+        tell(*roll_in_words(roll))
     else:
         is_secret = election.questions.is_secret
         went = outgoing.call_addresses(book, history.call.number) if is_secret else {}
@@ -258,20 +257,17 @@ def changes_in_words(member: Member, went: Mapping[str, Sequence[str]]) -> str:
 
 
 # ---- what is told
-def roll_in_words(roll: Roll, *, has_all: bool) -> Iterator[str]:
+def roll_in_words(roll: Roll) -> Iterator[str]:
     electors = roll.electors
-    shown = electors if has_all else electors[:MAX_SHOWN]
     yield f"{count_of(len(electors), 'elector')}, each with the name on the roll:"
-    for one in shown:
+    for one in electors:
         yield f"  {one.name}: {shown_text(one.who)} {', '.join(one.addresses)}".rstrip()
-    if len(shown) < len(electors):
-        yield f"  and {len(electors) - len(shown)} more (--all prints them)"
     if proposed := sum(bool(one.proposal) for one in electors):
         how = f"To change a name, write it into a column `name` of {MEMBERS_FILE}, and run this again."
         yield f"{count_of(proposed, 'name was', 'names were')} proposed. {how}"
     for words, names, after in notes_on(electors):
         if names:
-            yield f"{words}: {listed(names, MAX_SHOWN)}{after}"
+            yield f"{words}: {listed(names, MAX_NAMED)}{after}"
     for gone in roll.gone:
         yield f"No longer on the list: {gone.name} ({shown_text(gone.who)})"
 
@@ -308,11 +304,7 @@ def notes_on(electors: Sequence[Member]) -> Iterator[tuple[str, list[str], str]]
 LIKE_LABEL = re.compile(r"(?<!\w)[^\W\d_]\W*$")
 
 
-class CheckArguments(Options):
-    all: bool = flag("Print all names on the roll, however many there are")
-
-
-def check(election: Election, arguments: CheckArguments) -> None:
+def check(election: Election, arguments: Options) -> None:
     """Check the poll: list everything that is wrong with it, or show what is voted on."""
     history = election.history()
     if history.call is not None:
@@ -333,10 +325,7 @@ def check(election: Election, arguments: CheckArguments) -> None:
         quorum = quorum_words(poll.quorum, found.quorums[label])
         tell(f"{label}: {quorum}" if label else quorum)
     if not history.has_codes_on_roll:
-        names = roll if arguments.all else roll[:MAX_SHOWN]
-        tell(f"Electors: {len(roll)}", wrapped(names))
-        if len(names) < len(roll):
-            tell(f"  and {len(roll) - len(names)} more (--all prints them)")
+        tell(f"Electors: {len(roll)}", wrapped(roll))
     tell(f"Next: {what_next(election, history, questions)}")
 
 
@@ -347,12 +336,12 @@ def names_like_answers(
     words = questions.words(language)
     if named := [one.who for one in electors if with_ranks(one.who, words) != one.who]:
         note = "Note: these real names end in a word of the motion, and a name is no ballot"
-        yield f"{note}: {listed(named, MAX_SHOWN)}"
+        yield f"{note}: {listed(named, MAX_NAMED)}"
     like = [one for one in electors if LIKE_LABEL.search(one.who) or len(one.name) == 1]
     if like and questions.is_several:
         note = "Note: these names end in a letter that may be read as the label of a question"
         labels = [f"{one.name} ({shown_text(one.who)})" for one in like]
-        yield f"{note}: {listed(labels, MAX_SHOWN)}"
+        yield f"{note}: {listed(labels, MAX_NAMED)}"
 
 
 def what_next(election: Election, history: History, questions: Questions) -> str:

@@ -10,7 +10,7 @@ from debvote_tools.book.change import Change, carried_out, terminal_question
 from debvote_tools.book.election import Election, History
 from debvote_tools.book.queries import Envelope, NewEnvelope
 from debvote_tools.cli.arguments import Acting, demand_reason, flag, option, positional
-from debvote_tools.cli.console import act_time, count_of, is_terminal, shown_line, tell, typed
+from debvote_tools.cli.console import act_time, count_of, shown_line, tell
 from debvote_tools.cli.faults import Fault, bad_words, stop_at
 from debvote_tools.commands.held import elector_of, left_out
 from debvote_tools.grouping import grouped
@@ -221,17 +221,14 @@ def without_code(vote: Vote, line: bytes) -> str:
 
 
 # ---- reopen
-# of the number of an envelope
-MAX_DIGITS = 9
-
-
 class ReopenArguments(Acting):
-    in_time: list[int] | None = option(
+    in_time: list[int] = option(
         "NUMBER",
         "Late envelopes whose ballots came before the first close: they are entered anew, and count",
         type=int,
         nargs="*",
         action="extend",
+        default=[],
     )
     force: bool = flag("Enter them although their electors have later ballots that count")
 
@@ -241,11 +238,7 @@ def reopen(election: Election, arguments: ReopenArguments) -> None:
     because = demand_reason(arguments.because, "reopen")
     book = election.book_for(arguments)
     vote = Vote(election)
-    demand_closed(election, election.history())
-    numbers = arguments.in_time or []
-    if arguments.in_time is None and is_terminal():
-        numbers = typed_numbers(vote)
-    carried_out(book, lambda: what_is_reopened(vote, numbers, because, is_forced=arguments.force))
+    carried_out(book, lambda: what_is_reopened(vote, arguments, because))
     early = ["--early"] if election.history().ends_after(now()) else []
     close = election.command("close", *early)
     if left := [str(envelope.number) for envelope in queries.envelopes(book, queries.LEFT_LATE)]:
@@ -272,14 +265,12 @@ class Reopening(Entry):
             yield f"Envelope {number}, entered anew from late envelope {envelope.number}: {line}"
 
 
-def what_is_reopened(
-    vote: Vote, numbers: Sequence[int], because: str, *, is_forced: bool
-) -> Reopening:
+def what_is_reopened(vote: Vote, arguments: ReopenArguments, because: str) -> Reopening:
     demand_closed(vote.election, vote.election.history())
-    offered = chosen(vote.book, numbers)
+    offered = chosen(vote.book, arguments.in_time)
     detail: Detail = {"because": because, "in_time": [one.number for one in offered]}
     if older := list(faults_of_older(vote, offered)):
-        stop_at([] if is_forced else older)
+        stop_at([] if arguments.force else older)
         detail["force"] = True
     return Reopening(
         "reopen",
@@ -315,21 +306,6 @@ def chosen(book: Book, numbers: Sequence[int]) -> list[Envelope]:
         words = f"envelope {', '.join(again)} was entered as in time by an earlier reopen"
         raise Fault("--in-time", words, "leave it out")
     return sorted((late[number] for number in set(numbers)), key=queries.by_time)
-
-
-def typed_numbers(vote: Vote) -> list[int]:
-    """The numbers that are typed at a terminal, where the late envelopes are listed."""
-    if not (late := queries.envelopes(vote.book, queries.LEFT_LATE)):
-        return []
-    tell(f"{count_of(len(late), 'line')} came late:")
-    tell(*(f"  {one.number} {without_code(vote, one.line)}" for one in late))
-    question = "Which of them came before the first close? Type their numbers, or Enter for none: "
-    numbers = (typed(question) or b"").replace(b",", b" ").split()
-    for number in numbers:
-        if not number.isdigit() or len(number) > MAX_DIGITS:
-            cure = "run the command again, and type numbers with spaces between"
-            raise Fault(None, f"{shown_line(number)} is not the number of an envelope", cure)
-    return list(map(int, numbers))
 
 
 def faults_of_older(vote: Vote, offered: Sequence[Envelope]) -> Iterator[Fault]:

@@ -65,12 +65,6 @@ class Desk:
         electors = queries.electors(self.vote.book)
         return [(one, f"{alike(one.name)}\n{alike(one.who)}") for one in electors]
 
-    def history(self) -> History:
-        """The acts until now. Stops after another call."""
-        history = self.vote.election.history()
-        self.vote.demand_same_call(history, "start the desk again")
-        return history
-
     def ask_if_reopened(self, history: History) -> None:
         """If the vote was opened again, asks once whether what is cast came before the first close."""
         if self.came_before_close is None:
@@ -95,11 +89,11 @@ class Desk:
             # with labels it may be meant for another desk
             return line._replace(unframed=NO_LINE)
         if (found := self.names.taken_apart(self.names.with_ranks(text))) is None:
-            return line._replace(as_it_came=line.unframed, repaired=line.unframed)
+            return line
         name, ranks = found
         right = name.lower() if name.lower() in names.roll else name
         full = f"{right} {self.vote.label} {ranks}".encode()
-        return line._replace(as_it_came=full, unframed=full, repaired=full)
+        return line._replace(unframed=full, repaired=full)
 
     def demand_no_table(self, lines: list[CheckedLine]) -> None:
         """Stops at the head of a table: below a ballot no line is one."""
@@ -131,7 +125,7 @@ class Casting(Entry):
     def is_same_now(self) -> bool:
         """Whether nothing came of the elector of whom it is asked: else eight desks would ask without end."""
         there = queries.envelope_states(self.vote.book, self.elector)
-        return (self.desk.history().timing, there) == (self.timing, self.there)
+        return (self.vote.history().timing, there) == (self.timing, self.there)
 
     def declined(self, answer: bool | None) -> None:
         self.desk.is_over = answer is None
@@ -144,7 +138,7 @@ class Casting(Entry):
 
 def what_is_cast(desk: Desk, lines: list[CheckedLine], elector: int | None, asks: bool) -> Casting:
     """Lines that are cast. If it asks, it is about one, whose refused answers are lines of their own."""
-    history, book = desk.history(), desk.vote.book
+    history, book = desk.vote.history(), desk.vote.book
     desk.ask_if_reopened(history)
     detail: Detail = {"lines": len(lines)}
     if history.is_reopened:
@@ -276,7 +270,7 @@ def completed(desk: Desk, line: Line) -> Line | None:
     """
     as_meant, meant = desk.vote.as_meant(line)
     name, answers = typed_parts(desk, as_meant)
-    if desk.vote.has_codes or not name or (name in desk.vote.names_on_roll and not meant):
+    if desk.vote.has_codes or not name or (name in desk.vote.names.roll and not meant):
         return line
     words = [alike(word) for word in name.split()]
     found = [
@@ -289,7 +283,7 @@ def completed(desk: Desk, line: Line) -> Line | None:
     if (chosen := chosen_of(found, shown_text(name))) is None:
         return None
     full = f"{chosen.name} {answers}".encode()
-    return Line(line.file_name, line.number, full, full, full)
+    return line._replace(unframed=full, repaired=full)
 
 
 def chosen_of(found: Sequence[Elector], name: str) -> Elector | None:
@@ -337,7 +331,7 @@ def question(
 def earlier_words(vote: Vote, ballot: CheckedLine, elector: int) -> Iterator[str]:
     """What a ballot would replace, and which answers to other questions stay."""
     counting = queries.what_counts(vote.book, {elector})
-    earlier, new = ranks_by_label(counting.get(ballot.voter, "")), ranks_by_label(ballot.ranks)
+    earlier, new = ranks_by_label(counting.get(ballot.voter, "")), ballot.answers
     goes, stays = (
         answers_text({label: earlier[label] for label in earlier if (label in new) == is_new})
         for is_new in (True, False)

@@ -29,7 +29,7 @@ from debvote_tools.text.ballots import answers_of, differ, without
 from debvote_tools.text.language import ENGLISH
 
 # the later ballots because of which answers are left out: a late one counts for nothing
-IN_TIME = f"{queries.VALID} AND {queries.TO_COUNT}"
+IN_TIME = f"{queries.VALID_OR_LATE} AND {queries.TO_COUNT}"
 
 # what --enter has without lines
 THE_ONE = "one"

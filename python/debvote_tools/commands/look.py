@@ -5,7 +5,7 @@ import json
 import os
 import pathlib
 import re
-from collections.abc import Collection, Iterator, Sequence
+from collections.abc import Iterator, Sequence
 from typing import Any
 
 from debvote_tools.book import outgoing, queries
@@ -19,45 +19,33 @@ from debvote_tools.book.election import (
     RESULT,
     RESULT_LETTER,
 )
+from debvote_tools.book.queries import Envelope
 from debvote_tools.cli.arguments import flag, Options, positional
 from debvote_tools.cli.console import (
     act_time,
-    bar,
     count_of,
     quorum_words,
     shown_line,
     shown_text,
-    shows,
     tell,
     wrapped,
 )
 from debvote_tools.cli.faults import Fault, bad_words
 from debvote_tools.files import whole_folder, write_whole
-from debvote_tools.grouping import grouped
 from debvote_tools.inbox import letter_words
 from debvote_tools.inbox.asked import asked_last, asked_words
 from debvote_tools.inbox.fates import Fate, fates_of
 from debvote_tools.inbox.lines import has_code
 from debvote_tools.inbox.stopping import Pending, pending_letters
-from debvote_tools.inbox.vote import IS_CODE, Vote
+from debvote_tools.inbox.vote import IS_CODE, Vote, envelope_words
 from debvote_tools.outbox.reached import unreached_and_printed
 from debvote_tools.poll.questions import Questions, place_of
 from debvote_tools.text import times
-from debvote_tools.text.ballots import ballot_file, part_of, ranks_by_label
+from debvote_tools.text.ballots import ballot_file, ranks_by_label
 
 # ---- status
-# how many characters the bar of those who have voted has
-BAR = 50
-
-# the word with which a line begins, if it can be a name; a byte-order mark, spaces and quotation
-# marks may precede it
-FIRST_WORD = re.compile(rb"(?:\xef\xbb\xbf)?[\s\"']*([A-Za-z0-9.-]{1,32})(?=[\s\"',;:]|$)")
-
 # how an election is, in numbers, as FORMATS has them; in a vote whose roll has codes nobody is named
 State = dict[str, Any]
-
-# a line that debvote refuses, with the number of its envelope, and why
-Refused = tuple[int, bytes, str]
 
 
 class StatusArguments(Options):
@@ -77,24 +65,25 @@ def status(election: Election, arguments: StatusArguments) -> None:
         )
 
 
-def state_of(election: Election, history: History) -> tuple[State, list[Refused]]:
-    """The numbers of an election, and the lines that debvote refuses, but for those of electors whose
-    ballots answer the same questions; with codes on the roll all.
+def state_of(election: Election, history: History) -> tuple[State, list[Envelope]]:
+    """The numbers of an election, and the envelopes whose lines debvote refuses, but for those of
+    electors whose ballots answer the same questions.
     """
     book, has_codes = election.book, history.has_codes_on_roll
-    roll = [elector.name for elector in queries.electors(book)]
+    electors = queries.electors(book)
     pending = Pending() if history.call is None else pending_letters(election, history)
     numbers, counting = queries.numbers(book), queries.what_counts(book)
-    answered = {name: {*ranks_by_label(answers)} for name, answers in counting.items()}
     unreached, printed = unreached_and_printed(election, history)
     state = {
         "stage": history.stage,
-        "electors": len(roll),
+        "electors": len(electors),
         **numbers._asdict(),
         "late": len(queries.late_lines(book)),
         "waiting": pending.count,
         "stopping": pending.stopping,
-        "without_ballot": None if has_codes else [name for name in roll if name not in counting],
+        "without_ballot": None
+        if has_codes
+        else [elector.name for elector in electors if elector.name not in counting],
         "box": asked_last(election, history),
         "not_reached": {elector.name: why for elector, why, _ in unreached},
         "printed": printed,
@@ -103,13 +92,11 @@ def state_of(election: Election, history: History) -> tuple[State, list[Refused]
     }
     if history.call is not None and election.questions.is_several:
         state["questions"] = questions_in(election, history, has_late=bool(state["late"]))
-    labels = queries.labels_of(book)
-    refused = [
-        (number, line, answer)
-        for number, line, answer in queries.refused_lines(book)
-        if has_codes or not labels_in(line, labels) <= answered.get(whose_line(line) or "", set())
+    answered = {one.number: ranks_by_label(counting.get(one.name, "")) for one in electors}
+    refused = queries.envelopes(book, queries.REFUSED)
+    return state, [
+        one for one in refused if one.by_question.keys() - answered.get(one.elector or 0, {})
     ]
-    return state, refused
 
 
 def questions_in(election: Election, history: History, *, has_late: bool) -> State:
@@ -124,17 +111,6 @@ def questions_in(election: Election, history: History, *, has_late: bool) -> Sta
         }
         for label in queries.each_question_alone(book)
     }
-
-
-def labels_in(line: bytes, labels: Sequence[str]) -> set[str]:
-    """Which of these questions a line answers, or would."""
-    return {label for label in labels if part_of(line, label) is not None}
-
-
-def whose_line(line: bytes) -> str | None:
-    """Whose a line may be: its first word in small letters."""
-    word = FIRST_WORD.match(line)
-    return word[1].decode("ascii").lower() if word else None
 
 
 def stage_words(election: Election, history: History, state: State) -> Iterator[str]:
@@ -163,22 +139,17 @@ def stage_words(election: Election, history: History, state: State) -> Iterator[
 
 
 def state_words(
-    election: Election, history: History, state: State, refused: list[Refused]
+    election: Election, history: History, state: State, refused: list[Envelope]
 ) -> Iterator[str]:
     yield f"Lines: {state['lines']} ({state['valid']} valid, {state['refused']} refused)"
     if state["late"]:
         yield f"Late, and not counted: {state['late']}"
     yield f"Electors with a valid ballot: {state['voters']} of {state['electors']}"
-    if shows() and state["electors"]:
-        voters, electors = state["voters"], state["electors"]
-        yield f"  {bar(voters, electors, BAR)} {voters * 100 // electors} %"
     yield from asked_words(history)
     yield from named("Electors without a ballot", state["without_ballot"])
-    roll = {elector.name for elector in queries.electors(election.book)}
-    yield from refused_words(refused, state["without_ballot"], roll)
+    yield from refused_words(refused, has_codes=history.has_codes_on_roll)
     if state["waiting"]:
-        wait = count_of(state["waiting"], "letter waits", "letters wait")
-        yield f"{wait} until you have looked at them: {election.command('held')}"
+        yield f"{letter_words.wait_words(state['waiting'])} until you have looked at them: {election.command('held')}"
     if state["stopping"]:
         stops = "count and publish stop" if history.is_closed else "close stops"
         numbers = ", ".join(map(str, state["stopping"]))
@@ -196,28 +167,16 @@ def named(what: str, names: list[str] | None) -> Iterator[str]:
         yield from (f"{what} ({len(names)}):", wrapped(names))
 
 
-def refused_words(
-    refused: list[Refused], without_ballot: list[str] | None, roll: Collection[str]
-) -> Iterator[str]:
+def refused_words(refused: list[Envelope], *, has_codes: bool) -> Iterator[str]:
     """Lines, each with what debvote says of it. With codes on the roll they would tell codes."""
-    if without_ballot is None:
-        if refused:
-            yield f"Refused: envelopes {', '.join(str(number) for number, *_ in refused)}"
-        return
-    # who has answered another question has a ballot
-    groups = (
-        no_ballot := "of electors without a ballot",
-        no_answer := "of electors without another answer to the question",
-        nobody := "with no known elector",
-    )
-    whose = dict.fromkeys(roll, no_answer) | dict.fromkeys(without_ballot, no_ballot)
-    found = grouped((whose.get(whose_line(one[1]) or "", nobody), one) for one in refused)
-    for who in groups:
-        if who in found:
-            yield f"Refused lines {who} ({len(found[who])}):"
-        for envelope, line, answer in found.get(who, ()):
-            yield f"  envelope {envelope}: {shown_line(line) or '(empty)'}"
-            yield f"    {answer}"
+    if has_codes and refused:
+        yield f"Refused: {envelope_words([one.number for one in refused])}"
+    elif refused:
+        who = "of electors without a ballot to the question, or of nobody known"
+        yield f"Refused lines {who} ({len(refused)}):"
+        for one in refused:
+            yield f"  envelope {one.number}: {shown_line(one.line)}"
+            yield f"    {one.why_refused}"
 
 
 def what_next(election: Election, state: State) -> str:
@@ -261,7 +220,7 @@ def show(election: Election, arguments: ShowArguments) -> None:
 
 def elector_named(election: Election, vote: Vote, name: str) -> queries.Elector:
     on_roll = name.strip().lower()
-    meant = [on_roll] if on_roll in vote.names_on_roll else vote.names.meant_by(name)
+    meant = [on_roll] if on_roll in vote.names.roll else vote.names.meant_by(name)
     found = [one for one in queries.electors(election.book) if one.name in meant]
     if len(found) == 1:
         return found[0]

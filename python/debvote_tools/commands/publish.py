@@ -51,8 +51,17 @@ REFUSED_IN_NAME = '"\u201c\u201d\u201e\u201f\u2033\uff02\u00ab\u00bb'
 
 class Arguments(Acting, checks=True, nothing="published"):
     casting: list[str] | None = option(*CASTING, action="append")
-    cast_by: str | None = option("NAME", "Who had the casting vote; the page says so in your name")
-    cast_on: str | None = option("DATE", "The day of the casting vote, as 2026-12-05")
+    cast_by: list[str] | None = option(
+        "NAME",
+        "Who had the casting vote; the page says so in your name. "
+        "Of several give it once for all, or once for each, in the order of their options --casting",
+        action="append",
+    )
+    cast_on: list[str] | None = option(
+        "DATE",
+        "The day of the casting vote, as 2026-12-05. Of several give it once for all, or once for each",
+        action="append",
+    )
     about: str | None = option(
         "FILE", "A plain text file in UTF-8 for the page: who certifies the result, and when"
     )
@@ -230,12 +239,9 @@ def alone(election: Election) -> Iterator[None]:
 def published_words(arguments: Arguments, questions: Questions) -> PublishedWords:
     """What the command line says, checked."""
     reason, about = arguments.because if arguments.force else None, None
-    by, on = arguments.cast_by, arguments.cast_on
-    if arguments.casting is not None:
-        by, on = holder_and_day(by, on)
-    elif by is not None or on is not None:
-        words = "they describe the casting vote of --casting"
-        raise bad_words("--cast-by, --cast-on", words, "give --casting too")
+    number = len(arguments.casting or ())
+    by = said_of_each(number, "--cast-by", arguments.cast_by or [])
+    on = said_of_each(number, "--cast-on", arguments.cast_on or [])
     if reason is not None:
         reason = demand_reason(reason, "--force", has_paragraphs=True)
     if arguments.about is not None:
@@ -244,10 +250,11 @@ def published_words(arguments: Arguments, questions: Questions) -> PublishedWord
             "write it, or leave --about out",
         )
         about = read_text(arguments.about, TEXT_LIMIT, unread, empty, may_wait=True)
+    castings = castings_in(arguments.casting, questions)
     return PublishedWords(
-        castings=castings_in(arguments.casting, questions),
-        cast_by=by,
-        cast_on=on,
+        castings=castings,
+        cast_by=dict(zip(castings, map(holder_in, by))),
+        cast_on=dict(zip(castings, map(day_in, on))),
         about=about,
         is_forced=arguments.force,
         because=reason,
@@ -255,16 +262,32 @@ def published_words(arguments: Arguments, questions: Questions) -> PublishedWord
     )
 
 
-def holder_and_day(by: str | None, on: str | None) -> tuple[str, str]:
-    """Whose the casting vote was, and on which day."""
-    if by is None or on is None:
-        cure = 'say it with --cast-by "NAME" --cast-on 2026-12-05'
-        raise bad_words(
-            "--casting", "the page must say whose casting vote it was, and when it was given", cure
-        )
+def said_of_each(number: int, option: str, given: list[str]) -> list[str]:
+    """What an option says of each of so many casting votes, in their order; given once, it holds for
+    all. Stops if it is missing, or given another number of times.
+    """
+    if given and not number:
+        raise bad_words(option, "it describes the casting vote of --casting", "give --casting too")
+    if number and not given:
+        words = "the page must say whose casting vote it was, and when it was given"
+        raise bad_words("--casting", words, 'say it with --cast-by "NAME" --cast-on 2026-12-05')
+    if len(given) not in (1, number):
+        words = f"{len(given)} are given, and of --casting {number}"
+        cure = "give it once for all, or once for each --casting, in their order"
+        raise bad_words(option, words, cure)
+    return given * number if len(given) == 1 else given
+
+
+def holder_in(by: str) -> str:
+    """The holder of a casting vote."""
     if not by.strip() or odd_sign(by, refused=REFUSED_IN_NAME) is not None or len(by) > NAME_LIMIT:
         reason = f"it must be a name on one line, of at most {NAME_LIMIT} characters, without quotation marks"
         raise bad_words("--cast-by", reason, "write it again")
+    return by.strip()
+
+
+def day_in(on: str) -> str:
+    """The day of a casting vote."""
     try:
         day = datetime.date.fromisoformat(on)
     except ValueError:
@@ -272,7 +295,7 @@ def holder_and_day(by: str | None, on: str | None) -> tuple[str, str]:
     if day > times.now().astimezone().date():
         cure = "write the day on which it was given"
         raise bad_words("--cast-on", f"{day} is in the future", cure)
-    return by.strip(), day.isoformat()
+    return day.isoformat()
 
 
 def agreed_in_secret(
@@ -285,7 +308,10 @@ def agreed_in_secret(
         return []
     # these are the same for each
     words, acts = next((of_one.words, of_one.acts) for of_one in facts)
-    texts = {"--about": words.about, "--because": words.because, "--cast-by": words.cast_by}
+    texts = {"--about": words.about, "--because": words.because}
+    texts |= {
+        f"--cast-by{label and f' of question {label}'}": by for label, by in words.cast_by.items()
+    }
     texts |= {f"the reason for the act of {act_time(act.time)}": act.because for act in acts}
     given = {where: text for where, text in texts.items() if text is not None}
     agreed = publication.agreed_texts(

@@ -17,11 +17,10 @@ from debvote_tools.book.election import BOX_KEY
 from debvote_tools.cli.console import count_of, shown_text
 from debvote_tools.cli.faults import Fault, bad_words
 from debvote_tools.inbox.asked import has_list_of_now, last_box
-from debvote_tools.inbox.entering import doubtful
 from debvote_tools.inbox.mailbox import RawLetter
 from debvote_tools.inbox.vote import Vote
 from debvote_tools.patience import within
-from debvote_tools.poll.box import SCRIPT, asking_word, link_of, script_address
+from debvote_tools.poll.box import SCRIPT, asking_word, third_part, script_address
 from debvote_tools.text import times
 
 # in seconds and in bytes: how long an answer may take and be
@@ -96,9 +95,9 @@ def ask(at: str | None, mark: str, word: str) -> Asked:
         found_mark, digest, said = (part.decode() for part in head.groups())
         time = datetime.datetime.fromisoformat(said)
     except ValueError:
-        raise doubtful(address, f"it does not answer as a box: {shown(answer)}", UPLOAD) from None
+        raise Fault(address, f"it does not answer as a box: {shown(answer)}", UPLOAD) from None
     if found_mark != mark:
-        raise doubtful(address, f"it is the box of another vote, [{found_mark}]", UPLOAD)
+        raise Fault(address, f"it is the box of another vote, [{found_mark}]", UPLOAD)
     records = answer.body[head.end() :]
     if records and not (records.startswith(BEGIN) and records.endswith(END)):
         raise cut_off(address)
@@ -122,14 +121,14 @@ def answer_of(address: str, body: bytes) -> HostAnswer:
             response, time = connection.getresponse(), times.now()
             data = response.read(LONGEST_ANSWER + 1)
         if len(data) > LONGEST_ANSWER:
-            raise doubtful(address, f"it answers more than {LONGEST_ANSWER} bytes", UPLOAD)
+            raise Fault(address, f"it answers more than {LONGEST_ANSWER} bytes", UPLOAD)
         # without a length nobody sees whether an answer was cut off
         if response.length or not (response.headers["content-length"] or response.chunked):
             raise cut_off(address)
         return HostAnswer(response.status, response.headers["location"] or "", data, time)
     except ssl.SSLCertVerificationError as error:
         cure = "ask who keeps the web host to put it right, or look whether the clock of this computer is right"
-        raise doubtful(
+        raise Fault(
             address, f"its certificate is not right: {error.verify_message}", cure
         ) from None
     except http.client.IncompleteRead:
@@ -137,7 +136,7 @@ def answer_of(address: str, body: bytes) -> HostAnswer:
     except (OSError, http.client.HTTPException) as error:
         said = (isinstance(error, OSError) and error.strerror) or str(error) or type(error).__name__
         cure = "look whether it opens in a browser; then run the command again"
-        raise doubtful(address, f"it does not answer: {shown_text(said)}", cure) from None
+        raise Fault(address, f"it does not answer: {shown_text(said)}", cure) from None
     finally:
         connection.close()
 
@@ -147,14 +146,14 @@ def demand_box(address: str, answer: HostAnswer) -> None:
     if 300 <= answer.status < 400:
         reason = f"it sends on to {shown_text(answer.moved_to) or 'nowhere'}"
         cure = "name the address that a browser shows in the end with --at of call"
-        raise doubtful(address, reason, cure)
+        raise Fault(address, reason, cure)
     if answer.body.lstrip().startswith(b"<?php"):
         cure = (
             f"take {SCRIPT} away from there until PHP 8.1 or later runs; then run the command again"
         )
-        raise doubtful(address, "it shows the script as a text: PHP does not run there", cure)
+        raise Fault(address, "it shows the script as a text: PHP does not run there", cure)
     if answer.status != http.HTTPStatus.OK:
-        raise doubtful(address, f"it answers {answer.status}: {shown(answer)}", UPLOAD)
+        raise Fault(address, f"it answers {answer.status}: {shown(answer)}", UPLOAD)
 
 
 def shown(answer: HostAnswer) -> str:
@@ -163,7 +162,7 @@ def shown(answer: HostAnswer) -> str:
 
 
 def cut_off(address: str) -> Fault:
-    return doubtful(address, "its answer was cut off", "run the command again")
+    return Fault(address, "its answer was cut off", "run the command again")
 
 
 # ---- its records, as letters
@@ -173,7 +172,7 @@ def asked_box(vote: Vote) -> tuple[list[RawLetter], Detail, list[str]]:
     if not history.announced("box"):
         cure = f"add files; see {vote.election.command('status')}"
         raise bad_words("--box", "the call was made without it", cure)
-    key, at = queries.sealed(book, BOX_KEY) or b"", history.announced("at")
+    key, at = queries.sealed(book, BOX_KEY), history.announced("at")
     asked, before = ask(at, vote.questions.mark, asking_word(key)), last_box(history)
     letters, others = records_in(vote, asked, before, key)
     kept = queries.records_since(book, vote.call.number)
@@ -225,9 +224,9 @@ def records_in(vote: Vote, asked: Asked, before: Detail, key: bytes) -> tuple[li
         if (found := RECORD.fullmatch(part + END)) is None:
             continue
         data, link, name = found[1], found[2].decode(), found[3].decode()
-        whose = link if any(link == link_of(key, name, own) for own in owns[name]) else name
+        whose = link if any(link == third_part(key, name, own) for own in owns[name]) else name
         counts[whose] += 1
-        if name in vote.names_on_roll and counts[whose] <= MOST:
+        if name in vote.names.roll and counts[whose] <= MOST:
             where = f"box, record {len(letters) + 1}"
             letters.append(RawLetter(where, data, link=link, asked_before=earlier, behind=off))
     return letters, len(parts) - len(letters)

@@ -1,6 +1,4 @@
-"""The change that enters lines, with the replies to them; whether they come in time; and the faults
-after which nothing was added.
-"""
+"""The change that enters lines, with the replies to them; and whether they come in time."""
 
 import dataclasses
 from collections.abc import Iterable, Sequence
@@ -118,10 +116,5 @@ def came_before_close(history: History, answer: str | None) -> bool | None:
     return said
 
 
-# ---- faults after which nothing was added
 def bad_ballots(where: object, reason: object, cure: str) -> Fault:
     return Fault(where, reason, cure, Status.BAD_BALLOTS)
-
-
-def doubtful(where: object, reason: str, cure: str) -> Fault:
-    return Fault(where, reason, cure)

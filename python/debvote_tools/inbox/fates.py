@@ -59,8 +59,8 @@ def fates_of(
     times; a letter that arrived at no known time has that of its act.
 
     What became of an envelope the view `fate` says, of a letter `judged`. A letter is of whoever has a
-    ballot in it or a line near to one, and of whoever sent it; of one elector alone also each whose
-    sender has an address of theirs. One that was entered comes beside its envelopes.
+    ballot in it or a line near to one, and of whoever sent it; if asked about one elector, also
+    each whose sender has an address of theirs. One that was entered comes beside its envelopes.
     """
     book = election.book
     names = {

@@ -15,7 +15,7 @@ from debvote_tools.cli.console import tell
 from debvote_tools.cli.faults import Fault, bad_words, kept_in, stop_at
 from debvote_tools.files import BALLOTS_LIMIT, PACKED, PDF, kind_of
 from debvote_tools.inbox.mailbox import NotRead, are_letters, kind_not_read
-from debvote_tools.inbox.entering import bad_ballots, doubtful
+from debvote_tools.inbox.entering import bad_ballots
 from debvote_tools.poll.sealed import REQUIRED
 
 # what names standard input on the command line, and how messages name it
@@ -112,7 +112,7 @@ def demand_lines(file: GivenFile) -> None:
     """Stops at a file that can't have ballots: it is empty, too long, of another kind, or a poll."""
     if not file.data:
         words, cure = "it is empty", "write one ballot on each line"
-        raise doubtful(file.name, words, cure)
+        raise Fault(file.name, words, cure)
     if len(file.data) > BALLOTS_LIMIT:
         words = f"it is longer than {BALLOTS_LIMIT} bytes, the most that debvote takes"
         raise bad_ballots(file.name, words, "add it in parts")
@@ -123,4 +123,4 @@ def demand_lines(file: GivenFile) -> None:
         raise bad_ballots(file.name, f"it is {what}", CURES.get(what, AS_TEXT))
     if len({key[1] for key in POLL_KEY.finditer(file.data)}) > 1:
         words = "it looks like a poll, not like ballots"
-        raise doubtful(file.name, words, "name the file of the ballots")
+        raise Fault(file.name, words, "name the file of the ballots")

@@ -81,7 +81,7 @@ def check_again(
 
 
 def ballots_in(
-    vote: Vote, names: Collection[str], condition: str = queries.VALID
+    vote: Vote, names: Collection[str], condition: str = queries.VALID_OR_LATE
 ) -> BallotsByElector:
     """The ballots of some electors that were entered and are not struck, also late ones, unless a
     condition says otherwise.
@@ -125,7 +125,7 @@ def circumstances_now(vote: Vote, history: History) -> Circumstances:
         is_closed=history.is_closed,
         now=times.now(),
         our_ids={elector.name: ids.get(elector.number, []) for elector in electors},
-        box_key=queries.sealed(election.book, BOX_KEY) or b"",
+        box_key=queries.sealed(election.book, BOX_KEY),
         words=vote.names.words,
         no_answers=no_answers,
         asking_ids=queries.ids_that_ask(election.book),
@@ -185,8 +185,8 @@ def original_of(group: Sequence[LetterCase]) -> LetterCase | None:
     """
     may_go_in = (one for one in group if not one.is_decided and one.first_broken_rule is None)
     original = next(may_go_in, None)
-    is_settled = original and any(one.is_decided and one.can_hide(original) for one in group)
-    return None if is_settled else original
+    is_hidden = original and any(one.is_decided and one.can_hide(original) for one in group)
+    return None if is_hidden else original
 
 
 def judge_originals(

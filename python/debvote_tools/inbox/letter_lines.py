@@ -132,8 +132,13 @@ class ReadLine:
         return bool(self.ranks) and self.offered_for is None
 
     @property
+    def meant(self) -> set[str]:
+        """Those who may be meant by its name, as people write it."""
+        return {*self.on_roll, *self.real}
+
+    @property
     def as_ballot(self) -> BallotLine:
-        """It with the name of its elector, or of one who may be meant: there is one."""
+        """It with the name of its elector, or of the first who may be meant."""
         name = self.elector or (*self.real, *self.on_roll)[0]
         return BallotLine(self.numbers, f"{name} {self.ranks}")
 

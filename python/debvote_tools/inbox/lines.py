@@ -6,14 +6,14 @@ ranks, capital letters of the name; and what mail programs and word processors w
 marks around the line, asterisks for bold letters, a full stop at its end, semicolons between all
 ranks in place of commas, a colon after the name, no-break spaces, a dash in place of a hyphen. A
 name that is that of one elector alone, on the roll or really, becomes the one on the roll, and in a
-motion a word becomes ranks (`Vote.as_meant`). Of a ballot of several answers each is changed so, and
+motion a word becomes ranks (`Vote.as_meant`); in a letter its sender decides whose real name it is
+(`LetterCase.elector_of`). Of a ballot of several answers each is changed so, and
 labels become capital letters in their order. Nothing is guessed: no rank, no name, no order.
 """
 
 import codecs
 import dataclasses
 import functools
-import itertools
 import re
 import unicodedata
 from collections.abc import Iterable, Mapping
@@ -23,7 +23,7 @@ from debvote_tools.grouping import grouped
 from debvote_tools.poll.plain_names import without_accents
 from debvote_tools.poll.sealed import OWN_LENGTH, OWN_SIGNS
 from debvote_tools.text.ballots import answers_text
-from debvote_tools.text.motions import WORDS, Words, with_ranks
+from debvote_tools.text.motions import Words, with_ranks
 
 MARK, BLANKS = codecs.BOM_UTF8, b" \t"
 
@@ -66,12 +66,6 @@ LABEL = re.compile(
     rf"(?:^|(?<=[\s:]))([A-Za-z])(?:(?:\s*[:).]\s*|\s+)(?=[\d{DASHES}-])|(?=(?:\d{{1,2}}|[{DASHES}-])\s*[,;]))"
 )
 
-# a label and one of the words in place of ranks
-LABELLED = re.compile(
-    rf"((?:^|(?<=[\s:]))[A-Za-z](?:\s+|\s*[:).]\s*))(?:{'|'.join({*itertools.chain(*WORDS.values())})})\b",
-    re.IGNORECASE,
-)
-
 # a word behind a label, which is a capital letter or has a sign behind it
 WORD = re.compile(
     r"(?:^|(?<=[\s:]))(?:([A-Z])\s+|([A-Za-z])\s*[:).]\s*)([^\W\d_][\w\u0300-\u036f]*) ?[.!]?(?=\s|$)"
@@ -79,25 +73,6 @@ WORD = re.compile(
 
 # a name whose last word is one letter
 LETTER_LAST = re.compile(r"[^\w.]\w\W*$")
-
-# a word in place of ranks
-IN_A_WORD = re.compile(r"[^\W\d_]+ *[.!]?\s*$")
-
-# the characters that are removed or replaced, by their names
-REPAIRED = {
-    "byte-order mark": "\ufeff",
-    "carriage return": "\r",
-    "tabs": "\t",
-    "spaces": " ",
-    "no-break spaces": NO_BREAK,
-    "quotation marks": "".join(QUOTES),
-    "asterisks": "*",
-    "full stop": ".",
-    "brackets": ")",
-    "semicolons": ";",
-    "colon": ":",
-    "dashes": DASHES,
-}
 
 
 class Line(NamedTuple):
@@ -107,11 +82,9 @@ class Line(NamedTuple):
 
     file_name: str
     number: int
-    # with its byte-order mark and carriage return
-    as_it_came: bytes
-    # without them
+    # as it came, without its end, and without the byte-order mark of its file
     unframed: bytes
-    # with the changes that are allowed, but for those of name and words, which `Vote.as_meant` makes
+    # with the changes that are allowed, but for whose name it is, and for words: see `Vote.as_meant`
     repaired: bytes
 
     @property
@@ -125,21 +98,6 @@ class Line(NamedTuple):
     @property
     def is_empty(self) -> bool:
         return not self.repaired
-
-    @property
-    def had_mark(self) -> bool:
-        return self.as_it_came.startswith(MARK) and not self.unframed.startswith(MARK)
-
-    @property
-    def had_return(self) -> bool:
-        return self.as_it_came.endswith(b"\r")
-
-    @property
-    def as_reported(self) -> bytes:
-        """With what a report of changes begins: the line as it came, but without a mark and a carriage
-        return, which are told once for a file.
-        """
-        return self.as_it_came.removesuffix(b"\r").removeprefix(MARK if self.had_mark else b"")
 
 
 @dataclasses.dataclass(frozen=True)
@@ -238,9 +196,9 @@ def lines_in(data: bytes, name: str, longest: int, first: int = 1) -> list[Line]
     """
     lines = []
     for number, line in enumerate(data.splitlines(keepends=True), start=first):
-        as_it_came = line.removesuffix(b"\n")
-        unframed = as_it_came.removesuffix(b"\r").removeprefix(MARK if number == 1 else b"")
-        lines.append(Line(name, number, as_it_came, unframed, repaired_line(unframed, longest)))
+        unframed = line.removesuffix(b"\n").removesuffix(b"\r")
+        unframed = unframed.removeprefix(MARK if number == 1 else b"")
+        lines.append(Line(name, number, unframed, repaired_line(unframed, longest)))
     return lines
 
 
@@ -325,25 +283,3 @@ def unquoted(text: str) -> str:
     inner = text[1:-1]
     is_quoted = inner and text[0] + text[-1] in QUOTES and not {text[0], text[-1]} & {*inner}
     return inner.strip(" \t") if is_quoted else text
-
-
-def differences(before: bytes, after: bytes) -> list[str]:
-    """What was removed or replaced, in words."""
-    then, now = (line.decode("utf-8", "replace") for line in (before, after))
-    names = [
-        name
-        for name, signs in REPAIRED.items()
-        if any(then.count(sign) > now.count(sign) for sign in signs)
-    ]
-    has_labels = RIGHT_ANSWERS.fullmatch(now) is not None
-    words = LABELLED.sub(r"\1", then) if has_labels else IN_A_WORD.sub("", then)
-    if words != then:
-        names.append("word")
-        before = words.encode()
-    letters, after_letters = (re.sub(rb"[^a-z]", b"", text.lower()) for text in (before, after))
-    # labels may have been put in order
-    if letters != after_letters and not (has_labels and sorted(letters) == sorted(after_letters)):
-        names.append("real name")
-    if len(re.findall(rb"[A-Z]", before)) > len(re.findall(rb"[A-Z]", after)):
-        names.append("capital letters")
-    return names

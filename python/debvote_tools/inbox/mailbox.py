@@ -92,7 +92,7 @@ class RawLetter:
     data: bytes = b""
     is_parted_off: bool = False
     why_not_read: NotRead | None = None
-    # of a record of the box: the link by which it came, when the box was asked before by its clock,
+    # of a record of the box: the third part of the link by which it came, when the box was asked before by its clock,
     # and by how many seconds that clock is behind, if by more than a minute
     link: str = ""
     asked_before: datetime.datetime | None = None

@@ -10,7 +10,7 @@ import dataclasses
 import datetime
 import enum
 
-from debvote_tools.cli.console import shown_text
+from debvote_tools.cli.console import act_time, shown_text
 
 Value = str | int | datetime.datetime
 
@@ -233,7 +233,7 @@ def for_secretary(why: ReasonWithValues) -> str:
 
 def shown_value(value: Value) -> str:
     if isinstance(value, datetime.datetime):
-        return f"{value.astimezone(datetime.UTC):%Y-%m-%d %H:%M:%S} UTC"
+        return act_time(value)
     return str(value) if isinstance(value, int) else shown_text(value)
 
 

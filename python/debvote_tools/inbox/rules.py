@@ -30,7 +30,7 @@ from debvote_tools.inbox.letter_lines import (
 from debvote_tools.inbox.mime import address_key
 from debvote_tools.inbox.reasons import Reason, ReasonWithValues
 from debvote_tools.inbox.written import GAP, UNFILLED
-from debvote_tools.poll.box import link_of
+from debvote_tools.poll.box import third_part
 from debvote_tools.poll.sealed import MARKS, marks_in
 from debvote_tools.text.motions import Words, may_answer, words_in
 
@@ -174,9 +174,13 @@ class LetterCase:
         # the ballots of an elector who is known, also those that debvote refuses
         self.named = [line for line in ballots if line.elector]
         valid = [line.as_ballot for line in self.named if line.answer is None]
-        # beside these those with the real name of somebody else, as in the letter of a family
-        unknown = [line for line in ballots if self.named and not line.elector]
-        others = [line.as_ballot for line in unknown if line.real and line.answer is None]
+        # beside these those with the real name of somebody else, as in the letter of a family; if
+        # several have it, it is nobody's
+        unknown = [line for line in ballots if self.named and line.real and not line.elector]
+        self.unclear = [line for line in unknown if line.answer is None and len(line.meant) > 1]
+        others = [
+            line.as_ballot for line in unknown if line.answer is None and len(line.meant) == 1
+        ]
         # the ballot that may go in, and the indices of its lines
         end = above_end(letter.body.lines)
         self.ballot = next((line for line in valid if max(line.numbers) <= end), None)
@@ -193,16 +197,22 @@ class LetterCase:
 
     @functools.cached_property
     def other_answers(self) -> set[int]:
-        """The lines that may be answers and are in no valid ballot, unless they stand so in our letter.
-        What is quoted is none, since the elector may have written it before, but in our letter.
+        """The lines that may be answers and are in no valid ballot, or in one that may be of several
+        electors, unless they stand so in our letter. What is quoted is none, since the elector may have
+        written it before, but in our letter.
         """
         strays = {number: self.read.shown_lines[number - 1] for number in self.read.strays}
-        return self.read.refused_answers | {
-            number
-            for number, line in strays.items()
-            if without_quote_signs(line).strip() not in self.circumstances.no_answers
-            and (not is_quoted(line) or self.fills_in_our_letter)
-        }
+        unclear = {number for line in self.unclear for number in line.numbers}
+        return (
+            self.read.refused_answers
+            | unclear
+            | {
+                number
+                for number, line in strays.items()
+                if without_quote_signs(line).strip() not in self.circumstances.no_answers
+                and (not is_quoted(line) or self.fills_in_our_letter)
+            }
+        )
 
     @functools.cached_property
     def fills_in_our_letter(self) -> bool:
@@ -231,7 +241,7 @@ class LetterCase:
         """
         sender, marked = self.sending_elector, self.marked_elector
         if line.elector or line.on_roll or line.real:
-            is_own = sender in (*line.on_roll, *line.real) and {sender}.issuperset(line.on_roll)
+            is_own = sender in line.meant and {sender}.issuperset(line.on_roll)
             return line.elector or (sender if is_own else None)
         if marked is None:
             return sender
@@ -243,7 +253,7 @@ class LetterCase:
         if line.answer is not None:
             return None
         if not line.elector:
-            return Reason.REAL_NAME if len({*line.on_roll, *line.real}) == 1 else None
+            return Reason.REAL_NAME if len(line.meant) == 1 else None
         is_money = why is not Reason.NO_NAME and line.as_ballot.high_rank
         # a line of our letter that is filled in is offered for whoever may have sent it
         senders = (*self.sharing, self.marked_elector)
@@ -353,7 +363,7 @@ class LetterCase:
         if not link:
             return name in self.sharing
         elector = now.electors.get(name)
-        return elector is not None and link == link_of(now.box_key, name, elector.mark)
+        return elector is not None and link == third_part(now.box_key, name, elector.mark)
 
     @property
     def arrived_in_time(self) -> bool:

@@ -1,6 +1,6 @@
 """What stops a close, and after it a count, a publication and the letters of the result: all of them ask
-`what_stops`. Letters that arrived in time and wait, whenever they were added, and ballots in a box that was not
-asked may decide the vote.
+`what_stops`. Letters that arrived in time and wait, whenever they were added, and, but for the letters of the
+result, ballots in a box that was not asked may decide the vote.
 
 What judges letters takes a while to be imported, so it is only if some came.
 """
@@ -50,8 +50,8 @@ class Pending:
 def what_stops(
     election: Election, history: History, step: str, pending: Pending
 ) -> dict[str, Fault]:
-    """Why a step has to wait, by kind: `close` or, before the end, `early`; `count`, `publish`, or the letters
-    of the `result`. What can be forced each command says.
+    """Why a step has to wait, by the kinds of what stops. Steps are `close` or, before the end, `early`;
+    `count`, `publish`, and the letters of the `result`. What can be forced each command says.
     """
     unasked = unasked_fault(election, history, step)
     found = {BOX: unasked} if unasked else {}

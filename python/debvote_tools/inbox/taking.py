@@ -106,7 +106,7 @@ def keep(vote: Vote, raws: Sequence[RawLetter], read: Sequence[ReadLetter], deta
         return
     with vote.book.act("letters", {"letters": len(raws), **detail}) as act:
         # their lines were read by the poll of this call
-        vote.demand_same_call(vote.election.history())
+        vote.history()
         kept = queries.kept_digests(vote.book)
         for raw, letter in zip(raws, read):
             # another command may have kept it meanwhile
@@ -166,8 +166,7 @@ class GoingIn(LetterEntry):
 def what_goes_in(
     vote: Vote, previewed: Sequence[ReadLetter] = (), *, of_box: bool, is_agreed: bool
 ) -> GoingIn:
-    history = vote.election.history()
-    vote.demand_same_call(history)
+    history = vote.history()
     every = judged(vote, history, queries.kept_letters(vote.book), previewed)
     found = [letter for letter in every if letter.read.link or not of_box]
     new = going_in(found)

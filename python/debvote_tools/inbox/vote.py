@@ -18,11 +18,10 @@ from debvote_tools.inbox.lines import (
     RIGHT_ANSWERS,
     Line,
     Names,
-    differences,
     has_code,
     name_in,
 )
-from debvote_tools.text.ballots import ballot_file, line_of, part_of, ranks_by_label
+from debvote_tools.text.ballots import answers_of, ballot_file, line_of, part_of, ranks_by_label
 from debvote_tools.text.language import ENGLISH
 
 # the cure where lines look like a table
@@ -58,10 +57,8 @@ class CheckedLine(NamedTuple):
     as_entered: bytes
     # why debvote refuses it; None if it is a ballot
     finding: Finding | None = None
-    # why it would refuse the line with the changes, if it would for another reason
-    finding_if_changed: Finding | None = None
-    # names on the roll that fit as well as the one that debvote offers
-    other_names: tuple[str, ...] = ()
+    # why it refuses the line with the changes that are allowed, too
+    lasting: Finding | None = None
     # whose name it has, if these are several
     why_unclear: str = ""
 
@@ -77,16 +74,6 @@ class CheckedLine(NamedTuple):
         return self.finding is not NO_FORM
 
     @property
-    def lasting(self) -> Finding | None:
-        """The reason that stays after the changes that are allowed."""
-        return self.finding_if_changed or self.finding
-
-    @property
-    def changed(self) -> bytes:
-        """The whole line with what was changed of it."""
-        return self.as_entered if self.as_entered == self.original.unframed else self.as_meant
-
-    @property
     def why_refused(self) -> str | None:
         """What the book keeps of what debvote says, without its remark on other lines."""
         return None if self.finding is None else said_of(self.finding)
@@ -96,8 +83,9 @@ class CheckedLine(NamedTuple):
         return self.as_entered.partition(b" ")[0].decode("ascii")
 
     @property
-    def ranks(self) -> str:
-        return self.as_entered.partition(b" ")[2].decode("ascii")
+    def answers(self) -> Mapping[str, str]:
+        """Of a ballot the ranks by question."""
+        return answers_of(self.as_entered.decode("ascii"))
 
 
 class Vote:
@@ -113,7 +101,6 @@ class Vote:
         self.questions = questions = election.questions
         # the one question that is answered without a label, if there is one
         self.label, self.poll = label, questions.get(label)
-        self.roll = questions.roll
         # the roll has codes: none is printed that was not typed
         self.has_codes = history.has_codes_on_roll
         self.is_signed = bool(history.announced("signed"))
@@ -122,14 +109,13 @@ class Vote:
         # most ballots have one of a few orders
         self.answers_in_words = functools.lru_cache(4096)(questions.in_words())
 
-    @functools.cached_property
-    def names_on_roll(self) -> frozenset[str]:
-        return frozenset(self.roll)
-
-    def demand_same_call(self, history: History, cure: str = "run the command again") -> None:
-        """Stops if lines were read by the poll of another call."""
+    def history(self) -> History:
+        """The acts until now. Stops after another call: lines were read by the poll of this one."""
+        history = self.election.history()
         if history.call != self.call:
-            raise Fault(None, "the call for votes was made anew meanwhile", cure)
+            words = "the call for votes was made anew meanwhile"
+            raise Fault(None, words, "run the command again")
+        return history
 
     @functools.cached_property
     def names(self) -> Names:
@@ -140,7 +126,8 @@ class Vote:
         labels = tuple(filter(None, questions))
         motions = tuple(label for label in labels if questions[label].motion)
         longest, words = questions.longest_line, questions.words(language)
-        return Names(self.names_on_roll, language.code, real_names, longest, words, labels, motions)
+        roll = frozenset(questions.roll)
+        return Names(roll, language.code, real_names, longest, words, labels, motions)
 
     def as_meant(self, line: Line) -> tuple[bytes, list[str]]:
         """A line as it was repaired, with the name on the roll of the elector who is meant by its name, and
@@ -166,21 +153,21 @@ class Vote:
 
     def why_too_long(self, line: Line) -> str | None:
         """Why a line is no ballot, if it is longer than any."""
-        words = f"the line has {len(line.as_it_came)} bytes, and a ballot has a few dozen"
-        return words if len(line.as_it_came) > self.questions.longest_line else None
+        words = f"the line has {len(line.unframed)} bytes, and a ballot has a few dozen"
+        return words if len(line.unframed) > self.questions.longest_line else None
 
     def why_not_entered(self, line: CheckedLine) -> str:
         """Why a line is not entered unless somebody forces it, or at all; empty if it is."""
         if line.can_be_entered:
             return line.why_unclear
-        is_none = f"`{shown_line(line.original.as_reported)}` is no ballot"
+        is_none = f"`{shown_line(line.original.repaired)}` is no ballot"
         hint = NO_FORM.hint if self.poll is None else WITHOUT_LABEL
         return line.why_unclear or self.why_too_long(line.original) or f"{is_none}: {hint}"
 
     def electors_of(self, lines: Sequence[bytes]) -> list[int | None]:
         """Of each line the elector whose name it begins with."""
         names = [name_in(line).decode("ascii") for line in lines]
-        numbers = queries.elector_numbers(self.book, self.names_on_roll.intersection(names))
+        numbers = queries.elector_numbers(self.book, self.names.roll.intersection(names))
         return list(map(numbers.get, names))
 
     # ---- what debvote says
@@ -215,10 +202,7 @@ class Vote:
             yield CheckedLine(line, meant, meant)
         elif of_meant := its.get(""):
             found = refused[line.unframed].get("", of_meant)
-            other = None if (found.word, found.hint) == (of_meant.word, of_meant.hint) else of_meant
-            yield CheckedLine(
-                line, meant, line.unframed, found, other, self.other_names(found), why
-            )
+            yield CheckedLine(line, meant, line.unframed, found, of_meant, why)
         else:
             name, _, answers = meant.decode("ascii").partition(" ")
             by_finding = grouped(
@@ -226,7 +210,7 @@ class Vote:
             )
             for finding in sorted(by_finding, key=lambda finding: finding is not None):
                 text = line_of(name, dict(by_finding[finding])).encode()
-                yield CheckedLine(line, meant, text, finding, None, self.other_names(finding))
+                yield CheckedLine(line, meant, text, finding, finding)
 
     def why_each_refused(self, lines: Sequence[bytes]) -> dict[bytes, str | None]:
         """What debvote says of each line, such as `bad rank count: ..`; None for a valid ballot. What
@@ -280,28 +264,25 @@ class Vote:
                 found = self.debvote.findings(poll.as_bytes(), ballots)
                 yield label, [line for line, _ in parts], found
 
-    def other_names(self, finding: Finding | None) -> tuple[str, ...]:
+    def other_names(self, offered: Sequence[str]) -> list[str]:
         """All names that fit as well as those that debvote offers: `ada-2` beside `ada`."""
-        offered = finding.near if finding else ()
         bare_names = dict.fromkeys(NUMBER.sub("", near) for near in offered)
         alike = (name for bare in bare_names for name in self.names_by_bare_name[bare])
-        return tuple(name for name in alike if name not in offered)
+        return [name for name in alike if name not in offered]
 
     @functools.cached_property
     def names_by_bare_name(self) -> dict[str, list[str]]:
-        return grouped((NUMBER.sub("", name), name) for name in self.roll)
+        return grouped((NUMBER.sub("", name), name) for name in self.questions.roll)
 
     # ---- words
     def report_of_lines(
         self, lines: Sequence[CheckedLine], numbers: Iterable[int], replies: Sequence[str]
     ) -> Iterator[str]:
         """Each line that went in, or would, by the number of its envelope and the reply to it."""
-        yield from frame_words(line.original for line in lines)
         for number, reply, line in zip(numbers, replies, lines):
-            if line.original.as_it_came != line.changed:
-                yield from change_words(line)
+            yield from change_words(line)
             yield f"{number} {reply}  {self.in_words(line, reply)}"
-            if other := line.finding_if_changed:
+            if (other := line.lasting) and other != line.finding:
                 written = f"written as `{shown_line(line.as_meant)}` it is refused too"
                 yield f"  it goes in as it came; {written}: {other.word}: {other.hint}"
         if not all(line.is_ballot for line in lines):
@@ -316,9 +297,10 @@ class Vote:
             return self.ballot_in_words(line.as_entered.decode("ascii"))
         word = "" if line.finding.word == reply else f"{line.finding.word}: "
         # so that nobody takes one elector for another
-        others = f" (or {ENGLISH.joined(list(line.other_names))})" if line.other_names else ""
+        others = self.other_names(line.finding.near)
+        names = f" (or {ENGLISH.joined(others)})" if others else ""
         is_code = has_code(line.as_meant.decode("utf-8", "replace")) and not self.has_codes
-        said = f"{shown_line(line.as_entered)}: {word}{line.finding.hint}{others}"
+        said = f"{shown_line(line.as_entered)}: {word}{line.finding.hint}{names}"
         return said + (IS_CODE if is_code else "")
 
     def ballot_in_words(self, ballot: str) -> str:
@@ -327,7 +309,7 @@ class Vote:
 
     @property
     def right_line(self) -> str:
-        right = self.questions.line("CODE" if self.has_codes else self.roll[0], str)
+        right = self.questions.line("CODE" if self.has_codes else self.questions.roll[0], str)
         part = part_of(right.encode(), self.label)
         return right if part is None else part.decode()
 
@@ -396,22 +378,11 @@ def in_parts(lines: Sequence[bytes]) -> Iterator[list[bytes]]:
         yield part
 
 
-def frame_words(lines: Iterable[Line]) -> Iterator[str]:
-    """The marks and line ends of Windows that were removed, once a file."""
-    changed = (one for one in lines if one.as_it_came != one.repaired)
-    for name, its in grouped((line.file_name, line) for line in changed).items():
-        if any(line.had_mark for line in its):
-            yield f"{name}: it begins with a mark that Windows writes (byte-order mark); it was removed"
-        if count := sum(line.had_return for line in its):
-            verb, they = ("ends", "it") if count == 1 else ("end", "them")
-            yield f"{name}: {count_of(count, 'line')} {verb} as Windows ends {they} (carriage return); that was removed"
-
-
 def change_words(line: CheckedLine) -> Iterator[str]:
-    before, after = line.original.as_reported, line.changed
-    if before != after:
-        how = ", ".join(differences(before, after)) or "labels"
-        yield f"{line.original.where}: `{shown_line(before)}` was changed to `{shown_line(after)}` ({how})"
+    """What was changed of a line that is not entered as it came."""
+    came, meant = line.original.unframed, line.as_meant
+    if came not in (line.as_entered, meant):
+        yield f"{line.original.where}: `{shown_line(came)}` was changed to `{shown_line(meant)}`"
 
 
 def summary(replies: Sequence[str]) -> str:

@@ -50,7 +50,7 @@ def asking_word(key: bytes) -> str:
     return hmac.digest(key, b"ask", "sha256").hex()
 
 
-def link_of(key: bytes, name: str, own: str) -> str:
+def third_part(key: bytes, name: str, own: str) -> str:
     """The third part of the personal link of an elector with this own mark. It stands in no subject,
     as own marks do: who gets an answer of the elector in copy cannot vote.
     """
@@ -63,7 +63,7 @@ def link_of(key: bytes, name: str, own: str) -> str:
 def script_of(key: bytes, mark: str, owns: Mapping[str, str]) -> bytes:
     """The script for the vote of a poll with this mark, and these own marks by names."""
     digests = {
-        name: sha256_of(f"{mark} {name} {link_of(key, name, own)}".encode())
+        name: sha256_of(f"{mark} {name} {third_part(key, name, own)}".encode())
         for name, own in owns.items()
     }
     rows = {mark: sha256_of(asking_word(key).encode())} | digests

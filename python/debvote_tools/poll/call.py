@@ -111,7 +111,7 @@ class CallData:
         if elector is None or not (elector.mark and self.at and self.is_by_name):
             return self.at
         name, own = elector.name, elector.mark
-        third = f"/{box.link_of(self.box_key, name, own)}" if self.has_box else ""
+        third = f"/{box.third_part(self.box_key, name, own)}" if self.has_box else ""
         return f"{self.at}#{name}/{own}{third}"
 
     @property
@@ -272,8 +272,3 @@ def current_call(
 def until_of(said: Detail) -> datetime.datetime | None:
     """The end that the command line names."""
     return datetime.datetime.fromisoformat(said["until"]) if "until" in said else None
-
-
-def zone_of(history: History) -> datetime.tzinfo | None:
-    """The zone in which the end was announced."""
-    return history.until.tzinfo if history.until else datetime.UTC

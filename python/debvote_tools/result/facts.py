@@ -57,20 +57,16 @@ class PublishedWords:
     made again.
     """
 
-    # the options that casting votes choose; whose these were and on which
-    # day, if that is said. No count can show it
+    # the options that casting votes choose; whose each was and on which day, by the same labels, if that
+    # is said. No count can show it
     castings: Castings = dataclasses.field(default_factory=dict)
-    cast_by: str | None = None
-    cast_on: str | None = None
+    cast_by: Mapping[str, str] = dataclasses.field(default_factory=dict)
+    cast_on: Mapping[str, str] = dataclasses.field(default_factory=dict)
     about: str | None = None
     # whether doubts stop nothing, which needs a reason
     is_forced: bool = False
     because: str | None = None
     language: str | None = None
-
-    @property
-    def cast_day(self) -> datetime.date | None:
-        return datetime.date.fromisoformat(self.cast_on) if self.cast_on else None
 
 
 @dataclasses.dataclass(frozen=True)
@@ -214,6 +210,16 @@ class Facts:
     def casting(self) -> str | None:
         """The plain name of the option that the casting vote chooses."""
         return self.words.castings.get(self.label)
+
+    @property
+    def cast_by(self) -> str | None:
+        """Whose the casting vote was; None if that is not said."""
+        return self.words.cast_by.get(self.label)
+
+    @property
+    def cast_day(self) -> datetime.date:
+        """The day of a casting vote of which it is said whose it was."""
+        return datetime.date.fromisoformat(self.words.cast_on[self.label])
 
     @property
     def casting_words(self) -> list[str]:

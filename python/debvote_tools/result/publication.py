@@ -19,7 +19,7 @@ from debvote_tools.files import sha256_of
 from debvote_tools.inbox.asked import is_unasked_since_end
 from debvote_tools.inbox.lines import name_in
 from debvote_tools.inbox.stopping import BOX, LETTERS, Pending, what_stops
-from debvote_tools.poll.call import current_call, zone_of
+from debvote_tools.poll.call import current_call
 from debvote_tools.poll.secret import alias_in, aliased_ballots, sealed_checksum
 from debvote_tools.poll.questions import Questions, place_of
 from debvote_tools.poll.sealed import SealedPoll
@@ -180,7 +180,7 @@ def closing_letter(history: History, questions: Questions, language: Language) -
     """The letter of the last close, with what it says of the one before; the questions are the public
     ones. In a secret vote the reason for which the vote was opened again stays in the log.
     """
-    close, zone = history.closes[-1], zone_of(history)
+    close, zone = history.closes[-1], history.zone
     values = {"close": close, "time": close.time.astimezone(zone), "questions": questions}
     values |= {"fixed": fixed_by(close), "early_end": early_end(history), "earlier": None}
     if earlier := history.closes[:-1]:
@@ -240,7 +240,7 @@ def doubts_of(
 # ---- what was done
 def acts_of(book: Book, history: History, *, is_secret: bool) -> list[Act]:
     """What the pages tell, with its times in the zone in which the end was announced."""
-    in_zone = operator.methodcaller("astimezone", zone_of(history))
+    in_zone = operator.methodcaller("astimezone", history.zone)
     found: list[Act] = []
     for before, act in zip([None, *history.acts], history.acts):
         if before is not None and act.went_back(before):

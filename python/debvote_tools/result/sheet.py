@@ -14,7 +14,7 @@ from typing import Any
 
 from debvote_tools.book.election import Election, History
 from debvote_tools.cli.faults import Fault, Status, other_format
-from debvote_tools.debvote import casting_words
+from debvote_tools.debvote import option_words
 from debvote_tools.poll.questions import Questions
 from debvote_tools.poll.sealed import SealedPoll
 
@@ -279,10 +279,22 @@ def with_label(label: str, casting: str) -> str:
 
 
 def publishing(election: Election, castings: Castings) -> str:
-    """The command that publishes a result, with the casting votes if there are any."""
-    words = [word for pair in castings.items() for word in casting_words(with_label(*pair))]
-    cast = ("--cast-by", "WHO", "--cast-on", "DATE") if castings else ()
-    return election.command("publish", *words, *cast)
+    """The command that publishes a result, with the casting votes if there are any. One that was published
+    before keeps its holder and its day; those of others the secretary writes.
+    """
+    published: dict[tuple[str, str], tuple[str, str]] = {}
+    for act in election.history().named("publish"):
+        by, on = act.detail["words"]["cast_by"], act.detail["words"]["cast_on"]
+        published |= {
+            (label, option): (by[label], on[label])
+            for label, option in act.detail["casting"].items()
+        }
+    words: list[str] = []
+    for label, option in castings.items():
+        holder, day = published.get((label, option), ("WHO", "DATE"))
+        words += option_words("--casting", with_label(label, option))
+        words += [*option_words("--cast-by", holder), "--cast-on", day]
+    return election.command("publish", *words)
 
 
 def bad_casting(text: str, words: str, cure: str) -> Fault:

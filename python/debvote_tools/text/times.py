@@ -30,14 +30,19 @@ def now() -> datetime.datetime:
 
 def time_in_words(time: datetime.datetime, language: Language = ENGLISH) -> str:
     """A time as `Friday, 4 December 2026, 18:00 (UTC+01:00)`; seconds are left out if they are 0."""
-    offset = time.strftime("%z")
     return language.say(
         "{weekday}, {date}, {clock} ({offset})",
         weekday=language.say(DAYS[time.weekday()]),
         date=date_in_words(time, language),
         clock=time.strftime("%H:%M:%S" if time.second else "%H:%M"),
-        offset=f"UTC{offset[:3]}:{offset[3:5]}" if time.utcoffset() else "UTC",
+        offset=offset_of(time),
     )
+
+
+def offset_of(time: datetime.datetime) -> str:
+    """How far its clock is ahead, as `UTC+01:00`; `UTC` if it is not."""
+    offset = time.strftime("%z")
+    return f"UTC{offset[:3]}:{offset[3:5]}" if time.utcoffset() else "UTC"
 
 
 def minute_in_words(time: datetime.datetime, zone: datetime.tzinfo | None) -> str:

@@ -402,20 +402,19 @@ class Rewritten(BookTest):
         for name, at in {"the envelope": table + 1, "the act": table + 5, "the act of the index": index + 4}.items():
             with self.subTest(name):
                 self.book.write_bytes(whole[:at] + bytes([whole[at] ^ 2]) + whole[at + 1 :])
-                is_mended = name == "the act of the index"
                 for words in RELYING[:5]:
                     ended = self.election(*words)
                     self.assert_fault(ended, 9, "election.db: the book is damaged", "struck")
-                    said = "its tables are whole: on a copy of the file, REINDEX of sqlite3 mends it" in ended.faults
-                    self.assertEqual(said, is_mended, ended)
                 self.assertGreater(len(self.formats()), 1)
                 # nothing is built on it, either
                 self.assert_fault(self.election("desk", given="hal 1,2,3,4\n"), 9, "election.db: the book is damaged", "nothing was entered")
+        # the last one is of an index alone, and as the guide says
         copy = self.scratch / "copy"
         shutil.copy(self.book, copy)
         with contextlib.closing(sqlite3.connect(copy)) as connection:
             connection.execute("REINDEX")
         copy.replace(self.book)
+        self.assertIn("The chain is whole: ", self.done("log", "--check").output)
         self.done("export", "out")
 
     def test_another_schema(self) -> None:

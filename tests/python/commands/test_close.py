@@ -116,7 +116,7 @@ class Meanwhile(LettersTest):
         (self.folder / "letters").unlink()
         self.assertIn("Made letters/closed.txt", self.done("close").output)
         moved = self.election("publish", "--moved", "--because", "a new disk", "--casting", "nobody")
-        self.assert_fault(moved, 2, "; act 6 (moved) was done; nothing was published: ")
+        self.assert_fault(moved, 2, "; act 6 (moved) was done: ")
 
 
 class Asked(LettersTest):
@@ -225,8 +225,8 @@ class Told(LettersTest):
             "Lines: 6 (3 valid, 3 refused)\n",
             "Electors with a valid ballot: 2 of 9\n",
             "Electors without a ballot (7):\n  ben cleo dan eve gus hal ida\n",
-            "Refused lines of electors without a ballot (1):\n  envelope 2: ben 1,2\n",
-            "Refused lines with no known elector (1):\n  envelope 3: zoe 1,2,3,4\n",
+            "Refused lines of electors without a ballot to the question, or of nobody known (2):\n  envelope 2: ben 1,2\n    bad rank count: ",
+            "\n  envelope 3: zoe 1,2,3,4\n    bad not on roll: zoe is not on the roll\nLast act: ",
             "Next: add the ballots as they come",
         ):
             self.assertIn(part, output)

@@ -33,7 +33,7 @@ class AtATerminal(TerminalTest):
     def test_a_ballot_is_shown_and_cast(self) -> None:
         desk = self.at_terminal("  1 At the lake\n  2 In the town hall\n  3 Sell the house and meet there\n  4 Further discussion\n"
                                 "Type a ballot as ada 1,2,3,4 (the elector, then a rank for each option in this order); q ends.\n")
-        before, changed = self.last_act(), "desk:1: `Ada 1, 2,4,3` was changed to `ada 1,2,4,3` (spaces, capital letters)\n"
+        before, changed = self.last_act(), "desk:1: `Ada 1, 2,4,3` was changed to `ada 1,2,4,3`\n"
         self.assertTrue(desk.after("Ada 1, 2,4,3\n", CAST).endswith(f"{changed}ada: {LAKE}\n{CAST}"))
         self.assertEqual(self.last_act(), before)
         self.assertIn(f"\n1 counted  ada: {LAKE}\n", desk.after("y\n", "Ballot: "))
@@ -123,7 +123,7 @@ class AtATerminal(TerminalTest):
         self.told("call", "--to", "vote@club.example")
         desk.type(f"ada {RANKS}\nn\nq\n")
         output, status = desk.end()
-        self.assertIn("the call for votes was made anew meanwhile; nothing was entered: start the desk again", output)
+        self.assertIn("the call for votes was made anew meanwhile; nothing was entered: run the command again", output)
         self.assertEqual((status, self.lines()), (9, []))
 
     def test_after_reopen_it_asks_once(self) -> None:
@@ -209,7 +209,7 @@ class WholeNames(TerminalTest):
         """That of one elector alone is that elector's; of those who have it one is chosen."""
         desk = self.at_terminal()
         shown = desk.after(f"Anna  Meier {RANKS}\n", CAST)
-        self.assertIn(f"` was changed to `meier {RANKS}` (spaces, real name, capital letters)\nmeier: At the lake, ", shown)
+        self.assertIn(f"` was changed to `meier {RANKS}`\nmeier: At the lake, ", shown)
         desk.after("n\n", "Ballot: ")
         self.assertIn("`meier Anna` is part of 2 names:", desk.after(f"Meier Anna {RANKS}\n", "for none: "))
         desk.after("n\n", "Ballot: ")
@@ -238,9 +238,7 @@ class FromAPipe(CalledTest):
 
     def test_line_ends_that_come_in_parts(self) -> None:
         desk = self.desk()
-        self.assertIn("desk: it begins with a mark", self.answer(desk, "\ufeffada 1,2,4,3\r"))
-        self.assertIn("desk: 1 line ends as Windows", desk.stdout.readline())
-        self.assertTrue(desk.stdout.readline().startswith("1 counted  ada: "))
+        self.assertTrue(self.answer(desk, "\ufeffada 1,2,4,3\r").startswith("1 counted  ada: "))
         desk.stdin.write("\nben 1,2")
         desk.stdin.flush()
         time.sleep(0.1)
@@ -250,11 +248,10 @@ class FromAPipe(CalledTest):
 
     def test_lines_are_taken_as_add_takes_them(self) -> None:
         output = self.told("desk", given=b"Ada 1,2,4,3\r\n\nq\ny\ngsu 1,2,4,3\n")
-        ends = "desk: 1 line ends as Windows ends it (carriage return); that was removed\n"
-        changed = "desk:1: `Ada 1,2,4,3` was changed to `ada 1,2,4,3` (capital letters)\n"
+        changed = "desk:1: `Ada 1,2,4,3` was changed to `ada 1,2,4,3`\n"
         words = "2 bad shape  q: column 2: end of line; a ballot has a space there, or more of the name: a to z, 0 to 9, . or -\n"
         empty, unknown = "desk:2: it is empty, and was left out\n", "gsu is not on the roll\nA valid line in this poll: "
-        for part in (f"{ends}{changed}1 counted  ada: ", empty, words, unknown):
+        for part in (f"{changed}1 counted  ada: ", empty, words, unknown):
             self.assertIn(part, output)
         self.assertEqual(self.lines(), ["ada 1,2,4,3", "q", "y", "gsu 1,2,4,3"])
         # a letter is told, and not entered

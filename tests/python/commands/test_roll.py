@@ -63,13 +63,11 @@ class Roll(RollTest):
         gone = "No longer on the list: chair (Anna Meier)\nNo longer on the list: ben (Ben)\n"
         self.assertIn(gone, self.roll("Cleo,c@club.example").output)
 
-    def test_all_names_are_printed_if_asked(self) -> None:
+    def test_all_names_are_printed(self) -> None:
         self.roll(*(f"Elector {number},e{number}@club.example" for number in range(201)))
         for command in ("roll", "check"):
-            self.assertIn("more (--all prints them)", self.done(command).output, command)
-            output = self.done(command, "--all").output
+            output = self.done(command).output
             self.assertTrue(all(f"elector-{number}" in output for number in range(201)), command)
-            self.assertNotIn("--all", output, command)
 
     def test_a_folder_no_file_and_one_that_is_too_long(self) -> None:
         file, again = self.folder / "members.csv", ", then run debvote-election roll again"

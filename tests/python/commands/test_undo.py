@@ -115,7 +115,7 @@ class AtATerminal(CalledTest):
         self.told("strike", 2, "--because", "a test")
         self.assertIn("Take back 2 lines (", terminal.after("y\n", "? [y/n] "))
         # an act that changes nothing of it
-        self.act("extend", {"until": "2099-12-04T18:00:00+01:00"})
+        self.act("extend", {"until": "2099-12-04T18:00:00+00:00"})
         self.assertNotIn("[y/n]", self.end(terminal, "y\n", 0, f"ada {RANKS}"))
 
     def test_a_close_meanwhile(self) -> None:

@@ -15,7 +15,7 @@ from concurrent.futures import ThreadPoolExecutor
 from debvote_tools.inbox.judging import Ballot
 from debvote_tools.inbox.letter import ParsedLetter
 from debvote_tools.inbox.box_records import MOST
-from debvote_tools.poll.box import asking_word, link_of, list_digest
+from debvote_tools.poll.box import asking_word, third_part, list_digest
 from debvote_tools.poll.sealed import OWN_SIGNS
 
 from tests.support import at_browser, boxes, elections
@@ -526,11 +526,11 @@ class Asked(boxes.BoxElectionTest):
         for seconds in (100, 200):
             self.off(seconds)
             self.done("add", "--box")
-            said = r"Box of the web host: 0 records when it was asked last, (\S+ \S+) UTC\n"
-            [found] = re.findall(said, self.done("status").output)
-            ahead = datetime.datetime.fromisoformat(f"{found}+00:00") - datetime.datetime.now(
-                datetime.UTC
-            )
+            said = r"Box of the web host: 0 records when it was asked last, (\S+ \S+) UTC(\S*)\n"
+            [(found, zone)] = re.findall(said, self.done("status").output)
+            self.assertEqual(zone, "+01:00")
+            asked = datetime.datetime.fromisoformat(f"{found}{zone}")
+            ahead = asked - datetime.datetime.now(datetime.UTC)
             self.assertAlmostEqual(ahead.total_seconds(), seconds, delta=50)
 
     def test_reminders_and_another_page(self) -> None:
@@ -843,7 +843,7 @@ class Clocks(unittest.TestCase):
         data = record(
             "x", f"{name} {ranks}", int(f"{when:%H%M}{ranks[0]}"), f"{when:%Y-%m-%dT%H:%M:%S}"
         ).partition("\n")[2]
-        own = link_of(self.KEY, name, OWN[name]) if link is None else link
+        own = third_part(self.KEY, name, OWN[name]) if link is None else link
         return dataclasses.replace(
             parsed(data.encode().removesuffix(b"\n")), link=own, behind=behind
         )
@@ -858,9 +858,9 @@ class Clocks(unittest.TestCase):
                 ["in: ada 1,2,3,4"],
             )
         for link in (
-            link_of(self.KEY, "ben", OWN["ben"]),
+            third_part(self.KEY, "ben", OWN["ben"]),
             "2" * 16,
-            link_of(self.KEY, "ada", OWN["ben"]),
+            third_part(self.KEY, "ada", OWN["ben"]),
         ):
             self.assertEqual(
                 self.outcomes(self.record_at("ada", "1,2,3,4", at(10), 0, link)),

@@ -3,7 +3,7 @@
 import unittest
 
 from debvote_tools.cli.console import shown_line
-from debvote_tools.inbox.lines import differences, lines_in, name_in, repaired_line
+from debvote_tools.inbox.lines import lines_in, name_in, repaired_line
 from debvote_tools.poll.questions import LONGEST_LINE
 
 
@@ -34,23 +34,16 @@ class Lines(unittest.TestCase):
         ):  # fmt: skip
             self.assertEqual(repaired_line(came, LONGEST_LINE), came)
 
-    def test_names_of_lines_and_of_changes(self) -> None:
+    def test_names_of_lines_and_what_takes_no_time(self) -> None:
         for line, name in {b"ada 1,2": b"ada", b"ada-b.9,1": b"ada-b.9", b"ada": b"ada", b" ada 1": b"", b"Ada 1": b"", b"": b""}.items():
             self.assertEqual(name_in(line), name)
         # a line that is right stays
         for came in (b"ada 1,2,3", b"a -", b"0.-z 99,-,1"):
-            self.assertEqual((repaired_line(came, LONGEST_LINE), differences(came, repaired_line(came, LONGEST_LINE))), (came, []))
+            self.assertEqual(repaired_line(came, LONGEST_LINE), came)
         # a long line of blanks takes no time
         self.assertEqual(repaired_line(b" " * 3_000_000, LONGEST_LINE), b"")
         self.assertEqual(repaired_line(b"a" + b" \t" * 1_000_000 + b"1", LONGEST_LINE), b"a 1")
         self.assertEqual(len(repaired_line(b", " * 1_000_000, LONGEST_LINE)), 1_000_000)
-        self.assertEqual(differences(b"\xef\xbb\xbfAda\t1, 2\r", b"ada 1,2"), ["byte-order mark", "carriage return", "tabs", "capital letters"])
-        self.assertEqual(differences(b"ada  1", b"ada 1"), ["spaces"])
-        self.assertEqual(differences(b"Ada A yes C no", b"ada A 1,2 C 2,1"), ["word", "capital letters"])
-        self.assertEqual(differences(b"Ada L yes", b"a 1,2"), ["spaces", "word", "real name", "capital letters"])
-        self.assertEqual(differences(b"ada C yes A no", b"ada A 2,1 C 1,2"), ["word"])
-        self.assertEqual(differences(b"ada c 1,2 A 2,1", b"ada A 2,1 C 1,2"), [])
-        self.assertEqual(differences(b"Kim No A 2,1", b"kim-no A 2,1"), ["spaces", "capital letters"])
 
     def texts(self, data: bytes, first: int = 1) -> list[tuple[str, bytes]]:
         return [(line.where, line.repaired) for line in lines_in(data, "f", LONGEST_LINE, first)]
@@ -68,12 +61,13 @@ class Lines(unittest.TestCase):
         self.assertEqual(self.texts(mark + b"ada 1\n" + mark + b"ben 2\n"), [("f:1", b"ada 1"), ("f:2", mark + b"ben 2")])
         self.assertEqual(self.texts(mark + b"ada 1\n", 2), [("f:2", mark + b"ada 1")])
         (line,) = lines_in(mark + b"Ada;1\r\n", "f", LONGEST_LINE)
-        self.assertEqual((line.as_it_came, line.unframed), (mark + b"Ada;1\r", b"Ada;1"))
-        lines = lines_in(b"\xef\xbb\xbfAda 1\r\nben 2\r\ncleo  3\n", "f", LONGEST_LINE)
-        self.assertEqual([(line.had_mark, line.had_return) for line in lines], [(True, True), (False, True), (False, False)])
-        self.assertEqual([line.as_reported for line in lines], [b"Ada 1", b"ben 2", b"cleo  3"])
+        self.assertEqual(line.unframed, b"Ada;1")
+        lines = lines_in(mark + b"Ada 1\r\nben 2\r\r\ncleo  3\n", "f", LONGEST_LINE)
+        self.assertEqual([line.unframed for line in lines], [b"Ada 1", b"ben 2", b"", b"cleo  3"])
 
     def test_nothing_steers_the_terminal_and_a_long_line_is_cut(self) -> None:
         self.assertEqual(shown_line(b"a\x1b[2Jb\t\r\n\x00\xff"), "a\\u001B[2Jb\\t\\r\\n\\u0000\\xff")
+        # so what was changed of a line is seen
+        self.assertEqual(shown_line("ada\t1\u202f,\u200b2\u00ad".encode()), "ada\\t1\\u202F,\\u200B2\\u00AD")
         self.assertEqual(shown_line("“ada” \u00a0\u202e".encode()), "“ada” \\u00A0\\u202E")
         self.assertEqual(shown_line(b"x" * 1000), "x" * 100 + "..")

@@ -96,8 +96,8 @@ class Taken(LettersTest):
         file = self.write("ballots.txt", "ada: JA\nBen nein!\ncleo Enthaltung.\nAda Lovelace: yes\ndan abstain\neve 2,1\nfay \u201cja\u201d\nKim No\n")
         said = self.told("add", "--force", file)
         for part in (
-            "ballots.txt:1: `ada: JA` was changed to `ada 1,2` (colon, word)\n1 counted  ada: Yes: Wir kaufen a second boat\n",
-            "2: `Ben nein!` was changed to `ben 2,1` (word, capital letters)\n2 counted  ben: No\n", "3 counted  cleo: Abstain\n", "4 counted  ada-lovelace: Yes",
+            "ballots.txt:1: `ada: JA` was changed to `ada 1,2`\n1 counted  ada: Yes: Wir kaufen a second boat\n",
+            "2: `Ben nein!` was changed to `ben 2,1`\n2 counted  ben: No\n", "3 counted  cleo: Abstain\n", "4 counted  ada-lovelace: Yes",
             "\neve: ".replace("\n", "6 counted  "), "7 bad shape  fay", "8 bad shape  Kim No",
         ):  # fmt: skip
             self.assertIn(part, said)

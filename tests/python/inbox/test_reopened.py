@@ -13,12 +13,6 @@ class Reopened(LettersTest):
     def reopen(self, *words: object) -> str:
         return self.told("reopen", *words, *IN_TIME)
 
-    def asked(self) -> Terminal:
-        """A terminal that asks which of the late lines were in time."""
-        terminal = Terminal(self, "reopen", *IN_TIME)
-        self.listed = terminal.until("Enter for none: ")
-        return terminal
-
     def test_late_lines_go_in_by_their_times(self) -> None:
         """In whatever order they are named, and came where the clock was put back. What needed no force is not told as forced: a later line
         that is refused is no ballot.
@@ -151,6 +145,10 @@ class Reopened(LettersTest):
         self.told("close")
         self.assertIn("Note: 1 line late; ", self.reopen("--in-time", 1, "--in-time", 3))
         self.assertEqual((self.lines(), self.late_lines()), ([late[0], late[2]], late))
+        # only those that were not entered before are named, also at a terminal, which is not asked
+        self.told("close")
+        terminal = Terminal(self, "reopen", *IN_TIME)
+        self.assertRegex(terminal.end()[0], "Note: 1 line late; [^\n]*\n  debvote-election close && debvote-election reopen --in-time 2 --because")
 
     def test_that_command_before_the_announced_end(self) -> None:
         """It closes early again, which the program does not do unasked."""
@@ -168,33 +166,6 @@ class Reopened(LettersTest):
         self.assertIn("then debvote-election close --early\n", said)
         self.told("close")
         self.assertIn("Next: debvote-election add FILE, then debvote-election close\n", self.reopen())
-
-    def test_what_is_listed_and_typed_at_a_terminal(self) -> None:
-        """The late lines, but for those that were entered before. Numbers are typed with commas between, and nothing else."""
-        self.told("close")
-        self.add_lines(BALLOT, f"ben {RANKS}", f"cleo {RANKS}")
-        two = f"2 lines came late:\r?\n  2 ben {RANKS}\r?\n  3 cleo"
-        for listed, typed, status, lines in (
-            (f"3 lines came late:\r?\n  1 {BALLOT}\r?\n  2 ben", "1\n", 0, [BALLOT]),
-            (two, "2, x3\n", 9, [BALLOT]),
-            (two, "2, 3\n", 0, [BALLOT, f"ben {RANKS}", f"cleo {RANKS}"]),
-        ):
-            terminal = self.asked()
-            self.assertRegex(self.listed, f"^{listed}")
-            terminal.type(typed)
-            self.assertEqual((terminal.end()[1], self.lines()), (status, lines), typed)
-            self.told("close")
-
-    def test_another_reopen_while_it_asks(self) -> None:
-        self.told("close")
-        self.add_lines(BALLOT)
-        terminal = self.asked()
-        self.reopen("--in-time", 1)
-        before = self.last_act()
-        terminal.type("\n")
-        output, status = terminal.end()
-        self.assertIn("the vote is not closed; nothing was changed", output)
-        self.assertEqual((status, self.last_act(), self.lines()), (9, before, [BALLOT]))
 
     def test_undo_of_a_reopen(self) -> None:
         """What is late again comes before as such, and can be entered again."""

@@ -277,7 +277,7 @@ class Names(OutTest):
             self.assertRegex(one_line(message), r"\bMonday, 23 November 2026, 11:00(:\d\d)? \(UTC\+01:00\)")
         shown = self.told("show", "ada")
         for address in wanted[1:]:
-            self.assertIn(f"  receipt, 2026-11-23 10:00:00 UTC, to {address}: written\n", shown)
+            self.assertIn(f"  receipt, 2026-11-23 11:00:00 UTC+01:00, to {address}: written\n", shown)
         self.add_lines(f"ada {OTHER_RANKS}")
         self.assertEqual([message["To"] for message in self.written("receipts").values()], ["ada@new.example"])
         # whoever changes an address back does not hide what came meanwhile

@@ -17,7 +17,7 @@ from collections.abc import Callable, Iterable
 from typing import Any
 
 from debvote_tools.inbox.box_records import MOST
-from debvote_tools.poll.box import SENTENCES, link_of, records_file, script_of
+from debvote_tools.poll.box import SENTENCES, third_part, records_file, script_of
 from debvote_tools.poll.call import CallData, call_files
 from debvote_tools.poll.questions import Questions
 from debvote_tools.poll.sealed import with_roll
@@ -30,7 +30,7 @@ from tests.support.web_host import KEY, NEEDS_PHP, Host, Liar, answered, ballot,
 
 MARK = CALL.questions.mark
 OWNS = {name: f"23456789a{sign}" for name, sign in zip(ROLL, "abcd")}
-LINKS = {name: link_of(KEY, name, own) for name, own in OWNS.items()}
+LINKS = {name: third_part(KEY, name, own) for name, own in OWNS.items()}
 WORDS_IN = {code: json.loads(language_of(code).words(SENTENCES)) for code in LANGUAGES}
 WORDS = WORDS_IN["en"]
 NOW = b"2026-11-28T12:19:04Z"

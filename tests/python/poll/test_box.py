@@ -13,7 +13,7 @@ from debvote_tools.poll.box import (
     SCRIPT,
     SENTENCES,
     asking_word,
-    link_of,
+    third_part,
     list_digest,
     new_key,
     records_file,
@@ -40,20 +40,20 @@ class Links(unittest.TestCase):
         self.assertEqual((len(OWN_SIGNS), math.floor(16 * math.log2(len(OWN_SIGNS)))), (31, 79))
         others = {**OWNS, "ada-lee": "23456789ab", "ada2": "3456789ab2"}
         links = [
-            link_of(key, name, own) for key in (KEY, b"x" * 32) for name, own in others.items()
+            third_part(key, name, own) for key in (KEY, b"x" * 32) for name, own in others.items()
         ]
-        links += [link_of(KEY, "ada", "z" * OWN_LENGTH), link_of(KEY, "ben-lee", OWNS["ada"])]
+        links += [third_part(KEY, "ada", "z" * OWN_LENGTH), third_part(KEY, "ben-lee", OWNS["ada"])]
         self.assertEqual(len({*links}), len(links))
         for link in links:
             self.assertRegex(link, rf"\A[{OWN_SIGNS}]{{16}}\Z")
         self.assertEqual(
-            {link_of(KEY, *one) for one in others.items()},
+            {third_part(KEY, *one) for one in others.items()},
             {by_hand(KEY, *one) for one in others.items()},
         )
         # no link is the word that asks, or a part of it
-        self.assertNotEqual(link_of(KEY, "ask", "")[:8], asking_word(KEY)[:8])
+        self.assertNotEqual(third_part(KEY, "ask", "")[:8], asking_word(KEY)[:8])
         # each sign comes in each place
-        many = [link_of(KEY, "ada", new_own_mark()) for _ in range(2_000)]
+        many = [third_part(KEY, "ada", new_own_mark()) for _ in range(2_000)]
         self.assertEqual({len({*signs}) for signs in zip(*many)}, {len(OWN_SIGNS)})
 
     def test_the_word_and_the_key(self) -> None:
@@ -113,7 +113,7 @@ class Scripts(unittest.TestCase):
         ):
             self.assertNotIn(secret, script)
         for name, own in OWNS.items():
-            self.assertNotIn(link_of(KEY, name, own).encode(), script)
+            self.assertNotIn(third_part(KEY, name, own).encode(), script)
 
     def test_as_many_records_of_a_link_are_kept_as_the_script_takes(self) -> None:
         """More would be acknowledged, and passed over."""

@@ -12,7 +12,7 @@ import tempfile
 import time
 import unittest
 
-from debvote_tools.poll.box import END_OF_CODE, SCRIPT, asking_word, link_of, list_digest, script_of
+from debvote_tools.poll.box import END_OF_CODE, SCRIPT, asking_word, third_part, list_digest, script_of
 from debvote_tools.poll.questions import LABELS
 from debvote_tools.text.rendering import resources
 
@@ -364,7 +364,7 @@ class Votes(BoxTest):
                 (self.folder / SCRIPT).write_bytes(other)
                 self.assertEqual(host.send(ballot("ada", "1,2", 1)).status, 403)
                 self.assertEqual(
-                    host.send(ballot("ada", "2,1", 2, link_of(KEY, "ada", "zzzzzzzzzz"))).word,
+                    host.send(ballot("ada", "2,1", 2, third_part(KEY, "ada", "zzzzzzzzzz"))).word,
                     "received",
                 )
                 self.assertIn(f" {list_digest(other)} ", host.ask().text)

@@ -135,14 +135,6 @@ class Sums(QuestionsTest):
         self.assertIn("This desk has entered 2 lines (1 counted, 1 replaced in part: A replaced 1, C counted 1).\n", self.told("desk", given="cleo A 1,2\ncleo A 2,1 C 1,2,3,4\n"))
 
 
-    def test_several_ballots_of_an_elector_in_a_file(self) -> None:
-        """Only where a question is answered more than once there is a last answer."""
-        for more, is_told in (("ada B 1,2,3", False), ("ada A 2,1", True)):
-            self.write("more", f"ada A 1,2\nben A 1,2\n{more}\n")
-            told = "Note: more has 2 ballots of ada (1, 3); the last answer to each question counts.\n"
-            self.assertEqual(told in self.told("add", "--look", "more"), is_told, more)
-
-
 class TakenAway(QuestionsTest):
     def test_undo_takes_back_both_envelopes_of_a_line(self) -> None:
         self.add_lines("ada A 1,2")

@@ -1,6 +1,7 @@
 """The closing letter, the count and the published folder of several questions."""
 
 import csv
+import html
 import io
 import json
 import pathlib
@@ -91,15 +92,16 @@ class OpenTest(PublishedTest):
             ended = self.election("count", "--casting", casting)
             self.assert_fault(ended, 8, "no question has this label; nothing was counted: write it as A=NAME; the labels are A, B, C")
         self.assert_fault(self.election("publish", "--casting", "B=Slate", *CAST), 8, "--casting=B=Slate: no option has this name", "'Ada Lovelace'")
-        for command in ("count", "publish"):
+        for command, done in (("count", "counted"), ("publish", "published")):
             twice = self.election(command, "--casting", "B=Ada Lovelace", "--casting", "b=Mary Somerville", *CAST * (command == "publish"))
-            self.assert_fault(twice, 8, "--casting='b=Mary Somerville': question B has the casting vote 'Ada Lovelace' already", "was counted: give one of them")
+            self.assert_fault(twice, 8, "--casting='b=Mary Somerville': question B has the casting vote 'Ada Lovelace' already", f"nothing was {done}: give one of them")
         both = "; ".join(f"question {label} is a tie between {names}" for label, names in TIES.items())
-        chosen = "the holder of the casting vote chooses one of them: debvote-election publish --casting B=NAME --casting C=NAME --cast-by WHO --cast-on DATE"
+        chosen = "the holder of the casting vote chooses one of them: debvote-election publish --casting B=NAME --cast-by WHO --cast-on DATE --casting C=NAME --cast-by WHO --cast-on DATE"
         self.done("close", "--early")
         self.assertEqual(self.election("count").faults, f"Next: {both}; {chosen}\n")
         said = self.election("count", "--casting", "C=Tiles").faults
-        ways = [f"debvote-election publish --casting C=Tiles --casting {name} --cast-by WHO --cast-on DATE" for name in ("'B=Ada Lovelace'", "'B=Mary Somerville'")]
+        who = "--cast-by WHO --cast-on DATE"
+        ways = [f"debvote-election publish --casting C=Tiles {who} --casting {name} {who}" for name in ("'B=Ada Lovelace'", "'B=Mary Somerville'")]
         self.assertEqual(said, f"Next: question B is a tie between {TIES['B']}; the holder of the casting vote chooses one of them: {' or '.join(ways)}\n")
         ended = self.election("count", "--casting", "c=Tiles", "--casting", "B=Mary Somerville")
         self.assertEqual((ended.status, ended.output.count("by casting vote")), (0, 2))
@@ -109,7 +111,7 @@ class OpenTest(PublishedTest):
         self.write("about.txt", "Certified by the board.")
         said = self.publish("--casting", "B=Mary Somerville", "--about", "about.txt", *CAST, status=1)
         self.assertIn("A: Winner: 1 Yes, 72 Euro\nverified\nB: Winner: 2 Mary Somerville by casting vote\nverified, casting vote 2 Mary Somerville\nC: Tie: 1 2", said)
-        self.assertIn("publish --casting 'B=Mary Somerville' --casting C=NAME --cast-by WHO", said)
+        self.assertIn("publish --casting 'B=Mary Somerville' --cast-by 'The chair' --cast-on 2026-11-24 --casting C=NAME --cast-by WHO", said)
         self.assertEqual(self.listed(), sorted([*ABOVE, *(f"{label}/{name}" for label in self.polls for name in FILES)]))
         folders = [self.folder / "result" / label for label in ("", *self.polls)]
         self.assertEqual({folder.stat().st_mode & 0o777 for folder in folders}, {0o755})
@@ -187,14 +189,63 @@ class OpenTest(PublishedTest):
         """The command that is told for the second has the first, without which that question would be a tie again."""
         self.done("close", "--early")
         first = self.publish(status=1)
-        self.assertIn("its day: debvote-election publish --casting B=NAME --casting C=NAME --cast-by WHO --cast-on DATE\n", first)
-        ended = self.election("publish", "--casting", "B=Ada Lovelace", *CAST)
+        self.assertIn("its day: debvote-election publish --casting B=NAME --cast-by WHO --cast-on DATE --casting C=NAME --cast-by WHO --cast-on DATE\n", first)
+        ended = self.election("publish", "--casting", "B=Ada Lovelace", "--cast-by=-Eve", "--cast-on", "2026-11-23")
         [told] = re.findall(r"its day: debvote-election (.*)\n", ended.output)
-        self.assertEqual((ended.status, told), (1, "publish --casting 'B=Ada Lovelace' --casting C=NAME --cast-by WHO --cast-on DATE"))
+        self.assertEqual((ended.status, told), (1, "publish --casting 'B=Ada Lovelace' --cast-by=-Eve --cast-on 2026-11-23 --casting C=NAME --cast-by WHO --cast-on DATE"))
+        counted = self.election("count", "--casting", "B=Ada Lovelace").faults
+        self.assertIn(f"chooses one of them: debvote-election {told.replace('NAME', 'Slate')} or debvote-election {told.replace('NAME', 'Tiles')}\n", counted)
         words = shlex.split(told.replace("NAME", "Tiles").replace("WHO", "Ida").replace("DATE", "2026-11-24"))
         found = self.done(*words).output
         self.assertIn("B: Winner: 1 Ada Lovelace by casting vote\n", found)
         self.assertIn("C: Winner: 2 Tiles by casting vote\n", found)
+        self.assertEqual(self.holders(), [("-Eve", "23"), ("Ida", "24")])
+
+    def holders(self) -> list[tuple[str, str]]:
+        """Whose each casting vote was, and on which day of the month: all that is published says the same."""
+        told = re.compile(r'the casting vote was that of "([^"]+)", given on (\d+) November 2026')
+        letter, *pages = (
+            told.findall(" ".join(html.unescape(self.read(name).decode()).split()))
+            for name in ("letters/result.txt", "result/index.html", *(f"result/{label}/index.html" for label in self.polls))
+        )
+        self.assertEqual([letter, *pages], [letter, letter, [], letter[:1], letter[1:]])
+        return letter
+
+    def test_casting_votes_of_two_holders(self) -> None:
+        """What is given once holds for all; what is given as often as --casting is said of each in its order."""
+        self.done("close", "--early")
+        votes = ("--casting", "C=Tiles", "--casting", "B=Ada Lovelace")
+        ida, ben = ("--cast-by", "Ida", "--cast-on", "2026-11-23"), ("--cast-by", "Ben", "--cast-on", "2026-11-24")
+        act, how = self.last_act(), "nothing was published: give it once for all, or once for each --casting, in their order"
+        for words, said in (
+            ((*votes, *ida, *ben, *ida), f"--cast-by: 3 are given, and of --casting 2; {how}"),
+            ((*votes, *ida, *ben[2:], *ben[2:]), f"--cast-on: 3 are given, and of --casting 2; {how}"),
+            ((*votes[:2], *ida, *ben), f"--cast-by: 2 are given, and of --casting 1; {how}"),
+            ((*votes, *ida[:2], *ben[:2]), "say it with --cast-by"),
+            ((*votes, *ida, "--cast-by", "Ben", "--cast-on", "2999-01-01"), "--cast-on: 2999-01-01 is in the future"),
+        ):
+            self.assert_fault(self.election("publish", *words), 2, said)
+        self.assertEqual(self.last_act(), act)
+        self.publish(*votes, *ida, *ben)
+        self.assertEqual(self.holders(), [("Ben", "24"), ("Ida", "23")])
+        words, before = self.acts()[-1][1]["words"], self.contents()
+        self.assertEqual((words["cast_by"], words["cast_on"]), ({"B": "Ben", "C": "Ida"}, {"B": "2026-11-24", "C": "2026-11-23"}))
+        # each option in the place of another, with what belongs to it, is the same
+        for same in ((), (*votes, *ida, *ben), (*votes[2:], *ben, *votes[:2], *ida)):
+            self.assertIn("as it was published before", self.publish(*same))
+            self.assertEqual(self.contents(), before)
+        # holder and day of the same vote may be put right
+        self.publish(*votes, *ida[:2], "--cast-on", "2026-11-22", "--cast-on", "2026-11-24")
+        self.assertEqual(self.holders(), [("Ida", "24"), ("Ida", "22")])
+        told = "publish --casting 'B=Ada Lovelace' --cast-by Ida --cast-on 2026-11-24 --casting C=Tiles --cast-by Ida --cast-on 2026-11-22\n"
+        self.assertEqual(self.election("count", *votes).faults, f"Next: debvote-election {told}")
+        self.publish(*votes, *ben)
+        self.assertEqual(self.holders(), [("Ben", "24"), ("Ben", "24")])
+        # what was published last before a reopen is told after it, too
+        self.done("reopen", "--because", "a letter was forgotten")
+        self.done("close", "--early")
+        told = f"publish --casting 'B=Ada Lovelace' {' '.join(ben)} --casting C=Tiles {' '.join(ben)}\n"
+        self.assertEqual(self.election("count", *votes).faults, f"Next: debvote-election {told}")
 
     def doubted(self) -> list[str]:
         """The questions with a doubt, by the first page; the page of each has it, too."""
@@ -325,6 +376,19 @@ class SecretTest(PublishedTest):
             if file.name not in ("READING-A-SHEET.md", "recount.py", "recount.js"):
                 self.assertIsNone(re.search(rb"\b(cleo|gus) ", data), file)
         self.assertEqual(self.told("log").count("seal"), 0)
+
+    def test_each_holder_of_a_casting_vote_is_asked_about_once(self) -> None:
+        self.done("close", "--early")
+        first = ("--casting", "B=Ada Lovelace", *CAST)
+        second = (*first, "--casting", "C=Tiles", "--cast-by", "Ben", "--cast-on", "2026-11-24")
+        one = ("publish", *first, "--casting", "C=Tiles")
+        for words, asked in ((second, ["B", "The chair", "C", "Ben"]), (one[1:], ["C", "The chair"])):
+            said = self.election("publish", *words).faults
+            self.assertEqual([part for pair in re.findall(r"--cast-by of question (.):\n  (.*)\n", said) for part in pair], asked, said)
+            self.assertIn("these texts may tell who voted what", said)
+        self.publish(*first, "--yes", status=1)
+        self.assertEqual(re.findall("--cast-by of question (.):", self.election("publish", *second).faults), ["C"])
+        self.done(*one)
 
     def test_a_second_close_asks_once(self) -> None:
         self.done("close", "--early")

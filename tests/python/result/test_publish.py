@@ -271,7 +271,7 @@ class OfOpenVotes(OfElections):
         self.expect("nothing was made", (self.files() == files, self.letter()), (True, letter))
         self.say("publish", "--force")
         last = self.acts()[-1]
-        self.expect("one of its own", (last.name, last.number, last.detail["casting"]), ("publish", acts + 2, "72 Euro"))
+        self.expect("one of its own", (last.name, last.number, last.detail["casting"]), ("publish", acts + 2, {"": "72 Euro"}))
         self.checksums_of_letters(self.files(), "ballots.txt")
         self.expect("with its letter", self.letter() == letter, False)
         self.expect("and again", ("as it was published before" in self.say("publish"), len(self.acts())), (True, acts + 2))
