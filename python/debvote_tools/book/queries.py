@@ -327,24 +327,20 @@ def left_out(book: Book) -> dict[int, str]:
     has not been entered since: as a ballot, by the envelopes of the rest, if they are not struck.
     """
     left = {
-        act.number: act.detail.get("left_out", {}) for act in book.acts() if act.name == "enter"
+        one.number: one.detail.get("left_out", {}) for one in book.acts() if one.name == "enter"
     }
     if not any(left.values()):
         return {}
-    standing = envelopes(book, "letter IS NOT NULL AND struck IS NULL")
+    found, standing = dict[int, str](), envelopes(book, "letter IS NOT NULL AND struck IS NULL")
     there = grouped(((one.letter, one.elector), one.line.decode("ascii")) for one in standing)
-    found = {
-        one.number: without(ballot, {label for line in its for label in answers_of(line)})
-        for one in standing
-        for ballot in left.get(one.act, {}).get(str(one.letter), ())
-        if ballot.partition(" ")[0] == (its := there[one.letter, one.elector])[0].partition(" ")[0]
-    }
-    anew = {
-        new: found[late]
-        for late, new in book.rows("SELECT late, envelope FROM anew")
-        if late in found
-    }
-    return {number: ballot for number, ballot in (found | anew).items() if ballot}
+    for one in standing:
+        lines = there[one.letter, one.elector]
+        entered = {label for line in lines for label in answers_of(line)}
+        for ballot in left.get(one.act, {}).get(str(one.letter), ()):
+            if ballot.split()[0] == lines[0].split()[0]:
+                found[one.number] = without(ballot, entered)
+    anew = book.rows("SELECT envelope, late FROM anew")
+    return found | {number: found[late] for number, late in anew if late in found}
 
 
 # ---- lines by act, and those that came in files

@@ -18,10 +18,12 @@ CREATE TEMP VIEW fate AS
   END AS became FROM entered;
 
 -- The late envelopes that a `reopen` entered anew as in time, each with its new one and that act, which names them in the order of these.
+-- The windows keep SQLite from looking at each pair of two.
 CREATE TEMP VIEW anew AS
   SELECT late, envelope, act FROM (
-    SELECT act, key AS place, value AS late FROM act, json_each(detail, '$.in_time') WHERE act.name = 'reopen'
+    SELECT act, value AS late, row_number() OVER (PARTITION BY act ORDER BY key) AS place
+    FROM act, json_each(detail, '$.in_time') WHERE act.name = 'reopen'
   ) JOIN (
-    SELECT act, row_number() OVER (PARTITION BY act ORDER BY envelope) - 1 AS place, envelope FROM envelope
-    WHERE act IN (SELECT act FROM act WHERE name = 'reopen')
+    SELECT act, envelope, row_number() OVER (PARTITION BY act ORDER BY envelope) AS place
+    FROM envelope WHERE act IN (SELECT act FROM act WHERE name = 'reopen')
   ) USING (act, place);
