@@ -10,14 +10,20 @@ from debvote_tools.book import queries
 from debvote_tools.book.book import ActName, Book
 from debvote_tools.book.change import Change, carried_out, terminal_question
 from debvote_tools.book.election import Election, History
-from debvote_tools.book.queries import Ballot, Envelope
+from debvote_tools.book.queries import Envelope
 from debvote_tools.cli.console import count_of, shown_line, shown_text, tell
 from debvote_tools.cli.faults import Fault, bad_words, kept_in, stop_at
 from debvote_tools.grouping import grouped
 from debvote_tools.inbox import letter_words
 from debvote_tools.inbox.fates import TAKEN_BACK
 from debvote_tools.inbox.letter_words import name_of, who_and_when, why
-from debvote_tools.inbox.judging import BallotsByElector, answered_by, ballots_in, judged
+from debvote_tools.inbox.judging import (
+    BallotsByElector,
+    answered_by,
+    ballots_in,
+    judged,
+    surely_later,
+)
 from debvote_tools.inbox.reasons import Reason
 from debvote_tools.inbox.letter_lines import BallotLine
 from debvote_tools.inbox.rules import LetterCase, LetterOutcome
@@ -197,7 +203,7 @@ class Chosen(NamedTuple):
         """A ballot without the answers to which its elector has later ones, and without those that were
         entered; and the labels of both.
         """
-        there = surely_later(self.letter, line, by_elector[line.elector])
+        there = surely_later(self.letter, line.as_entered, by_elector[line.elector])
         later, entered = answered_by(line.as_entered, there), self.entered
         done = {
             one for one in answers_of(line.as_entered) if (line.elector, one) in entered
@@ -307,7 +313,7 @@ def left_out(vote: Vote, electors: Collection[str]) -> Iterator[str]:
     for number, envelopes in entered_in(vote.book).items():
         for envelope in envelopes:
             line = BallotLine((), ballots.get(envelope.number, ""))
-            later = surely_later(letters[number], line, by_elector[line.elector])
+            later = surely_later(letters[number], line.as_entered, by_elector[line.elector])
             left = without(line.as_entered, answered_by(line.as_entered, later))
             if left and line.elector in electors:
                 how = ("--as", left) if envelope.number in typed else ("--enter",)
@@ -319,17 +325,6 @@ def entered_in(book: Book) -> dict[int, list[Envelope]]:
     """The envelopes of letters, by the numbers of the letters."""
     found = queries.envelopes(book, "letter IS NOT NULL")
     return grouped((envelope.letter or 0, envelope) for envelope in found)
-
-
-def surely_later(
-    letter: LetterCase, line: BallotLine, ballots: Sequence[Ballot]
-) -> Sequence[Ballot]:
-    """Those ballots of an elector that are later than one in a letter, by whichever clock."""
-    later = queries.later(ballots, letter.time)
-    if letter.time is None:
-        return later
-    own = Ballot(letter.time, line.as_entered, behind=letter.read.behind)
-    return [one for one in later if not own.may_turn(one)]
 
 
 def elector_of(envelope: Envelope) -> str:
@@ -436,7 +431,7 @@ def why_not_unforced(chosen: Sequence[Chosen], by_elector: BallotsByElector) -> 
             if not line.number and line.elector not in tied:
                 words = f"neither its sender nor a line of {name} is of {line.elector}"
                 yield Fault("--as", words, f"check the name; {cure}")
-            if answered_by(line.as_entered, surely_later(letter, line, there)):
+            if answered_by(line.as_entered, surely_later(letter, line.as_entered, there)):
                 yield Fault(name, "its elector has voted since", cure)
             elif answered_by(line.as_entered, queries.later(there, time)):
                 words = "its elector may have voted since, as the clock of the web host was off"

@@ -167,6 +167,15 @@ def judge_all(
     return cases
 
 
+def surely_later(case: LetterCase, ballot: str, its_ballots: Sequence[Ballot]) -> Sequence[Ballot]:
+    """Those ballots of an elector that are later than one in a letter, by whichever clock."""
+    later = queries.later(its_ballots, case.time)
+    if case.time is None:
+        return later
+    own = Ballot(case.time, ballot, behind=case.read.behind)
+    return [one for one in later if not own.may_turn(one)]
+
+
 def has_voted_since(
     case: LetterCase, elector: str, last: Mapping[str, Mapping[str, Ballot]]
 ) -> bool:
@@ -174,9 +183,10 @@ def has_voted_since(
     that answers one of the same questions.
     """
     its = last.get(elector, {})
-    lines = (line.as_entered for line in (*case.ballots, *case.offered) if line.elector == elector)
+    lines = [line.as_entered for line in (*case.ballots, *case.offered) if line.elector == elector]
     labels = {label for ballot in lines for label in answers_of(ballot)} or its.keys()
-    return any(queries.later([its[label]], case.time) for label in labels & its.keys())
+    there = [its[label] for label in labels & its.keys()]
+    return any(surely_later(case, line, [one]) for line in lines or [""] for one in there)
 
 
 def original_of(group: Sequence[LetterCase]) -> LetterCase | None:

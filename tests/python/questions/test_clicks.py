@@ -46,6 +46,7 @@ class Clocks(QuestionsByBox):
         self.click("ada", "A 2,1 C 1,2", links["ada"])
         said = self.done("add", "--box", "--yes").output
         self.assertIn("it may be earlier or later than another ballot of ada", said)
+        self.assertNotIn("has voted since", said)
         enter, why = ("held", "2", "--enter", "--yes"), "its elector may have voted since, as the clock of the web host was off"
         self.assert_fault(self.election(*enter), 9, why)
         self.assertNotIn("Left out", self.done(*enter, "--force").output)
