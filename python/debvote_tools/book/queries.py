@@ -12,7 +12,7 @@ from typing import Final, NamedTuple, TypeVar
 
 from debvote_tools.book.book import Book, NewAct, as_text, from_text
 from debvote_tools.grouping import grouped
-from debvote_tools.text.ballots import answers_of, answers_text, differ
+from debvote_tools.text.ballots import answers_of, answers_text, differ, without
 
 
 # ---- electors
@@ -203,13 +203,17 @@ VALID_OR_LATE = "struck IS NULL AND answer IS NULL"
 REFUSED = f"{TO_COUNT} AND answer IS NOT NULL"
 NOT_UNDONE = "act NOT IN (SELECT json_extract(detail, '$.act') FROM act WHERE name = 'undo')"
 
-# the late envelopes that a `reopen` entered anew as in time, and those that none did
-ANEW = f"SELECT value FROM act, json_each(act.detail, '$.in_time') WHERE act.name = 'reopen' AND act.{NOT_UNDONE}"
-LEFT_LATE = f"{LATE} AND envelope NOT IN ({ANEW})"
+# the late envelopes of which no new one stands that a `reopen` entered as in time
+STANDS_ANEW = "SELECT late FROM anew WHERE envelope NOT IN (SELECT envelope FROM struck)"
+LEFT_LATE = f"{LATE} AND envelope NOT IN ({STANDS_ANEW})"
 
-# those that came in files of lines; a line that was entered anew came once, and is known by its new
-# envelope
-IN_FILES = f"source IS NOT NULL AND letter IS NULL AND {NOT_UNDONE} AND envelope NOT IN ({ANEW})"
+# those that came in files of lines; a line that was entered anew came once, and is known by its last
+# envelope, though that may be struck
+KNOWN_BY_LATER = f"""SELECT before.envelope FROM (SELECT late, late AS envelope FROM anew UNION SELECT late, envelope FROM anew) AS before
+JOIN anew USING (late) WHERE anew.envelope > before.envelope AND anew.{NOT_UNDONE}"""
+IN_FILES = (
+    f"source IS NOT NULL AND letter IS NULL AND {NOT_UNDONE} AND envelope NOT IN ({KNOWN_BY_LATER})"
+)
 
 COLUMNS = "envelope, act, elector, line, source, letter, place, time, late, struck, answer, became"
 
@@ -306,6 +310,37 @@ def last_envelope(book: Book) -> int:
 def elector_numbers(book: Book, names: Collection[str]) -> dict[str, int]:
     words = "SELECT name, elector FROM elector WHERE name IN (SELECT value FROM json_each(?))"
     return dict(book.rows(words, json.dumps(list(names))))
+
+
+def typed_envelopes(book: Book) -> set[int]:
+    """The envelopes of what the secretary typed for a letter, by `held --as`, also those in which a
+    `reopen` entered it anew.
+    """
+    acts = json.dumps([act.number for act in book.acts() if act.is_typed])
+    typed = "SELECT envelope FROM envelope WHERE act IN (SELECT value FROM json_each(?1))"
+    words = f"{typed} UNION SELECT envelope FROM anew WHERE late IN ({typed})"
+    return {number for number, in book.rows(words, acts)}
+
+
+def left_out(book: Book) -> dict[int, str]:
+    """What was left out when the rest of a letter was entered, since its elector had later answers, and
+    has not been entered since: as a ballot, by the envelopes of the rest, if they are not struck.
+    """
+    left = {
+        one.number: one.detail.get("left_out", {}) for one in book.acts() if one.name == "enter"
+    }
+    if not any(left.values()):
+        return {}
+    found, standing = dict[int, str](), envelopes(book, "letter IS NOT NULL AND struck IS NULL")
+    there = grouped(((one.letter, one.elector), one.line.decode("ascii")) for one in standing)
+    for one in standing:
+        lines = there[one.letter, one.elector]
+        entered = {label for line in lines for label in answers_of(line)}
+        for ballot in left.get(one.act, {}).get(str(one.letter), ()):
+            if ballot.split()[0] == lines[0].split()[0]:
+                found[one.number] = without(ballot, entered)
+    anew = book.rows("SELECT envelope, late FROM anew")
+    return found | {number: found[late] for number, late in anew if late in found}
 
 
 # ---- lines by act, and those that came in files

@@ -16,3 +16,14 @@ CREATE TEMP VIEW fate AS
     WHEN envelope IN (SELECT envelope FROM counting) THEN 'counts'
     ELSE 'replaced'
   END AS became FROM entered;
+
+-- The late envelopes that a `reopen` entered anew as in time, each with its new one and that act, which names them in the order of these.
+-- The windows keep SQLite from looking at each pair of two.
+CREATE TEMP VIEW anew AS
+  SELECT late, envelope, act FROM (
+    SELECT act, value AS late, row_number() OVER (PARTITION BY act ORDER BY key) AS place
+    FROM act, json_each(detail, '$.in_time') WHERE act.name = 'reopen'
+  ) JOIN (
+    SELECT act, envelope, row_number() OVER (PARTITION BY act ORDER BY envelope) AS place
+    FROM envelope WHERE act IN (SELECT act FROM act WHERE name = 'reopen')
+  ) USING (act, place);

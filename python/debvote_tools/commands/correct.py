@@ -2,7 +2,7 @@
 
 import dataclasses
 import re
-from collections.abc import Iterator, Mapping, Sequence
+from collections.abc import Collection, Iterator, Mapping, Sequence
 
 from debvote_tools.book import outgoing, queries
 from debvote_tools.book.book import Book, Detail, DoneAct
@@ -12,12 +12,11 @@ from debvote_tools.book.queries import Envelope, NewEnvelope
 from debvote_tools.cli.arguments import Acting, demand_reason, flag, option, positional
 from debvote_tools.cli.console import act_time, count_of, shown_line, tell
 from debvote_tools.cli.faults import Fault, bad_words, stop_at
-from debvote_tools.commands.held import left_out
+from debvote_tools.commands.held import elector_of, left_out
 from debvote_tools.grouping import grouped
 from debvote_tools.inbox import letter_words
 from debvote_tools.inbox.entering import Entry
 from debvote_tools.inbox.judging import judged
-from debvote_tools.inbox.lines import name_in
 from debvote_tools.inbox.rules import LetterCase
 from debvote_tools.inbox.taking import MOST_NAMED
 from debvote_tools.inbox.vote import envelope_words, standing_words, Vote
@@ -34,6 +33,10 @@ class TakenBack(Change):
     """What an `undo` takes back, or would."""
 
     undone: DoneAct
+    # whether it takes back what came late, or was typed for a letter: --enter enters neither again
+    is_typed_or_late: bool
+    # whose lines they were
+    electors: Collection[str]
     # what it changes, in words: current ballots, told once; and letters and receipts
     ballots: Sequence[str]
     others: Sequence[str]
@@ -47,10 +50,10 @@ def undo(election: Election, arguments: UndoArguments) -> None:
     change = carried_out(book, lambda: what_is_taken_back(vote, arguments))
     ballots = () if change.question else change.ballots
     tell(f"Took back {what(change.undone, change.struck)}.", *ballots, *change.others)
+    tell(*dict.fromkeys(left_out(vote, change.electors)))
     tell_judged_anew(vote, change, judged_before)
     following = f"{election.command('status')}; another {election.command('undo')} takes back the act before"
-    # what was typed for a letter has to be typed again
-    if change.letters and not change.undone.is_typed:
+    if change.letters and not change.is_typed_or_late:
         numbers = map(str, change.letters)
         enter = (*numbers, "--enter") if len(change.letters) <= MOST_NAMED else ()
         does = "enters these letters again" if enter else "lists these letters"
@@ -94,6 +97,9 @@ def what_is_taken_back(vote: Vote, arguments: UndoArguments) -> TakenBack:
         struck=struck,
         letters=dict.fromkeys(letters, queries.TAKEN_BACK),
         undone=act,
+        electors={elector_of(one) for one in envelopes if one.elector is not None},
+        is_typed_or_late=act.name == "reopen"
+        or not queries.typed_envelopes(book).isdisjoint(struck),
         ballots=ballots,
         others=others,
     )
@@ -156,12 +162,12 @@ def strike(election: Election, arguments: StrikeArguments) -> None:
     [envelope] = queries.envelopes(book, "envelope = ?", arguments.number)
     tell(f"Struck {in_words(envelope, vote)}, because: {because}")
     if envelope.elector is not None:
-        elector = name_in(envelope.line).decode("ascii")
+        elector = elector_of(envelope)
         answers = queries.what_counts(book, {envelope.elector}).get(elector)
         whose = "that code" if vote.has_codes else elector
         current = "none" if answers is None else vote.answers_in_words(answers)
         tell(f"The current ballot of {whose}: {current}")
-        tell(*left_out(vote, [elector]))
+        tell(*dict.fromkeys(left_out(vote, [elector])))
     tell_judged_anew(vote, change, judged_before)
     tell("A strike cannot be undone: if it was a mistake, enter the line again.")
     tell(f"Next: {election.command('status')}")

@@ -15,8 +15,15 @@ from debvote_tools.cli.console import count_of, shown_line, shown_text, tell
 from debvote_tools.cli.faults import Fault, bad_words, kept_in, stop_at
 from debvote_tools.grouping import grouped
 from debvote_tools.inbox import letter_words
+from debvote_tools.inbox.fates import TAKEN_BACK
 from debvote_tools.inbox.letter_words import name_of, who_and_when, why
-from debvote_tools.inbox.judging import BallotsByElector, answered_by, ballots_in, judged
+from debvote_tools.inbox.judging import (
+    BallotsByElector,
+    answered_by,
+    ballots_in,
+    judged,
+    surely_later,
+)
 from debvote_tools.inbox.reasons import Reason
 from debvote_tools.inbox.letter_lines import BallotLine
 from debvote_tools.inbox.rules import LetterCase, LetterOutcome
@@ -138,12 +145,17 @@ def what_is_decided(vote: Vote, arguments: Arguments) -> Change:
 
 # ---- entering
 class Chosen(NamedTuple):
-    """Ballots of a letter that are entered; and its envelopes that no `undo` took back."""
+    """Ballots of a letter that are entered; its envelopes, also those that an `undo` took back; and the
+    numbers of those that were typed, of all letters.
+    """
 
     letter: LetterCase
     # the line of one is 0 if it was typed
     lines: Sequence[BallotLine]
     before: Sequence[Envelope]
+    typed: Collection[int]
+    # the answers that are left out of these ballots, since their electors have later ones, as ballots
+    left_out: Sequence[str] = ()
 
     @property
     def entered(self) -> dict[tuple[str, str], Envelope]:
@@ -164,43 +176,52 @@ class Chosen(NamedTuple):
         )
         return [there[answer] for answer in answered if answer in there]
 
-    def waits_for(self, history: History) -> list[str]:
-        """For whose ballots the letter waits on when these are entered: of those who have one in it; and,
-        once the secretary has typed one, of those who share the sender's address. One that was struck
-        since was one.
+    @property
+    def typed_last(self) -> list[str]:
+        """The electors whose last ballot of it was typed, though it may be struck or taken back."""
+        last = {elector_of(one): one.number for one in self.before}
+        return [name for name, number in last.items() if number in self.typed]
+
+    @property
+    def waits_for(self) -> list[str]:
+        """For whose ballots the letter waits on when these are entered: of those who have one in it, or had
+        one typed; and, once the secretary has typed one, of those who share the sender's address. One that
+        was struck since was one; one that was taken back was none.
         """
-        typed = [line for line in self.lines if not line.number]
-        is_typed = typed or any(history.act(one.act).is_typed for one in self.before)
+        is_typed = any(one.number in self.typed for one in self.before)
+        is_typed |= not all(line.number for line in self.lines)
         sharing = self.letter.sharing if is_typed and len(self.letter.sharing) > 1 else []
-        having = {*(line.elector for line in self.lines), *map(elector_of, self.before)}
-        names = dict.fromkeys([*(line.elector for line in self.letter.ballots), *sharing])
+        left = [elector_of(one) for one in self.before if one.became != TAKEN_BACK]
+        having = {*(line.elector for line in self.lines), *left}
+        lines = (*self.letter.ballots, *self.letter.likely)
+        names = dict.fromkeys([*(line.elector for line in lines), *sharing, *self.typed_last])
         return [name for name in names if name not in having]
 
     def left_of(
         self, line: BallotLine, by_elector: BallotsByElector
-    ) -> tuple[str, dict[str, set[str]]]:
+    ) -> tuple[str, set[str], set[str]]:
         """A ballot without the answers to which its elector has later ones, and without those that were
-        entered; and the labels of both, by why.
+        entered; and the labels of both.
         """
-        there = queries.later(by_elector[line.elector], self.letter.time)
+        there = surely_later(self.letter, line.as_entered, by_elector[line.elector])
         later, entered = answered_by(line.as_entered, there), self.entered
         done = {
             one for one in answers_of(line.as_entered) if (line.elector, one) in entered
         } - later
-        left = without(line.as_entered, later | done)
-        return left, {f"{line.elector} has a later answer": later, "it was entered": done}
+        return without(line.as_entered, later | done), later, done
 
 
 def what_is_entered(vote: Vote, arguments: Arguments, typed: Sequence[BallotLine]) -> LetterEntry:
     """The act that enters ballots of letters."""
     history, entered = vote.election.history(), entered_in(vote.book)
+    were_typed = queries.typed_envelopes(vote.book)
     wanted = chosen_letters(all_letters(vote), arguments.numbers)
     chosen, faults = list[Chosen](), list[Fault]()
     for letter in sorted(wanted, key=lambda one: (one.time is None, one.time or one.number)):
         with kept_in(faults):
             is_one = len(wanted) == 1
             lines = typed or named_lines(letter, arguments.enter or [], is_one=is_one)
-            chosen.append(Chosen(letter, lines, entered.get(letter.number, ())))
+            chosen.append(Chosen(letter, lines, entered.get(letter.number, ()), were_typed))
     electors = {line.elector for one in chosen for line in one.lines}
     chosen, left_out = without_answered(chosen, ballots_in(vote, electors, IN_TIME))
     faults += why_not_now(vote, history, chosen)
@@ -208,7 +229,7 @@ def what_is_entered(vote: Vote, arguments: Arguments, typed: Sequence[BallotLine
         # of what was entered nothing more is said: no --force enters it again
         not_entered = [one for one in chosen if not one.again]
         faults += why_not_unforced(not_entered, ballots_in(vote, electors))
-        faults += why_typed_again(vote, history, not_entered)
+        faults += why_typed_again(vote, not_entered)
     stop_at(faults)
     if len({would_be_late(history, one.letter) for one in chosen}) > 1:
         words = "some of these letters arrived before the first close, and some after it"
@@ -225,10 +246,15 @@ def entry_of(
     """
     lines = [(one.letter, line) for one in chosen for line in one.lines]
     numbers = [one.letter.number for one in chosen]
-    waits = {one.letter: names for one in chosen if (names := one.waits_for(history))}
+    left_out = {str(one.letter.number): one.left_out for one in chosen if one.left_out}
+    waits = {one.letter: one.waits_for for one in chosen if one.waits_for}
     return LetterEntry(
         "enter",
-        {"letters": numbers, "lines": [line.number for _, line in lines if line.number]},
+        {
+            "letters": numbers,
+            "lines": [line.number for _, line in lines if line.number],
+            **({"left_out": left_out} if left_out else {}),
+        },
         shown=[
             *(
                 f"{who_and_when(letter)}: {vote.ballot_in_words(line.as_entered)}\n  {why(letter)}"
@@ -257,41 +283,47 @@ def without_answered(
     """The ballots without the answers that are left out, unless none is left; and what is said of these."""
     found, said = list[Chosen](), list[str]()
     for one in chosen:
-        kept = list[BallotLine]()
+        kept, left_out = list[BallotLine](), list[str]()
         for line in one.lines:
-            left, left_out = one.left_of(line, by_elector)
+            left, later, done = one.left_of(line, by_elector)
+            kept.append(BallotLine(line.numbers, left or line.as_entered))
+            whys = {f"{line.elector} has a later answer": later, "it was entered": done}
             said += (
                 f"Left out of {name_of(one.letter)}: {ENGLISH.joined(sorted(labels))}, since {why}"
-                for why, labels in left_out.items()
+                for why, labels in whys.items()
                 if labels and left
             )
-            kept.append(BallotLine(line.numbers, left or line.as_entered))
-        found.append(one._replace(lines=kept))
+            if later and left:
+                left_out.append(
+                    without(line.as_entered, answers_of(line.as_entered).keys() - later)
+                )
+        found.append(one._replace(lines=kept, left_out=left_out))
     return found, said
 
 
 def left_out(vote: Vote, electors: Collection[str]) -> Iterator[str]:
     """The answers of electors that were left out when the rest of a letter was entered, and to which
-    they have no later one now, since that was struck.
+    they have no later one now, since that was struck or taken back.
     """
-    if not vote.names.labels:
+    ballots = queries.left_out(vote.book)
+    if not any(ballot.partition(" ")[0] in electors for ballot in ballots.values()):
         return
-    entered, by_elector = entered_in(vote.book), ballots_in(vote, electors, IN_TIME)
-    for letter in all_letters(vote):
-        if letter.outcome is not LetterOutcome.ENTERED:
-            continue
-        one = Chosen(letter, (*letter.ballots, *letter.offered), entered.get(letter.number, ()))
-        partly = {elector for elector, _ in one.entered if elector in electors}
-        for line in one.lines:
-            left, _ = one.left_of(line, by_elector)
-            if left and line.elector in partly:
-                enter = vote.election.command("held", str(letter.number), "--enter")
-                yield f"{name_of(letter)} has an answer that was left out, `{left}`: {enter}"
+    letters = {letter.number: letter for letter in all_letters(vote)}
+    by_elector, typed = ballots_in(vote, electors, IN_TIME), queries.typed_envelopes(vote.book)
+    for number, envelopes in entered_in(vote.book).items():
+        for envelope in envelopes:
+            line = BallotLine((), ballots.get(envelope.number, ""))
+            later = surely_later(letters[number], line.as_entered, by_elector[line.elector])
+            left = without(line.as_entered, answered_by(line.as_entered, later))
+            if left and line.elector in electors:
+                how = ("--as", left) if envelope.number in typed else ("--enter",)
+                enter = vote.election.command("held", str(number), *how)
+                yield f"letter {number} has an answer that was left out, `{left}`: {enter}"
 
 
 def entered_in(book: Book) -> dict[int, list[Envelope]]:
-    """The envelopes of letters that no `undo` took back, by the numbers of the letters."""
-    found = queries.envelopes(book, f"letter IS NOT NULL AND {queries.NOT_UNDONE}")
+    """The envelopes of letters, by the numbers of the letters."""
+    found = queries.envelopes(book, "letter IS NOT NULL")
     return grouped((envelope.letter or 0, envelope) for envelope in found)
 
 
@@ -303,8 +335,7 @@ def would_be_late(history: History, letter: LetterCase) -> bool:
     """Whether what is entered of a letter now is late: the vote is closed; or it is open again, and
     the letter is known to have arrived after the first close.
     """
-    arrived, closes = letter.read.arrived, history.closes
-    return history.is_late(arrived is None or not closes or arrived <= closes[0].time)
+    return history.is_late(not letter.arrived_after(letter.circumstances.first_close))
 
 
 # ---- which lines
@@ -389,7 +420,7 @@ def why_not_unforced(chosen: Sequence[Chosen], by_elector: BallotsByElector) -> 
     elector has a later ballot, or another one of its time.
     """
     cure = "if this ballot must count, repeat it with --force"
-    for letter, lines, _ in chosen:
+    for letter, lines, *_ in chosen:
         name, time = name_of(letter), letter.time
         if mark := letter.other_vote:
             words = f"it has the mark of another vote, [{mark}]"
@@ -400,23 +431,26 @@ def why_not_unforced(chosen: Sequence[Chosen], by_elector: BallotsByElector) -> 
             if not line.number and line.elector not in tied:
                 words = f"neither its sender nor a line of {name} is of {line.elector}"
                 yield Fault("--as", words, f"check the name; {cure}")
-            if answered_by(line.as_entered, queries.later(there, time)):
+            if answered_by(line.as_entered, surely_later(letter, line.as_entered, there)):
                 yield Fault(name, "its elector has voted since", cure)
+            elif answered_by(line.as_entered, queries.later(there, time)):
+                words = "its elector may have voted since, as the clock of the web host was off"
+                yield Fault(name, words, cure)
             elif any(one.time == time and differ(one.line, line.as_entered) for one in there):
                 words = "another ballot of its elector with the same time was entered"
                 yield Fault(name, words, cure)
 
 
-def why_typed_again(vote: Vote, history: History, chosen: Sequence[Chosen]) -> Iterator[Fault]:
-    """What was typed for a letter, and taken back: its own lines may say something else."""
-    struck = queries.envelopes(vote.book, "letter IS NOT NULL AND struck IS NOT NULL")
-    was_typed = {one.letter: history.act(one.act).is_typed for one in struck}
-    for letter, lines, _ in chosen:
-        is_taken_back = letter.state == queries.TAKEN_BACK and was_typed[letter.number]
-        if is_taken_back and any(line.number for line in lines):
+def why_typed_again(vote: Vote, chosen: Sequence[Chosen]) -> Iterator[Fault]:
+    """What was typed for a letter, though it may be taken back: its own lines may say something else."""
+    for one in chosen:
+        letter = one.letter
+        if any(line.number and line.elector in one.typed_last for line in one.lines):
+            is_taken_back = letter.state == queries.TAKEN_BACK
+            words = f"its ballot was typed{', and taken back' if is_taken_back else ''}"
             again = vote.election.command("held", str(letter.number), "--as")
             cure = f"type it again with {again} LINE; if this line is meant, repeat it with --force"
-            yield Fault(name_of(letter), "its ballot was typed, and taken back", cure)
+            yield Fault(name_of(letter), words, cure)
 
 
 def demand_one_order(chosen: Sequence[Chosen]) -> None:

@@ -14,12 +14,13 @@ from debvote_tools.inbox.vote import Vote
 # what belongs to no elector has this in place of a name
 NOBODY = ""
 # of what became of envelopes, in the words of the view `fate`
-COUNTS, REFUSED = "counts", "refused"
+COUNTS, REFUSED, TAKEN_BACK = "counts", "refused", "taken back"
 
 
 class Fate(NamedTuple):
     """An envelope or a letter that came, and what became of it. A letter is an elector's own if it came
-    from an address of theirs, or by their link.
+    from an address of theirs, or by their link; it names them if a ballot in it is theirs, or a line near
+    to one, or if it names nobody and is theirs alone.
     """
 
     time: datetime.datetime
@@ -28,6 +29,7 @@ class Fate(NamedTuple):
     envelope: Envelope | None = None
     letter: LetterCase | None = None
     is_own: bool = False
+    names_them: bool = False
 
     @property
     def why_refused(self) -> str | None:
@@ -71,9 +73,8 @@ def fates_of(
     for letter in judged(Vote(election), history, kept):
         time = letter.read.arrived or kept_at[letter.number]
         senders = letter.sharing if elector or len(letter.sharing) == 1 else ()
-        fates += [
-            (name, Fate(time, letter.outcome, letter=letter, is_own=letter.is_from(name)))
-            for name in dict.fromkeys((*letter.electors, *senders)) or [NOBODY]
-        ]
+        for name in dict.fromkeys((*letter.electors, *senders)) or [NOBODY]:
+            is_own, names_them = letter.is_from(name), name in letter.electors
+            fates.append((name, Fate(time, letter.outcome, None, letter, is_own, names_them)))
     found = grouped(sorted(fates, key=lambda one: one[1].time))
     return {name: found.get(name, []) for name in (*names.values(), NOBODY)}

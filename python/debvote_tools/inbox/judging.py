@@ -167,6 +167,15 @@ def judge_all(
     return cases
 
 
+def surely_later(case: LetterCase, ballot: str, its_ballots: Sequence[Ballot]) -> Sequence[Ballot]:
+    """Those ballots of an elector that are later than one in a letter, by whichever clock."""
+    later = queries.later(its_ballots, case.time)
+    if case.time is None:
+        return later
+    own = Ballot(case.time, ballot, behind=case.read.behind)
+    return [one for one in later if not own.may_turn(one)]
+
+
 def has_voted_since(
     case: LetterCase, elector: str, last: Mapping[str, Mapping[str, Ballot]]
 ) -> bool:
@@ -174,9 +183,10 @@ def has_voted_since(
     that answers one of the same questions.
     """
     its = last.get(elector, {})
-    lines = (line.as_entered for line in (*case.ballots, *case.offered) if line.elector == elector)
+    lines = [line.as_entered for line in (*case.ballots, *case.offered) if line.elector == elector]
     labels = {label for ballot in lines for label in answers_of(ballot)} or its.keys()
-    return any(queries.later([its[label]], case.time) for label in labels & its.keys())
+    there = [its[label] for label in labels & its.keys()]
+    return any(surely_later(case, line, [one]) for line in lines or [""] for one in there)
 
 
 def original_of(group: Sequence[LetterCase]) -> LetterCase | None:
@@ -185,7 +195,7 @@ def original_of(group: Sequence[LetterCase]) -> LetterCase | None:
     """
     may_go_in = (one for one in group if not one.is_decided and one.first_broken_rule is None)
     original = next(may_go_in, None)
-    is_hidden = original and any(one.is_decided and one.can_hide_all for one in group)
+    is_hidden = original and any(one.is_decided and one.can_hide(original) for one in group)
     return None if is_hidden else original
 
 
@@ -262,19 +272,18 @@ def judge_copies(
     if not others:
         return
     # the one that went in, else the one that an act decided of, else the one that arrived first
-    hider = min(
-        (case for case in group if case.can_hide_all),
+    hiders = sorted(
+        (case for case in group if case.can_hide(case)),
         key=lambda case: (case.state not in WENT_IN, not case.is_decided),
-        default=None,
     )
-    is_done = hider is not None and (hider.is_decided or hider.outcome is not LetterOutcome.WAITS)
     # each is a copy of the hider, if that hides it; else of the first one alike
     first_alike: dict[tuple[ReasonWithValues | None, Body, bool], LetterCase] = {}
     for case in sorted(group, key=lambda case: not case.is_decided):
         same = case.first_broken_rule, case.read.body, case.arrived_in_time
         before = first_alike.setdefault(same, case)
-        if hider is not None and (is_done or case.first_broken_rule is None):
-            before = hider
+        if hider := next((one for one in hiders if one.can_hide(case)), None):
+            is_done = hider.is_decided or hider.outcome is not LetterOutcome.WAITS
+            before = hider if is_done or case.first_broken_rule is None else before
         if case in others and before is not case:
             case.outcome, case.reason = outcome_of_copy(case, before, by_elector)
 

@@ -261,13 +261,19 @@ class LetterCase:
         return None if is_money or is_others else why
 
     @functools.cached_property
-    def offered(self) -> Mapping[BallotLine, Reason]:
-        """The lines that are no ballots by themselves, with the reasons why, if there is no ballot. Each
-        can be entered by its number. Of several answers all are offered, or none.
+    def likely(self) -> Mapping[BallotLine, Reason]:
+        """The lines that are no ballots by themselves, with the reasons why, of electors who have no
+        ballot in it.
         """
-        lines = () if self.named else self.sent
-        found = {line.as_ballot: why for line in lines if (why := self.why_offered(line))}
-        has_labels = any(line.has_labels for line in lines)
+        found = {line.as_ballot: why for line in self.sent if (why := self.why_offered(line))}
+        named = (line.as_ballot for line in self.named)
+        having = {line.elector for line in (*named, *self.ballots)}
+        return {line: why for line, why in found.items() if line.elector not in having}
+
+    @functools.cached_property
+    def offered(self) -> Mapping[BallotLine, Reason]:
+        """Those of them that can be entered by their numbers. Of several answers all can, or none."""
+        found, has_labels = self.likely, any(line.has_labels for line in self.sent)
         is_all = len(found) == 1 and self.other_answers.issubset(*(one.numbers for one in found))
         return found if is_all or not has_labels else {}
 
@@ -312,12 +318,12 @@ class LetterCase:
         """
         return next(filter(None, (rule(self) for rule in RULES)), None)
 
-    @property
-    def can_hide_all(self) -> bool:
-        """Whether it can hide all copies, also those that differ from it: it went in once, or breaks no
-        rule. Which of them it hides, `judge_copies` says.
+    def can_hide(self, copy: "LetterCase") -> bool:
+        """Whether it can hide a copy, also one that differs from it: it went in once, or breaks no rule.
+        One that went in by hand, and arrived after the end, hides none that did not.
         """
-        return self.state in WENT_IN or self.first_broken_rule is None
+        is_as_early = copy.arrived_after_end or not self.arrived_after_end
+        return is_as_early and (self.state in WENT_IN or self.first_broken_rule is None)
 
     @property
     def is_decided(self) -> bool:
@@ -333,7 +339,8 @@ class LetterCase:
 
     @property
     def arrived_before_call(self) -> bool:
-        return self.read.arrived is not None and self.read.arrived <= self.circumstances.called
+        """Whether it is known to have arrived before the call."""
+        return any(last <= self.circumstances.called for last in self.arrivals[1:])
 
     @property
     def arrivals(self) -> list[datetime.datetime]:
@@ -341,10 +348,14 @@ class LetterCase:
         arrived, off = self.read.arrived, datetime.timedelta(seconds=self.read.behind)
         return sorted((arrived, arrived + off)) if arrived else []
 
+    def arrived_after(self, *ends: datetime.datetime | None) -> bool:
+        """Whether it is known to have arrived after one of these times."""
+        return any(first > end for first in self.arrivals[:1] for end in ends if end is not None)
+
     @property
     def arrived_after_end(self) -> bool:
         """Whether it is known to have arrived after the end or the first close."""
-        return any(first > end for first in self.arrivals[:1] for end in self.circumstances.ends)
+        return self.arrived_after(*self.circumstances.ends)
 
     def is_from(self, name: str) -> bool:
         """Whether it came from an address of an elector, or by their link."""
@@ -407,12 +418,12 @@ def why_not_in_time(case: LetterCase) -> ReasonWithValues | None:
         return Reason.NO_ARRIVAL()
     if case.arrived_before_call:
         return Reason.BEFORE_THE_CALL(called=circumstances.called)
-    first, last = case.arrivals
-    if circumstances.end is not None and first > circumstances.end:
-        return Reason.AFTER_THE_END(end=circumstances.end)
-    if circumstances.first_close is not None and first > circumstances.first_close:
-        return Reason.AFTER_THE_CLOSE(close=circumstances.first_close)
-    if any(last > end for end in circumstances.ends):
+    end, close = circumstances.end, circumstances.first_close
+    if end is not None and case.arrived_after(end):
+        return Reason.AFTER_THE_END(end=end)
+    if close is not None and case.arrived_after(close):
+        return Reason.AFTER_THE_CLOSE(close=close)
+    if any(last > end for last in case.arrivals[1:] for end in circumstances.ends):
         return Reason.CLOCK_AT_THE_END(seconds=abs(case.read.behind))
     if asked is not None and arrived < asked:
         return Reason.NOT_THERE_BEFORE(asked=asked)
@@ -464,10 +475,13 @@ def why_not_signed_by_its_elector(case: LetterCase) -> ReasonWithValues | None:
 
 
 def why_several_ballots(case: LetterCase) -> ReasonWithValues | None:
-    """No other line reads as a ballot that differs. The next rule would say less of such a letter."""
-    if len({line.as_entered for line in case.ballots}) <= 1:
+    """No other line reads as a ballot that differs, nor may be that of somebody else. The next rule would
+    say less of such a letter.
+    """
+    lines = {*case.ballots, *case.likely} if case.ballots else ()
+    if len({line.as_entered for line in lines}) <= 1:
         return None
-    electors = sorted({line.elector for line in case.ballots})
+    electors = sorted({line.elector for line in lines})
     if len(electors) == 1:
         return Reason.TWO_BALLOTS()
     return Reason.SEVERAL_ELECTORS(electors=", ".join(electors))

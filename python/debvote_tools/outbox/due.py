@@ -160,9 +160,9 @@ def letters_due(
     call_data, forced = call_data_of(election, history, kind, because)
     on_list, noted_before = queries.electors(book), outgoing.outgoing_letters(book, kind)
     electors = {elector.number: elector for elector in on_list}
-    typed = {act.number for act in history.acts if act.is_typed}
+    typed, left_out = queries.typed_envelopes(book), queries.left_out(book)
     records = queries.records_since(book, called)
-    composer = Composer(call_data, is_over, on_list, typed, records)
+    composer = Composer(call_data, is_over, on_list, typed, left_out, records)
     not_reached, _ = unreached_and_printed(election, history)
     back = {elector.number for elector, why, _ in not_reached if why == CAME_BACK}
     present = [one for one in noted_before if one.elector in back and is_present(one, electors)]
@@ -406,9 +406,10 @@ def results_due(run: Run) -> LettersDue:
 
 # ---- what electors are told
 def is_told(fate: Fate) -> bool:
-    """Whether an elector is told of something that came. A copy is the letter that it copies. A
-    program that answers by itself would answer; and a letter of ours that came back has the name of
-    its elector.
+    """Whether an elector is told of something that came. A copy is the letter that it copies. One from
+    which ballots were entered is told to those whom it names: `told_of` leaves out those who have one of
+    these. A program that answers by itself would answer; and a letter of ours that came back has the name
+    of its elector.
     """
     letter = fate.letter
     if letter is None:
@@ -420,7 +421,8 @@ def is_told(fate: Fate) -> bool:
         LetterOutcome.SET_ASIDE,
         LetterOutcome.OLDER,
     )
-    return fate.became in told and not is_automatic
+    is_of_others = fate.became is LetterOutcome.ENTERED and fate.names_them
+    return (fate.became in told or is_of_others) and not is_automatic
 
 
 def told_of(items: Sequence[Fate]) -> dict[About, Fate]:

@@ -9,16 +9,16 @@ import dataclasses
 import datetime
 import functools
 import re
-from collections.abc import Collection, Iterator, Sequence
+from collections.abc import Collection, Iterator, Mapping, Sequence
 
 from debvote_tools.book.queries import Elector
 from debvote_tools.inbox.rules import LetterOutcome
-from debvote_tools.inbox.fates import COUNTS, REFUSED, Fate
+from debvote_tools.inbox.fates import COUNTS, REFUSED, TAKEN_BACK, Fate
 from debvote_tools.inbox.reasons import for_elector
 from debvote_tools.poll.announced import address_in
 from debvote_tools.poll.call import CallData
 from debvote_tools.poll.plain_names import without_accents
-from debvote_tools.text.ballots import faults_of
+from debvote_tools.text.ballots import answers_of, faults_of
 from debvote_tools.text.language import marked
 from debvote_tools.text.rendering import one_line, render_letter
 from debvote_tools.text.times import time_in_words
@@ -52,7 +52,7 @@ OF_BALLOT = marked(
         "replaced": "Your ballot of {time} has arrived. Another ballot of yours, which was entered after it, counts instead.",
         "late": "Your ballot of {time} has arrived. It was entered after the close, so it is late and does not count.",
         "struck": "Your ballot of {time} was entered, and the secretary has struck it. It does not count.",
-        "taken back": "Your ballot of {time} was entered, and the secretary has taken it back. It does not count unless it is entered again.",
+        TAKEN_BACK: "Your ballot of {time} was entered, and the secretary has taken it back. It does not count unless it is entered again.",
         REFUSED: "A line with your name has arrived ({time}). It is not a valid ballot of this vote, so it does not count.",
     }
 )
@@ -60,6 +60,7 @@ AT_THE_END = marked("Your ballot of {time} has arrived, and it counts.")
 NOT_ALL = marked(
     "These of its answers do not count; others of yours, which were entered after them, count instead: {questions}."
 )
+LEFT_OUT = marked("These of its answers were not entered, since you had later ones: {questions}.")
 # what became of a letter: whether it came from an address of the elector, and whether nobody looks
 # at it any more
 OF_LETTER = marked(
@@ -79,7 +80,10 @@ OF_LETTER = marked(
         ): "A letter in your name came from another address. The secretary has set it aside.",
     }
 )
-
+# of one from which only ballots of others were entered
+OF_OTHERS = marked(
+    "A letter of {time} has a ballot of somebody else, which was entered. No ballot of yours from it was entered."
+)
 
 # the same of a ballot that came by the page of the vote: whether by the link of the elector
 OF_RECORD = marked(
@@ -111,8 +115,10 @@ class Composer:
     call_data: CallData
     is_over: bool
     electors: Sequence[Elector] = ()
-    # the acts that entered what the secretary typed for a letter
-    typed_acts: Collection[int] = ()
+    # the envelopes of what the secretary typed for a letter
+    typed: Collection[int] = ()
+    # the answers that were left out of letters, as ballots, by the envelopes of the others
+    left_out: Mapping[int, str] = dataclasses.field(default_factory=dict)
     # the letters that are records of the box
     records: Collection[int] = ()
 
@@ -205,7 +211,8 @@ class Composer:
         if isinstance(fate.became, LetterOutcome):
             is_done = fate.became in (LetterOutcome.SET_ASIDE, LetterOutcome.OLDER)
             of_kind = OF_RECORD if fate.letter and fate.letter.read.link else OF_LETTER
-            said = of_kind[fate.is_own, is_done]
+            is_of_others = fate.became is LetterOutcome.ENTERED
+            said = OF_OTHERS if is_of_others else of_kind[fate.is_own, is_done]
         else:
             is_final = self.is_over and fate.became == COUNTS
             said = AT_THE_END if is_final else OF_BALLOT[fate.became]
@@ -234,13 +241,15 @@ class Composer:
 
     def more_of(self, fate: Fate) -> Iterator[str]:
         """What of a ballot does not count, and how it came."""
-        language = self.call_data.language
-        if fate.replaced:
-            named = list(map(self.call_data.questions.titled, fate.replaced))
-            yield language.say(NOT_ALL, questions=language.joined(named))
+        language, number = self.call_data.language, fate.envelope.number if fate.envelope else 0
+        left_out = answers_of(self.left_out.get(number, ""))
+        for said, labels in ((NOT_ALL, fate.replaced), (LEFT_OUT, left_out)):
+            if labels:
+                named = list(map(self.call_data.questions.titled, labels))
+                yield language.say(said, questions=language.joined(named))
         if fate.envelope is not None and fate.envelope.letter in self.records:
             yield language.say("It came by the page of the vote.")
-        if fate.envelope is not None and fate.envelope.act in self.typed_acts:
+        if number in self.typed:
             yield language.say("The secretary typed it, by a letter that came.")
 
     def quotation_of(self, fate: Fate) -> str:

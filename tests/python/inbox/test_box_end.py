@@ -136,6 +136,21 @@ class End(boxes.BoxElectionTest):
     def test_a_host_that_is_ahead(self) -> None:
         self.demand_decided(180, ["ada"], "ben")
 
+    def test_a_click_before_an_early_close_by_a_host_that_is_ahead(self) -> None:
+        """What stopped `count` as in time is in time for `held`, too."""
+        self.host_off(180)
+        self.called()
+        self.extend(7200)
+        self.done("letters", "call")
+        self.click("ada", RANKS, self.links()["ada"])
+        time.sleep(2)
+        self.done("close", "--early", "--yes")
+        self.done("add", "--box", "--yes")
+        self.assertIn("these letters arrived in time, and wait: 1;", self.election("count").faults)
+        self.done("reopen", "--because", "the click came before the close")
+        self.assertIn("1 counted  ada: ", self.done("held", "1", "--enter").output)
+        self.demand_told(ada=COUNTS)
+
     def test_a_host_that_is_put_right_before_it_is_asked(self) -> None:
         self.demand_decided(180, ["ada"], "ben", ahead_at_the_end=0)
 

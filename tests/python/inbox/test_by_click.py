@@ -891,6 +891,11 @@ class Clocks(unittest.TestCase):
                     # what may be in time stops the close
                     self.assertEqual(found[0].arrived_in_time, "after" not in wanted)
 
+    def test_only_what_is_known_to_be_older_than_the_call_waits_for_that(self) -> None:
+        for behind, wanted in ((0, "waits: before the call"), (180, "in: ada 1,2,3,4")):
+            one = self.record_at("ada", "1,2,3,4", at(8, 59), behind)
+            self.assertEqual(self.outcomes(one, called=at(9)), [wanted])
+
     def test_two_ballots_whose_order_it_could_turn(self) -> None:
         first = self.record_at("ada", "1,2,3,4", at(10), 180)
         for minutes, wanted in ((1, "waits: clocks"), (4, "in: ada 4,3,2,1")):

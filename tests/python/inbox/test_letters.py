@@ -890,6 +890,17 @@ class Couple(LettersTest):
         self.told("held", 1, "--set-aside")
         self.told("close")
 
+    def test_what_was_typed_for_one_is_taken_back_with_the_line_of_the_other(self) -> None:
+        """Once the line is entered again the letter waits on."""
+        self.told("held", 1, "--set-aside")
+        self.add(letter("ada", f"We are 2: Ben is for the town hall\n{self.ada}", number=2))
+        self.told("held", 2, "--as", self.ben)
+        self.assertNotIn("waits on", self.told("held", 2, "--enter"))
+        self.assertIn("held 2 --enter enters these letters again", self.told("undo", "--yes"))
+        self.assertNotIn("--enter", self.told("undo", "--yes"))
+        self.assertIn("letter 2 waits on, for a ballot of ben\n", self.told("held", 2, "--enter"))
+        self.assert_left(1, self.ada)
+
     def test_one_that_went_in_by_itself(self) -> None:
         """Where three have the address it waits again, for the third."""
         self.told("held", 1, "--set-aside")
@@ -923,6 +934,15 @@ class Couple(LettersTest):
         self.told("strike", 1, "--because", "she rang up")
         self.assertIn("0 ballots of letters went in; 1 letter waits.", self.told("add", "--yes", box))
         self.assert_left(1)
+
+    def test_one_ballot_has_blanks_between_its_ranks(self) -> None:
+        """It is offered beside the other one, and the letter waits until both are entered."""
+        self.told("held", 1, "--set-aside")
+        said = self.add(letter("ada", f"{self.ada}\nben 2 1 4 3", number=2))
+        self.assertIn(f"ballots of several electors: ada, ben\n        line 1: {self.ada}\n        line 2: ben 2,1,4,3\n", said)
+        self.assertIn("letter 2 waits on, for a ballot of ben\n", self.told("held", 2, "--enter", 1))
+        self.assertNotIn("waits on", self.told("held", 2, "--enter", 2))
+        self.assert_left(0, self.ada, "ben 2,1,4,3")
 
     def test_several_enter(self) -> None:
         self.add(letter("dan", f"3 of us:\ndan {RANKS}\neve {RANKS}\nfay {RANKS}"))

@@ -126,6 +126,13 @@ class Taken(LettersTest):
         self.told("held", "1", "--as", "Ada Lovelace: Ja", "--force", "--yes")
         self.assertEqual(self.lines(), ["ada-lovelace 1,2"])
 
+    def test_a_letter_with_the_words_of_two_waits_for_both(self) -> None:
+        self.add(letter("ada", "ada ja\nben nein\n"), letter("cleo", "cleo 1,2\ndan nein\n"))
+        for number, other in ((1, "ben"), (2, "dan")):
+            self.assertIn(f"letter {number} waits on, for a ballot of {other}\n", self.told("held", number, "--enter", 1))
+            self.assertNotIn("waits on", self.told("held", number, "--enter", 2))
+        self.assertEqual(self.lines(), ["ada 1,2", "ben 2,1", "cleo 1,2", "dan 2,1"])
+
     def test_words_of_letters_are_entered_one_by_one(self) -> None:
         self.told("letters", "call")
         sent = {name: re.search(rb"(?m)^Message-ID: (<.*>)", data)[1].decode() for name in ("ada", "ben") for data in self.contents().values() if f"To: {name}@".encode() in data}
@@ -224,7 +231,7 @@ class Offered(unittest.TestCase):
             "yes": "waits: no ballot", "Kim No": "waits: no ballot",
             # a ballot goes in as ever, unless a line beside it may be an answer
             "ada 1,2": "in: ada 1,2", "Hello,\n\nada 1,2\n\nbest wishes\n": "in: ada 1,2", "ada 1,2\n\nyes\n": "waits: another answer", "ada 1,2\n\nNo, not that one\n": "waits: another answer",
-            "ada 1,2\n\nben no\n": "waits: another answer", "ada 1,2\n-- \nyes\n": "waits: another answer", "ada 1,2\n\n> yes\n": "in: ada 1,2",
+            "ada 1,2\n\nben no\n": "waits: several electors; ben 2,1", "ada 1,2\n-- \nyes\n": "waits: another answer", "ada 1,2\n\n> yes\n": "in: ada 1,2",
             "ada 1,2\n\nI say no to it\n": "in: ada 1,2", "ada 1,2\n\nKim No\n": "in: ada 1,2", "ada 1,2\n\nOption 1: Yes\n": "in: ada 1,2", "Kim No 1,2": "waits: real name; kim-no 1,2",
             # a line with a word greets nobody
             "Yes to all of what you say\n\nada 1,2": "waits: not first", "Hello and no more than that,\n\nada 1,2": "waits: not first", "Hello and not more than that,\n\nada 1,2": "in: ada 1,2",

@@ -111,6 +111,25 @@ class Reopened(LettersTest):
         self.add_lines(BALLOT, OTHER, BALLOT, words=("--came-before-close", "yes"))
         self.assertEqual(self.stands("ada"), RANKS)
 
+    def test_what_was_entered_anew_and_struck_is_entered_anew_again(self) -> None:
+        """As the fault of `held` says; a line of a file is known all the time, and once."""
+        self.told("close")
+        self.set_clock("2026-11-25T10:00:00+00:00")
+        self.add(letter("ben", f"ben {RANKS}", time="Wed, 25 Nov 2026 09:30:00 +0000"))
+        self.told("held", 1, "--enter")
+        self.add_lines(BALLOT)
+        self.reopen("--in-time", 1, 2)
+        self.told("strike", 3, "--because", "a slip")
+        self.told("strike", 4, "--because", "a slip")
+        self.assertIn("0 are new", self.add_lines(BALLOT, words=("--came-before-close", "yes")))
+        ended = self.election("held", 1, "--enter", "--yes")
+        self.assertIn("have the vote closed, then run debvote-election reopen --in-time 1 --because", ended.faults)
+        self.told("close")
+        self.reopen("--in-time", 1, 2)
+        self.assertEqual((self.lines(), self.late_lines()), ([f"ben {RANKS}", BALLOT], [f"ben {RANKS}", BALLOT]))
+        said = self.add_lines(BALLOT, BALLOT, words=("--came-before-close", "yes"))
+        self.assertIn("1 line is ignored, since it came before; 1 is new", said)
+
     def test_all_late_lines_by_the_command_that_is_told(self) -> None:
         """And by an option that is given several times. The late lines stay."""
         self.told("close")
@@ -160,6 +179,20 @@ class Reopened(LettersTest):
         self.told("close")
         self.reopen("--in-time", 1)
         self.assertEqual(self.lines(), [BALLOT])
+
+    def test_a_letter_whose_late_copy_was_entered(self) -> None:
+        """The first mailbox is added after the second one, which had it by forwarding after the end: it stops the count, and counts."""
+        self.told("call", "--until", "2026-11-25 10:00", "--zone", "UTC")
+        copies = [letter("ada", BALLOT, time=f"Wed, 25 Nov 2026 {time}:00 +0000") for time in ("11:00", "09:50")]
+        self.set_clock("2026-11-25T12:00:00+00:00")
+        self.told("close")
+        self.add(copies[0])
+        self.told("held", 1, "--enter")
+        self.assertIn("1 letter waits.", self.add(copies[1]))
+        self.assertIn("these letters arrived in time, and wait: 2;", self.election("count").faults)
+        self.reopen()
+        self.told("held", 2, "--enter", "--force")
+        self.assertEqual((self.lines(), self.late_lines()), ([BALLOT], [BALLOT]))
 
     def test_a_call_that_was_closed_and_taken_back(self) -> None:
         """A close stays; where an earlier version took the call back, the next one is open until its own close."""

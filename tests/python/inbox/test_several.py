@@ -190,6 +190,13 @@ class Several(unittest.TestCase):
         self.assertEqual(lines_in(late, first(), end=at(12)), [BALLOT])
         self.assertEqual(outcomes(judged(late, end=at(12))[0].read, first(), end=at(12)), [f"in: {BALLOT}", "copy"])
 
+    def test_what_was_entered_as_late_hides_no_copy_that_arrived_in_time(self) -> None:
+        """A second mailbox had it later. Another late copy is one of it."""
+        late, again = parsed(first(time=hour(13))), b"X-Status: R\n" + first(time=hour(14))
+        for decision, becomes in ((queries.ENTERED, "entered"), (queries.STRUCK, "set aside: struck"), (queries.TAKEN_BACK, "waits: taken back")):
+            found = outcomes(late, again, first(), b"X-Status: R\n" + first(), end=at(12), decisions={late.digest: decision})
+            self.assertEqual(found, [f"in: {BALLOT}", "copy", becomes, "copy"])
+
     def test_what_an_act_decided_holds_for_copies(self) -> None:
         wanted = {
             queries.ENTERED: "entered", queries.TAKEN_BACK: "waits: taken back", queries.PUT_BACK: "waits: put back",

@@ -463,6 +463,17 @@ class ReceiptsAndReminders(OutTest):
         self.assertIn(f"{said} The secretary typed it, by a letter that came. It was read as (gus {RANKS}), in words: {LAKE}.", texts["gus"])
         self.assertNotIn("No ballot from it", texts["gus"])
 
+    def test_who_has_a_line_in_a_letter_from_which_another_ballot_went_in(self) -> None:
+        """They are told, once, and reminded of it."""
+        self.add(letter("ada", f"ada {RANKS}\n\nben 1,2\n"))
+        texts = self.texts("receipts")
+        self.assertEqual(list(texts), ["ada", "ben"])
+        said = "10:00 (UTC) has a ballot of somebody else, which was entered. No ballot of yours from it was entered."
+        self.assertIn(f"{said} If you have not sent this", texts["ben"])
+        self.assertNotIn("of somebody else", texts["ada"])
+        self.assertEqual(self.texts("receipts"), {})
+        self.assertIn(said, self.texts("reminders")["ben"])
+
     def test_one_for_each_elector_and_run(self) -> None:
         twice, aside = letter("ben", f"ben {RANKS}\n"), (letter("dan", "hello\n"), letter("eve", f"eve {RANKS}\n", sender="x@x.example"))
         self.add(*aside)

@@ -44,7 +44,7 @@ LETTER = OutgoingLetter(1, "call", 1, "ada@club.example", "<1@club.example>", TI
 
 def vote(code: str = "en", *, is_over: bool = False, **how: object) -> Composer:
     data = CallData(language_of(code), alone(POLL), {"": 1}, to="vote@club.example", at="https://club.example/vote/")
-    return Composer(dataclasses.replace(data, **how), is_over, typed_acts={2})  # type: ignore[arg-type]
+    return Composer(dataclasses.replace(data, **how), is_over, typed={2})  # type: ignore[arg-type]
 
 
 def all_that_came() -> list[Fate]:

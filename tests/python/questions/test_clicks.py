@@ -2,9 +2,11 @@
 
 import json
 import pathlib
+import time
 
 from tests.support import boxes
 from tests.support.at_browser import NEEDS_BROWSER, Window
+from tests.support.letters import letter, mailbox
 from tests.support.web_host import NEEDS_PHP
 
 FEE = 'title = "Raise the fee to 72 Euro"\noptions = ["Yes"]\nratios = [1]\ndefault = "No"\nquorum = 1\nmotion = true\n'
@@ -16,9 +18,7 @@ WHERE = f'title = "Where we meet"\noptions = {list(PLACES[1:])}\nratios = [1, 1,
 POLLS = {"A": FEE, "B": CHAIR, "C": STATUTES, "D": WHERE}
 
 
-@NEEDS_PHP
-@NEEDS_BROWSER
-class Clicks(boxes.BoxElectionTest):
+class QuestionsByBox(boxes.BoxElectionTest):
     new_words = ("--questions", "4")
     poll = "".join(POLLS.values())
 
@@ -29,6 +29,33 @@ class Clicks(boxes.BoxElectionTest):
         for label, poll in POLLS.items():
             (folder / "polls" / f"{label}.toml").write_text(poll)
 
+
+@NEEDS_PHP
+class Clocks(QuestionsByBox):
+    has_clock = True
+
+    def test_a_click_that_the_clock_may_have_put_before_a_letter(self) -> None:
+        """Nothing is left out of it for that letter, and by force it is entered whole."""
+        links = self.begun()
+        self.host_off(-180)
+        self.done("add", "--box", "--yes")
+        arrived = time.strftime("%a, %d %b %Y %H:%M:%S +0000", time.gmtime(time.time() - 1))
+        data = letter("ada", "ada A 1,2 B 1,2,3\n", time=arrived)
+        self.write("inbox.mbox", mailbox(self.of_this_vote(data)))
+        self.done("add", "--yes", "inbox.mbox")
+        self.click("ada", "A 2,1 C 1,2", links["ada"])
+        said = self.done("add", "--box", "--yes").output
+        self.assertIn("it may be earlier or later than another ballot of ada", said)
+        self.assertNotIn("has voted since", said)
+        enter, why = ("held", "2", "--enter", "--yes"), "its elector may have voted since, as the clock of the web host was off"
+        self.assert_fault(self.election(*enter), 9, why)
+        self.assertNotIn("Left out", self.done(*enter, "--force").output)
+        self.assertIn("The current ballot: ada A 2,1 B 1,2,3 C 1,2: ", self.done("show", "ada").output)
+
+
+@NEEDS_PHP
+@NEEDS_BROWSER
+class Clicks(QuestionsByBox):
     def setUp(self) -> None:
         super().setUp()
         self.begun()

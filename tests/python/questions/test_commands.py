@@ -168,6 +168,41 @@ class TakenAway(QuestionsTest):
         self.assert_refused(["held", "2", "--as", "ada B 1,2,3", "--yes"], 9, "its ballot of ada was entered")
         self.assertIn("The current ballot: ada A 1,2 B 1,2,3: ", self.told("show", "ada"))
 
+    def test_an_answer_that_was_left_out_of_what_was_typed_comes_back(self) -> None:
+        """It is to be typed again, as `strike` and `undo` of the later answer say."""
+        for number, name in enumerate(("ada", "ben"), start=1):
+            self.done("desk", given=f"{name} B 3,2,1\n")
+            self.add(letter(name, "for it, and as listed\n", time=at(9)))
+            self.done("held", str(number), "--as", f"{name} A 1,2 B 1,2,3", "--yes")
+            self.done("undo", "--yes")
+            self.done("held", str(number), "--as", f"{name} A 2,1 B 2,1,3", "--yes")
+        said = self.told("strike", "1", "--because", "it was not her paper", "--yes")
+        self.assertIn("letter 1 has an answer that was left out, `ada B 2,1,3`: debvote-election held 1 --as 'ada B 2,1,3'\n", said)
+        self.assertEqual(said.count("left out"), 1)
+        self.done("held", "1", "--as", "ada B 2,1,3", "--yes")
+        self.assertIn("The current ballot: ada A 2,1 B 2,1,3: ", self.told("show", "ada"))
+        # of a later one that comes and is taken back
+        self.done("desk", given="ben B 1,2,3\n")
+        self.assertNotIn("left out", self.told("undo", "--yes"))
+        self.done("strike", "4", "--because", "x", "--yes")
+        self.done("desk", given="ben B 1,2,3\n")
+        self.assertIn("letter 2 has an answer that was left out, `ben B 2,1,3`", self.told("undo", "--yes"))
+
+    def test_what_was_typed_stays_so_when_it_is_entered_anew(self) -> None:
+        """Nothing of the letter's own line is entered beside it or in its place."""
+        self.done("close", "--early", "--force", "--because", "x", "--yes")
+        self.set_clock("2026-11-25T10:00:00+00:00")
+        self.add(letter("ada", "ada A 2,1 B 1,2,3\n\nNo, the other way round, and nothing on the chair.\n", time="Wed, 25 Nov 2026 09:30:00 +0000"))
+        self.done("held", "1", "--as", "ada A 1,2", "--yes")
+        self.done("reopen", "--in-time", "1", "--because", "a slow server")
+        said = "its ballot was typed; nothing was changed: type it again with debvote-election held 1 --as LINE"
+        self.assert_refused(["held", "1", "--enter", "--yes"], 9, said)
+        self.done("letters", "receipts")
+        [receipt] = (self.folder / "letters" / "receipts").rglob("ada.eml")
+        self.assertEqual(" ".join(receipt.read_text().split()).count("The secretary typed it"), 2)
+        self.assertNotIn("--enter", self.told("undo", "--yes"))
+        self.assert_refused(["held", "1", "--enter", "--yes"], 9, "its ballot was typed, and taken back; ")
+
     def test_a_file_that_comes_again(self) -> None:
         """What came before is passed over, and of an answer that was replaced since it is told."""
         self.write("first", "ada A 1,2 B 1,2,3\nben C 1,2\n")
@@ -195,6 +230,20 @@ class Told(QuestionsTest):
         self.assertIn(f"It counts unless you send a later one. {not_all} It was read as ada (A 1,2) (B 1,2,3), in words: {YES}; {CHAIR}.", texts["ada"])
         self.assertIn(f"It was read as ada (A 2,1), in words: {NO}.", texts["ada"])
         self.assertIn("It is not a valid ballot of this vote, so it does not count. One of its answers has 2 ranks, and the question has 3 options. |ben |B 1,2", texts["ben"])
+
+    def test_receipts_say_what_was_left_out_of_a_letter(self) -> None:
+        """Until that is entered, too."""
+        self.add_lines("ada B 3,2,1")
+        self.add(letter("ada", "ada A 1,2 B 1,2,3\n", number=1, time=at(9)))
+        self.done("held", "1", "--enter", "--yes")
+        left_out = "These of its answers were not entered, since you had later ones: B (The chair of the board)."
+        self.assertIn(f"{left_out} It was read as ada (A 1,2), in words: {YES}.", self.letters("receipts")["ada"])
+        self.done("strike", "1", "--because", "x", "--yes")
+        self.done("held", "1", "--enter", "--yes")
+        self.done("letters", "receipts")
+        receipt = " ".join((self.folder / f"letters/receipts/{self.last_act()}/ada.eml").read_text().split())
+        self.assertIn("It was read as ada (B 1,2,3)", receipt)
+        self.assertNotIn("not entered", receipt)
 
     def test_who_has_answered_one_question_is_not_reminded(self) -> None:
         self.add_lines("ada B 1,2,3", "ben B 1,2", words=["--force"])
