@@ -494,8 +494,8 @@ class KeptLetter(NamedTuple):
     source: int
     # what a copy of it has in common with it
     identity: str
-    # the column `known`: a `ReadLetter` as JSON, which its bytes, the keyring, the sealed poll and the
-    # real names decide
+    # the column `known`: a `ReadLetter` as JSON, which its bytes and how it came, the keyring, the
+    # sealed poll and the real names decide
     read_json: str
     state: str
 

@@ -47,7 +47,7 @@ CREATE TABLE source (
   data BLOB NOT NULL                    -- what came, byte for byte
 ) STRICT;
 
--- `known` depends on the real names, too.
+-- `known` depends on the real names, too, and on how the letter came: parted off from another, or by which link and asking.
 CREATE TABLE letter (
   letter INTEGER PRIMARY KEY,           -- its number, from 1
   act INTEGER NOT NULL REFERENCES act DEFERRABLE INITIALLY DEFERRED,

@@ -1,6 +1,6 @@
 -- What became of each envelope: the one place that says which ballot counts now; `what_counted` in `queries.py` says which counted
 -- at an earlier act, and `by_time` which of two ballots is the later one. Each connection makes these views for itself, over `entered`
--- and `ballot` as it sees them; the book has neither.
+-- and `ballot` as it sees them; of the four here the book has none.
 
 -- The valid ballots, in time and not struck; and of each elector the one that counts: of these the one with the greatest number.
 CREATE TEMP VIEW valid AS SELECT * FROM ballot WHERE answer IS NULL;

@@ -33,7 +33,7 @@ from debvote_tools.cli.console import (
 from debvote_tools.cli.faults import Fault, bad_words
 from debvote_tools.files import whole_folder, write_whole
 from debvote_tools.inbox import letter_words
-from debvote_tools.inbox.asked import asked_last, asked_words
+from debvote_tools.inbox.asked import asked_last, asked_words, unasked_fault
 from debvote_tools.inbox.fates import Fate, fates_of
 from debvote_tools.inbox.lines import has_code
 from debvote_tools.inbox.stopping import Pending, pending_letters
@@ -159,7 +159,7 @@ def state_words(
         yield from named(f"Not reached by the call: {reason}", names)
     yield from named("Get the call printed", state["printed"])
     yield f"Last act: {state['act']}, digest {state['digest']}"
-    yield f"Next: {what_next(election, state)}"
+    yield f"Next: {what_next(election, history, state)}"
 
 
 def named(what: str, names: list[str] | None) -> Iterator[str]:
@@ -179,7 +179,7 @@ def refused_words(refused: list[Envelope], *, has_codes: bool) -> Iterator[str]:
             yield f"    {one.why_refused}"
 
 
-def what_next(election: Election, state: State) -> str:
+def what_next(election: Election, history: History, state: State) -> str:
     if state["stage"] == "new":
         return f"{election.command('roll')}, then {election.command('check')}, then {election.command('call')}"
     if state["stage"] == "called":
@@ -188,7 +188,9 @@ def what_next(election: Election, state: State) -> str:
     if state["stage"] == "published" and not state["stopping"]:
         send = election.to_all("result", election.path(LETTERS) / RESULT_LETTER)
         return f"put the published folder on the web site as it is, then {send}"
-    return f"{election.command('count')}, then {election.command('publish')}"
+    is_unasked = unasked_fault(election, history, "count")
+    first = f"{election.command('add', '--box')}, then " if is_unasked else ""
+    return f"{first}{election.command('count')}, then {election.command('publish')}"
 
 
 # ---- show

@@ -74,6 +74,7 @@ def check_again(
     for index in which:
         one, letter = kept[index], found[index]
         if letter.is_slow or (one.act < sealed and not letter.is_never_signed):
+            # no record of the box: a vote with signatures has none
             data = queries.source_of(vote.book, one.source)
             raws[index] = RawLetter(letter.where, data, letter.is_parted_off)
     for index, read in zip(raws, read_letters(vote, [*raws.values()])):

@@ -1,6 +1,7 @@
 """The rules of a letter. If one does not hold, it waits, with the reason of the first. If all hold,
-it goes in by itself, unless its elector has a later ballot. A copy of another letter does neither,
-and what an act decided holds, whatever the rules say (`judging.py`).
+it goes in by itself, unless its elector has a later ballot. A copy of another letter, or a letter with
+the mark of another vote, does neither, and what an act decided holds, whatever the rules say
+(`judging.py`).
 
 They say what a letter has to be. No list of what may be wrong with a letter, or of what a quotation
 looks like, can be complete, so there is none.

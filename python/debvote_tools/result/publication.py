@@ -93,7 +93,8 @@ def demand_own_lines(book: Book, roll: Collection[str]) -> None:
     """Stops if an envelope is not kept for the elector whose name its line begins with."""
     names = frozenset(roll)
     for number, name, line in queries.names_and_lines(book):
-        if names.intersection([name_in(line).decode()]) != set(filter(None, [name])):
+        first = name_in(line).decode()
+        if name != (first if first in names else None):
             words = f"envelope {number} is kept for another elector than the one whose name its line begins with"
             raise Fault(book.path, words, KEEP)
 

@@ -575,6 +575,7 @@ class Asked(boxes.BoxElectionTest):
             "Note: the page still takes ballots, and says that they arrived: run debvote-election add --box.",
             ended.output,
         )
+        self.assertIn("\nNext: debvote-election add --box, then debvote-election count, then", self.done("status").output)
         fault = "--box: the box of the web host was not asked since the vote was closed early"
         for words, status in ((("count",), 9), (("letters", "closed"), 9)):
             self.assert_fault(self.election(*words), status, fault)
