@@ -223,7 +223,7 @@ def what_is_entered(vote: Vote, arguments: Arguments, typed: Sequence[BallotLine
             lines = typed or named_lines(letter, arguments.enter or [], is_one=is_one)
             chosen.append(Chosen(letter, lines, entered.get(letter.number, ()), were_typed))
     electors = {line.elector for one in chosen for line in one.lines}
-    chosen, left_out = without_answered(chosen, ballots_in(vote, electors, IN_TIME))
+    chosen, said = without_answered(chosen, ballots_in(vote, electors, IN_TIME))
     faults += why_not_now(vote, history, chosen)
     if not arguments.force:
         # of what was entered nothing more is said: no --force enters it again
@@ -235,11 +235,11 @@ def what_is_entered(vote: Vote, arguments: Arguments, typed: Sequence[BallotLine
         words = "some of these letters arrived before the first close, and some after it"
         raise Fault("--enter", words, "enter those that arrived before it apart")
     demand_one_order(chosen)
-    return entry_of(vote, history, chosen, left_out, is_agreed=arguments.yes)
+    return entry_of(vote, history, chosen, said, is_agreed=arguments.yes)
 
 
 def entry_of(
-    vote: Vote, history: History, chosen: Sequence[Chosen], left: Sequence[str], *, is_agreed: bool
+    vote: Vote, history: History, chosen: Sequence[Chosen], said: Sequence[str], *, is_agreed: bool
 ) -> LetterEntry:
     """The act that enters these ballots. A letter waits on until each of its electors has one: it is
     put back, or `add` would enter its own line once more, and it would wait for nobody.
@@ -260,7 +260,7 @@ def entry_of(
                 f"{who_and_when(letter)}: {vote.ballot_in_words(line.as_entered)}\n  {why(letter)}"
                 for letter, line in lines
             ),
-            *left,
+            *said,
         ],
         question=terminal_question(f"Enter {count_of(len(lines), 'ballot')}?", is_agreed),
         letters={

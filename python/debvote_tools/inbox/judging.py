@@ -55,7 +55,7 @@ def judged(
 def read_kept(vote: Vote, kept: Sequence[KeptLetter]) -> list[ReadLetter]:
     """What the book keeps of letters. A signature is checked anew if the letter came before the
     present keyring, or gpgv was too slow: of an unsettled letter; and, if such a one is signed, of
-    those that were decided without a good signature, since only then a copy is known as one.
+    those that were settled without a good signature, since only then a copy is known as one.
     """
     found = [from_json(letter.read_json) for letter in kept]
     unsettled = [index for index, one in enumerate(kept) if one.is_unsettled]
