@@ -434,8 +434,9 @@ def why_not_unforced(chosen: Sequence[Chosen], by_elector: BallotsByElector) -> 
             if answered_by(line.as_entered, surely_later(letter, line.as_entered, there)):
                 yield Fault(name, "its elector has voted since", cure)
             elif answered_by(line.as_entered, queries.later(there, time)):
-                words = "its elector may have voted since, as the clock of the web host was off"
-                yield Fault(name, words, cure)
+                off = "as the clock of the web host was off"
+                why_unsure = "as nobody knows when it arrived" if time is None else off
+                yield Fault(name, f"its elector may have voted since, {why_unsure}", cure)
             elif any(one.time == time and differ(one.line, line.as_entered) for one in there):
                 words = "another ballot of its elector with the same time was entered"
                 yield Fault(name, words, cure)

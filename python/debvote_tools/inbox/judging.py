@@ -169,25 +169,27 @@ def judge_all(
 
 
 def surely_later(case: LetterCase, ballot: str, its_ballots: Sequence[Ballot]) -> Sequence[Ballot]:
-    """Those ballots of an elector that are later than one in a letter, by whichever clock."""
-    later = queries.later(its_ballots, case.time)
+    """Those ballots of an elector that are later than one in a letter, by whichever clock: none where
+    its time is not known.
+    """
     if case.time is None:
-        return later
+        return []
     own = Ballot(case.time, ballot, behind=case.read.behind)
-    return [one for one in later if not own.may_turn(one)]
+    return [one for one in queries.later(its_ballots, case.time) if not own.may_turn(one)]
 
 
 def has_voted_since(
     case: LetterCase, elector: str, last: Mapping[str, Mapping[str, Ballot]]
 ) -> bool:
-    """Whether an elector of a letter has a later ballot; if answers of theirs stand in the letter, one
-    that answers one of the same questions.
+    """Whether an elector of a letter has a later ballot, or may have, where its time is not known; if
+    answers of theirs stand in the letter, one that answers one of the same questions.
     """
     its = last.get(elector, {})
     lines = [line.as_entered for line in (*case.ballots, *case.offered) if line.elector == elector]
     labels = {label for ballot in lines for label in answers_of(ballot)} or its.keys()
     there = [its[label] for label in labels & its.keys()]
-    return any(surely_later(case, line, [one]) for line in lines or [""] for one in there)
+    surely = (surely_later(case, line, [one]) for line in lines or [""] for one in there)
+    return bool(there) if case.time is None else any(surely)
 
 
 def original_of(group: Sequence[LetterCase]) -> LetterCase | None:

@@ -132,7 +132,8 @@ def why(letter: LetterCase) -> str:
     if letter.outcome is LetterOutcome.GOES_IN:
         # nobody has agreed to it yet
         said = "it goes in with the next add of letters"
-    return said + ("; has voted since" if letter.is_pending and letter.has_voted_since else "")
+    since = f"; {'may have' if letter.time is None else 'has'} voted since"
+    return said + (since if letter.is_pending and letter.has_voted_since else "")
 
 
 def near_words(letter: LetterCase) -> Iterator[str]:

@@ -85,7 +85,7 @@ class Reason(enum.Enum):
     IN_THE_FUTURE = "it arrived later than the clock of this computer says", LOOKED_AT
     CLOSED = (
         "the vote is closed: to enter it, reopen",
-        "The reason: it arrived in time, but was read only after the vote was closed.",
+        "The reason: it arrived in time, but was not entered before the vote was closed.",
     )
     # who sent it
     NO_SENDER = "it does not come from one address alone: {sender}", OTHER_ADDRESS

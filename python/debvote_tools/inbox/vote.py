@@ -199,8 +199,9 @@ class Vote:
         unclear: Sequence[str],
         refused: Mapping[bytes, Mapping[str, Finding]],
     ) -> Iterator[CheckedLine]:
-        """A line, or of several answers the valid ones, and those that are refused for one reason. One
-        that has not their form, or has the name of several electors, is never entered.
+        """A line, or of several answers the valid ones, and those that are refused for one reason. Of
+        several answers, one that has not their form, or has the name of several electors, is never
+        entered.
         """
         why = f"it has the name of {ENGLISH.joined(list(unclear))}" if unclear else ""
         # as it came, such a line is no ballot

@@ -82,6 +82,15 @@ class Held(QuestionsTest):
         self.assertEqual(shown.count("has voted since"), 1)
         self.assertRegex(shown, r"has voted since\n +line 1: ada A 1,2\n")
 
+    def test_nothing_is_left_out_of_a_letter_whose_time_is_not_known(self) -> None:
+        """Nobody knows which answer is the later one: it stops, and by force the whole letter is entered."""
+        self.add(letter("ada", "ada A 1,2\n", number=1, time=at(9)), letter("ada", "ada A 2,1 B 1,2,3\n", number=2, time=None))
+        self.assertIn("; may have voted since\n", self.told("held"))
+        enter = ["held", "2", "--enter", "--yes"]
+        self.assert_refused(enter, 9, "letter 2: its elector may have voted since, as nobody knows when it arrived")
+        self.assertNotIn("Left out", self.told(*enter, "--force"))
+        self.assertEqual(self.lines(), ["ada A 1,2", "ada A 2,1 B 1,2,3"])
+
     def test_no_answer_is_left_out_for_a_late_one(self) -> None:
         """It would count for nothing, as the late one does: it stops, and by force the whole letter is entered."""
         self.done("close", "--early", "--force", "--because", "x", "--yes")
