@@ -219,7 +219,7 @@ def quoted_of_ours(letter: LetterCase) -> set[int]:
     ballots: it answers one of ours, or the quotation has the mark of the poll.
     """
     lines, circumstances = letter.read.body.lines, letter.circumstances
-    is_reply = any(letter.read.in_reply_to in ids for ids in circumstances.our_ids.values())
+    is_reply = letter.read.in_reply_to in circumstances.all_our_ids
     shown = indices_of_ballots(letter, letter.near)
     return {
         index

@@ -125,6 +125,11 @@ class Circumstances:
         return self.is_signed and self.is_mark(line)
 
     @functools.cached_property
+    def all_our_ids(self) -> frozenset[str]:
+        """The Message-IDs of our letters to all electors."""
+        return frozenset(itertools.chain.from_iterable(self.our_ids.values()))
+
+    @functools.cached_property
     def electors_by_mark(self) -> dict[str, str]:
         return {elector.mark: name for name, elector in self.electors.items() if elector.mark}
 
