@@ -431,12 +431,6 @@ def numbers(book: Book) -> Numbers:
     return Numbers(*book.rows(words)[0])
 
 
-def refused_lines(book: Book) -> list[tuple[int, bytes, str]]:
-    """The lines in time that debvote refuses: the number of the envelope, the line, and why."""
-    words = "SELECT envelope, line, answer FROM ballot WHERE answer IS NOT NULL ORDER BY envelope"
-    return book.rows(words)
-
-
 def lines_that_came(book: Book) -> collections.Counter[bytes]:
     """How often each line came in a file of lines that no `undo` took back."""
     words = f"SELECT line, count(*) FROM entered WHERE {IN_FILES} GROUP BY line"

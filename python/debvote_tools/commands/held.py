@@ -59,8 +59,8 @@ class Arguments(Acting):
     set_aside: bool = flag("Set the letters aside: they are dealt with, and wait no longer")
     wait: bool = flag("Have the letters wait again")
     force: bool = flag(
-        "Enter the ballot although its elector has voted since, the letter has the mark of another vote, its ballot was typed and "
-        "taken back or, with --as, nothing ties the elector to the letter"
+        "Enter the ballot although its elector has or may have voted since, the letter has the mark of another vote, its ballot was "
+        "typed or, with --as, nothing ties the elector to the letter"
     )
     yes: bool = flag("Enter the ballots without asking")
 

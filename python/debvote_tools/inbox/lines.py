@@ -147,7 +147,7 @@ class Names:
         """
         label = self.label_behind_name(line)
         folds = self.folds(f"{name} {label}") if label else set[str]()
-        return self.named({*folds, *(f"{fold}." for fold in folds)})
+        return self.of_folds({*folds, *(f"{fold}." for fold in folds)})
 
     def words_of(self, *names: str) -> set[str]:
         """The words of which names consist."""
@@ -158,9 +158,9 @@ class Names:
         """The electors whose name on the roll or real name this is, as people write it."""
         small = name.lower()
         is_of_one = small in self.roll and small not in self.real_names_of_others
-        return [small] if is_of_one else self.named(self.folds(name))
+        return [small] if is_of_one else self.of_folds(self.folds(name))
 
-    def named(self, folds: set[str]) -> list[str]:
+    def of_folds(self, folds: set[str]) -> list[str]:
         """The electors whose name on the roll or real name is one of these, folded."""
         real = (elector for fold in folds for elector in self.electors_by_real_name.get(fold, ()))
         return sorted({*folds & self.roll, *real})

@@ -90,12 +90,12 @@ def pending_letters(election: Election, history: History) -> Pending:
     found = [letter for letter in letters if letter.is_pending]
     arrived_in_time = sorted(letter.number for letter in found if letter.arrived_in_time)
     # what a close or a publication left so stops nothing again
-    left = left_by(history.since_call("close", "publish"))
+    left, told = left_by(history.since_call("close", "publish")), left_by(history.closes[-1:])
     after_end = sum(letter.arrived_after_end for letter in found)
     return Pending(
         arrived_in_time,
         [number for number in arrived_in_time if number not in left],
-        [number for number in arrived_in_time if number not in left_by(history.closes[-1:])],
+        [number for number in arrived_in_time if number not in told],
         after_end,
         len(found) - len(arrived_in_time) - after_end,
         [one.other_vote for one in letters if one.outcome is LetterOutcome.OTHER_VOTE],
