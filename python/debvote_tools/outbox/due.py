@@ -48,8 +48,8 @@ class Run:
     composer: Composer
     # the letters of this kind that were written before
     noted_before: Sequence[OutgoingLetter]
-    # the Message-IDs of those that are tried again: the call to this elector came back, and it was
-    # the last letter to them
+    # the Message-IDs of the last of them to each elector to whom the call came back: they are tried
+    # again
     returned_ids: Collection[str]
 
     @property
