@@ -983,3 +983,25 @@ class OtherVote(LettersTest):
         near = self.mark[:-2] + self.mark[-2:].translate(str.maketrans("0123456789abcdef", "123456789abcdef0"))
         self.add(letter("dan", f"dan {RANKS}").replace(elections.ANY_MARK.encode(), near.encode()))
         self.told("held", 4, "--enter")
+
+    def test_what_may_be_of_this_vote_is_entered_by_force_too(self) -> None:
+        """Of a call that was taken back, whose options may have had another order, and with two marks."""
+        old, other = self.mark, "77d0" * 4
+        self.set_clock("2026-11-20T10:00:00+00:00")
+        self.told("call", "--take-back")
+        self.write("poll.toml", elections.POLL.replace('"At the lake", "In the town hall"', '"In the town hall", "At the lake"'))
+        self.told("call", *self.call_words)
+        self.set_clock(self.now)
+        self.add(*(
+            letter(name, f"{name} {RANKS}").replace(elections.ANY_MARK.encode(), marks.encode())
+            for name, marks in (("ada", old), ("ben", f"{self.mark}] [{old}"), ("cleo", f"{self.mark}] [{other}"))
+        ))  # fmt: skip
+        of_old = (f"it has the mark of a call that was taken back, [{old}]", "look whether its options were the same")
+        of_other = (f"it has the mark of another vote, [{other}]", "add it to that vote")
+        for number, name, (words, cure) in ((1, "ada", of_old), (2, "ben", of_old), (3, "cleo", of_other)):
+            self.assertIn(f"\nIt waits: {words}; {cure}\n", self.told("held", number))
+            said = f"letter {number}: {words}; nothing was changed: {cure}; if this ballot must count, repeat it with --force"
+            for how in (("--enter",), ("--as", f"{name} {OTHER}")):
+                self.assert_refused(("held", number, *how), 9, said)
+        self.told("held", 1, 2, 3, "--enter", "--force")
+        self.assertEqual(self.lines(), [f"{name} {RANKS}" for name in ("ada", "ben", "cleo")])
