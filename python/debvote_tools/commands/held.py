@@ -2,7 +2,7 @@
 
 import collections
 import itertools
-from collections.abc import Collection, Iterator, Sequence
+from collections.abc import Collection, Iterator, Mapping, Sequence
 from typing import NamedTuple
 
 from debvote_tools.cli.arguments import Acting, flag, given, option, positional
@@ -367,23 +367,35 @@ def named_lines(letter: LetterCase, enter: Sequence[str], *, is_one: bool) -> li
     named, or its only one.
     """
     name = name_of(letter)
-    there = {str(line.number): line for line in (*letter.offered, *letter.ballots)}
-    if [*enter] == [THE_ONE]:
-        if len({line.as_entered for line in there.values()}) != 1:
-            words = f"it has {count_of(len(there), 'line')} that can be entered"
-            cure = "name its lines with --enter LINE, or type the ballot with --as LINE"
-            raise Fault(name, words, cure)
-        [line, *_] = there.values()
-        if not is_one and letter.offered.get(line) is Reason.WORD_ALONE:
-            raise Fault(name, "it has a word without a name", "enter it by a command of its own")
-        return [line]
+    lines = dict.fromkeys((*letter.offered, *letter.ballots))
+    there = grouped((str(line.number), line) for line in lines)
     texts = [text.strip() for text in ",".join(enter).split(",")]
+    if texts == [THE_ONE]:
+        demand_one_line(letter, there, is_one=is_one)
+        texts = [*there][:1]
     if wrong := [text for text in texts if text not in there]:
         can = f"these lines are: {', '.join(sorted(there, key=int))}" if there else ""
         words = f"line {shown_text(wrong[0])} of {name} is not a ballot of this poll"
         cure = "if you know which ballot is meant, type it with --as LINE"
         raise Fault("--enter", words, can or cure)
-    return [there[text] for text in texts]
+    if unclear := [text for text in texts if len(there[text]) > 1]:
+        electors = ENGLISH.joined([line.elector for line in there[unclear[0]]])
+        words = f"line {unclear[0]} has the name of {electors}"
+        raise Fault(name, words, "if you know whose it is, type it with --as LINE")
+    return [line for text in texts for line in there[text]]
+
+
+def demand_one_line(
+    letter: LetterCase, there: Mapping[str, Sequence[BallotLine]], *, is_one: bool
+) -> None:
+    """Stops if a letter has several lines that differ, or none, that can be entered."""
+    name = name_of(letter)
+    if len(there) != 1 and len({line.as_entered for its in there.values() for line in its}) != 1:
+        words = f"it has {count_of(len(there), 'line')} that can be entered"
+        cure = "name its lines with --enter LINE, or type the ballot with --as LINE"
+        raise Fault(name, words, cure)
+    if not is_one and Reason.WORD_ALONE in letter.offered.values():
+        raise Fault(name, "it has a word without a name", "enter it by a command of its own")
 
 
 # ---- what stands against it

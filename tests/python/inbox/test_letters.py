@@ -962,6 +962,16 @@ class RealNames(LettersTest):
         said = f"--as: `Ben Blum {RANKS}` is no ballot of this poll: it has the name of ben and cleo; nothing was changed: "
         self.assert_refused(("held", 2, "--as", f"Ben Blum {RANKS}", "--force"), 9, said)
 
+    def test_a_line_with_the_name_of_two(self) -> None:
+        self.add(letter("dan", f"Ben Blum {RANKS}\n"))
+        self.assertIn(f"\nline 1: ben {RANKS}\nline 1: cleo {RANKS}\n", self.told("held", 1))
+        for lines in ((), (1,)):
+            said = "letter 1: line 1 has the name of ben and cleo; nothing was changed: if you know whose it is, type it with --as LINE"
+            self.assert_refused(("held", 1, "--enter", *lines, "--force"), 9, said)
+        self.assertIn("\nWrote 3 letters: ", self.told("letters", "receipts"))
+        self.told("held", 1, "--as", f"cleo {RANKS}")
+        self.assertEqual(self.lines(), [f"cleo {RANKS}"])
+
 
 class OtherVote(LettersTest):
     """Letters with the mark of another vote: told in a line, shown by their numbers, and entered only by force."""
