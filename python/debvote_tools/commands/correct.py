@@ -1,5 +1,6 @@
 """The commands that take back or correct what was entered: `undo`, `strike` and `reopen`."""
 
+import contextlib
 import dataclasses
 import re
 from collections.abc import Collection, Iterator, Mapping, Sequence
@@ -8,18 +9,20 @@ from debvote_tools.book import outgoing, queries
 from debvote_tools.book.book import Book, Detail, DoneAct
 from debvote_tools.book.change import Change, carried_out, terminal_question
 from debvote_tools.book.election import Election, History
-from debvote_tools.book.queries import Envelope, NewEnvelope
+from debvote_tools.book.queries import EnteredBallot, Envelope, NewEnvelope
 from debvote_tools.cli.arguments import Acting, demand_reason, flag, option, positional
 from debvote_tools.cli.console import act_time, count_of, shown_line, tell
 from debvote_tools.cli.faults import Fault, bad_words, stop_at
-from debvote_tools.commands.held import elector_of, left_out
+from debvote_tools.commands.held import THE_ONE, named_lines
 from debvote_tools.grouping import grouped
 from debvote_tools.inbox import letter_words
 from debvote_tools.inbox.entering import Entry
 from debvote_tools.inbox.judging import judged
+from debvote_tools.inbox.lines import name_in
 from debvote_tools.inbox.rules import LetterCase
 from debvote_tools.inbox.taking import MOST_NAMED
 from debvote_tools.inbox.vote import envelope_words, standing_words, Vote
+from debvote_tools.text.ballots import differ
 from debvote_tools.text.times import now
 
 
@@ -35,8 +38,6 @@ class TakenBack(Change):
     undone: DoneAct
     # whether it takes back what came late, or was typed for a letter: --enter enters neither again
     is_typed_or_late: bool
-    # whose lines they were
-    electors: Collection[str]
     # what it changes, in words: current ballots, told once; and letters and receipts
     ballots: Sequence[str]
     others: Sequence[str]
@@ -50,12 +51,10 @@ def undo(election: Election, arguments: UndoArguments) -> None:
     change = carried_out(book, lambda: what_is_taken_back(vote, arguments))
     ballots = () if change.question else change.ballots
     tell(f"Took back {what(change.undone, change.struck)}.", *ballots, *change.others)
-    tell(*dict.fromkeys(left_out(vote, change.electors)))
-    tell_judged_anew(vote, change, judged_before)
+    judged_after = tell_judged_anew(vote, change, judged_before)
     following = f"{election.command('status')}; another {election.command('undo')} takes back the act before"
     if change.letters and not change.is_typed_or_late:
-        numbers = map(str, change.letters)
-        enter = (*numbers, "--enter") if len(change.letters) <= MOST_NAMED else ()
+        enter = words_to_enter([judged_after[number] for number in change.letters], change.struck)
         does = "enters these letters again" if enter else "lists these letters"
         following += f"; {election.command('held', *enter)} {does}"
     tell(f"Next: {following}")
@@ -97,7 +96,6 @@ def what_is_taken_back(vote: Vote, arguments: UndoArguments) -> TakenBack:
         struck=struck,
         letters=dict.fromkeys(letters, queries.TAKEN_BACK),
         undone=act,
-        electors={elector_of(one) for one in envelopes if one.elector is not None},
         is_typed_or_late=act.name == "reopen"
         or not queries.typed_envelopes(book).isdisjoint(struck),
         ballots=ballots,
@@ -119,19 +117,47 @@ def what_else_changes(book: Book, struck: Sequence[int], letters: Sequence[int])
 
 def judged_now(vote: Vote) -> dict[int, LetterCase]:
     """The letters as they are judged now, by number."""
-    kept = queries.unsettled_and_copies(queries.kept_letters(vote.book))
+    kept = queries.may_wait(vote.book)
     return {one.number: one for one in judged(vote, vote.election.history(), kept)}
 
 
-def tell_judged_anew(vote: Vote, change: Change, before: Mapping[int, LetterCase]) -> None:
+def tell_judged_anew(
+    vote: Vote, change: Change, before: Mapping[int, LetterCase]
+) -> dict[int, LetterCase]:
     """Tells of the letters that went in or waited otherwise before a ballot of their elector was
-    struck. Those whose own ballot it was are told apart.
+    struck. Those whose own ballot it was are told apart. Returns all as they are judged now.
     """
-    for number, letter in judged_now(vote).items():
+    after = judged_now(vote)
+    for number, letter in after.items():
         was = before.get(number, letter)
         is_other = (letter.outcome, letter.reason) != (was.outcome, was.reason)
         if is_other and number not in change.letters:
             tell(*letter_words.why_it_waits(letter))
+    return after
+
+
+def words_to_enter(letters: Sequence[LetterCase], struck: Collection[int]) -> list[str]:
+    """What is typed after `held` to enter again what was taken back; empty if no one command does it."""
+    numbers, is_one = [str(letter.number) for letter in letters], len(letters) == 1
+    with contextlib.suppress(Fault):
+        for letter in letters:
+            named_lines(letter, [THE_ONE], is_one=is_one)
+        return [*numbers, "--enter"] if len(letters) <= MOST_NAMED else []
+    if not is_one:
+        return []
+    [letter] = letters
+    lines = [line_of(letter, one) for one in letter.entered if one.number in struck]
+    return [*numbers, "--enter", ",".join(dict.fromkeys(lines))] if all(lines) else []
+
+
+def line_of(letter: LetterCase, ballot: EnteredBallot) -> str:
+    """The number of the first line of a letter that has the answers of a ballot; empty if none has."""
+    has_them = (
+        str(line.number)
+        for line in (*letter.ballots, *letter.offered)
+        if ballot.answers <= line.answers and not differ(ballot.line, line.as_entered)
+    )
+    return next(has_them, "")
 
 
 def demand_open(election: Election, history: History) -> None:
@@ -162,12 +188,11 @@ def strike(election: Election, arguments: StrikeArguments) -> None:
     [envelope] = queries.envelopes(book, "envelope = ?", arguments.number)
     tell(f"Struck {in_words(envelope, vote)}, because: {because}")
     if envelope.elector is not None:
-        elector = elector_of(envelope)
+        elector = name_in(envelope.line).decode("ascii")
         answers = queries.what_counts(book, {envelope.elector}).get(elector)
         whose = "that code" if vote.has_codes else elector
         current = "none" if answers is None else vote.answers_in_words(answers)
         tell(f"The current ballot of {whose}: {current}")
-        tell(*dict.fromkeys(left_out(vote, [elector])))
     tell_judged_anew(vote, change, judged_before)
     tell("A strike cannot be undone: if it was a mistake, enter the line again.")
     tell(f"Next: {election.command('status')}")

@@ -2,20 +2,19 @@
 
 import collections
 import itertools
-from collections.abc import Collection, Iterator, Mapping, Sequence
+from collections.abc import Iterator, Mapping, Sequence
 from typing import NamedTuple
 
 from debvote_tools.cli.arguments import Acting, flag, given, option, positional
 from debvote_tools.book import queries
-from debvote_tools.book.book import ActName, Book
+from debvote_tools.book.book import ActName
 from debvote_tools.book.change import Change, carried_out, terminal_question
 from debvote_tools.book.election import Election, History
-from debvote_tools.book.queries import Envelope
+from debvote_tools.book.queries import EnteredBallot
 from debvote_tools.cli.console import count_of, shown_line, shown_text, tell
 from debvote_tools.cli.faults import Fault, bad_words, kept_in, stop_at
 from debvote_tools.grouping import grouped
 from debvote_tools.inbox import letter_words
-from debvote_tools.inbox.fates import TAKEN_BACK
 from debvote_tools.inbox.letter_words import name_of, who_and_when, why
 from debvote_tools.inbox.judging import (
     BallotsByElector,
@@ -28,10 +27,10 @@ from debvote_tools.inbox.reasons import Reason, for_secretary
 from debvote_tools.inbox.letter_lines import BallotLine
 from debvote_tools.inbox.rules import LetterCase, LetterOutcome, why_other_mark
 from debvote_tools.inbox.taking import LetterEntry, envelope_of
-from debvote_tools.inbox.lines import Line, lines_in, name_in
+from debvote_tools.inbox.lines import Line, lines_in
 from debvote_tools.inbox.vote import Vote, said_of
 from debvote_tools.inbox.stopping import other_votes_words
-from debvote_tools.text.ballots import answers_of, differ, without
+from debvote_tools.text.ballots import answers_in, answers_of, differ, without
 from debvote_tools.text.language import ENGLISH
 
 # the later ballots because of which answers are left out: a late one counts for nothing
@@ -80,6 +79,9 @@ def held(election: Election, arguments: Arguments) -> None:
     found = all_letters(vote)
     pending = [letter for letter in found if letter.is_pending]
     shown = [] if is_act else chosen_letters(found, arguments.numbers)
+    for letter in chosen_letters(found, arguments.numbers) if is_act else ():
+        if letter.reason and letter.reason.reason is Reason.NOT_ENTERED:
+            tell(f"{name_of(letter)} waits on; {why(letter)}")
     for letter in shown:
         tell(*letter_words.whole(letter))
     if not (is_act or shown):
@@ -145,83 +147,46 @@ def what_is_decided(vote: Vote, arguments: Arguments) -> Change:
 
 # ---- entering
 class Chosen(NamedTuple):
-    """Ballots of a letter that are entered; its envelopes, also those that an `undo` took back; and the
-    numbers of those that were typed, of all letters.
-    """
+    """Ballots of a letter that are entered. The line of one is 0 if it was typed."""
 
     letter: LetterCase
-    # the line of one is 0 if it was typed
     lines: Sequence[BallotLine]
-    before: Sequence[Envelope]
-    typed: Collection[int]
-    # the answers that are left out of these ballots, since their electors have later ones, as ballots
+    # the answers that are left out of what was typed, since their electors have later ones, as ballots
     left_out: Sequence[str] = ()
 
     @property
-    def entered(self) -> dict[tuple[str, str], Envelope]:
-        """The envelopes that are not struck, by the electors and the labels of the answers."""
-        return {
-            (elector_of(one), label): one
-            for one in self.before
-            if not one.is_struck
-            for label in answers_of(one.line.decode("ascii"))
-        }
-
-    @property
-    def again(self) -> list[Envelope]:
-        """The envelopes in which answers of these ballots were entered already."""
-        there = self.entered
-        answered = (
-            (line.elector, one) for line in self.lines for one in answers_of(line.as_entered)
-        )
-        return [there[answer] for answer in answered if answer in there]
-
-    @property
-    def typed_last(self) -> list[str]:
-        """The electors whose last ballot of it was typed, though it may be struck or taken back."""
-        last = {elector_of(one): one.number for one in self.before}
-        return [name for name, number in last.items() if number in self.typed]
-
-    @property
-    def waits_for(self) -> list[str]:
-        """For whose ballots the letter waits on when these are entered: of those who have one in it, or had
-        one typed; and, once the secretary has typed one, of those who share the sender's address. One that
-        was struck since was one; one that was taken back was none.
-        """
-        is_typed = any(one.number in self.typed for one in self.before)
-        is_typed |= not all(line.number for line in self.lines)
-        sharing = self.letter.sharing if is_typed and len(self.letter.sharing) > 1 else []
-        left = [elector_of(one) for one in self.before if one.became != TAKEN_BACK]
-        having = {*(line.elector for line in self.lines), *left}
-        lines = (*self.letter.ballots, *self.letter.likely)
-        names = dict.fromkeys([*(line.elector for line in lines), *sharing, *self.typed_last])
-        return [name for name in names if name not in having]
+    def again(self) -> list[EnteredBallot]:
+        """The ballots of the letter with answers of these that are entered already, and not struck."""
+        answers = {answer for line in self.lines for answer in line.answers}
+        return [
+            one
+            for one in self.letter.entered
+            if not (one.is_struck or one.answers.isdisjoint(answers))
+        ]
 
     def left_of(
         self, line: BallotLine, by_elector: BallotsByElector
     ) -> tuple[str, set[str], set[str]]:
-        """A ballot without the answers to which its elector has later ones, and without those that were
-        entered; and the labels of both.
+        """A ballot without the answers that were entered, and without those to which its elector has later
+        ones; and the labels of both.
         """
         there = surely_later(self.letter, line.as_entered, by_elector[line.elector])
-        later, entered = answered_by(line.as_entered, there), self.entered
-        done = {
-            one for one in answers_of(line.as_entered) if (line.elector, one) in entered
-        } - later
-        return without(line.as_entered, later | done), later, done
+        entered = (one.answers for one in self.letter.entered if not one.is_struck)
+        done = {label for _, label in line.answers.intersection(itertools.chain(*entered))}
+        later = answered_by(line.as_entered, there) - done
+        return without(line.as_entered, later | done), done, later
 
 
 def what_is_entered(vote: Vote, arguments: Arguments, typed: Sequence[BallotLine]) -> LetterEntry:
     """The act that enters ballots of letters."""
-    history, entered = vote.election.history(), entered_in(vote.book)
-    were_typed = queries.typed_envelopes(vote.book)
+    history = vote.election.history()
     wanted = chosen_letters(all_letters(vote), arguments.numbers)
     chosen, faults = list[Chosen](), list[Fault]()
     for letter in sorted(wanted, key=lambda one: (one.time is None, one.time or one.number)):
         with kept_in(faults):
             is_one = len(wanted) == 1
             lines = typed or named_lines(letter, arguments.enter or [], is_one=is_one)
-            chosen.append(Chosen(letter, lines, entered.get(letter.number, ()), were_typed))
+            chosen.append(Chosen(letter, lines))
     electors = {line.elector for one in chosen for line in one.lines}
     chosen, said = without_answered(chosen, ballots_in(vote, electors, IN_TIME))
     faults += why_not_now(vote, history, chosen)
@@ -241,13 +206,10 @@ def what_is_entered(vote: Vote, arguments: Arguments, typed: Sequence[BallotLine
 def entry_of(
     vote: Vote, history: History, chosen: Sequence[Chosen], said: Sequence[str], *, is_agreed: bool
 ) -> LetterEntry:
-    """The act that enters these ballots. A letter waits on until each of its electors has one: it is
-    put back, or `add` would enter its own line once more, and it would wait for nobody.
-    """
+    """The act that enters these ballots."""
     lines = [(one.letter, line) for one in chosen for line in one.lines]
     numbers = [one.letter.number for one in chosen]
     left_out = {str(one.letter.number): one.left_out for one in chosen if one.left_out}
-    waits = {one.letter: one.waits_for for one in chosen if one.waits_for}
     return LetterEntry(
         "enter",
         {
@@ -263,17 +225,10 @@ def entry_of(
             *said,
         ],
         question=terminal_question(f"Enter {count_of(len(lines), 'ballot')}?", is_agreed),
-        letters={
-            one.letter.number: queries.PUT_BACK if one.letter in waits else queries.ENTERED
-            for one in chosen
-        },
+        letters=dict.fromkeys(numbers, queries.ENTERED),
         vote=vote,
         envelopes=[envelope_of(letter, line.as_entered) for letter, line in lines],
         is_late=would_be_late(history, chosen[0].letter),
-        end=[
-            f"{name_of(letter)} waits on, for a ballot of {ENGLISH.joined(names)}"
-            for letter, names in waits.items()
-        ],
     )
 
 
@@ -285,7 +240,7 @@ def without_answered(
     for one in chosen:
         kept, left_out = list[BallotLine](), list[str]()
         for line in one.lines:
-            left, later, done = one.left_of(line, by_elector)
+            left, done, later = one.left_of(line, by_elector)
             kept.append(BallotLine(line.numbers, left or line.as_entered))
             whys = {f"{line.elector} has a later answer": later, "it was entered": done}
             said += (
@@ -293,42 +248,12 @@ def without_answered(
                 for why, labels in whys.items()
                 if labels and left
             )
-            if later and left:
-                left_out.append(
-                    without(line.as_entered, answers_of(line.as_entered).keys() - later)
-                )
+            # no line of the letter has what was typed
+            if later and left and not line.number:
+                others = answers_of(line.as_entered).keys() - later
+                left_out.append(without(line.as_entered, others))
         found.append(one._replace(lines=kept, left_out=left_out))
     return found, said
-
-
-def left_out(vote: Vote, electors: Collection[str]) -> Iterator[str]:
-    """The answers of electors that were left out when the rest of a letter was entered, and to which
-    they have no later one now, since that was struck or taken back.
-    """
-    ballots = queries.left_out(vote.book)
-    if not any(ballot.partition(" ")[0] in electors for ballot in ballots.values()):
-        return
-    letters = {letter.number: letter for letter in all_letters(vote)}
-    by_elector, typed = ballots_in(vote, electors, IN_TIME), queries.typed_envelopes(vote.book)
-    for number, envelopes in entered_in(vote.book).items():
-        for envelope in envelopes:
-            line = BallotLine((), ballots.get(envelope.number, ""))
-            later = surely_later(letters[number], line.as_entered, by_elector[line.elector])
-            left = without(line.as_entered, answered_by(line.as_entered, later))
-            if left and line.elector in electors:
-                how = ("--as", left) if envelope.number in typed else ("--enter",)
-                enter = vote.election.command("held", str(number), *how)
-                yield f"letter {number} has an answer that was left out, `{left}`: {enter}"
-
-
-def entered_in(book: Book) -> dict[int, list[Envelope]]:
-    """The envelopes of letters, by the numbers of the letters."""
-    found = queries.envelopes(book, "letter IS NOT NULL")
-    return grouped((envelope.letter or 0, envelope) for envelope in found)
-
-
-def elector_of(envelope: Envelope) -> str:
-    return name_in(envelope.line).decode("ascii")
 
 
 def would_be_late(history: History, letter: LetterCase) -> bool:
@@ -367,10 +292,13 @@ def named_lines(letter: LetterCase, enter: Sequence[str], *, is_one: bool) -> li
     named, or its only one.
     """
     name = name_of(letter)
-    lines = dict.fromkeys((*letter.offered, *letter.ballots))
-    there = grouped((str(line.number), line) for line in lines)
+    lines = [*dict.fromkeys((*letter.offered, *letter.ballots))]
     texts = [text.strip() for text in ",".join(enter).split(",")]
-    if texts == [THE_ONE]:
+    if is_the_one := texts == [THE_ONE]:
+        left = {answer for ballot in letter.left for answer in answers_in(ballot)}
+        lines = [line for line in lines if line.answers & left] or lines
+    there = grouped((str(line.number), line) for line in lines)
+    if is_the_one:
         demand_one_line(letter, there, is_one=is_one)
         texts = [*there][:1]
     if wrong := [text for text in texts if text not in there]:
@@ -403,14 +331,14 @@ def why_not_now(vote: Vote, history: History, chosen: Sequence[Chosen]) -> Itera
     """What can't be forced."""
     for one in chosen:
         letter, name = one.letter, name_of(one.letter)
-        [(twice, count)] = collections.Counter(line.elector for line in one.lines).most_common(1)
+        answers = itertools.chain.from_iterable(line.answers for line in one.lines)
+        [((twice, _), count)] = collections.Counter(answers).most_common(1)
         if again := one.again:
-            electors = dict.fromkeys(map(elector_of, again))
+            electors = dict.fromkeys(ballot.elector for ballot in again)
             words = f"its ballot of {ENGLISH.joined([*electors])} was entered"
-            is_all = all(line.elector in electors for line in one.lines)
-            cure = "there is nothing to do" if is_all else "leave it out"
+            cure = what_then(vote, one)
             # who reads that there is nothing to do takes it for one that counts
-            if late := {str(envelope.number): None for envelope in again if envelope.is_late}:
+            if late := {str(ballot.number): None for ballot in again if ballot.is_late}:
                 reopen = vote.election.command("reopen", "--in-time", *late, "--because", "TEXT")
                 words = f"{words}, and is late"
                 cure = f"if it came before the first close, have the vote closed, then run {reopen}"
@@ -425,6 +353,28 @@ def why_not_now(vote: Vote, history: History, chosen: Sequence[Chosen]) -> Itera
         elif count > 1:
             words = f"{count} of these lines are ballots of {twice}"
             yield Fault(name, words, "name the one that counts")
+
+
+def what_then(vote: Vote, chosen: Chosen) -> str:
+    """What is done in place of entering once more what was entered."""
+    letter, again = chosen.letter, chosen.again
+    if any(line.elector not in {one.elector for one in again} for line in chosen.lines):
+        return "leave it out"
+    others = [
+        str(one.number)
+        for one in again
+        if any(
+            differ(one.line, line.as_entered)
+            for line in chosen.lines
+            if line.elector == one.elector
+        )
+    ]
+    if others:
+        strike = vote.election.command("strike", others[0], "--because", "TEXT")
+        return f"to enter another one in its place, run {strike} first"
+    if letter.left:
+        return f"what is left of it: {vote.election.command('held', str(letter.number))}"
+    return "there is nothing to do"
 
 
 def why_not_unforced(chosen: Sequence[Chosen], by_elector: BallotsByElector) -> Iterator[Fault]:
@@ -458,7 +408,8 @@ def why_typed_again(vote: Vote, chosen: Sequence[Chosen]) -> Iterator[Fault]:
     """What was typed for a letter, though it may be taken back: its own lines may say something else."""
     for one in chosen:
         letter = one.letter
-        if any(line.number and line.elector in one.typed_last for line in one.lines):
+        typed_last = {ballot.elector: ballot.is_typed for ballot in letter.entered}
+        if any(line.number and typed_last.get(line.elector) for line in one.lines):
             is_taken_back = letter.state == queries.TAKEN_BACK
             words = f"its ballot was typed{', and taken back' if is_taken_back else ''}"
             again = vote.election.command("held", str(letter.number), "--as")

@@ -20,8 +20,9 @@ from debvote_tools.inbox.vote import Vote
 from debvote_tools.poll.call import SUBJECT, call_letter, current_call
 from debvote_tools.text import times
 from debvote_tools.text.ballots import answers_of, differ, without
+from debvote_tools.text.language import ENGLISH
 
-# what an act decided holds, whatever the rules say
+# what an act decided holds, whatever the rules say, unless part of what was entered is left
 DECIDED = {
     queries.ENTERED: (LetterOutcome.ENTERED, None),
     queries.SET_ASIDE: (LetterOutcome.SET_ASIDE, Reason.SET_ASIDE()),
@@ -47,6 +48,11 @@ def judged(
         return []
     found, circumstances = read_kept(vote, kept), circumstances_now(vote, history)
     cases = [LetterCase(read, circumstances, letter) for read, letter in zip(found, kept)]
+    were_decided = [case.number for case in cases if case.is_decided]
+    entered = queries.entered_ballots(vote.book, were_decided)
+    by_hand = queries.entered_by_hand(vote.book)
+    for case in cases:
+        case.entered, case.left_out = entered.get(case.number, ()), by_hand.get(case.number)
     cases += (LetterCase(read, circumstances) for read in previewed)
     return judge_all(cases, lambda names: ballots_in(vote, names))
 
@@ -96,7 +102,9 @@ def ballots_in(
         # None of what came by no letter, or at a time that is not known
         behind, line = clocks.get(envelope.letter or 0), envelope.line.decode("ascii")
         is_by_letter = behind is not None and not envelope.is_late
-        ballot = Ballot(envelope.time, line, is_by_letter, behind or 0, envelope.number)
+        ballot = Ballot(
+            envelope.time, line, is_by_letter, behind or 0, envelope.number, envelope.is_late
+        )
         by_elector[by_number[envelope.elector or 0]].append(ballot)
     return by_elector
 
@@ -142,12 +150,12 @@ def judge_all(
     the first that breaks none is the original, whose time is its own; the others may be its copies.
     """
     cases = sorted(cases, key=lambda case: (case.time is None, case.time or case.circumstances.now))
-    by_elector = ballots_of({elector for case in cases for elector in case.electors})
+    names = {elector for case in cases for elector in case.electors}
+    by_elector = ballots_of(names | {one.elector for case in cases for one in case.entered})
     for case in cases:
+        case.left = what_is_left(case, by_elector)
         case.outcome, case.reason = (
-            DECIDED[case.state]
-            if case.is_decided
-            else (LetterOutcome.WAITS, case.first_broken_rule)
+            decided(case) if case.is_decided else (LetterOutcome.WAITS, case.first_broken_rule)
         )
     groups = grouped((case.read.identity, case) for case in cases).values()
     originals = set(filter(None, map(original_of, groups)))
@@ -166,6 +174,41 @@ def judge_all(
             )
         case.has_voted_since = any(has_voted_since(case, one, last) for one in case.electors)
     return cases
+
+
+def decided(case: LetterCase) -> Judgement:
+    """What becomes of a letter of which an act decided. One of which ballots were entered waits on if some
+    are left, whatever became of the others.
+    """
+    if not case.left or case.state not in (queries.ENTERED, queries.STRUCK):
+        return DECIDED[case.state]
+    having = {one.elector for one in case.standing}
+    labels = grouped(
+        (one.partition(" ")[0], label) for one in case.left for label in answers_of(one) or [""]
+    )
+    names = [name for name in labels if name not in having]
+    rest = [f"a ballot of {ENGLISH.joined(names)}"] if names else []
+    rest += (
+        f"the answer of {name} to {ENGLISH.joined(sorted(its))}"
+        for name, its in labels.items()
+        if name in having
+    )
+    return LetterOutcome.WAITS, Reason.NOT_ENTERED(rest=ENGLISH.joined(rest))
+
+
+def what_is_left(case: LetterCase, by_elector: BallotsByElector) -> list[str]:
+    """The answers of a letter that are left when ballots of it were entered by hand, as ballots: of an elector of
+    whom some were, those to which they have no later one; a late one counts for nothing, so it is none.
+    """
+    if case.left_out is None:
+        return []
+    having, found = {one.elector for one in case.standing}, list[str]()
+    for ballot in case.not_entered:
+        elector, _, _ = ballot.partition(" ")
+        in_time = [one for one in by_elector[elector] if elector in having and not one.is_late]
+        later = answered_by(ballot, surely_later(case, ballot, in_time))
+        found.append(without(ballot, later) if later else ballot)
+    return [*filter(None, found)]
 
 
 def surely_later(case: LetterCase, ballot: str, its_ballots: Sequence[Ballot]) -> Sequence[Ballot]:

@@ -42,7 +42,7 @@ from debvote_tools.inbox.written import (
     begins_with_answer,
     may_answer_question,
 )
-from debvote_tools.text.ballots import answers_of, answers_text
+from debvote_tools.text.ballots import answers_in, answers_of, answers_text
 from debvote_tools.text.motions import may_answer, with_ranks
 
 # the grammar of a ballot line, and ranks alone
@@ -93,6 +93,11 @@ class BallotLine:
     @property
     def elector(self) -> str:
         return self.as_entered.partition(" ")[0]
+
+    @property
+    def answers(self) -> set[tuple[str, str]]:
+        """The elector with the label of each answer."""
+        return answers_in(self.as_entered)
 
     @property
     def high_rank(self) -> int:

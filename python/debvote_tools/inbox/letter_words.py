@@ -138,7 +138,9 @@ def why(letter: LetterCase) -> str:
 
 def near_words(letter: LetterCase) -> Iterator[str]:
     for line in (*letter.ballots, *letter.offered):
-        yield f"line {line.number}: {without(line.as_entered, letter.answered_since) or line.as_entered}"
+        left = without(letter.without_entered(line.as_entered), letter.answered_since)
+        if left or not letter.is_pending or not letter.left:
+            yield f"line {line.number}: {left or line.as_entered}"
     for near in letter.near:
         within = ", within other words" if near.is_within else ""
         why = near.answer or "a ballot, but not alone on its line"

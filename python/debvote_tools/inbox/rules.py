@@ -17,7 +17,7 @@ import unicodedata
 from collections.abc import Collection, Mapping, Sequence
 
 from debvote_tools.book import queries
-from debvote_tools.book.queries import Elector, KeptLetter
+from debvote_tools.book.queries import Elector, EnteredBallot, KeptLetter
 from debvote_tools.grouping import grouped
 from debvote_tools.inbox.letter import END, is_quoted, is_server, without_quote_signs
 from debvote_tools.inbox.letter_lines import (
@@ -33,6 +33,7 @@ from debvote_tools.inbox.reasons import Reason, ReasonWithValues
 from debvote_tools.inbox.written import GAP, UNFILLED
 from debvote_tools.poll.box import third_part
 from debvote_tools.poll.sealed import MARKS, marks_in
+from debvote_tools.text.ballots import answers_of, without
 from debvote_tools.text.motions import Words, may_answer, words_in
 
 # how far the clock of a mail server or of an elector may be ahead
@@ -153,6 +154,11 @@ class LetterCase:
     has_voted_since = False
     # the labels of the questions to which its elector has a later answer
     answered_since: Collection[str] = ()
+    # the ballots of it that were entered; if some were by hand, of what was typed the answers that were
+    # left out, else None; and the answers for which it waits on: both as ballots
+    entered: Sequence[EnteredBallot] = ()
+    left_out: Sequence[str] | None = None
+    left: Sequence[str] = ()
 
     def __init__(
         self, letter: ReadLetter, circumstances: Circumstances, kept: KeptLetter = NOT_KEPT
@@ -350,6 +356,38 @@ class LetterCase:
         """
         is_as_early = copy.arrived_after_end or not self.arrived_after_end
         return is_as_early and (self.state in WENT_IN or self.first_broken_rule is None)
+
+    @property
+    def standing(self) -> list[EnteredBallot]:
+        """The ballots of it that were entered, also if they were struck, and not taken back."""
+        return [one for one in self.entered if not one.is_taken_back]
+
+    def without_entered(self, ballot: str) -> str:
+        """A ballot of it without the answers that were entered; empty if none is left."""
+        elector, _, _ = ballot.partition(" ")
+        done = (one.line for one in self.standing if one.elector == elector)
+        return without(ballot, {label for line in done for label in answers_of(line)})
+
+    @functools.cached_property
+    def not_entered(self) -> list[str]:
+        """Its answers that were not entered, as ballots; of an elector whose ballot has to be typed the name alone.
+        What was typed takes the place of the lines of its elector; and once something was, each of those
+        who share the sender's address has a ballot in it.
+        """
+        done, every = {one.elector for one in self.standing}, (*self.ballots, *self.likely)
+        # a line that may be of several is of the one whose ballot was entered
+        known = {one.numbers: one.elector for one in every if one.elector in done}
+        typed = {one.elector for one in self.standing if one.is_typed}
+        lines = [
+            one
+            for one in every
+            if one.elector not in typed and known.get(one.numbers, one.elector) == one.elector
+        ]
+        ballots = (*(one.as_entered for one in lines), *(self.left_out or ()))
+        found = dict.fromkeys(filter(None, map(self.without_entered, ballots)))
+        is_shared = len(self.sharing) > 1 and any(one.is_typed for one in self.entered)
+        having = {one.elector for one in lines} | done
+        return [*found, *(name for name in self.sharing if is_shared and name not in having)]
 
     @property
     def is_decided(self) -> bool:

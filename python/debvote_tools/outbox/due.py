@@ -154,15 +154,13 @@ def letters_due(
         "result": results_due,
     }
     history, time, book = election.history(), now(), election.book
-    called, until = election.called(history).number, history.until
+    until = history.until
     is_over = bool(history.closes) or (until is not None and time > until)
     demand_due(election, history, kind, is_over=is_over)
     call_data, forced = call_data_of(election, history, kind, because)
     on_list, noted_before = queries.electors(book), outgoing.outgoing_letters(book, kind)
     electors = {elector.number: elector for elector in on_list}
-    typed, left_out = queries.typed_envelopes(book), queries.left_out(book)
-    records = queries.records_since(book, called)
-    composer = Composer(call_data, is_over, on_list, typed, left_out, records)
+    composer = Composer(call_data, is_over, on_list)
     not_reached, _ = unreached_and_printed(election, history)
     back = {elector.number for elector, why, _ in not_reached if why == CAME_BACK}
     present = [one for one in noted_before if one.elector in back and is_present(one, electors)]

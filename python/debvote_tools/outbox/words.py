@@ -18,7 +18,7 @@ from debvote_tools.inbox.reasons import for_elector
 from debvote_tools.poll.announced import address_in
 from debvote_tools.poll.call import CallData
 from debvote_tools.poll.plain_names import without_accents
-from debvote_tools.text.ballots import answers_of, faults_of
+from debvote_tools.text.ballots import answers_in, faults_of
 from debvote_tools.text.language import marked
 from debvote_tools.text.rendering import one_line, render_letter
 from debvote_tools.text.times import time_in_words
@@ -61,6 +61,7 @@ NOT_ALL = marked(
     "These of its answers do not count; others of yours, which were entered after them, count instead: {questions}."
 )
 LEFT_OUT = marked("These of its answers were not entered, since you had later ones: {questions}.")
+LEFT = marked("These of its answers are not entered yet: {questions}.")
 # what became of a letter: whether it came from an address of the elector, and whether nobody looks
 # at it any more
 OF_LETTER = marked(
@@ -80,9 +81,12 @@ OF_LETTER = marked(
         ): "A letter in your name came from another address. The secretary has set it aside.",
     }
 )
-# of one from which only ballots of others were entered
+# of one from which only ballots of others were entered: whether it waits
 OF_OTHERS = marked(
-    "A letter of {time} has a ballot of somebody else, which was entered. No ballot of yours from it was entered."
+    {
+        False: "A letter of {time} has a ballot of somebody else, which was entered. No ballot of yours from it was entered.",
+        True: "A letter of {time} has a ballot of somebody else, which was entered. No ballot of yours from it is entered yet: the secretary has to look at it first.",
+    }
 )
 
 # the same of a ballot that came by the page of the vote: whether by the link of the elector
@@ -115,12 +119,6 @@ class Composer:
     call_data: CallData
     is_over: bool
     electors: Sequence[Elector] = ()
-    # the envelopes of what the secretary typed for a letter
-    typed: Collection[int] = ()
-    # the answers that were left out of letters, as ballots, by the envelopes of the others
-    left_out: Mapping[int, str] = dataclasses.field(default_factory=dict)
-    # the letters that are records of the box
-    records: Collection[int] = ()
 
     def subject(self, kind: str, *, is_extension: bool = False) -> str:
         """The subject of a kind of letters, before the mark that ends it."""
@@ -211,13 +209,14 @@ class Composer:
         if isinstance(fate.became, LetterOutcome):
             is_done = fate.became in (LetterOutcome.SET_ASIDE, LetterOutcome.OLDER)
             of_kind = OF_RECORD if fate.letter and fate.letter.read.link else OF_LETTER
-            is_of_others = fate.became is LetterOutcome.ENTERED
-            said = OF_OTHERS if is_of_others else of_kind[fate.is_own, is_done]
+            is_of_others = fate.letter is not None and fate.letter.standing
+            is_pending = fate.letter is not None and fate.letter.is_pending
+            said = OF_OTHERS[is_pending] if is_of_others else of_kind[fate.is_own, is_done]
         else:
             is_final = self.is_over and fate.became == COUNTS
             said = AT_THE_END if is_final else OF_BALLOT[fate.became]
         sentences = [language.say(said, time=time_in_words(fate.time.astimezone(zone), language))]
-        sentences += self.more_of(fate)
+        sentences += self.more_of(fate, name)
         if fate.letter is not None and fate.is_own and fate.letter.reason is not None:
             # not the line itself: it may be another's ballot, or have a code
             near = (
@@ -239,24 +238,37 @@ class Composer:
             sentences += faults(fate.why_refused, name, language)
         return " ".join(sentences)
 
-    def more_of(self, fate: Fate) -> Iterator[str]:
+    def more_of(self, fate: Fate, name: str) -> Iterator[str]:
         """What of a ballot does not count, and how it came."""
-        language, number = self.call_data.language, fate.envelope.number if fate.envelope else 0
-        left_out = answers_of(self.left_out.get(number, ""))
-        for said, labels in ((NOT_ALL, fate.replaced), (LEFT_OUT, left_out)):
+        language, letter, envelope = self.call_data.language, fate.came_by, fate.envelope
+        left, left_out = list[str](), list[str]()
+        if letter is not None and envelope is not None and not envelope.is_struck:
+            left, others = (
+                labels_in(ballots, name) for ballots in (letter.left, letter.not_entered)
+            )
+            left_out = [label for label in others if label not in left]
+        for said, labels in ((NOT_ALL, fate.replaced), (LEFT_OUT, left_out), (LEFT, left)):
             if labels:
                 named = list(map(self.call_data.questions.titled, labels))
                 yield language.say(said, questions=language.joined(named))
-        if fate.envelope is not None and fate.envelope.letter in self.records:
-            yield language.say("It came by the page of the vote.")
-        if number in self.typed:
-            yield language.say("The secretary typed it, by a letter that came.")
+        if letter is not None and envelope is not None:
+            if letter.read.link:
+                yield language.say("It came by the page of the vote.")
+            if any(one.is_typed for one in letter.entered if one.number == envelope.number):
+                yield language.say("The secretary typed it, by a letter that came.")
 
     def quotation_of(self, fate: Fate) -> str:
         """A refused line behind a bar, with which it is no ballot; empty if it may have words."""
         line = fate.envelope.line if fate.envelope and fate.why_refused is not None else b""
         is_quoted = self.call_data.questions.is_several or QUOTED.fullmatch(line)
         return f"|{line.decode()}" if line and is_quoted else ""
+
+
+def labels_in(ballots: Sequence[str], name: str) -> list[str]:
+    """The labels of the answers in those ballots that are an elector's, in their order."""
+    return sorted(
+        {label for one in ballots for elector, label in answers_in(one) if elector == name}
+    )
 
 
 def is_on_paper(elector: Elector) -> bool:

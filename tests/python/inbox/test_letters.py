@@ -970,7 +970,7 @@ class RealNames(LettersTest):
             self.assert_refused(("held", 1, "--enter", *lines, "--force"), 9, said)
         self.assertIn("\nWrote 3 letters: ", self.told("letters", "receipts"))
         self.told("held", 1, "--as", f"cleo {RANKS}")
-        self.assertEqual(self.lines(), [f"cleo {RANKS}"])
+        self.assertEqual((self.lines(), self.told("held").splitlines()[0]), ([f"cleo {RANKS}"], "No letter waits."))
 
 
 class OtherVote(LettersTest):
