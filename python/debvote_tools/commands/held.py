@@ -1,5 +1,6 @@
 """The command `held`."""
 
+import bisect
 import collections
 import itertools
 from collections.abc import Iterator, Mapping, Sequence
@@ -19,8 +20,10 @@ from debvote_tools.inbox.letter_words import name_of, who_and_when, why
 from debvote_tools.inbox.judging import (
     BallotsByElector,
     answered_by,
+    ballot_in,
     ballots_in,
     judged,
+    perhaps_later,
     surely_later,
 )
 from debvote_tools.inbox.reasons import Reason, for_secretary
@@ -199,7 +202,6 @@ def what_is_entered(vote: Vote, arguments: Arguments, typed: Sequence[BallotLine
     if len({would_be_late(history, one.letter) for one in chosen}) > 1:
         words = "some of these letters arrived before the first close, and some after it"
         raise Fault("--enter", words, "enter those that arrived before it apart")
-    demand_one_order(chosen)
     return entry_of(vote, history, chosen, said, is_agreed=arguments.yes)
 
 
@@ -379,11 +381,11 @@ def what_then(vote: Vote, chosen: Chosen) -> str:
 
 def why_not_unforced(chosen: Sequence[Chosen], by_elector: BallotsByElector) -> Iterator[Fault]:
     """The letter has the mark of another vote or call; nothing ties the elector of a typed ballot to it; or the
-    elector has a later ballot, or another one of its time.
+    elector has or may have a later ballot, or another one of its time, also by a letter that is entered before it.
     """
     cure = "if this ballot must count, repeat it with --force"
     for letter, lines, *_ in chosen:
-        name, time = name_of(letter), letter.time
+        name = name_of(letter)
         if why_other := why_other_mark(letter):
             words, _, advice = for_secretary(why_other).partition("; ")
             yield Fault(name, words, f"{advice}; {cure}")
@@ -395,13 +397,15 @@ def why_not_unforced(chosen: Sequence[Chosen], by_elector: BallotsByElector) -> 
                 yield Fault("--as", words, f"check the name; {cure}")
             if answered_by(line.as_entered, surely_later(letter, line.as_entered, there)):
                 yield Fault(name, "its elector has voted since", cure)
-            elif answered_by(line.as_entered, queries.later(there, time)):
+            elif answered_by(line.as_entered, perhaps_later(letter, line.as_entered, there)):
                 off = "as the clock of the web host was off"
-                why_unsure = "as nobody knows when it arrived" if time is None else off
+                why_unsure = "as nobody knows when it arrived" if letter.time is None else off
                 yield Fault(name, f"its elector may have voted since, {why_unsure}", cure)
-            elif any(one.time == time and differ(one.line, line.as_entered) for one in there):
-                words = "another ballot of its elector with the same time was entered"
-                yield Fault(name, words, cure)
+            elif any(
+                one.time == letter.time and differ(one.line, line.as_entered) for one in there
+            ):
+                yield Fault(name, "another ballot of its elector has the same time", cure)
+            bisect.insort(there, ballot_in(letter, line.as_entered), key=queries.by_time)
 
 
 def why_typed_again(vote: Vote, chosen: Sequence[Chosen]) -> Iterator[Fault]:
@@ -415,17 +419,3 @@ def why_typed_again(vote: Vote, chosen: Sequence[Chosen]) -> Iterator[Fault]:
             again = vote.election.command("held", str(letter.number), "--as")
             cure = f"type it again with {again} LINE; if this line is meant, repeat it with --force"
             yield Fault(name_of(letter), words, cure)
-
-
-def demand_one_order(chosen: Sequence[Chosen]) -> None:
-    """Stops at two ballots of an elector of one time: nobody knows which is the later one."""
-    lines = [(one.letter, line) for one in chosen for line in one.lines]
-    at_once = grouped(((line.elector, letter.time), (letter, line)) for letter, line in lines)
-    pairs = itertools.chain.from_iterable(
-        itertools.combinations(one, 2) for one in at_once.values()
-    )
-    for (letter, line), (other, other_line) in pairs:
-        if differ(line.as_entered, other_line.as_entered):
-            name = f"letters {letter.number} and {other.number}"
-            words = f"they have different ballots of {line.elector}, and the same time"
-            raise Fault(name, words, "enter the one that counts")

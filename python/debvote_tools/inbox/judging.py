@@ -217,8 +217,23 @@ def surely_later(case: LetterCase, ballot: str, its_ballots: Sequence[Ballot]) -
     """
     if case.time is None:
         return []
-    own = Ballot(case.time, ballot, behind=case.read.behind)
+    own = ballot_in(case, ballot)
     return [one for one in queries.later(its_ballots, case.time) if not own.may_turn(one)]
+
+
+def perhaps_later(case: LetterCase, ballot: str, its_ballots: Sequence[Ballot]) -> Sequence[Ballot]:
+    """Those that may be later or earlier than it, as nobody knows: all where its time is not known, else
+    those which a clock that was off could take across it.
+    """
+    if case.time is None:
+        return its_ballots
+    return [*filter(ballot_in(case, ballot).may_turn, its_ballots)]
+
+
+def ballot_in(case: LetterCase, ballot: str) -> Ballot:
+    """A ballot of a letter beside others. Where its time is not known it has the one of now, as when it is entered."""
+    time = case.time or case.circumstances.now
+    return Ballot(time, ballot, case.time is not None, case.read.behind)
 
 
 def has_voted_since(
@@ -260,7 +275,7 @@ def judge_originals(
     unchecked_ballots = {line.as_entered for case in unchecked for line in case.ballots}
     for case in in_order:
         assert case.time is not None
-        own = Ballot(case.time, case.sole_ballot.as_entered, True, case.read.behind)
+        own = ballot_in(case, case.sole_ballot.as_entered)
         at_once = at_its_time[case.elector, case.time]
         case.outcome, case.reason = outcome_of_original(
             case, own, by_elector[case.elector], at_once, unchecked_ballots

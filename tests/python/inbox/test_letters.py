@@ -444,9 +444,10 @@ class Held(LettersTest):
 
     def test_two_of_one_time_that_differ_and_one_of_before_the_call(self) -> None:
         self.add(letter("cleo", RANKS), letter("cleo", OTHER, number=2))
-        self.assert_fault(self.election("held", 3, 4, "--enter"), 9, "letters 3 and 4: they have different ballots of cleo, and the same time")
+        same = "another ballot of its elector has the same time; nothing was changed: if this ballot must count, repeat it with --force"
+        self.assert_refused(("held", 3, 4, "--enter"), 9, f"letter 4: {same}")
         self.told("held", 4, "--enter")
-        same = "letter 3: another ballot of its elector with the same time was entered"
+        same = f"letter 3: {same}"
         self.assert_fault(self.election("held", 3, "--enter"), 9, same, "--force")
         self.assert_fault(self.election("held", 3, "--as", "cleo 1,1,1,1"), 9, same)
         self.assertEqual(self.exported()[0], f"cleo {OTHER}\n")
@@ -457,6 +458,18 @@ class Held(LettersTest):
         self.assert_refused(("close",), 9, "these letters arrived in time, and wait: 5;")
         self.told("held", 5, "--set-aside")
         self.assertIn("1 letter that arrived before the call did not go in.", self.told("close"))
+
+    def test_at_no_known_time_beside_another(self) -> None:
+        """Each is put to those of its elector before the next is looked at."""
+        unknown = [letter("fay", f"fay {ranks}", number=number).split(b"\n", 1)[1] for number, ranks in enumerate((RANKS, OTHER))]
+        self.add(letter("fay", f"3 of us:\nfay {RANKS}", number=3), *unknown)
+        said = "its elector may have voted since, as nobody knows when it arrived; nothing was changed: if this ballot must count, repeat it with --force"
+        self.assert_refused(("held", 3, 5, "--enter"), 9, f"letter 5: {said}")
+        self.assert_refused(("held", 5, 4, "--enter"), 9, f"letter 5: {said}")
+        self.told("held", 3, "--enter")
+        self.assert_refused(("held", 4, "--enter"), 9, f"letter 4: {said}")
+        self.told("held", 5, 4, "--enter", "--force")
+        self.assertEqual(self.lines(), [f"fay {RANKS}", f"fay {RANKS}", f"fay {OTHER}"])
 
     def test_what_the_secretary_types(self) -> None:
         """The ballot has the time of the letter, and is tied to it, so nobody is told that the letter waits."""
