@@ -19,9 +19,12 @@ from debvote_tools.inbox import letter_words
 from debvote_tools.inbox.letter_words import name_of, who_and_when, why
 from debvote_tools.inbox.judging import (
     BallotsByElector,
+    InTime,
     answered_by,
+    answered_since,
     ballot_in,
     ballots_in,
+    in_time_by_label,
     judged,
     perhaps_later,
     surely_later,
@@ -35,9 +38,6 @@ from debvote_tools.inbox.vote import Vote, said_of
 from debvote_tools.inbox.stopping import other_votes_words
 from debvote_tools.text.ballots import answers_in, answers_of, differ, without
 from debvote_tools.text.language import ENGLISH
-
-# the later ballots because of which answers are left out: a late one counts for nothing
-IN_TIME = f"{queries.VALID_OR_LATE} AND {queries.TO_COUNT}"
 
 # what --enter has without lines
 THE_ONE = "one"
@@ -167,16 +167,13 @@ class Chosen(NamedTuple):
             if not (one.is_struck or one.answers.isdisjoint(answers))
         ]
 
-    def left_of(
-        self, line: BallotLine, by_elector: BallotsByElector
-    ) -> tuple[str, set[str], set[str]]:
+    def left_of(self, line: BallotLine, in_time: InTime) -> tuple[str, set[str], set[str]]:
         """A ballot without the answers that were entered, and without those to which its elector has later
         ones; and the labels of both.
         """
-        there = surely_later(self.letter, line.as_entered, by_elector[line.elector])
         entered = (one.answers for one in self.letter.entered if not one.is_struck)
         done = {label for _, label in line.answers.intersection(itertools.chain(*entered))}
-        later = answered_by(line.as_entered, there) - done
+        later = answered_since(self.letter, line.as_entered, in_time) - done
         return without(line.as_entered, later | done), done, later
 
 
@@ -191,12 +188,13 @@ def what_is_entered(vote: Vote, arguments: Arguments, typed: Sequence[BallotLine
             lines = typed or named_lines(letter, arguments.enter or [], is_one=is_one)
             chosen.append(Chosen(letter, lines))
     electors = {line.elector for one in chosen for line in one.lines}
-    chosen, said = without_answered(chosen, ballots_in(vote, electors, IN_TIME))
+    there = ballots_in(vote, electors)
+    chosen, said = without_answered(chosen, in_time_by_label(there))
     faults += why_not_now(vote, history, chosen)
     if not arguments.force:
         # of what was entered nothing more is said: no --force enters it again
         not_entered = [one for one in chosen if not one.again]
-        faults += why_not_unforced(not_entered, ballots_in(vote, electors))
+        faults += why_not_unforced(not_entered, there)
         faults += why_typed_again(vote, not_entered)
     stop_at(faults)
     if len({would_be_late(history, one.letter) for one in chosen}) > 1:
@@ -234,15 +232,13 @@ def entry_of(
     )
 
 
-def without_answered(
-    chosen: Sequence[Chosen], by_elector: BallotsByElector
-) -> tuple[list[Chosen], list[str]]:
+def without_answered(chosen: Sequence[Chosen], in_time: InTime) -> tuple[list[Chosen], list[str]]:
     """The ballots without the answers that are left out, unless none is left; and what is said of these."""
     found, said = list[Chosen](), list[str]()
     for one in chosen:
         kept, left_out = list[BallotLine](), list[str]()
         for line in one.lines:
-            left, done, later = one.left_of(line, by_elector)
+            left, done, later = one.left_of(line, in_time)
             kept.append(BallotLine(line.numbers, left or line.as_entered))
             whys = {f"{line.elector} has a later answer": later, "it was entered": done}
             said += (

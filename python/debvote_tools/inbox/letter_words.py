@@ -138,7 +138,9 @@ def why(letter: LetterCase) -> str:
 
 def near_words(letter: LetterCase) -> Iterator[str]:
     for line in (*letter.ballots, *letter.offered):
-        left = without(letter.without_entered(line.as_entered), letter.answered_since)
+        left = without(
+            letter.without_entered(line.as_entered), letter.answered_since[line.as_entered]
+        )
         if left or not letter.is_pending or not letter.left:
             yield f"line {line.number}: {left or line.as_entered}"
     for near in letter.near:

@@ -152,8 +152,8 @@ class LetterCase:
     outcome = LetterOutcome.WAITS
     reason: ReasonWithValues | None = None
     has_voted_since = False
-    # the labels of the questions to which its elector has a later answer
-    answered_since: Collection[str] = ()
+    # of each ballot of it the labels of the answers to which its elector has later ones
+    answered_since: Mapping[str, Collection[str]] = {}
     # the ballots of it that were entered; if some were by hand, of what was typed the answers that were
     # left out, else None; and the answers for which it waits on: both as ballots
     entered: Sequence[EnteredBallot] = ()

@@ -272,7 +272,8 @@ class Later(unittest.TestCase):
         """What becomes of a letter of 10 o'clock, beside ballots that were entered, each with its hour and whether it came by letter."""
         ballots = {"ada": [Ballot(at(hour), line, is_by_letter) for hour, line, is_by_letter in there]}
         [case] = judged(letter("ada", text), ballots=ballots)
-        return outcome(case), {*case.answered_since}
+        [labels] = case.answered_since.values()
+        return outcome(case), {*labels}
 
     def test_by_question(self) -> None:
         two = "ada A 1,2 B 1,2,3,4"
