@@ -15,7 +15,7 @@ from debvote_tools.inbox.letter import Body
 from debvote_tools.inbox.letter_lines import ReadLetter, from_json, read_letters
 from debvote_tools.inbox.mailbox import RawLetter
 from debvote_tools.inbox.reasons import Reason, ReasonWithValues
-from debvote_tools.inbox.rules import WENT_IN, Circumstances, LetterCase, LetterOutcome
+from debvote_tools.inbox.rules import Circumstances, LetterCase, LetterOutcome
 from debvote_tools.inbox.vote import Vote
 from debvote_tools.poll.call import SUBJECT, call_letter, current_call
 from debvote_tools.text import times
@@ -354,7 +354,7 @@ def judge_copies(
     # the one that went in, else the one that an act decided of, else the one that arrived first
     hiders = sorted(
         (case for case in group if case.can_hide(case)),
-        key=lambda case: (case.state not in WENT_IN, not case.is_decided),
+        key=lambda case: (not case.entered, not case.is_decided),
     )
     # each is a copy of the hider, if that hides it; else of the first one alike
     first_alike: dict[tuple[ReasonWithValues | None, Body, bool], LetterCase] = {}
@@ -377,11 +377,14 @@ def outcome_of_copy(
     if original.time is None or case.time is None:
         return LetterOutcome.COPY, None
     begin, end = sorted((original.time, case.time))
+    # not what was typed for it, nor another line of it
+    own = {one.number for one in original.entered}
     for line in (*case.ballots, *case.offered):
         there = by_elector[line.elector]
         places = (bisect.bisect_left(there, time, key=TIME) for time in (begin, end))
-        others = (one.time for one in there[slice(*places)] if differ(one.line, line.as_entered))
-        if between := next(others, None):
+        others = (one for one in there[slice(*places)] if one.number not in own)
+        times = (one.time for one in others if differ(one.line, line.as_entered))
+        if between := next(times, None):
             reason = Reason.CAME_BEFORE(
                 elector=line.elector, time=case.time, first=original.time, between=between
             )

@@ -70,8 +70,6 @@ class LetterOutcome(enum.Enum):
     OTHER_VOTE = "of another vote"
 
 
-# what acts decided of a letter whose ballot was entered, though it may be struck since
-WENT_IN = (queries.ENTERED, queries.TAKEN_BACK, queries.STRUCK)
 # in place of what the book has of a letter that is only looked at
 NOT_KEPT = KeptLetter(0, 0, 0, "", "", queries.NEVER_DECIDED)
 
@@ -351,11 +349,12 @@ class LetterCase:
         return next(filter(None, (rule(self) for rule in RULES)), None)
 
     def can_hide(self, copy: "LetterCase") -> bool:
-        """Whether it can hide a copy, also one that differs from it: it went in once, or breaks no rule.
-        One that went in by hand, and arrived after the end, hides none that did not.
+        """Whether it can hide a copy, also one that differs from it: it went in once, whatever was decided
+        of it since, or breaks no rule. One that went in by hand, and arrived after the end, hides none
+        that did not.
         """
         is_as_early = copy.arrived_after_end or not self.arrived_after_end
-        return is_as_early and (self.state in WENT_IN or self.first_broken_rule is None)
+        return is_as_early and (bool(self.entered) or self.first_broken_rule is None)
 
     @property
     def standing(self) -> list[EnteredBallot]:
