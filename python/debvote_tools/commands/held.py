@@ -30,7 +30,7 @@ from debvote_tools.inbox.taking import LetterEntry, envelope_of
 from debvote_tools.inbox.lines import Line, lines_in
 from debvote_tools.inbox.vote import Vote, said_of
 from debvote_tools.inbox.stopping import other_votes_words
-from debvote_tools.text.ballots import answers_in, answers_of, differ, without
+from debvote_tools.text.ballots import answers_of, differ, without
 from debvote_tools.text.language import ENGLISH
 
 # the later ballots because of which answers are left out: a late one counts for nothing
@@ -155,14 +155,16 @@ class Chosen(NamedTuple):
     left_out: Sequence[str] = ()
 
     @property
+    def entered(self) -> dict[tuple[str, str], EnteredBallot]:
+        """The last ballot of the letter that is not struck, by elector and label."""
+        there = (one for one in self.letter.entered if not one.is_struck)
+        return {answer: one for one in there for answer in one.answers}
+
+    @property
     def again(self) -> list[EnteredBallot]:
-        """The ballots of the letter with answers of these that are entered already, and not struck."""
-        answers = {answer for line in self.lines for answer in line.answers}
-        return [
-            one
-            for one in self.letter.entered
-            if not (one.is_struck or one.answers.isdisjoint(answers))
-        ]
+        """Those in which answers of these ballots were entered already."""
+        entered, answers = self.entered, (one for line in self.lines for one in line.answers)
+        return [*dict.fromkeys(entered[one] for one in answers if one in entered)]
 
     def left_of(
         self, line: BallotLine, by_elector: BallotsByElector
@@ -171,8 +173,7 @@ class Chosen(NamedTuple):
         ones; and the labels of both.
         """
         there = surely_later(self.letter, line.as_entered, by_elector[line.elector])
-        entered = (one.answers for one in self.letter.entered if not one.is_struck)
-        done = {label for _, label in line.answers.intersection(itertools.chain(*entered))}
+        done = {label for _, label in line.answers & self.entered.keys()}
         later = answered_by(line.as_entered, there) - done
         return without(line.as_entered, later | done), done, later
 
@@ -294,8 +295,7 @@ def named_lines(letter: LetterCase, enter: Sequence[str], *, is_one: bool) -> li
     name = name_of(letter)
     there = {str(line.number): line for line in (*letter.offered, *letter.ballots)}
     if [*enter] == [THE_ONE]:
-        left = {answer for ballot in letter.left for answer in answers_in(ballot)}
-        there = {number: line for number, line in there.items() if line.answers & left} or there
+        there = {number: line for number, line in there.items() if letter.left_in(line)} or there
         if len({line.as_entered for line in there.values()}) != 1:
             words = f"it has {count_of(len(there), 'line')} that can be entered"
             cure = "name its lines with --enter LINE, or type the ballot with --as LINE"
@@ -323,7 +323,7 @@ def why_not_now(vote: Vote, history: History, chosen: Sequence[Chosen]) -> Itera
         if again := one.again:
             electors = dict.fromkeys(ballot.elector for ballot in again)
             words = f"its ballot of {ENGLISH.joined([*electors])} was entered"
-            cure = what_then(vote, one)
+            cure = what_then(vote, letter, one.lines, again)
             # who reads that there is nothing to do takes it for one that counts
             if late := {str(ballot.number): None for ballot in again if ballot.is_late}:
                 reopen = vote.election.command("reopen", "--in-time", *late, "--because", "TEXT")
@@ -342,25 +342,18 @@ def why_not_now(vote: Vote, history: History, chosen: Sequence[Chosen]) -> Itera
             yield Fault(name, words, "name the one that counts")
 
 
-def what_then(vote: Vote, chosen: Chosen) -> str:
-    """What is done in place of entering once more what was entered."""
-    letter, again = chosen.letter, chosen.again
-    if any(line.elector not in {one.elector for one in again} for line in chosen.lines):
+def what_then(
+    vote: Vote, letter: LetterCase, lines: Sequence[BallotLine], again: Sequence[EnteredBallot]
+) -> str:
+    """What is done in place of entering what was entered already."""
+    if {line.elector for line in lines} - {ballot.elector for ballot in again}:
         return "leave it out"
-    others = [
-        str(one.number)
-        for one in again
-        if any(
-            differ(one.line, line.as_entered)
-            for line in chosen.lines
-            if line.elector == one.elector
-        )
-    ]
-    if others:
-        strike = vote.election.command("strike", others[0], "--because", "TEXT")
+    pairs = ((line, one) for line in lines for one in again if line.elector == one.elector)
+    if other := next((one for line, one in pairs if differ(line.as_entered, one.line)), None):
+        strike = vote.election.command("strike", str(other.number), "--because", "TEXT")
         return f"to enter another one in its place, run {strike} first"
     if letter.left:
-        return f"what is left of it: {vote.election.command('held', str(letter.number))}"
+        return f"for what is left of it see {vote.election.command('held', str(letter.number))}"
     return "there is nothing to do"
 
 

@@ -138,9 +138,12 @@ def why(letter: LetterCase) -> str:
 
 def near_words(letter: LetterCase) -> Iterator[str]:
     for line in (*letter.ballots, *letter.offered):
-        left = without(letter.without_entered(line.as_entered), letter.answered_since)
-        if left or not letter.is_pending or not letter.left:
-            yield f"line {line.number}: {left or line.as_entered}"
+        left = without(line.as_entered, letter.answered_since) or line.as_entered
+        if shown := letter.left_in(line) if letter.left else left:
+            yield f"line {line.number}: {shown}"
+    for ballot in letter.left:
+        if any(one.is_typed and ballot.startswith(f"{one.elector} ") for one in letter.standing):
+            yield f"left out of what was typed: {ballot}"
     for near in letter.near:
         within = ", within other words" if near.is_within else ""
         why = near.answer or "a ballot, but not alone on its line"
