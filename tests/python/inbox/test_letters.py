@@ -117,6 +117,16 @@ class Adding(LettersTest):
         desk.end()
         self.assertEqual(self.exported(), (f"ada {OTHER}\n", ""))
 
+    def test_what_nobody_agreed_to_goes_in_next_time_unless_it_is_kept_out(self) -> None:
+        desk = Terminal(self, "add", str(self.box(letter("ada", f"ada {RANKS}"), letter("ben", f"ben {RANKS}"))))
+        desk.until("Enter 2 ballots?")
+        said = desk.after("n\n", "keeps one out.")
+        self.assertIn("2 letters wait.\nThe next add --yes, by cron too, enters these ballots: debvote-election held NUMBER --wait keeps one out.", said)
+        desk.end()
+        self.told("held", 2, "--wait")
+        self.add(letter("cleo", "hello"))
+        self.assertEqual(self.lines(), [f"ada {RANKS}"])
+
     def test_an_older_letter_after_lines(self) -> None:
         """A line that was refused is no later ballot, and one that was struck holds back no letter. A late ballot is a later one."""
         for name, words in (("ada", ("desk",)), ("ben", ("add",))):
