@@ -11,10 +11,12 @@ from collections.abc import Callable, Collection, Iterable, Mapping, Sequence
 
 from debvote_tools.book import queries
 from debvote_tools.book.election import BOX_KEY, KEYRING, History
-from debvote_tools.book.queries import Ballot, KeptLetter
+from debvote_tools.book.book import Book
+from debvote_tools.book.queries import Ballot, Envelope, KeptLetter
 from debvote_tools.grouping import grouped
 from debvote_tools.inbox.letter import Body
-from debvote_tools.inbox.letter_lines import ReadLetter, from_json, read_letters
+from debvote_tools.inbox.letter_lines import BallotLine, ReadLetter, from_json, read_letters
+from debvote_tools.inbox.lines import name_in
 from debvote_tools.inbox.mailbox import RawLetter
 from debvote_tools.inbox.reasons import Reason, ReasonWithValues
 from debvote_tools.inbox.rules import WENT_IN, Circumstances, LetterCase, LetterOutcome
@@ -22,6 +24,7 @@ from debvote_tools.inbox.vote import Vote
 from debvote_tools.poll.call import SUBJECT, call_letter, current_call
 from debvote_tools.text import times
 from debvote_tools.text.ballots import answers_of, differ
+from debvote_tools.text.language import ENGLISH
 
 # what an act decided holds, whatever the rules say
 DECIDED = {
@@ -50,7 +53,52 @@ def judged(
     found, circumstances = read_kept(vote, kept), circumstances_now(vote, history)
     cases = [LetterCase(read, circumstances, letter) for read, letter in zip(found, kept)]
     cases += (LetterCase(read, circumstances) for read in previewed)
-    return judge_all(cases, lambda names: ballots_in(vote, names))
+    cases = judge_all(cases, lambda names: ballots_in(vote, names))
+    if put_back := [case for case in cases if case.state == queries.PUT_BACK]:
+        entered, typed = entered_in(vote.book), queries.typed_envelopes(vote.book)
+        for case in put_back:
+            if names := waits_for(case, entered.get(case.number, ()), typed):
+                case.reason = Reason.NOT_ALL_ENTERED(electors=ENGLISH.joined(names))
+    return cases
+
+
+# ---- what was entered of them
+def entered_in(book: Book) -> dict[int, list[Envelope]]:
+    """The envelopes of letters, by the numbers of the letters."""
+    found = queries.envelopes(book, "letter IS NOT NULL")
+    return grouped((envelope.letter or 0, envelope) for envelope in found)
+
+
+def elector_of(envelope: Envelope) -> str:
+    return name_in(envelope.line).decode("ascii")
+
+
+def typed_last(before: Iterable[Envelope], typed: Collection[int]) -> list[str]:
+    """The electors whose last ballot of a letter was typed, though it may be struck or taken back, of its
+    envelopes and the numbers of those that were typed.
+    """
+    last = {elector_of(one): one.number for one in before}
+    return [name for name, number in last.items() if number in typed]
+
+
+def waits_for(
+    letter: LetterCase,
+    before: Sequence[Envelope],
+    typed: Collection[int],
+    lines: Sequence[BallotLine] = (),
+) -> list[str]:
+    """For whose ballots a letter waits on, if one of it was entered, when these lines are entered, too: of
+    those who have one in it, or had one typed; and, once the secretary has typed one, of those who share
+    the sender's address. One that was struck since was one; one that was taken back was none.
+    """
+    is_typed = any(one.number in typed for one in before)
+    is_typed |= not all(line.number for line in lines)
+    sharing = letter.sharing if is_typed and len(letter.sharing) > 1 else []
+    left = [elector_of(one) for one in before if one.became != queries.TAKEN_BACK]
+    having = {*(line.elector for line in lines), *left}
+    there = (line.elector for line in (*letter.ballots, *letter.likely))
+    names = dict.fromkeys([*there, *sharing, *typed_last(before, typed)])
+    return [name for name in names if having and name not in having]
 
 
 # ---- what they are judged by
@@ -162,7 +210,7 @@ def judge_all(
             case.outcome, case.reason = LetterOutcome.OTHER_VOTE, Reason.OTHER_MARK(
                 mark=case.other_vote
             )
-        case.has_voted_since = any(has_voted_since(case, one, last) for one in case.electors)
+        case.voted_since = [one for one in case.electors if has_voted_since(case, one, last)]
     return cases
 
 

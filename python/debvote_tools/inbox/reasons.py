@@ -44,6 +44,7 @@ class Reason(enum.Enum):
     # (`told_of` in `outbox/due.py`)
     TAKEN_BACK = "its ballot was taken back", LOOKED_AT
     PUT_BACK = "it was put back to wait", LOOKED_AT
+    NOT_ALL_ENTERED = "a ballot was entered from it, and none yet of {electors}", LOOKED_AT
     SET_ASIDE = "it was set aside", "The reason: the secretary has looked at it, and set it aside."
     STRUCK = "its ballot was struck", "The reason: the secretary has taken its ballot out again."
     # it can't be read with certainty

@@ -150,7 +150,8 @@ class LetterCase:
 
     outcome = LetterOutcome.WAITS
     reason: ReasonWithValues | None = None
-    has_voted_since = False
+    # its electors who have a later ballot, or may have
+    voted_since: Collection[str] = ()
     # the labels of the questions to which its elector has a later answer
     answered_since: Collection[str] = ()
 

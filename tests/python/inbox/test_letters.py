@@ -11,7 +11,7 @@ from debvote_tools.inbox import entering, signature
 from debvote_tools.outbox import letter_folder
 
 from tests.support import elections, letters, pgp
-from tests.support.called import LAKE, LettersTest
+from tests.support.called import HALL, LAKE, LettersTest
 from tests.support.letters import OTHER_RANKS as OTHER, RANKS, TEN, mailbox
 from tests.support.terminal import Terminal
 
@@ -828,6 +828,20 @@ class Secret(OwnMarks):
 
 class Family(LettersTest):
     """Ballots of two electors in one letter."""
+
+    def test_it_is_said_who_has_voted_since_and_for_whom_it_waits_on(self) -> None:
+        self.change_roll("ben@", "ada@")
+        later = "Mon, 23 Nov 2026 12:00:00 +0000"
+        self.add(letter("ada", f"ada {RANKS}\nben {OTHER}\ncleo {RANKS}"), letter("ada", f"ada {OTHER}", later, number=2))
+        why = "ballots of several electors: ada, ben, cleo"
+        self.assertIn(f"        {why}; ada has voted since\n", self.told("held"))
+        self.assertIn(f": {HALL}\n  {why}\n2 counted  ben: ", self.told("held", 1, "--enter", 2))
+        for words in (("held", 1), ("held",), ("show", "ada")):
+            self.assertIn("a ballot was entered from it, and none yet of ada and cleo", self.told(*words))
+        said = self.told("held", 1, "--enter", 1, "--force")
+        self.assertIn(f": {LAKE}\n  a ballot was entered from it, and none yet of ada and cleo; ada has voted since\n", said)
+        self.told("desk", given=f"cleo {OTHER}\nben {OTHER}\n")
+        self.assertIn("a ballot was entered from it, and none yet of cleo; ada, ben and cleo have voted since\n", self.told("held"))
 
     def assert_left(self, waiting: int, *lines: str) -> None:
         self.assertEqual((self.numbers()["waiting"], self.lines()), (waiting, list(lines)))
