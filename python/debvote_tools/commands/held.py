@@ -23,9 +23,9 @@ from debvote_tools.inbox.judging import (
     judged,
     surely_later,
 )
-from debvote_tools.inbox.reasons import Reason
+from debvote_tools.inbox.reasons import Reason, for_secretary
 from debvote_tools.inbox.letter_lines import BallotLine
-from debvote_tools.inbox.rules import LetterCase, LetterOutcome
+from debvote_tools.inbox.rules import LetterCase, LetterOutcome, why_other_mark
 from debvote_tools.inbox.taking import LetterEntry, envelope_of
 from debvote_tools.inbox.lines import Line, lines_in
 from debvote_tools.inbox.vote import Vote, said_of
@@ -58,7 +58,7 @@ class Arguments(Acting):
     set_aside: bool = flag("Set the letters aside: they are dealt with, and wait no longer")
     wait: bool = flag("Have the letters wait again")
     force: bool = flag(
-        "Enter the ballot although its elector has or may have voted since, the letter has the mark of another vote, its ballot was "
+        "Enter the ballot although its elector has or may have voted since, the letter has the mark of another vote or call, its ballot was "
         "typed or, with --as, nothing ties the elector to the letter"
     )
     yes: bool = flag("Enter the ballots without asking")
@@ -220,7 +220,7 @@ def entry_of(
         },
         shown=[
             *(
-                f"{who_and_when(letter)}: {vote.ballot_in_words(line.as_entered)}\n  {why(letter)}"
+                f"{who_and_when(letter)}: {vote.ballot_in_words(line.as_entered)}\n  {why(letter, line.elector)}"
                 for letter, line in lines
             ),
             *said,
@@ -358,15 +358,15 @@ def what_then(
 
 
 def why_not_unforced(chosen: Sequence[Chosen], by_elector: BallotsByElector) -> Iterator[Fault]:
-    """The letter is of another vote; nothing ties the elector of a typed ballot to it; or the
+    """The letter has the mark of another vote or call; nothing ties the elector of a typed ballot to it; or the
     elector has a later ballot, or another one of its time.
     """
     cure = "if this ballot must count, repeat it with --force"
     for letter, lines, *_ in chosen:
         name, time = name_of(letter), letter.time
-        if mark := letter.other_vote:
-            words = f"it has the mark of another vote, [{mark}]"
-            yield Fault(name, words, f"add it to that vote; {cure}")
+        if why_other := why_other_mark(letter):
+            words, _, advice = for_secretary(why_other).partition("; ")
+            yield Fault(name, words, f"{advice}; {cure}")
         tied = {*letter.electors, *letter.sharing, letter.marked_elector}
         for line in lines:
             there = by_elector[line.elector]

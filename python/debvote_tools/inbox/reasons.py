@@ -169,6 +169,10 @@ class Reason(enum.Enum):
         "it has the mark of another vote, [{mark}]; add it to that vote",
         "The reason: it has the mark of another vote. To vote here, answer a letter of this vote.",
     )
+    OLD_MARK = (
+        "it has the mark of a call that was taken back, [{mark}]; look whether its options were the same",
+        "The reason: it has the mark of a call that was taken back. To vote, answer a later letter of this vote.",
+    )
     # the ballots of the elector that are in
     LATER_BALLOT = "a later ballot of {elector}, of {time}, was entered already", LATER_ONE
     SAME_TIME = (
