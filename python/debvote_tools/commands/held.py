@@ -36,7 +36,7 @@ from debvote_tools.inbox.taking import LetterEntry, envelope_of
 from debvote_tools.inbox.lines import Line, lines_in
 from debvote_tools.inbox.vote import Vote, said_of
 from debvote_tools.inbox.stopping import other_votes_words
-from debvote_tools.text.ballots import answers_in, answers_of, differ, without
+from debvote_tools.text.ballots import answers_of, differ, without
 from debvote_tools.text.language import ENGLISH
 
 # what --enter has without lines
@@ -158,21 +158,22 @@ class Chosen(NamedTuple):
     left_out: Sequence[str] = ()
 
     @property
+    def entered(self) -> dict[tuple[str, str], EnteredBallot]:
+        """The last ballot of the letter that is not struck, by elector and label."""
+        there = (one for one in self.letter.entered if not one.is_struck)
+        return {answer: one for one in there for answer in one.answers}
+
+    @property
     def again(self) -> list[EnteredBallot]:
-        """The ballots of the letter with answers of these that are entered already, and not struck."""
-        answers = {answer for line in self.lines for answer in line.answers}
-        return [
-            one
-            for one in self.letter.entered
-            if not (one.is_struck or one.answers.isdisjoint(answers))
-        ]
+        """Those in which answers of these ballots were entered already."""
+        entered, answers = self.entered, (one for line in self.lines for one in line.answers)
+        return [*dict.fromkeys(entered[one] for one in answers if one in entered)]
 
     def left_of(self, line: BallotLine, in_time: InTime) -> tuple[str, set[str], set[str]]:
         """A ballot without the answers that were entered, and without those to which its elector has later
         ones; and the labels of both.
         """
-        entered = (one.answers for one in self.letter.entered if not one.is_struck)
-        done = {label for _, label in line.answers.intersection(itertools.chain(*entered))}
+        done = {label for _, label in line.answers & self.entered.keys()}
         later = answered_since(self.letter, line.as_entered, in_time) - done
         return without(line.as_entered, later | done), done, later
 
@@ -220,7 +221,7 @@ def entry_of(
         },
         shown=[
             *(
-                f"{who_and_when(letter)}: {vote.ballot_in_words(line.as_entered)}\n  {why(letter)}"
+                f"{who_and_when(letter)}: {vote.ballot_in_words(line.as_entered)}\n  {why(letter, line.elector)}"
                 for letter, line in lines
             ),
             *said,
@@ -294,8 +295,7 @@ def named_lines(letter: LetterCase, enter: Sequence[str], *, is_one: bool) -> li
     lines = [*dict.fromkeys((*letter.offered, *letter.ballots))]
     texts = [text.strip() for text in ",".join(enter).split(",")]
     if is_the_one := texts == [THE_ONE]:
-        left = {answer for ballot in letter.left for answer in answers_in(ballot)}
-        lines = [line for line in lines if line.answers & left] or lines
+        lines = [line for line in lines if letter.left_in(line)] or lines
     there = grouped((str(line.number), line) for line in lines)
     if is_the_one:
         demand_one_line(letter, there, is_one=is_one)
@@ -335,7 +335,7 @@ def why_not_now(vote: Vote, history: History, chosen: Sequence[Chosen]) -> Itera
         if again := one.again:
             electors = dict.fromkeys(ballot.elector for ballot in again)
             words = f"its ballot of {ENGLISH.joined([*electors])} was entered"
-            cure = what_then(vote, one)
+            cure = what_then(vote, letter, one.lines, again)
             # who reads that there is nothing to do takes it for one that counts
             if late := {str(ballot.number): None for ballot in again if ballot.is_late}:
                 reopen = vote.election.command("reopen", "--in-time", *late, "--because", "TEXT")
@@ -354,25 +354,18 @@ def why_not_now(vote: Vote, history: History, chosen: Sequence[Chosen]) -> Itera
             yield Fault(name, words, "name the one that counts")
 
 
-def what_then(vote: Vote, chosen: Chosen) -> str:
-    """What is done in place of entering once more what was entered."""
-    letter, again = chosen.letter, chosen.again
-    if any(line.elector not in {one.elector for one in again} for line in chosen.lines):
+def what_then(
+    vote: Vote, letter: LetterCase, lines: Sequence[BallotLine], again: Sequence[EnteredBallot]
+) -> str:
+    """What is done in place of entering what was entered already."""
+    if {line.elector for line in lines} - {ballot.elector for ballot in again}:
         return "leave it out"
-    others = [
-        str(one.number)
-        for one in again
-        if any(
-            differ(one.line, line.as_entered)
-            for line in chosen.lines
-            if line.elector == one.elector
-        )
-    ]
-    if others:
-        strike = vote.election.command("strike", others[0], "--because", "TEXT")
+    pairs = ((line, one) for line in lines for one in again if line.elector == one.elector)
+    if other := next((one for line, one in pairs if differ(line.as_entered, one.line)), None):
+        strike = vote.election.command("strike", str(other.number), "--because", "TEXT")
         return f"to enter another one in its place, run {strike} first"
     if letter.left:
-        return f"what is left of it: {vote.election.command('held', str(letter.number))}"
+        return f"for what is left of it see {vote.election.command('held', str(letter.number))}"
     return "there is nothing to do"
 
 
@@ -402,7 +395,9 @@ def why_not_unforced(chosen: Sequence[Chosen], by_elector: BallotsByElector) -> 
                 one.time == letter.time and differ(one.line, line.as_entered) for one in there
             ):
                 yield Fault(name, "another ballot of its elector has the same time", cure)
-            bisect.insort(there, ballot_in(letter, line.as_entered), key=queries.by_time)
+        for line in lines:
+            ballot = ballot_in(letter, line.as_entered)
+            bisect.insort(by_elector[line.elector], ballot, key=queries.by_time)
 
 
 def why_typed_again(

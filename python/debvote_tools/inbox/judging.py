@@ -4,6 +4,8 @@ and the book as they are now. Letters are judged anew whenever they are looked a
 
 import bisect
 import collections
+import datetime
+import itertools
 import operator
 from collections.abc import Callable, Collection, Iterable, Iterator, Mapping, Sequence
 
@@ -163,17 +165,13 @@ def judge_all(
     judge_originals(cases, originals, by_elector)
     for group in groups:
         judge_copies(group, originals, by_elector)
-    # of each elector the last ballot that answers a question
-    last = {
-        elector: {label: one for one in its for label in one.labels}
-        for elector, its in by_elector.items()
-    }
+    last = {elector: last_answers(its) for elector, its in by_elector.items()}
     for case in cases:
         if not case.is_decided and case.outcome is LetterOutcome.WAITS and case.other_vote:
             case.outcome, case.reason = LetterOutcome.OTHER_VOTE, Reason.OTHER_MARK(
                 mark=case.other_vote
             )
-        case.has_voted_since = any(has_voted_since(case, one, last) for one in case.electors)
+        case.voted_since = [one for one in case.electors if has_voted_since(case, one, last)]
     return cases
 
 
@@ -211,6 +209,11 @@ def what_is_left(case: LetterCase, in_time: InTime) -> list[str]:
     return [*filter(None, found)]
 
 
+def last_answers(ballots: Iterable[Ballot]) -> dict[str, Ballot]:
+    """The last ballot that answers each question, of ballots in the order `queries.by_time`."""
+    return {label: one for one in ballots for label in one.labels}
+
+
 def in_time_by_label(by_elector: Mapping[str, Sequence[Ballot]]) -> InTime:
     return {
         elector: grouped((label, one) for one in its if not one.is_late for label in one.labels)
@@ -237,8 +240,12 @@ def surely_later(case: LetterCase, ballot: str, its_ballots: Sequence[Ballot]) -
     """
     if case.time is not None:
         own = ballot_in(case, ballot)
-        later = reversed(queries.later(its_ballots, case.time))
-        yield from (one for one in later if not own.may_turn(one))
+        # of thousands only as many are looked at as are asked for
+        for one in itertools.takewhile(
+            lambda one: queries.later([one], own.time), reversed(its_ballots)
+        ):
+            if not own.may_turn(one):
+                yield one
 
 
 def perhaps_later(case: LetterCase, ballot: str, its_ballots: Sequence[Ballot]) -> Sequence[Ballot]:
@@ -260,10 +267,14 @@ def has_voted_since(
     case: LetterCase, elector: str, last: Mapping[str, Mapping[str, Ballot]]
 ) -> bool:
     """Whether an elector of a letter has a later ballot, or may have, where its time is not known; if
-    answers of theirs stand in the letter, one that answers one of the same questions.
+    answers of theirs stand in the letter, one that answers one of the same questions. Of a letter of which
+    some are left only these are asked about.
     """
     its = last.get(elector, {})
-    lines = [line.as_entered for line in (*case.ballots, *case.offered) if line.elector == elector]
+    ballots = case.left or [line.as_entered for line in (*case.ballots, *case.offered)]
+    lines = [one for one in ballots if one.partition(" ")[0] == elector]
+    if case.left and not lines:
+        return False
     labels = {label for ballot in lines for label in answers_of(ballot)} or its.keys()
     there = [its[label] for label in labels & its.keys()]
     surely = (any(surely_later(case, line, [one])) for line in lines or [""] for one in there)
@@ -280,53 +291,71 @@ def original_of(group: Sequence[LetterCase]) -> LetterCase | None:
     return None if is_hidden else original
 
 
+class Beside:
+    """The ballots of an elector beside which letters are judged. Of thousands each letter looks at few."""
+
+    def __init__(self, in_book: Sequence[Ballot], of_letters: Iterable[Ballot]) -> None:
+        self.last = last_answers(in_book)
+        self.last_by_letter = last_answers(filter(IS_BY_LETTER, in_book))
+        # those in the book, and of letters that do not wait, by how far the clock of each was behind
+        self.by_clock = grouped((one.behind, one) for one in in_book)
+        answers = (
+            ((one.time, label), ranks)
+            for one in (*in_book, *of_letters)
+            for label, ranks in answers_of(one.line).items()
+        )
+        # the different answers to a question that have the same time
+        self.at_once = grouped(dict.fromkeys(answers))
+
+    def turned(self, own: Ballot) -> Ballot | None:
+        """The first one that may stand on the other side of a ballot by the clock of this computer: of each
+        other clock only those may whose times are within the difference.
+        """
+        found = list[Ballot]()
+        for behind, its in self.by_clock.items():
+            by_its_clock = own.time + datetime.timedelta(seconds=own.behind - behind)
+            within = sorted((own.time, by_its_clock))
+            places = range(*(bisect.bisect_right(its, time, key=TIME) for time in within))
+            found += itertools.islice(filter(own.may_turn, map(its.__getitem__, places)), 1)
+        return min(found, key=queries.by_time) if found else None
+
+
 def judge_originals(
     cases: Sequence[LetterCase], originals: Collection[LetterCase], by_elector: BallotsByElector
 ) -> None:
     """Judges the letters that break no rule, by their times, and puts the ballots of those that do
     not wait to the others of their electors.
     """
-    in_order = [case for case in cases if case in originals]
-    ballots = (((case.elector, case.time), case.sole_ballot.as_entered) for case in in_order)
-    # each once: of a thousand letters of one time each is compared with all
-    at_its_time = grouped(dict.fromkeys(ballots))
+    in_order = (case for case in cases if case in originals)
+    own = {case: ballot_in(case, case.sole_ballot.as_entered) for case in in_order}
+    of_letters = grouped((case.elector, one) for case, one in own.items())
+    beside = {elector: Beside(by_elector[elector], its) for elector, its in of_letters.items()}
     # copies of these are not known as such, while gpgv does not answer
     unchecked = [case for case in cases if case.is_decided and case.read.is_slow]
     unchecked_ballots = {line.as_entered for case in unchecked for line in case.ballots}
-    for case in in_order:
-        assert case.time is not None
-        own = ballot_in(case, case.sole_ballot.as_entered)
-        at_once = at_its_time[case.elector, case.time]
-        case.outcome, case.reason = outcome_of_original(
-            case, own, by_elector[case.elector], at_once, unchecked_ballots
-        )
+    for case, ballot in own.items():
+        its = beside[case.elector]
+        case.outcome, case.reason = outcome_of_original(case, ballot, its, unchecked_ballots)
         if case.outcome is not LetterOutcome.WAITS:
-            bisect.insort(by_elector[case.elector], own, key=queries.by_time)
+            bisect.insort(by_elector[case.elector], ballot, key=queries.by_time)
+            bisect.insort(its.by_clock.setdefault(ballot.behind, []), ballot, key=TIME)
 
 
 def outcome_of_original(
-    case: LetterCase,
-    own: Ballot,
-    its_ballots: Sequence[Ballot],
-    at_once: Sequence[str],
-    unchecked_ballots: Collection[str],
+    case: LetterCase, own: Ballot, its: Beside, unchecked_ballots: Collection[str]
 ) -> Judgement:
     """What becomes of a letter that breaks no rule, beside the ballots of its elector: they have to be
-    older, but for the same one; and the vote may not be closed. `at_once` are the ballots of letters
-    of its time.
+    older, but for the same one; and the vote may not be closed.
     """
     elector, time = case.elector, own.time
-    # those that answer one of its questions
-    there = [one for one in its_ballots if not own.labels.isdisjoint(one.labels)]
-    if turned := next(filter(own.may_turn, there), None):
+    if turned := its.turned(own):
         return LetterOutcome.WAITS, Reason.CLOCKS(elector=elector, time=turned.time)
-    if later := queries.later(there, time):
+    if later := later_answers(own, its.last):
         # this one can count in no case; the time of a line is only when somebody entered it
-        is_older = not without(own.line, answered_by(own.line, filter(IS_BY_LETTER, later)))
-        reason = Reason.LATER_BALLOT(elector=elector, time=later[-1].time)
+        is_older = later_answers(own, its.last_by_letter).keys() == own.labels
+        reason = Reason.LATER_BALLOT(elector=elector, time=max(later.values()))
         return LetterOutcome.OLDER if is_older else LetterOutcome.WAITS, reason
-    since = (one.line for one in there[bisect.bisect_left(there, time, key=TIME) :])
-    if any(differ(own.line, one) for one in (*at_once, *since)):
+    if any(len(its.at_once[time, label]) > 1 for label in own.labels):
         return LetterOutcome.WAITS, Reason.SAME_TIME(elector=elector, time=time)
     if own.line in unchecked_ballots:
         return LetterOutcome.WAITS, Reason.PERHAPS_COPY()
@@ -334,6 +363,12 @@ def outcome_of_original(
         # it would become late, and the plainer a ballot is, the less would that be noticed
         return LetterOutcome.WAITS, Reason.CLOSED()
     return LetterOutcome.GOES_IN, None
+
+
+def later_answers(own: Ballot, last: Mapping[str, Ballot]) -> dict[str, datetime.datetime]:
+    """The labels of the answers in a ballot to which the last ones are later, with their times."""
+    there = ((label, last[label]) for label in own.labels & last.keys())
+    return {label: one.time for label, one in there if queries.later([one], own.time)}
 
 
 def answered_by(ballot: str, later: Iterable[Ballot]) -> set[str]:

@@ -33,7 +33,7 @@ from debvote_tools.inbox.reasons import Reason, ReasonWithValues
 from debvote_tools.inbox.written import GAP, UNFILLED
 from debvote_tools.poll.box import third_part
 from debvote_tools.poll.sealed import MARKS, marks_in
-from debvote_tools.text.ballots import answers_of, without
+from debvote_tools.text.ballots import answers_in, answers_of, without
 from debvote_tools.text.motions import Words, may_answer, words_in
 
 # how far the clock of a mail server or of an elector may be ahead
@@ -149,7 +149,8 @@ class LetterCase:
 
     outcome = LetterOutcome.WAITS
     reason: ReasonWithValues | None = None
-    has_voted_since = False
+    # its electors who have a later ballot, or may have
+    voted_since: Collection[str] = ()
     # of each ballot of it the labels of the answers to which its elector has later ones
     answered_since: Mapping[str, Collection[str]] = {}
     # the ballots of it that were entered; if some were by hand, of what was typed the answers that were
@@ -387,6 +388,13 @@ class LetterCase:
         is_shared = len(self.sharing) > 1 and any(one.is_typed for one in self.entered)
         having = {one.elector for one in lines} | done
         return [*found, *(name for name in self.sharing if is_shared and name not in having)]
+
+    def left_in(self, line: BallotLine) -> str:
+        """A line of it with the answers for which it waits on; empty if there are none."""
+        left = {
+            label for one in self.left for name, label in answers_in(one) if name == line.elector
+        }
+        return without(line.as_entered, answers_of(line.as_entered).keys() - left)
 
     @property
     def is_decided(self) -> bool:

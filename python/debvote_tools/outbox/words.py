@@ -209,9 +209,11 @@ class Composer:
         if isinstance(fate.became, LetterOutcome):
             is_done = fate.became in (LetterOutcome.SET_ASIDE, LetterOutcome.OLDER)
             of_kind = OF_RECORD if fate.letter and fate.letter.read.link else OF_LETTER
-            is_of_others = fate.letter is not None and fate.letter.standing
-            is_pending = fate.letter is not None and fate.letter.is_pending
-            said = OF_OTHERS[is_pending] if is_of_others else of_kind[fate.is_own, is_done]
+            said = of_kind[fate.is_own, is_done]
+            # what is told of a letter is told to those of whom nothing was entered
+            is_told_whose = fate.is_own or fate.became is LetterOutcome.ENTERED
+            if is_told_whose and fate.letter is not None and fate.letter.standing:
+                said = OF_OTHERS[fate.letter.is_pending]
         else:
             is_final = self.is_over and fate.became == COUNTS
             said = AT_THE_END if is_final else OF_BALLOT[fate.became]

@@ -11,7 +11,7 @@ from debvote_tools.inbox import entering, signature
 from debvote_tools.outbox import letter_folder
 
 from tests.support import elections, letters, pgp
-from tests.support.called import LAKE, LettersTest
+from tests.support.called import HALL, LAKE, LettersTest
 from tests.support.letters import OTHER_RANKS as OTHER, RANKS, TEN, mailbox
 from tests.support.terminal import Terminal
 
@@ -116,6 +116,16 @@ class Adding(LettersTest):
         self.assertIn("the vote is closed: to enter it, reopen", desk.after("y\n", "2 letters wait"))
         desk.end()
         self.assertEqual(self.exported(), (f"ada {OTHER}\n", ""))
+
+    def test_what_nobody_agreed_to_goes_in_next_time_unless_it_is_kept_out(self) -> None:
+        desk = Terminal(self, "add", str(self.box(letter("ada", f"ada {RANKS}"), letter("ben", f"ben {RANKS}"))))
+        desk.until("Enter 2 ballots?")
+        said = desk.after("n\n", "keeps one out.")
+        self.assertIn("2 letters wait.\nThe next add --yes, by cron too, enters these ballots: debvote-election held NUMBER --wait keeps one out.", said)
+        desk.end()
+        self.told("held", 2, "--wait")
+        self.add(letter("cleo", "hello"))
+        self.assertEqual(self.lines(), [f"ada {RANKS}"])
 
     def test_an_older_letter_after_lines(self) -> None:
         """A line that was refused is no later ballot, and one that was struck holds back no letter. A late ballot is a later one."""
@@ -858,6 +868,20 @@ class Secret(OwnMarks):
 class Family(LettersTest):
     """Ballots of two electors in one letter."""
 
+    def test_it_is_said_who_has_voted_since_and_for_whom_it_waits_on(self) -> None:
+        self.change_roll("ben@", "ada@")
+        later = "Mon, 23 Nov 2026 12:00:00 +0000"
+        self.add(letter("ada", f"ada {RANKS}\nben {OTHER}\ncleo {RANKS}"), letter("ada", f"ada {OTHER}", later, number=2))
+        why = "ballots of several electors: ada, ben, cleo"
+        self.assertIn(f"        {why}; ada has voted since\n", self.told("held"))
+        self.assertIn(f": {HALL}\n  {why}\n2 counted  ben: ", self.told("held", 1, "--enter", 2))
+        for words in (("held", 1), ("held",), ("show", "ada")):
+            self.assertIn("not entered yet: a ballot of ada and cleo", self.told(*words))
+        said = self.told("held", 1, "--enter", 1, "--force")
+        self.assertIn(f": {LAKE}\n  not entered yet: a ballot of ada and cleo; ada has voted since\n", said)
+        self.told("desk", given=f"cleo {OTHER}\nben {OTHER}\n")
+        self.assertIn("not entered yet: a ballot of cleo; cleo has voted since\n", self.told("held"))
+
     def assert_left(self, waiting: int, *lines: str) -> None:
         self.assertEqual((self.numbers()["waiting"], self.lines()), (waiting, list(lines)))
 
@@ -885,6 +909,22 @@ class Family(LettersTest):
         self.told("strike", 5, "--because", "ada asked for it")
         self.assert_left(0)
 
+    def test_what_is_left_is_named_and_entered(self) -> None:
+        """By its lines alone, also after an `undo`."""
+        self.add(letter("ada", f"ada {RANKS}\nben {OTHER}\ncleo {RANKS}"))
+        self.told("held", 1, "--enter", 2)
+        shown = self.told("held", 1)
+        self.assertIn(f"It waits: not entered yet: a ballot of ada and cleo\nline 1: ada {RANKS}\nline 3: cleo {RANKS}\n1 letter waits.", shown)
+        self.assert_refused(("held", 1, "--enter"), 9, "letter 1: it has 2 lines that can be entered")
+        self.told("held", 1, "--enter", "3,1")
+        self.assert_left(0, f"ben {OTHER}", f"cleo {RANKS}", f"ada {RANKS}")
+        self.assertIn("; debvote-election held 1 --enter 3,1 enters these letters again\n", self.told("undo", "--yes"))
+        self.told("held", 1, "--enter", "3")
+        self.told("held", 1, "--enter")
+        self.assertIn("; debvote-election held 1 --enter enters these letters again\n", self.told("undo", "--yes"))
+        self.told("held", 1, "--enter")
+        self.assert_left(0, f"ben {OTHER}", f"cleo {RANKS}", f"ada {RANKS}")
+
 
 class Couple(LettersTest):
     """Two electors who have one address, and say in words how they vote."""
@@ -911,18 +951,20 @@ class Couple(LettersTest):
 
     def test_one_after_the_other(self) -> None:
         """It waits, stops the close and is shown of the other, until each has a ballot of it, or it is set aside."""
-        waits = "\nletter 1 waits on, for a ballot of ben\n1 letter waits.\n"
+        waits = "\nletter 1 waits on; not entered yet: a ballot of ben\n1 letter waits.\n"
         self.assertIn(waits, self.told("held", 1, "--as", self.ada))
         self.assertIn("\n  letter 1, from Ada <ada@club.example>, ", self.told("show", "ben"))
         self.assert_left(1, self.ada)
         self.assert_refused(("close",), 9, "these letters arrived in time, and wait: 1;")
-        said = "letter 1: its ballot of ada was entered; nothing was changed: there is nothing to do"
-        self.assert_refused(("held", 1, "--as", f"ada {OTHER}", "--force"), 9, said)
+        said = "letter 1: its ballot of ada was entered; nothing was changed: "
+        other = f"{said}to enter another one in its place, run debvote-election strike 1 --because TEXT first\n"
+        self.assert_refused(("held", 1, "--as", f"ada {OTHER}", "--force"), 9, other)
+        self.assert_refused(("held", 1, "--as", self.ada), 9, f"{said}for what is left of it see debvote-election held 1\n")
         # with the ballot of the other there is something to do
-        said = said.replace("there is nothing to do", "leave it out\n")
-        self.assert_refused(("held", 1, "--as", self.ada, "--as", self.ben), 9, said)
+        self.assert_refused(("held", 1, "--as", self.ada, "--as", self.ben), 9, f"{said}leave it out\n")
         self.assertNotIn("waits on", self.told("held", 1, "--as", self.ben))
         self.assert_left(0, self.ada, self.ben)
+        self.assert_refused(("held", 1, "--as", self.ada), 9, f"{said}there is nothing to do\n")
         # what is taken back waits, and that of the other stays
         self.told("undo", "--yes")
         self.assert_left(1, self.ada)
@@ -937,8 +979,18 @@ class Couple(LettersTest):
         self.assertNotIn("waits on", self.told("held", 2, "--enter"))
         self.assertIn("held 2 --enter enters these letters again", self.told("undo", "--yes"))
         self.assertNotIn("--enter", self.told("undo", "--yes"))
-        self.assertIn("letter 2 waits on, for a ballot of ben\n", self.told("held", 2, "--enter"))
+        self.assertIn("letter 2 waits on; not entered yet: a ballot of ben\n", self.told("held", 2, "--enter"))
         self.assert_left(1, self.ada)
+
+    def test_what_was_typed_for_somebody_else_by_mistake(self) -> None:
+        """Once it is taken back the letter waits for nobody."""
+        self.told("held", 1, "--set-aside")
+        self.add(letter("dan", "I am for the lake", number=2))
+        self.told("held", 2, "--as", self.ada, "--force")
+        self.told("undo", "--yes")
+        self.assertNotIn("waits on", self.told("held", 2, "--as", f"dan {RANKS}"))
+        self.assert_left(0, f"dan {RANKS}")
+        self.told("close")
 
     def test_one_that_went_in_by_itself(self) -> None:
         """Where three have the address it waits again, for the third."""
@@ -951,13 +1003,13 @@ class Couple(LettersTest):
         self.told("undo", "--yes")
         self.write("members.csv", elections.members_of(self.names).replace("ben@", "ada@").replace("cleo@", "ada@"))
         self.told("roll", "--yes")
-        self.assertIn("letter 2 waits on, for a ballot of cleo\n", self.told("held", 2, "--as", self.ben))
+        self.assertIn("letter 2 waits on; not entered yet: a ballot of cleo\n", self.told("held", 2, "--as", self.ben))
         self.assert_left(1, self.ada, self.ben)
         # also of one that was set aside, which then waits again
         self.told("held", 2, "--set-aside")
         self.told("undo", "--yes")
         self.told("held", 2, "--set-aside")
-        self.assertIn("letter 2 waits on, for a ballot of cleo\n1 letter waits.\n", self.told("held", 2, "--as", self.ben))
+        self.assertIn("letter 2 waits on; not entered yet: a ballot of cleo\n1 letter waits.\n", self.told("held", 2, "--as", self.ben))
         # a line that is entered needs no ballots of others
         self.add(letter("ada", f"2 of us:\nada {OTHER}", "Mon, 23 Nov 2026 11:00:00 +0000", number=3))
         self.told("held", 3, "--enter", 2)
@@ -968,7 +1020,7 @@ class Couple(LettersTest):
         self.told("held", 1, "--set-aside")
         box = self.write("box", letters.mailbox(self.of_this_vote(letter("ada", self.ada, number=2))))
         self.assertIn("1 ballot would go in", self.election("add", box).faults)
-        self.assertIn("letter 2 waits on, for a ballot of ben\n", self.told("held", 2, "--as", self.ada))
+        self.assertIn("letter 2 waits on; not entered yet: a ballot of ben\n", self.told("held", 2, "--as", self.ada))
         self.assertIn("0 ballots of letters went in; 1 letter waits.", self.told("add", "--yes", box))
         self.told("strike", 1, "--because", "she rang up")
         self.assertIn("0 ballots of letters went in; 1 letter waits.", self.told("add", "--yes", box))
@@ -979,7 +1031,7 @@ class Couple(LettersTest):
         self.told("held", 1, "--set-aside")
         said = self.add(letter("ada", f"{self.ada}\nben 2 1 4 3", number=2))
         self.assertIn(f"ballots of several electors: ada, ben\n        line 1: {self.ada}\n        line 2: ben 2,1,4,3\n", said)
-        self.assertIn("letter 2 waits on, for a ballot of ben\n", self.told("held", 2, "--enter", 1))
+        self.assertIn("letter 2 waits on; not entered yet: a ballot of ben\n", self.told("held", 2, "--enter", 1))
         self.assertNotIn("waits on", self.told("held", 2, "--enter", 2))
         self.assert_left(0, self.ada, "ben 2,1,4,3")
 

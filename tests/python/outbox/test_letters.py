@@ -394,8 +394,14 @@ class ReceiptsAndReminders(OutTest):
         self.assertEqual(sorted(texts), ["ada", "ben", "ben_2", "cleo", "dan"])
         for name in ("ada", "cleo"):
             self.assertEqual((texts[name].count("has arrived"), "It counts unless you send a later one." in texts[name]), (1, True))
-        self.assertIn("No ballot from it is entered yet", texts["ben"])
+        of_others = "10:00 (UTC) has a ballot of somebody else, which was entered. No ballot of yours from it"
+        self.assertIn(f"{of_others} is entered yet: the secretary has to look at it first.", texts["ben"])
         self.assertIn(ELSEWHERE, texts["dan"])
+        # of one that was set aside, too
+        self.add(letter("ada", f"My vote, and his:\nada {OTHER_RANKS}\nben {RANKS}\n", number=2, time="Mon, 23 Nov 2026 11:00:00 +0000"))
+        self.done("held", 3, "--enter", 2)
+        self.done("held", 3, "--set-aside")
+        self.assertIn(f"{of_others} was entered.".replace("10:00", "11:00"), self.texts("receipts")["ben"])
         shown = {name: "letter 2, from " in self.told("show", name) for name in ("cleo", "dan", "eve")}
         self.assertEqual(shown, {"cleo": True, "dan": True, "eve": False})
 
