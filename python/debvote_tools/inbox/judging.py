@@ -171,7 +171,8 @@ def judge_all(
             case.outcome, case.reason = LetterOutcome.OTHER_VOTE, Reason.OTHER_MARK(
                 mark=case.other_vote
             )
-        case.voted_since = [one for one in case.electors if has_voted_since(case, one, last)]
+        since = ((one, has_voted_since(case, one, last)) for one in case.electors)
+        case.voted_since = {one: is_sure for one, is_sure in since if is_sure is not None}
     return cases
 
 
@@ -265,20 +266,21 @@ def ballot_in(case: LetterCase, ballot: str) -> Ballot:
 
 def has_voted_since(
     case: LetterCase, elector: str, last: Mapping[str, Mapping[str, Ballot]]
-) -> bool:
-    """Whether an elector of a letter has a later ballot, or may have, where its time is not known; if
-    answers of theirs stand in the letter, one that answers one of the same questions. Of a letter of which
+) -> bool | None:
+    """Whether it is sure that an elector of a letter has a later ballot; None if they have none. If answers
+    of theirs stand in the letter, it is one that answers one of the same questions. Of a letter of which
     some are left only these are asked about.
     """
     its = last.get(elector, {})
     ballots = case.left or [line.as_entered for line in (*case.ballots, *case.offered)]
     lines = [one for one in ballots if one.partition(" ")[0] == elector]
     if case.left and not lines:
-        return False
+        return None
     labels = {label for ballot in lines for label in answers_of(ballot)} or its.keys()
-    there = [its[label] for label in labels & its.keys()]
-    surely = (any(surely_later(case, line, [one])) for line in lines or [""] for one in there)
-    return bool(there) if case.time is None else any(surely)
+    pairs = [(line, [its[label]]) for line in lines or [""] for label in labels & its.keys()]
+    if any(any(surely_later(case, *pair)) for pair in pairs):
+        return True
+    return False if any(perhaps_later(case, *pair) for pair in pairs) else None
 
 
 def original_of(group: Sequence[LetterCase]) -> LetterCase | None:

@@ -149,8 +149,8 @@ class LetterCase:
 
     outcome = LetterOutcome.WAITS
     reason: ReasonWithValues | None = None
-    # its electors who have a later ballot, or may have
-    voted_since: Collection[str] = ()
+    # its electors who have a later ballot, or may have: whether it is sure
+    voted_since: Mapping[str, bool] = {}
     # of each ballot of it the labels of the answers to which its elector has later ones
     answered_since: Mapping[str, Collection[str]] = {}
     # the ballots of it that were entered; if some were by hand, of what was typed the answers that were
