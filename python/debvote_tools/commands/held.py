@@ -260,7 +260,7 @@ def would_be_late(history: History, letter: LetterCase) -> bool:
     """Whether what is entered of a letter now is late: the vote is closed; or it is open again, and
     the letter is known to have arrived after the first close.
     """
-    return history.is_late(not letter.arrived_after(letter.circumstances.first_close))
+    return history.is_late(not letter.arrived_after_close)
 
 
 # ---- which lines
@@ -338,8 +338,9 @@ def why_not_now(vote: Vote, history: History, chosen: Sequence[Chosen]) -> Itera
             cure = what_then(vote, letter, one.lines, again)
             # who reads that there is nothing to do takes it for one that counts
             if late := {str(ballot.number): None for ballot in again if ballot.is_late}:
-                reopen = vote.election.command("reopen", "--in-time", *late, "--because", "TEXT")
                 words = f"{words}, and is late"
+            if late and not letter.arrived_after_close:
+                reopen = vote.election.command("reopen", "--in-time", *late, "--because", "TEXT")
                 cure = f"if it came before the first close, have the vote closed, then run {reopen}"
             yield Fault(name, words, cure)
         elif letter.outcome is LetterOutcome.COPY:

@@ -424,6 +424,11 @@ class LetterCase:
         return any(first > end for first in self.arrivals[:1] for end in ends if end is not None)
 
     @property
+    def arrived_after_close(self) -> bool:
+        """Whether it is known to have arrived after the first close."""
+        return self.arrived_after(self.circumstances.first_close)
+
+    @property
     def arrived_after_end(self) -> bool:
         """Whether it is known to have arrived after the end or the first close."""
         return self.arrived_after(*self.circumstances.ends)
