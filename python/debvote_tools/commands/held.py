@@ -1,8 +1,9 @@
 """The command `held`."""
 
+import bisect
 import collections
 import itertools
-from collections.abc import Iterator, Sequence
+from collections.abc import Iterator, Mapping, Sequence
 from typing import NamedTuple
 
 from debvote_tools.cli.arguments import Acting, flag, given, option, positional
@@ -18,9 +19,14 @@ from debvote_tools.inbox import letter_words
 from debvote_tools.inbox.letter_words import name_of, who_and_when, why
 from debvote_tools.inbox.judging import (
     BallotsByElector,
+    InTime,
     answered_by,
+    answered_since,
+    ballot_in,
     ballots_in,
+    in_time_by_label,
     judged,
+    perhaps_later,
     surely_later,
 )
 from debvote_tools.inbox.reasons import Reason, for_secretary
@@ -32,9 +38,6 @@ from debvote_tools.inbox.vote import Vote, said_of
 from debvote_tools.inbox.stopping import other_votes_words
 from debvote_tools.text.ballots import answers_of, differ, without
 from debvote_tools.text.language import ENGLISH
-
-# the later ballots because of which answers are left out: a late one counts for nothing
-IN_TIME = f"{queries.VALID_OR_LATE} AND {queries.TO_COUNT}"
 
 # what --enter has without lines
 THE_ONE = "one"
@@ -81,7 +84,7 @@ def held(election: Election, arguments: Arguments) -> None:
     shown = [] if is_act else chosen_letters(found, arguments.numbers)
     for letter in chosen_letters(found, arguments.numbers) if is_act else ():
         if letter.reason and letter.reason.reason is Reason.NOT_ENTERED:
-            tell(f"{name_of(letter)} waits on; {why(letter)}")
+            tell(f"{name_of(letter)} waits on; {for_secretary(letter.reason)}")
     for letter in shown:
         tell(*letter_words.whole(letter))
     if not (is_act or shown):
@@ -166,15 +169,12 @@ class Chosen(NamedTuple):
         entered, answers = self.entered, (one for line in self.lines for one in line.answers)
         return [*dict.fromkeys(entered[one] for one in answers if one in entered)]
 
-    def left_of(
-        self, line: BallotLine, by_elector: BallotsByElector
-    ) -> tuple[str, set[str], set[str]]:
+    def left_of(self, line: BallotLine, in_time: InTime) -> tuple[str, set[str], set[str]]:
         """A ballot without the answers that were entered, and without those to which its elector has later
         ones; and the labels of both.
         """
-        there = surely_later(self.letter, line.as_entered, by_elector[line.elector])
         done = {label for _, label in line.answers & self.entered.keys()}
-        later = answered_by(line.as_entered, there) - done
+        later = answered_since(self.letter, line.as_entered, in_time) - done
         return without(line.as_entered, later | done), done, later
 
 
@@ -187,20 +187,21 @@ def what_is_entered(vote: Vote, arguments: Arguments, typed: Sequence[BallotLine
         with kept_in(faults):
             is_one = len(wanted) == 1
             lines = typed or named_lines(letter, arguments.enter or [], is_one=is_one)
+            demand_one_answer(letter, lines)
             chosen.append(Chosen(letter, lines))
     electors = {line.elector for one in chosen for line in one.lines}
-    chosen, said = without_answered(chosen, ballots_in(vote, electors, IN_TIME))
+    there = ballots_in(vote, electors)
+    chosen, said = without_answered(chosen, in_time_by_label(there))
     faults += why_not_now(vote, history, chosen)
     if not arguments.force:
         # of what was entered nothing more is said: no --force enters it again
         not_entered = [one for one in chosen if not one.again]
-        faults += why_not_unforced(not_entered, ballots_in(vote, electors))
+        faults += why_not_unforced(not_entered, there)
         faults += why_typed_again(vote, not_entered)
     stop_at(faults)
     if len({would_be_late(history, one.letter) for one in chosen}) > 1:
         words = "some of these letters arrived before the first close, and some after it"
         raise Fault("--enter", words, "enter those that arrived before it apart")
-    demand_one_order(chosen)
     return entry_of(vote, history, chosen, said, is_agreed=arguments.yes)
 
 
@@ -233,15 +234,13 @@ def entry_of(
     )
 
 
-def without_answered(
-    chosen: Sequence[Chosen], by_elector: BallotsByElector
-) -> tuple[list[Chosen], list[str]]:
+def without_answered(chosen: Sequence[Chosen], in_time: InTime) -> tuple[list[Chosen], list[str]]:
     """The ballots without the answers that are left out, unless none is left; and what is said of these."""
     found, said = list[Chosen](), list[str]()
     for one in chosen:
         kept, left_out = list[BallotLine](), list[str]()
         for line in one.lines:
-            left, done, later = one.left_of(line, by_elector)
+            left, done, later = one.left_of(line, in_time)
             kept.append(BallotLine(line.numbers, left or line.as_entered))
             whys = {f"{line.elector} has a later answer": later, "it was entered": done}
             said += (
@@ -293,24 +292,46 @@ def named_lines(letter: LetterCase, enter: Sequence[str], *, is_one: bool) -> li
     named, or its only one.
     """
     name = name_of(letter)
-    there = {str(line.number): line for line in (*letter.offered, *letter.ballots)}
-    if [*enter] == [THE_ONE]:
-        there = {number: line for number, line in there.items() if letter.left_in(line)} or there
-        if len({line.as_entered for line in there.values()}) != 1:
-            words = f"it has {count_of(len(there), 'line')} that can be entered"
-            cure = "name its lines with --enter LINE, or type the ballot with --as LINE"
-            raise Fault(name, words, cure)
-        [line, *_] = there.values()
-        if not is_one and letter.offered.get(line) is Reason.WORD_ALONE:
-            raise Fault(name, "it has a word without a name", "enter it by a command of its own")
-        return [line]
+    lines = [*dict.fromkeys((*letter.offered, *letter.ballots))]
     texts = [text.strip() for text in ",".join(enter).split(",")]
+    if is_the_one := texts == [THE_ONE]:
+        lines = [line for line in lines if letter.left_in(line)] or lines
+    there = grouped((str(line.number), line) for line in lines)
+    if is_the_one:
+        demand_one_line(letter, there, is_one=is_one)
+        texts = [*there][:1]
     if wrong := [text for text in texts if text not in there]:
         can = f"these lines are: {', '.join(sorted(there, key=int))}" if there else ""
         words = f"line {shown_text(wrong[0])} of {name} is not a ballot of this poll"
         cure = "if you know which ballot is meant, type it with --as LINE"
         raise Fault("--enter", words, can or cure)
-    return [there[text] for text in texts]
+    if unclear := [text for text in texts if len(there[text]) > 1]:
+        electors = ENGLISH.joined([line.elector for line in there[unclear[0]]])
+        words = f"line {unclear[0]} has the name of {electors}"
+        raise Fault(name, words, "if you know whose it is, type it with --as LINE")
+    return [line for text in texts for line in there[text]]
+
+
+def demand_one_line(
+    letter: LetterCase, there: Mapping[str, Sequence[BallotLine]], *, is_one: bool
+) -> None:
+    """Stops if a letter has several lines that differ, or none, that can be entered."""
+    name = name_of(letter)
+    if len(there) != 1 and len({line.as_entered for its in there.values() for line in its}) != 1:
+        words = f"it has {count_of(len(there), 'line')} that can be entered"
+        cure = "name its lines with --enter LINE, or type the ballot with --as LINE"
+        raise Fault(name, words, cure)
+    if not is_one and Reason.WORD_ALONE in letter.offered.values():
+        raise Fault(name, "it has a word without a name", "enter it by a command of its own")
+
+
+def demand_one_answer(letter: LetterCase, lines: Sequence[BallotLine]) -> None:
+    """Stops if several of these lines answer one question for one elector."""
+    answers = itertools.chain.from_iterable(line.answers for line in lines)
+    [((elector, _), count)] = collections.Counter(answers).most_common(1)
+    if count > 1:
+        words = f"{count} of these lines are ballots of {elector}"
+        raise Fault(name_of(letter), words, "name the one that counts")
 
 
 # ---- what stands against it
@@ -318,8 +339,6 @@ def why_not_now(vote: Vote, history: History, chosen: Sequence[Chosen]) -> Itera
     """What can't be forced."""
     for one in chosen:
         letter, name = one.letter, name_of(one.letter)
-        answers = itertools.chain.from_iterable(line.answers for line in one.lines)
-        [((twice, _), count)] = collections.Counter(answers).most_common(1)
         if again := one.again:
             electors = dict.fromkeys(ballot.elector for ballot in again)
             words = f"its ballot of {ENGLISH.joined([*electors])} was entered"
@@ -337,9 +356,6 @@ def why_not_now(vote: Vote, history: History, chosen: Sequence[Chosen]) -> Itera
             reopen = vote.election.command("reopen", "--because", "TEXT")
             words = "it arrived in time, and the vote is closed"
             yield Fault(name, words, f"if it has a ballot, run {reopen} first")
-        elif count > 1:
-            words = f"{count} of these lines are ballots of {twice}"
-            yield Fault(name, words, "name the one that counts")
 
 
 def what_then(
@@ -359,11 +375,11 @@ def what_then(
 
 def why_not_unforced(chosen: Sequence[Chosen], by_elector: BallotsByElector) -> Iterator[Fault]:
     """The letter has the mark of another vote or call; nothing ties the elector of a typed ballot to it; or the
-    elector has a later ballot, or another one of its time.
+    elector has or may have a later ballot, or another one of its time, also by a letter that is entered before it.
     """
     cure = "if this ballot must count, repeat it with --force"
     for letter, lines, *_ in chosen:
-        name, time = name_of(letter), letter.time
+        name = name_of(letter)
         if why_other := why_other_mark(letter):
             words, _, advice = for_secretary(why_other).partition("; ")
             yield Fault(name, words, f"{advice}; {cure}")
@@ -375,13 +391,15 @@ def why_not_unforced(chosen: Sequence[Chosen], by_elector: BallotsByElector) -> 
                 yield Fault("--as", words, f"check the name; {cure}")
             if answered_by(line.as_entered, surely_later(letter, line.as_entered, there)):
                 yield Fault(name, "its elector has voted since", cure)
-            elif answered_by(line.as_entered, queries.later(there, time)):
+            elif answered_by(line.as_entered, perhaps_later(letter, line.as_entered, there)):
                 off = "as the clock of the web host was off"
-                why_unsure = "as nobody knows when it arrived" if time is None else off
+                why_unsure = "as nobody knows when it arrived" if letter.time is None else off
                 yield Fault(name, f"its elector may have voted since, {why_unsure}", cure)
-            elif any(one.time == time and differ(one.line, line.as_entered) for one in there):
-                words = "another ballot of its elector with the same time was entered"
-                yield Fault(name, words, cure)
+            elif any(
+                one.time == letter.time and differ(one.line, line.as_entered) for one in there
+            ):
+                yield Fault(name, "another ballot of its elector has the same time", cure)
+            bisect.insort(there, ballot_in(letter, line.as_entered), key=queries.by_time)
 
 
 def why_typed_again(vote: Vote, chosen: Sequence[Chosen]) -> Iterator[Fault]:
@@ -395,17 +413,3 @@ def why_typed_again(vote: Vote, chosen: Sequence[Chosen]) -> Iterator[Fault]:
             again = vote.election.command("held", str(letter.number), "--as")
             cure = f"type it again with {again} LINE; if this line is meant, repeat it with --force"
             yield Fault(name_of(letter), words, cure)
-
-
-def demand_one_order(chosen: Sequence[Chosen]) -> None:
-    """Stops at two ballots of an elector of one time: nobody knows which is the later one."""
-    lines = [(one.letter, line) for one in chosen for line in one.lines]
-    at_once = grouped(((line.elector, letter.time), (letter, line)) for letter, line in lines)
-    pairs = itertools.chain.from_iterable(
-        itertools.combinations(one, 2) for one in at_once.values()
-    )
-    for (letter, line), (other, other_line) in pairs:
-        if differ(line.as_entered, other_line.as_entered):
-            name = f"letters {letter.number} and {other.number}"
-            words = f"they have different ballots of {line.elector}, and the same time"
-            raise Fault(name, words, "enter the one that counts")

@@ -7,7 +7,7 @@ import collections
 import datetime
 import itertools
 import operator
-from collections.abc import Callable, Collection, Iterable, Mapping, Sequence
+from collections.abc import Callable, Collection, Iterable, Iterator, Mapping, Sequence
 
 from debvote_tools.book import queries
 from debvote_tools.book.election import BOX_KEY, KEYRING, History
@@ -37,6 +37,8 @@ DECIDED = {
 Judgement = tuple[LetterOutcome, ReasonWithValues | None]
 # the ballots of each elector, in the order `queries.by_time`
 BallotsByElector = collections.defaultdict[str, list[Ballot]]
+# those of them that are in time, by elector and label
+InTime = Mapping[str, Mapping[str, Sequence[Ballot]]]
 TIME, IS_BY_LETTER = operator.attrgetter("time"), operator.attrgetter("is_by_letter")
 
 
@@ -89,17 +91,13 @@ def check_again(
         found[index] = read
 
 
-def ballots_in(
-    vote: Vote, names: Collection[str], condition: str = queries.VALID_OR_LATE
-) -> BallotsByElector:
-    """The ballots of some electors that were entered and are not struck, also late ones, unless a
-    condition says otherwise.
-    """
+def ballots_in(vote: Vote, names: Collection[str]) -> BallotsByElector:
+    """The ballots of some electors that were entered and are not struck, also late ones."""
     numbers = queries.elector_numbers(vote.book, names)
     by_number = {number: name for name, number in numbers.items()}
     by_elector = BallotsByElector(list)
     clocks = queries.letter_clocks(vote.book)
-    there = queries.envelopes_of(vote.book, by_number, condition)
+    there = queries.envelopes_of(vote.book, by_number, queries.VALID_OR_LATE)
     for envelope in sorted(there, key=queries.by_time):
         # None of what came by no letter, or at a time that is not known
         behind, line = clocks.get(envelope.letter or 0), envelope.line.decode("ascii")
@@ -154,8 +152,11 @@ def judge_all(
     cases = sorted(cases, key=lambda case: (case.time is None, case.time or case.circumstances.now))
     names = {elector for case in cases for elector in case.electors}
     by_elector = ballots_of(names | {one.elector for case in cases for one in case.entered})
+    in_time = in_time_by_label(by_elector)
     for case in cases:
-        case.left = what_is_left(case, by_elector)
+        case.left = what_is_left(case, in_time)
+        lines = (line.as_entered for line in (*case.ballots, *case.offered))
+        case.answered_since = {line: answered_since(case, line, in_time) for line in lines}
         case.outcome, case.reason = (
             decided(case) if case.is_decided else (LetterOutcome.WAITS, case.first_broken_rule)
         )
@@ -194,7 +195,7 @@ def decided(case: LetterCase) -> Judgement:
     return LetterOutcome.WAITS, Reason.NOT_ENTERED(rest=ENGLISH.joined(rest))
 
 
-def what_is_left(case: LetterCase, by_elector: BallotsByElector) -> list[str]:
+def what_is_left(case: LetterCase, in_time: InTime) -> list[str]:
     """The answers of a letter that are left when ballots of it were entered by hand, as ballots: of an elector of
     whom some were, those to which they have no later one; a late one counts for nothing, so it is none.
     """
@@ -203,8 +204,7 @@ def what_is_left(case: LetterCase, by_elector: BallotsByElector) -> list[str]:
     having, found = {one.elector for one in case.standing}, list[str]()
     for ballot in case.not_entered:
         elector, _, _ = ballot.partition(" ")
-        in_time = [one for one in by_elector[elector] if elector in having and not one.is_late]
-        later = answered_by(ballot, surely_later(case, ballot, in_time))
+        later = answered_since(case, ballot, in_time) if elector in having else ()
         found.append(without(ballot, later) if later else ballot)
     return [*filter(None, found)]
 
@@ -214,14 +214,49 @@ def last_answers(ballots: Iterable[Ballot]) -> dict[str, Ballot]:
     return {label: one for one in ballots for label in one.labels}
 
 
-def surely_later(case: LetterCase, ballot: str, its_ballots: Sequence[Ballot]) -> Sequence[Ballot]:
-    """Those ballots of an elector that are later than one in a letter, by whichever clock: none where
-    its time is not known.
+def in_time_by_label(by_elector: Mapping[str, Sequence[Ballot]]) -> InTime:
+    return {
+        elector: grouped((label, one) for one in its if not one.is_late for label in one.labels)
+        for elector, its in by_elector.items()
+    }
+
+
+def answered_since(case: LetterCase, ballot: str, in_time: InTime) -> set[str]:
+    """The labels of the answers in a ballot of a letter to which its elector has later ones. They are left
+    out when it is entered, so none is for a late one, which counts for nothing.
+    """
+    elector, _, _ = ballot.partition(" ")
+    there = in_time.get(elector, {})
+    return {
+        label
+        for label in answers_of(ballot)
+        if any(surely_later(case, ballot, there.get(label, ())))
+    }
+
+
+def surely_later(case: LetterCase, ballot: str, its_ballots: Sequence[Ballot]) -> Iterator[Ballot]:
+    """Those ballots of an elector that are later than one in a letter, by whichever clock, the last first:
+    none where its time is not known.
+    """
+    if case.time is not None:
+        own = ballot_in(case, ballot)
+        later = reversed(queries.later(its_ballots, case.time))
+        yield from (one for one in later if not own.may_turn(one))
+
+
+def perhaps_later(case: LetterCase, ballot: str, its_ballots: Sequence[Ballot]) -> Sequence[Ballot]:
+    """Those that may be later or earlier than it, as nobody knows: all where its time is not known, else
+    those which a clock that was off could take across it.
     """
     if case.time is None:
-        return []
-    own = Ballot(case.time, ballot, behind=case.read.behind)
-    return [one for one in queries.later(its_ballots, case.time) if not own.may_turn(one)]
+        return its_ballots
+    return [*filter(ballot_in(case, ballot).may_turn, its_ballots)]
+
+
+def ballot_in(case: LetterCase, ballot: str) -> Ballot:
+    """A ballot of a letter beside others. Where its time is not known it has the one of now, as when it is entered."""
+    time = case.time or case.circumstances.now
+    return Ballot(time, ballot, case.time is not None, case.read.behind)
 
 
 def has_voted_since(
@@ -238,7 +273,7 @@ def has_voted_since(
         return False
     labels = {label for ballot in lines for label in answers_of(ballot)} or its.keys()
     there = [its[label] for label in labels & its.keys()]
-    surely = (surely_later(case, line, [one]) for line in lines or [""] for one in there)
+    surely = (any(surely_later(case, line, [one])) for line in lines or [""] for one in there)
     return bool(there) if case.time is None else any(surely)
 
 
@@ -287,7 +322,9 @@ def judge_originals(
     """Judges the letters that break no rule, by their times, and puts the ballots of those that do
     not wait to the others of their electors.
     """
-    own = {case: ballot_of(case) for case in cases if case in originals}
+    own = {
+        case: ballot_in(case, case.sole_ballot.as_entered) for case in cases if case in originals
+    }
     of_letters = grouped((case.elector, one) for case, one in own.items())
     beside = {elector: Beside(by_elector[elector], its) for elector, its in of_letters.items()}
     # copies of these are not known as such, while gpgv does not answer
@@ -301,12 +338,6 @@ def judge_originals(
             bisect.insort(its.by_clock.setdefault(ballot.behind, []), ballot, key=TIME)
 
 
-def ballot_of(case: LetterCase) -> Ballot:
-    """That of a letter that breaks no rule."""
-    assert case.time is not None
-    return Ballot(case.time, case.sole_ballot.as_entered, True, case.read.behind)
-
-
 def outcome_of_original(
     case: LetterCase, own: Ballot, its: Beside, unchecked_ballots: Collection[str]
 ) -> Judgement:
@@ -317,7 +348,6 @@ def outcome_of_original(
     if turned := its.turned(own):
         return LetterOutcome.WAITS, Reason.CLOCKS(elector=elector, time=turned.time)
     if later := later_answers(own, its.last):
-        case.answered_since = later
         # this one can count in no case; the time of a line is only when somebody entered it
         is_older = later_answers(own, its.last_by_letter).keys() == own.labels
         reason = Reason.LATER_BALLOT(elector=elector, time=max(later.values()))

@@ -143,7 +143,7 @@ def why(letter: LetterCase, elector: str = "") -> str:
 
 def near_words(letter: LetterCase) -> Iterator[str]:
     for line in (*letter.ballots, *letter.offered):
-        left = without(line.as_entered, letter.answered_since) or line.as_entered
+        left = without(line.as_entered, letter.answered_since[line.as_entered]) or line.as_entered
         if shown := letter.left_in(line) if letter.left else left:
             yield f"line {line.number}: {shown}"
     for ballot in letter.left:

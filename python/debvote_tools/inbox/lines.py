@@ -154,6 +154,16 @@ class Names:
         folds = (fold for name in names for fold in self.folds(name))
         return {word for fold in folds for word in re.split("[.-]", fold)}
 
+    def on_roll(self, name: str) -> str:
+        """The name on the roll that this is, as people write it; nothing if it is none, or is not written so
+        there and is the real name of somebody else, too.
+        """
+        if name in self.roll:
+            return name
+        small = name.lower()
+        is_of_one = small in self.roll and small not in self.real_names_of_others
+        return small if is_of_one else ""
+
     def meant_by(self, name: str) -> list[str]:
         """The electors whose name on the roll or real name this is, as people write it."""
         small = name.lower()

@@ -153,8 +153,8 @@ class LetterCase:
     reason: ReasonWithValues | None = None
     # its electors who have a later ballot, or may have
     voted_since: Collection[str] = ()
-    # the labels of the questions to which its elector has a later answer
-    answered_since: Collection[str] = ()
+    # of each ballot of it the labels of the answers to which its elector has later ones
+    answered_since: Mapping[str, Collection[str]] = {}
     # the ballots of it that were entered; if some were by hand, of what was typed the answers that were
     # left out, else None; and the answers for which it waits on: both as ballots
     entered: Sequence[EnteredBallot] = ()
@@ -189,11 +189,10 @@ class LetterCase:
         valid = [line.as_ballot for line in self.named if line.answer is None]
         # beside these those with the real name of somebody else, as in the letter of a family; if
         # several have it, it is nobody's
-        unknown = [line for line in ballots if self.named and line.real and not line.elector]
-        self.unclear = [line for line in unknown if line.answer is None and len(line.meant) > 1]
-        others = [
-            line.as_ballot for line in unknown if line.answer is None and len(line.meant) == 1
-        ]
+        real = [line for line in ballots if self.named and line.real and not line.elector]
+        unknown = [line for line in real if line.answer is None]
+        self.unclear = [line for line in unknown if len(line.meant) > 1]
+        others = [line.ballot_of(*line.meant) for line in unknown if len(line.meant) == 1]
         # the ballot that may go in, and the indices of its lines
         end = above_end(letter.body.lines)
         self.ballot = next((line for line in valid if max(line.numbers) <= end), None)
@@ -249,13 +248,13 @@ class LetterCase:
 
     def elector_of(self, line: ReadLine) -> str | None:
         """Whose ballot a line is. If only one elector has the sender's address, they may have written
-        their own name with accents, or their real name. Ranks without a name are of the one whose own
-        mark is in the subject, or of the only one with the address; if these differ, of nobody.
+        their own name with accents, or their real name, though it is a name of somebody else, too. Ranks
+        without a name are of the one whose own mark is in the subject, or of the only one with the
+        address; if these differ, of nobody.
         """
         sender, marked = self.sending_elector, self.marked_elector
-        if line.elector or line.on_roll or line.real:
-            is_own = sender in line.meant and {sender}.issuperset(line.on_roll)
-            return line.elector or (sender if is_own else None)
+        if line.elector or line.meant:
+            return line.elector or (sender if sender in line.meant else None)
         if marked is None:
             return sender
         return marked if marked in (self.sharing or [marked]) else None
@@ -266,19 +265,32 @@ class LetterCase:
         if line.answer is not None:
             return None
         if not line.elector:
-            return Reason.REAL_NAME if len(line.meant) == 1 else None
+            return None if line in self.unclear else Reason.REAL_NAME
         is_money = why is not Reason.NO_NAME and line.as_ballot.high_rank
         # a line of our letter that is filled in is offered for whoever may have sent it
         senders = (*self.sharing, self.marked_elector)
         is_others = why is Reason.FILLED_IN and line.elector not in senders
         return None if is_money or is_others else why
 
+    def may_be_of(self, line: ReadLine) -> list[str]:
+        """Whose ballot a line is or may be: if several have the name, of those who have the sender's
+        address, if there are some.
+        """
+        return (
+            [line.elector] if line.elector else sorted(line.meant & {*self.sharing} or line.meant)
+        )
+
     @functools.cached_property
     def likely(self) -> Mapping[BallotLine, Reason]:
         """The lines that are no ballots by themselves, with the reasons why, of electors who have no
         ballot in it.
         """
-        found = {line.as_ballot: why for line in self.sent if (why := self.why_offered(line))}
+        found = {
+            line.ballot_of(name): why
+            for line in self.sent
+            if (why := self.why_offered(line))
+            for name in self.may_be_of(line)
+        }
         named = (line.as_ballot for line in self.named)
         having = {line.elector for line in (*named, *self.ballots)}
         return {line: why for line, why in found.items() if line.elector not in having}
@@ -287,7 +299,8 @@ class LetterCase:
     def offered(self) -> Mapping[BallotLine, Reason]:
         """Those of them that can be entered by their numbers. Of several answers all can, or none."""
         found, has_labels = self.likely, any(line.has_labels for line in self.sent)
-        is_all = len(found) == 1 and self.other_answers.issubset(*(one.numbers for one in found))
+        places = {line.numbers for line in found}
+        is_all = len(places) == 1 and self.other_answers.issubset(*places)
         return found if is_all or not has_labels else {}
 
     @functools.cached_property
@@ -362,12 +375,19 @@ class LetterCase:
         What was typed takes the place of the lines of its elector; and once something was, each of those
         who share the sender's address has a ballot in it.
         """
+        done, every = {one.elector for one in self.standing}, (*self.ballots, *self.likely)
+        # a line that may be of several is of the one whose ballot was entered
+        known = {one.numbers: one.elector for one in every if one.elector in done}
         typed = {one.elector for one in self.standing if one.is_typed}
-        lines = [one for one in (*self.ballots, *self.likely) if one.elector not in typed]
+        lines = [
+            one
+            for one in every
+            if one.elector not in typed and known.get(one.numbers, one.elector) == one.elector
+        ]
         ballots = (*(one.as_entered for one in lines), *(self.left_out or ()))
         found = dict.fromkeys(filter(None, map(self.without_entered, ballots)))
         is_shared = len(self.sharing) > 1 and any(one.is_typed for one in self.entered)
-        having = {one.elector for one in lines} | {one.elector for one in self.standing}
+        having = {one.elector for one in lines} | done
         return [*found, *(name for name in self.sharing if is_shared and name not in having)]
 
     def left_in(self, line: BallotLine) -> str:

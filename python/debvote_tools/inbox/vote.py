@@ -139,8 +139,7 @@ class Vote:
         text = names.with_ranks(given.decode("utf-8", "surrogateescape"))
         name, _, answers = text.partition(" ")
         is_right = name in names.roll and (self.has_form(given) if labels else " " not in answers)
-        if is_right and not line.named.startswith(name.encode()):
-            is_right = name not in names.real_names_of_others
+        is_right = is_right and name == names.on_roll(line.named[: len(name)].decode())
         if is_right and not names.words:
             return line.repaired, []
         is_read = not (is_right or self.has_codes or self.why_too_long(line))

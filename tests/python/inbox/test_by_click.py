@@ -296,6 +296,8 @@ class Clicks(boxes.BoxElectionTest):
             "the clock of the web host was off, so it may be earlier or later than another ballot of ada",
             ended.output,
         )
+        why = "its elector may have voted since, as the clock of the web host was off"
+        self.assert_fault(self.election("held", "3", "--enter", "--yes"), 9, why)
         self.assertEqual(self.standing(), {"ada": "1,2,3,4"})
 
     def test_a_clock_that_was_off_when_it_was_asked_before(self) -> None:

@@ -454,9 +454,10 @@ class Held(LettersTest):
 
     def test_two_of_one_time_that_differ_and_one_of_before_the_call(self) -> None:
         self.add(letter("cleo", RANKS), letter("cleo", OTHER, number=2))
-        self.assert_fault(self.election("held", 3, 4, "--enter"), 9, "letters 3 and 4: they have different ballots of cleo, and the same time")
+        same = "another ballot of its elector has the same time; nothing was changed: if this ballot must count, repeat it with --force"
+        self.assert_refused(("held", 3, 4, "--enter"), 9, f"letter 4: {same}")
         self.told("held", 4, "--enter")
-        same = "letter 3: another ballot of its elector with the same time was entered"
+        same = f"letter 3: {same}"
         self.assert_fault(self.election("held", 3, "--enter"), 9, same, "--force")
         self.assert_fault(self.election("held", 3, "--as", "cleo 1,1,1,1"), 9, same)
         self.assertEqual(self.exported()[0], f"cleo {OTHER}\n")
@@ -467,6 +468,18 @@ class Held(LettersTest):
         self.assert_refused(("close",), 9, "these letters arrived in time, and wait: 5;")
         self.told("held", 5, "--set-aside")
         self.assertIn("1 letter that arrived before the call did not go in.", self.told("close"))
+
+    def test_at_no_known_time_beside_another(self) -> None:
+        """Each is put to those of its elector before the next is looked at."""
+        unknown = [letter("fay", f"fay {ranks}", number=number).split(b"\n", 1)[1] for number, ranks in enumerate((RANKS, OTHER))]
+        self.add(letter("fay", f"3 of us:\nfay {RANKS}", number=3), *unknown)
+        said = "its elector may have voted since, as nobody knows when it arrived; nothing was changed: if this ballot must count, repeat it with --force"
+        self.assert_refused(("held", 3, 5, "--enter"), 9, f"letter 5: {said}")
+        self.assert_refused(("held", 5, 4, "--enter"), 9, f"letter 5: {said}")
+        self.told("held", 3, "--enter")
+        self.assert_refused(("held", 4, "--enter"), 9, f"letter 4: {said}")
+        self.told("held", 5, 4, "--enter", "--force")
+        self.assertEqual(self.lines(), [f"fay {RANKS}", f"fay {RANKS}", f"fay {OTHER}"])
 
     def test_what_the_secretary_types(self) -> None:
         """The ballot has the time of the letter, and is tied to it, so nobody is told that the letter waits."""
@@ -1013,6 +1026,16 @@ class RealNames(LettersTest):
         self.assertIn("\n1 counted  ada: ", self.told("held", 1, "--as", f"Ada Lovelace {RANKS}"))
         said = f"--as: `Ben Blum {RANKS}` is no ballot of this poll: it has the name of ben and cleo; nothing was changed: "
         self.assert_refused(("held", 2, "--as", f"Ben Blum {RANKS}", "--force"), 9, said)
+
+    def test_a_line_with_the_name_of_two(self) -> None:
+        self.add(letter("dan", f"Ben Blum {RANKS}\n"))
+        self.assertIn(f"\nline 1: ben {RANKS}\nline 1: cleo {RANKS}\n", self.told("held", 1))
+        for lines in ((), (1,)):
+            said = "letter 1: line 1 has the name of ben and cleo; nothing was changed: if you know whose it is, type it with --as LINE"
+            self.assert_refused(("held", 1, "--enter", *lines, "--force"), 9, said)
+        self.assertIn("\nWrote 3 letters: ", self.told("letters", "receipts"))
+        self.told("held", 1, "--as", f"cleo {RANKS}")
+        self.assertEqual((self.lines(), self.told("held").splitlines()[0]), ([f"cleo {RANKS}"], "No letter waits."))
 
 
 class OtherVote(LettersTest):

@@ -117,6 +117,7 @@ class Held(QuestionsTest):
         self.done("desk", given="ada B 3,2,1\n")
         self.add(letter("ada", "ada A 1,2 B 1,2,3\n", number=1, time=at(9)))
         self.done("reopen", "--because", "x")
+        self.assertIn("\nline 1: ada A 1,2 B 1,2,3\n", self.told("held", "1"))
         self.assert_refused(["held", "1", "--enter", "--yes"], 9, "letter 1: its elector has voted since")
         self.done("held", "1", "--enter", "--force", "--yes")
         self.assertIn("The current ballot: ada A 1,2 B 1,2,3: ", self.told("show", "ada"))
@@ -135,9 +136,10 @@ class Held(QuestionsTest):
         self.assertEqual(self.lines(), ["ada A 2,1", "ada B 1,2,3"])
 
     def test_no_force_is_offered_for_what_was_entered(self) -> None:
-        """Half of a letter was left out, since a later answer is there: the other half is entered, and that is all."""
+        """Half of a letter was left out, since a later answer is there: the other half is shown and entered, and that is all."""
         self.add_lines("ada B 1,2,3")
-        self.add(letter("ada", "ada A 2,1 B 2,1,3\n", number=1, time=at(9)))
+        self.add(letter("ada", "3 of us\nada A 2,1 B 2,1,3\n", number=1, time=at(9)))
+        self.assertIn("\nline 2: ada A 2,1\n", self.told("held", "1"))
         self.done("held", "1", "--enter", "--yes")
         for words in (["--enter"], ["--as", "ada A 2,1 B 1,2,3"]):
             ended = self.election("held", "1", *words, "--yes")

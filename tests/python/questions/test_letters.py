@@ -24,7 +24,7 @@ IN_WORDS = ("{A} {r}", "{A}: {R}", "{a}) {r}!", "{A} {r}.", "{r}", "I say {r}", 
 
 # how many options each question has, with the default option
 OPTIONS = {"A": 2, "B": 4, "C": 3}
-REAL = {name: name.capitalize() for name in NAMES} | {"ada": "Ada Lovelace", "ben": "Ben", "cleo": "Ben B", "fay": "Fay Fox", "gus": "Fay Fox B"}
+REAL = {name: name.capitalize() for name in NAMES} | {"ada": "Ada Lovelace", "ben": "Ben", "cleo": "Ben B", "dan": "Eve", "fay": "Fay Fox", "gus": "Fay Fox B"}
 # the letter of the call, as far as it matters
 OURS = {"Your ballot, with a rank in the place of each _; 1 is the best:", "Rules: 1, 2 and 3 are ranks", "A _,_", "B _,_,_,_", "C _,_,_", ""}
 RANK = re.compile("-|[1-9][0-9]?")
@@ -133,6 +133,15 @@ class Written(unittest.TestCase):
         ):  # fmt: skip
             with self.subTest(text=text, name=name):
                 self.assertEqual([outcome(one) for one in judged(letter(name, text))], [wanted])
+
+    def test_a_real_name_that_is_the_name_of_another(self) -> None:
+        for name, text, wanted, offered in (
+            ("dan", "Eve A 1,2", "in: dan A 1,2", ""), ("eve", "Eve A 1,2", "in: eve A 1,2", ""), ("dan", "eve A 1,2", "waits: other sender", ""),
+            ("ada", "Eve\nA 1,2\nB 1,2,3,4", "waits: real name", "dan A 1,2 B 1,2,3,4, eve A 1,2 B 1,2,3,4"), ("ada", "ada A 1,2\n\nEve A 2,1", "waits: another answer", ""),
+        ):  # fmt: skip
+            with self.subTest(text=text, name=name):
+                [case] = judged(letter(name, text))
+                self.assertEqual((outcome(case), ", ".join(line.as_entered for line in case.offered)), (wanted, offered))
 
     def test_the_lines_of_our_letter(self) -> None:
         filled = "waits: filled in (2: ada A 1,2 C 1,2,3)"
@@ -264,7 +273,8 @@ class Later(unittest.TestCase):
         """What becomes of a letter of 10 o'clock, beside ballots that were entered, each with its hour and whether it came by letter."""
         ballots = {"ada": [Ballot(at(hour), line, is_by_letter) for hour, line, is_by_letter in there]}
         [case] = judged(letter("ada", text), ballots=ballots)
-        return outcome(case), {*case.answered_since}
+        [labels] = case.answered_since.values()
+        return outcome(case), {*labels}
 
     def test_by_question(self) -> None:
         two = "ada A 1,2 B 1,2,3,4"
