@@ -514,11 +514,12 @@ class Asked(boxes.BoxElectionTest):
             json.loads(self.done("status", "--json").output)["box"]["is_present"], True
         )
         self.done("letters", "call")
-        # nor is one at another address
-        said = self.done("call", "--at", self.host.at.replace("127.0.0.1", "localhost")).output
-        self.assert_fault(self.election("letters", "call"), 9, "nobody has seen yet")
-        # what lies there is fetched first
+        # what lies at the address of now is fetched first
+        said = self.done("call").output
         self.assertIn("\nNext: run debvote-election add --box, then upload the files of call to", said)
+        # nor is an asking at another address one
+        self.move()
+        self.assert_fault(self.election("letters", "call"), 9, "nobody has seen yet")
 
     def test_status_says_when_it_was_asked_last(self) -> None:
         self.call()
@@ -657,6 +658,36 @@ class Asked(boxes.BoxElectionTest):
         self.assertNotIn("the box of the web host", self.election("count").faults)
         self.done("publish")
         self.assertNotIn(b"that the secretary did not get", self.read("result/index.html"))
+
+
+@NEEDS_PHP
+class Moved(boxes.BoxElectionTest):
+    """`call --at` another web host, after letters went out with links to the page of before."""
+
+    def test_what_the_page_of_before_goes_on_taking(self) -> None:
+        links = self.begun()
+        self.click("ada", "1,2,3,4", links["ada"])
+        self.done("add", "--box", "--yes")
+        before, file = self.host.at, self.file()
+        self.click("ben", "1,2,3,4", links["ben"])
+        said = self.move()
+        self.assertIn(
+            f"\nNote: the page at {before} still takes ballots, which add --box fetches no more: remove its vote.php, then fetch its file {file.name} by FTP, and add it: debvote-election add FILE\n",
+            said,
+        )
+        # nothing lies at the new address yet
+        self.assertIn(
+            f"\nNext: upload the files of call to {self.host.at}, vote.php too, then run debvote-election add --box, which tries",
+            said,
+        )
+        self.upload()
+        self.done("add", "--box", "--yes")
+        self.assertNotIn(before, self.done("call").output)
+        shutil.copy(file, self.folder / "fetched.php")
+        ended = self.done("add", "--yes", "fetched.php")
+        self.assertIn("1 letter waits; 1 copy passed over.", ended.output)
+        self.done("held", "3", "--enter")
+        self.assertEqual(self.standing(), {"ada": "1,2,3,4", "ben": "1,2,3,4"})
 
 
 MEMBERS = [f"m{number:02}" for number in range(1, 41)]
