@@ -689,6 +689,50 @@ class Moved(boxes.BoxElectionTest):
         self.done("held", "3", "--enter")
         self.assertEqual(self.standing(), {"ada": "1,2,3,4", "ben": "1,2,3,4"})
 
+    def test_the_call_goes_to_everybody_again(self) -> None:
+        self.begun()
+        self.demand_reached(*elections.NAMES)
+        self.move()
+        self.demand_reached()
+        self.upload()
+        self.done("add", "--box")
+        self.done("call", "--until", "2099-12-06 18:00")
+        self.demand_written(is_extension=False)
+        self.demand_reached(*elections.NAMES)
+        self.done("call", "--until", "2099-12-07 18:00", "--at", self.host.at)
+        self.demand_reached(*elections.NAMES)
+        self.demand_written(is_extension=True)
+        # the address of the result is not one of the page
+        self.done("desk", given="ada 1,2,3,4\n")
+        time.sleep(1.1)
+        self.done("close", "--early")
+        time.sleep(1.1)
+        self.done("add", "--box")
+        self.done("publish")
+        self.done("letters", "result", "--at", "https://club.example/result/")
+        self.demand_reached(*elections.NAMES)
+
+    def test_without_a_box_a_letter_is_as_good_as_before(self) -> None:
+        self.done("call", *boxes.UNTIL, "--to", "vote@club.example", *HTTPS)
+        self.done("letters", "call")
+        self.done("call", "--at", "https://club.example/moved/")
+        self.demand_reached(*elections.NAMES)
+
+    def demand_reached(self, *names: str) -> None:
+        """The call has reached these electors, and nobody else."""
+        not_reached = json.loads(self.done("status", "--json").output)["not_reached"]
+        others = [name for name in elections.NAMES if name not in names]
+        self.assertEqual(not_reached, dict.fromkeys(others, "no letter"))
+
+    def demand_written(self, *, is_extension: bool) -> None:
+        """A letter to each elector, with the link to the page of now, is new: the call, or an extension."""
+        said = self.done("letters", "call").output
+        folder = re.findall(rf"^Wrote {len(elections.NAMES)} letters: (.*)$", said, re.M)[0]
+        for file in (self.folder / folder).glob("*.eml"):
+            text = email.message_from_bytes(file.read_bytes()).get_payload(decode=True).decode()  # type: ignore[union-attr]
+            self.assertIn(f"{self.host.at}#{file.stem}/", text)
+            self.assertEqual("has changed." in text, is_extension)
+
 
 MEMBERS = [f"m{number:02}" for number in range(1, 41)]
 RANKS = {
