@@ -40,10 +40,10 @@ NEEDS = {
 )
 
 
-def last_box(history: History) -> Detail:
-    """What the last asking noted; nothing if there was none."""
-    box: Detail = history.askings[-1].detail["box"] if history.askings else {}
-    return box
+def last_box(history: History, at: str | None = None) -> Detail:
+    """What the last asking noted, at this address if one is given; nothing if there was none."""
+    boxes = [act.detail["box"] for act in history.askings]
+    return next((box for box in reversed(boxes) if at in (None, box["at"])), {})
 
 
 def has_list_of_now(election: Election, digest: str) -> bool:

@@ -173,9 +173,10 @@ def asked_box(vote: Vote) -> tuple[list[RawLetter], Detail, list[str]]:
         cure = f"add files; see {vote.election.command('status')}"
         raise bad_words("--box", "the call was made without it", cure)
     key, at = queries.sealed(book, BOX_KEY), history.announced("at")
-    asked, before = ask(at, vote.questions.mark, asking_word(key)), last_box(history)
+    # of another host neither the clock nor the records say anything of this one
+    asked, before = ask(at, vote.questions.mark, asking_word(key)), last_box(history, at)
     letters, others = records_in(vote, asked, before, key)
-    kept = queries.records_since(book, vote.call.number)
+    kept = queries.records_since(book, vote.call.number, at)
     box: Detail = {
         "at": at,
         "time": asked.time.isoformat(),

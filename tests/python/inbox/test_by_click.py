@@ -664,6 +664,8 @@ class Asked(boxes.BoxElectionTest):
 class Moved(boxes.BoxElectionTest):
     """`call --at` another web host, after letters went out with links to the page of before."""
 
+    has_clock = True
+
     def test_what_the_page_of_before_goes_on_taking(self) -> None:
         links = self.begun()
         self.click("ada", "1,2,3,4", links["ada"])
@@ -681,7 +683,8 @@ class Moved(boxes.BoxElectionTest):
             said,
         )
         self.upload()
-        self.done("add", "--box", "--yes")
+        # what the other host had is not missed here
+        self.assertNotIn("has no more", self.done("add", "--box", "--yes").output)
         self.assertNotIn(before, self.done("call").output)
         shutil.copy(file, self.folder / "fetched.php")
         ended = self.done("add", "--yes", "fetched.php")
@@ -717,6 +720,24 @@ class Moved(boxes.BoxElectionTest):
         self.done("letters", "call")
         self.done("call", "--at", "https://club.example/moved/")
         self.demand_reached(*elections.NAMES)
+
+    def test_what_was_asked_elsewhere_says_nothing_of_this_host(self) -> None:
+        """Neither when it was asked, by a clock that is behind, nor which records it has."""
+        links = self.begun()
+        self.click("ada", "1,2,3,4", links["ada"])
+        self.done("add", "--box", "--yes")
+        before, file = self.host.at, self.file()
+        self.move()
+        self.upload()
+        self.host_off(-50)
+        self.click("ben", "1,2,3,4", links["ben"])
+        self.done("add", "--box", "--yes")
+        self.assertEqual(self.standing(), {"ada": "1,2,3,4", "ben": "1,2,3,4"})
+        # of each host that is asked again it is said
+        self.done("call", "--at", before)
+        file.write_bytes(FIRST)
+        said = self.done("add", "--box", "--yes").output
+        self.assertIn("Note: 1 record that it had it has no more.", said)
 
     def demand_reached(self, *names: str) -> None:
         """The call has reached these electors, and nobody else."""
