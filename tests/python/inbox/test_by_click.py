@@ -504,7 +504,10 @@ class Asked(boxes.BoxElectionTest):
         self.done("roll", "--yes")
         for words in (("add", "--box"), ("add", "--box", "--look")):
             self.done(*words)
-            self.assert_fault(self.election("letters", "call"), 9, "nobody has seen yet")
+            # no letter may have a link that the host does not know
+            for kind in ("call", "reminders"):
+                fault = f"{kind}: nobody has seen yet whether the box of the web host works, with the links of now"
+                self.assert_fault(self.election("letters", kind), 9, fault, "upload the folder call")
             self.upload()
         self.assertEqual(
             json.loads(self.done("status", "--json").output)["box"]["is_present"], False
@@ -519,7 +522,8 @@ class Asked(boxes.BoxElectionTest):
         self.assertIn("\nNext: run debvote-election add --box, then upload the files of call to", said)
         # nor is an asking at another address one
         self.move()
-        self.assert_fault(self.election("letters", "call"), 9, "nobody has seen yet")
+        for kind in ("call", "reminders"):
+            self.assert_fault(self.election("letters", kind), 9, "nobody has seen yet")
 
     def test_status_says_when_it_was_asked_last(self) -> None:
         self.call()
