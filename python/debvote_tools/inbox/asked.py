@@ -94,7 +94,7 @@ def unasked_fault(election: Election, history: History, what: str) -> Fault | No
     is_unseen = (
         what in WITH_LINKS and history.announced("box") and not (last and last["is_present"])
     )
-    since = {
+    times = {
         "reminders": recently,
         # before the first asking no letter has a link to the page
         "at": recently if last else None,
@@ -103,9 +103,13 @@ def unasked_fault(election: Election, history: History, what: str) -> Fault | No
         "early": None if closes else recently,
         **dict.fromkeys(AFTER_CLOSE, closes[0].time if history.was_closed_early else None),
     }
-    if not is_unseen and not is_unasked(history, since.get(what)):
+    since = times.get(what)
+    if not is_unseen and not is_unasked(history, since):
         return None
     words, force = NEEDS["call" if is_unseen else what]
+    if last and since and not is_unseen and history.askings[-1].time > since:
+        there = act_time(from_text(last["time"]))
+        words += f": when the box was asked last, it was only {there} by its own clock"
     first = "upload the folder call, then " if is_unseen else ""
     cure = f"{first}run {election.command('add', '--box')}"
     if force:

@@ -10,6 +10,7 @@ import resource
 import shutil
 import time
 import unittest
+import zoneinfo
 from concurrent.futures import ThreadPoolExecutor
 
 from debvote_tools.inbox.judging import Ballot
@@ -22,6 +23,7 @@ from tests.support import at_browser, boxes, elections
 from tests.support.letters import OWN, at, judged, letter, mailbox, outcome, outcomes, parsed
 from tests.support.web_host import FIRST, NEEDS_PHP, Liar, ballot, passed_on, request_of, record
 
+BERLIN = zoneinfo.ZoneInfo("Europe/Berlin")
 HTTPS = ("--at", "https://club.example/vote/")
 
 
@@ -559,6 +561,7 @@ class Asked(boxes.BoxElectionTest):
         self.done("letters", "reminders", "--yes", *self.forced)
         # the clock of the host is behind, so that by both clocks ten minutes are past
         self.assertIn("seconds behind", self.done("add", "--box").output)
+        fault = "would be told that they have not: when the box was asked last, it was only "
         self.assert_fault(self.election("letters", "reminders", "--yes"), 9, fault)
 
     def test_close_and_after_it(self) -> None:
@@ -620,7 +623,10 @@ class Asked(boxes.BoxElectionTest):
         self.assert_fault(self.election("close"), 9, fault)
         # by the clock of the host the end has not come
         self.done("add", "--box", "--yes")
-        self.assert_fault(self.election("close"), 9, fault)
+        ended, asked = self.election("close"), str(self.boxes_kept()[-1]["time"])
+        time_there = datetime.datetime.fromisoformat(asked).astimezone(BERLIN)
+        fault = f"was not asked since the end: when the box was asked last, it was only {time_there:%Y-%m-%d %H:%M:%S} UTC+01:00 by its own clock; nothing was changed: run"
+        self.assert_fault(ended, 9, fault)
         self.assertNotIn("still takes ballots", self.done("close", *self.forced).output)
         self.assertEqual(self.election("count").status, 0)
         self.done("publish")
@@ -654,7 +660,7 @@ class Asked(boxes.BoxElectionTest):
         # by the clock of the host the end has come, by that of this computer it has not
         self.done("add", "--box")
         self.clock = {}
-        fault = "--box: the box of the web host was not asked since the end"
+        fault = "--box: the box of the web host was not asked since the end; "
         self.assert_fault(self.election("close"), 9, fault)
         self.done("add", "--box")
         time.sleep(1.1)
