@@ -627,7 +627,10 @@ class Asked(boxes.BoxElectionTest):
         time_there = datetime.datetime.fromisoformat(asked).astimezone(BERLIN)
         fault = f"was not asked since the end: when the box was asked last, it was only {time_there:%Y-%m-%d %H:%M:%S} UTC+01:00 by its own clock; nothing was changed: run"
         self.assert_fault(ended, 9, fault)
-        self.assertNotIn("still takes ballots", self.done("close", *self.forced).output)
+        said = self.done("close", *self.forced).output
+        self.assertNotIn("still takes ballots", said)
+        # the last asking brought nothing
+        self.assertRegex(said, "Added last: (?!2099|never)")
         self.assertEqual(self.election("count").status, 0)
         self.done("publish")
         self.assertIn(
