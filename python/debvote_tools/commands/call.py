@@ -258,12 +258,13 @@ def announced(arguments: Arguments, history: History, faults: list[Fault]) -> De
         if arguments.at is not None:
             demand_web_address(arguments.at)
             said["at"] = arguments.at
-    if history.announced("box") or (arguments.box and history.call is None):
+    is_new = arguments.box and history.call is None
+    if is_new or history.announced("box"):
         with kept_in(faults):
             script_address(said.get("at") or history.announced("at"))
-        if arguments.keyring is not None:
-            words = "letters have to be signed, and no click is"
-            faults.append(bad_words("--box", words, LEAVE_OUT))
+    if is_new and arguments.keyring is not None:
+        words = "letters have to be signed, and no click is"
+        faults.append(bad_words("--box", words, LEAVE_OUT))
     return said
 
 

@@ -62,6 +62,12 @@ class CallWithBox(elections.ElectionTest):
 
     def test_the_folder_the_key_and_another_call(self) -> None:
         ended = self.done("call", "--box", *HTTPS)
+        # nor can a vote with a box be one with signatures afterwards
+        ended_again = self.election("call", "--keyring", "x", "--at", "http://club.example/")
+        self.assert_fault(ended_again, 2, "--box: the page needs an address by https")
+        self.assertNotIn("signed", ended_again.faults)
+        fault = "--keyring: the call was made without it"
+        self.assert_fault(self.election("call", "--keyring", "x"), 9, fault)
         self.assertIn("0 * * * * XDG_STATE_HOME=", ended.output)
         self.assertIn(f"debvote-election add --folder {self.folder} --box --yes", ended.output)
         self.assertIn(
