@@ -247,6 +247,16 @@ class Clicks(boxes.BoxElectionTest):
         self.done("held", "2", "--enter")
         self.assertEqual(self.standing(), {"ada": "1,2,3,4", "ben": "1,2,3,4"})
 
+    def test_a_link_of_a_call_that_was_taken_back(self) -> None:
+        links = self.begun()
+        self.click("ada", "1,2,3,4", links["ada"])
+        self.done("call", "--take-back")
+        self.call()
+        said = self.done("add", "--box", "--yes").output
+        why = "a link that is not that of ada now: a new address or a new call makes a new one, and"
+        self.assertIn(why, said)
+        self.assertEqual(self.standing(), {})
+
     def test_by_ftp_and_then_by_key(self) -> None:
         links = self.begun()
         self.click("ada", "1,2,3,4", links["ada"])
