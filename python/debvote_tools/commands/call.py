@@ -380,7 +380,7 @@ def old_page_in_words(election: Election, data: CallData) -> Iterator[str]:
     if asked_at != data.at:
         file = records_file(queries.sealed(election.book, BOX_KEY))
         add = election.command("add", "FILE")
-        yield f"Note: the page at {asked_at} still takes ballots, which add --box fetches no more: remove its {SCRIPT}, then fetch its file {file} by FTP, and add it: {add}"
+        yield f"Note: the page at {asked_at} still takes ballots, which add --box fetches no more: remove its {SCRIPT}, then fetch its file {file} by FTP, and add it: {add}."
 
 
 def cron_line(election: Election) -> str:

@@ -703,7 +703,7 @@ class Moved(boxes.BoxElectionTest):
         self.click("ben", "1,2,3,4", links["ben"])
         said = self.move()
         self.assertIn(
-            f"\nNote: the page at {before} still takes ballots, which add --box fetches no more: remove its vote.php, then fetch its file {file.name} by FTP, and add it: debvote-election add FILE\n",
+            f"\nNote: the page at {before} still takes ballots, which add --box fetches no more: remove its vote.php, then fetch its file {file.name} by FTP, and add it: debvote-election add FILE.\n",
             said,
         )
         # nothing lies at the new address yet
