@@ -266,7 +266,7 @@ def reopen(election: Election, arguments: ReopenArguments) -> None:
     carried_out(book, lambda: what_is_reopened(vote, arguments, because))
     early = ["--early"] if election.history().ends_after(now()) else []
     close = election.command("close", *early)
-    if left := [str(envelope.number) for envelope in queries.envelopes(book, queries.LEFT_LATE)]:
+    if left := [str(envelope.number) for envelope in perhaps_in_time(vote)]:
         again = election.command("reopen", "--in-time", *left, "--because", because)
         tell(
             f"Note: {count_of(len(left), 'line')} late; for those that came before the first close:",
@@ -292,7 +292,7 @@ class Reopening(Entry):
 
 def what_is_reopened(vote: Vote, arguments: ReopenArguments, because: str) -> Reopening:
     demand_closed(vote.election, vote.election.history())
-    offered = chosen(vote.book, arguments.in_time)
+    offered = chosen(vote, arguments.in_time)
     detail: Detail = {"because": because, "in_time": [one.number for one in offered]}
     if older := list(faults_of_older(vote, offered)):
         stop_at([] if arguments.force else older)
@@ -319,8 +319,21 @@ def demand_closed(election: Election, history: History) -> None:
         raise Fault(None, words, "hold the vote anew, with new codes")
 
 
-def chosen(book: Book, numbers: Sequence[int]) -> list[Envelope]:
+def perhaps_in_time(vote: Vote) -> list[Envelope]:
+    """The late envelopes that may have come in time: of a desk or a file, or of a letter that is not known
+    to have arrived after the first close.
+    """
+    late = queries.envelopes(vote.book, queries.LEFT_LATE)
+    letters = {envelope.letter for envelope in late}
+    kept = [one for one in queries.kept_letters(vote.book) if one.number in letters]
+    known = judged(vote, vote.election.history(), kept)
+    too_late = {letter.number for letter in known if letter.arrived_after_close}
+    return [envelope for envelope in late if envelope.letter not in too_late]
+
+
+def chosen(vote: Vote, numbers: Sequence[int]) -> list[Envelope]:
     """The late envelopes that had come in time, as the secretary says, in the order of their times."""
+    book = vote.book
     late = {envelope.number: envelope for envelope in queries.envelopes(book, queries.LATE)}
     if unknown := [str(number) for number in numbers if number not in late]:
         words = f"envelope {', '.join(unknown)} is not one of the late lines"
@@ -329,6 +342,10 @@ def chosen(book: Book, numbers: Sequence[int]) -> list[Envelope]:
     left = {envelope.number for envelope in queries.envelopes(book, queries.LEFT_LATE)}
     if again := [str(number) for number in numbers if number not in left]:
         words = f"envelope {', '.join(again)} was entered as in time by an earlier reopen"
+        raise Fault("--in-time", words, "leave it out")
+    may_be = {envelope.number for envelope in perhaps_in_time(vote)}
+    if too_late := [str(number) for number in numbers if number not in may_be]:
+        words = f"envelope {', '.join(too_late)} is of a letter that arrived after the first close"
         raise Fault("--in-time", words, "leave it out")
     return sorted((late[number] for number in set(numbers)), key=queries.by_time)
 

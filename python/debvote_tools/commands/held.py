@@ -181,7 +181,8 @@ class Chosen(NamedTuple):
 def what_is_entered(vote: Vote, arguments: Arguments, typed: Sequence[BallotLine]) -> LetterEntry:
     """The act that enters ballots of letters."""
     history = vote.election.history()
-    wanted = chosen_letters(all_letters(vote), arguments.numbers)
+    found = all_letters(vote)
+    wanted = chosen_letters(found, arguments.numbers)
     chosen, faults = list[Chosen](), list[Fault]()
     for letter in sorted(wanted, key=lambda one: (one.time is None, one.time or one.number)):
         with kept_in(faults):
@@ -197,7 +198,7 @@ def what_is_entered(vote: Vote, arguments: Arguments, typed: Sequence[BallotLine
         # of what was entered nothing more is said: no --force enters it again
         not_entered = [one for one in chosen if not one.again]
         faults += why_not_unforced(not_entered, there)
-        faults += why_typed_again(vote, not_entered)
+        faults += why_typed_again(vote, not_entered, found)
     stop_at(faults)
     if len({would_be_late(history, one.letter) for one in chosen}) > 1:
         words = "some of these letters arrived before the first close, and some after it"
@@ -260,7 +261,7 @@ def would_be_late(history: History, letter: LetterCase) -> bool:
     """Whether what is entered of a letter now is late: the vote is closed; or it is open again, and
     the letter is known to have arrived after the first close.
     """
-    return history.is_late(not letter.arrived_after(letter.circumstances.first_close))
+    return history.is_late(not letter.arrived_after_close)
 
 
 # ---- which lines
@@ -345,8 +346,9 @@ def why_not_now(vote: Vote, history: History, chosen: Sequence[Chosen]) -> Itera
             cure = what_then(vote, letter, one.lines, again)
             # who reads that there is nothing to do takes it for one that counts
             if late := {str(ballot.number): None for ballot in again if ballot.is_late}:
-                reopen = vote.election.command("reopen", "--in-time", *late, "--because", "TEXT")
                 words = f"{words}, and is late"
+            if late and not letter.arrived_after_close:
+                reopen = vote.election.command("reopen", "--in-time", *late, "--because", "TEXT")
                 cure = f"if it came before the first close, have the vote closed, then run {reopen}"
             yield Fault(name, words, cure)
         elif letter.outcome is LetterOutcome.COPY:
@@ -399,14 +401,23 @@ def why_not_unforced(chosen: Sequence[Chosen], by_elector: BallotsByElector) -> 
                 one.time == letter.time and differ(one.line, line.as_entered) for one in there
             ):
                 yield Fault(name, "another ballot of its elector has the same time", cure)
-            bisect.insort(there, ballot_in(letter, line.as_entered), key=queries.by_time)
+        for line in lines:
+            ballot = ballot_in(letter, line.as_entered)
+            bisect.insort(by_elector[line.elector], ballot, key=queries.by_time)
 
 
-def why_typed_again(vote: Vote, chosen: Sequence[Chosen]) -> Iterator[Fault]:
-    """What was typed for a letter, though it may be taken back: its own lines may say something else."""
+def why_typed_again(
+    vote: Vote, chosen: Sequence[Chosen], found: Sequence[LetterCase]
+) -> Iterator[Fault]:
+    """What was typed for a letter or a copy of it, though it may be taken back: its own lines may say
+    something else.
+    """
+    entered = [(letter.read.identity, ballot) for letter in found for ballot in letter.entered]
+    of_identity = grouped(sorted(entered, key=lambda one: one[1].number))
     for one in chosen:
         letter = one.letter
-        typed_last = {ballot.elector: ballot.is_typed for ballot in letter.entered}
+        its_ballots = of_identity.get(letter.read.identity, ())
+        typed_last = {ballot.elector: ballot.is_typed for ballot in its_ballots}
         if any(line.number and typed_last.get(line.elector) for line in one.lines):
             is_taken_back = letter.state == queries.TAKEN_BACK
             words = f"its ballot was typed{', and taken back' if is_taken_back else ''}"

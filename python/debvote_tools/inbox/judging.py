@@ -17,7 +17,7 @@ from debvote_tools.inbox.letter import Body
 from debvote_tools.inbox.letter_lines import ReadLetter, from_json, read_letters
 from debvote_tools.inbox.mailbox import RawLetter
 from debvote_tools.inbox.reasons import Reason, ReasonWithValues
-from debvote_tools.inbox.rules import WENT_IN, Circumstances, LetterCase, LetterOutcome
+from debvote_tools.inbox.rules import Circumstances, LetterCase, LetterOutcome
 from debvote_tools.inbox.vote import Vote
 from debvote_tools.poll.call import SUBJECT, call_letter, current_call
 from debvote_tools.text import times
@@ -171,7 +171,8 @@ def judge_all(
             case.outcome, case.reason = LetterOutcome.OTHER_VOTE, Reason.OTHER_MARK(
                 mark=case.other_vote
             )
-        case.voted_since = [one for one in case.electors if has_voted_since(case, one, last)]
+        since = ((one, has_voted_since(case, one, last)) for one in case.electors)
+        case.voted_since = {one: is_sure for one, is_sure in since if is_sure is not None}
     return cases
 
 
@@ -240,8 +241,12 @@ def surely_later(case: LetterCase, ballot: str, its_ballots: Sequence[Ballot]) -
     """
     if case.time is not None:
         own = ballot_in(case, ballot)
-        later = reversed(queries.later(its_ballots, case.time))
-        yield from (one for one in later if not own.may_turn(one))
+        # of thousands only as many are looked at as are asked for
+        for one in itertools.takewhile(
+            lambda one: queries.later([one], own.time), reversed(its_ballots)
+        ):
+            if not own.may_turn(one):
+                yield one
 
 
 def perhaps_later(case: LetterCase, ballot: str, its_ballots: Sequence[Ballot]) -> Sequence[Ballot]:
@@ -261,20 +266,21 @@ def ballot_in(case: LetterCase, ballot: str) -> Ballot:
 
 def has_voted_since(
     case: LetterCase, elector: str, last: Mapping[str, Mapping[str, Ballot]]
-) -> bool:
-    """Whether an elector of a letter has a later ballot, or may have, where its time is not known; if
-    answers of theirs stand in the letter, one that answers one of the same questions. Of a letter of which
+) -> bool | None:
+    """Whether it is sure that an elector of a letter has a later ballot; None if they have none. If answers
+    of theirs stand in the letter, it is one that answers one of the same questions. Of a letter of which
     some are left only these are asked about.
     """
     its = last.get(elector, {})
     ballots = case.left or [line.as_entered for line in (*case.ballots, *case.offered)]
     lines = [one for one in ballots if one.partition(" ")[0] == elector]
     if case.left and not lines:
-        return False
+        return None
     labels = {label for ballot in lines for label in answers_of(ballot)} or its.keys()
-    there = [its[label] for label in labels & its.keys()]
-    surely = (any(surely_later(case, line, [one])) for line in lines or [""] for one in there)
-    return bool(there) if case.time is None else any(surely)
+    pairs = [(line, [its[label]]) for line in lines or [""] for label in labels & its.keys()]
+    if any(any(surely_later(case, *pair)) for pair in pairs):
+        return True
+    return False if any(perhaps_later(case, *pair) for pair in pairs) else None
 
 
 def original_of(group: Sequence[LetterCase]) -> LetterCase | None:
@@ -322,9 +328,8 @@ def judge_originals(
     """Judges the letters that break no rule, by their times, and puts the ballots of those that do
     not wait to the others of their electors.
     """
-    own = {
-        case: ballot_in(case, case.sole_ballot.as_entered) for case in cases if case in originals
-    }
+    in_order = (case for case in cases if case in originals)
+    own = {case: ballot_in(case, case.sole_ballot.as_entered) for case in in_order}
     of_letters = grouped((case.elector, one) for case, one in own.items())
     beside = {elector: Beside(by_elector[elector], its) for elector, its in of_letters.items()}
     # copies of these are not known as such, while gpgv does not answer
@@ -386,7 +391,7 @@ def judge_copies(
     # the one that went in, else the one that an act decided of, else the one that arrived first
     hiders = sorted(
         (case for case in group if case.can_hide(case)),
-        key=lambda case: (case.state not in WENT_IN, not case.is_decided),
+        key=lambda case: (not case.entered, not case.is_decided),
     )
     # each is a copy of the hider, if that hides it; else of the first one alike
     first_alike: dict[tuple[ReasonWithValues | None, Body, bool], LetterCase] = {}
@@ -409,11 +414,14 @@ def outcome_of_copy(
     if original.time is None or case.time is None:
         return LetterOutcome.COPY, None
     begin, end = sorted((original.time, case.time))
+    # not what was typed for it, nor another line of it
+    own = {one.number for one in original.entered}
     for line in (*case.ballots, *case.offered):
         there = by_elector[line.elector]
         places = (bisect.bisect_left(there, time, key=TIME) for time in (begin, end))
-        others = (one.time for one in there[slice(*places)] if differ(one.line, line.as_entered))
-        if between := next(others, None):
+        others = (one for one in there[slice(*places)] if one.number not in own)
+        times = (one.time for one in others if differ(one.line, line.as_entered))
+        if between := next(times, None):
             reason = Reason.CAME_BEFORE(
                 elector=line.elector, time=case.time, first=original.time, between=between
             )

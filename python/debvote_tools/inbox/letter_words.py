@@ -137,7 +137,8 @@ def why(letter: LetterCase, elector: str = "") -> str:
     if not (letter.is_pending and since):
         return said
     who = f"{ENGLISH.joined(since)} " if len(letter.electors) > 1 else ""
-    have = "may have" if letter.time is None else "has" if len(since) == 1 else "have"
+    is_sure = all(letter.voted_since[one] for one in since)
+    have = "may have" if not is_sure else "has" if len(since) == 1 else "have"
     return f"{said}; {who}{have} voted since"
 
 

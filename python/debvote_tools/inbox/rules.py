@@ -70,8 +70,6 @@ class LetterOutcome(enum.Enum):
     OTHER_VOTE = "of another vote"
 
 
-# what acts decided of a letter whose ballot was entered, though it may be struck since
-WENT_IN = (queries.ENTERED, queries.TAKEN_BACK, queries.STRUCK)
 # in place of what the book has of a letter that is only looked at
 NOT_KEPT = KeptLetter(0, 0, 0, "", "", queries.NEVER_DECIDED)
 
@@ -151,8 +149,8 @@ class LetterCase:
 
     outcome = LetterOutcome.WAITS
     reason: ReasonWithValues | None = None
-    # its electors who have a later ballot, or may have
-    voted_since: Collection[str] = ()
+    # its electors who have a later ballot, or may have: whether it is sure
+    voted_since: Mapping[str, bool] = {}
     # of each ballot of it the labels of the answers to which its elector has later ones
     answered_since: Mapping[str, Collection[str]] = {}
     # the ballots of it that were entered; if some were by hand, of what was typed the answers that were
@@ -352,11 +350,12 @@ class LetterCase:
         return next(filter(None, (rule(self) for rule in RULES)), None)
 
     def can_hide(self, copy: "LetterCase") -> bool:
-        """Whether it can hide a copy, also one that differs from it: it went in once, or breaks no rule.
-        One that went in by hand, and arrived after the end, hides none that did not.
+        """Whether it can hide a copy, also one that differs from it: it went in once, whatever was decided
+        of it since, or breaks no rule. One that went in by hand, and arrived after the end, hides none
+        that did not.
         """
         is_as_early = copy.arrived_after_end or not self.arrived_after_end
-        return is_as_early and (self.state in WENT_IN or self.first_broken_rule is None)
+        return is_as_early and (bool(self.entered) or self.first_broken_rule is None)
 
     @property
     def standing(self) -> list[EnteredBallot]:
@@ -423,6 +422,11 @@ class LetterCase:
     def arrived_after(self, *ends: datetime.datetime | None) -> bool:
         """Whether it is known to have arrived after one of these times."""
         return any(first > end for first in self.arrivals[:1] for end in ends if end is not None)
+
+    @property
+    def arrived_after_close(self) -> bool:
+        """Whether it is known to have arrived after the first close."""
+        return self.arrived_after(self.circumstances.first_close)
 
     @property
     def arrived_after_end(self) -> bool:

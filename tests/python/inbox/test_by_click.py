@@ -314,6 +314,7 @@ class Clicks(boxes.BoxElectionTest):
             "the clock of the web host was off, so it may be earlier or later than another ballot of ada",
             ended.output,
         )
+        self.assertIn("; may have voted since\n", self.done("held").output)
         why = "its elector may have voted since, as the clock of the web host was off"
         self.assert_fault(self.election("held", "3", "--enter", "--yes"), 9, why)
         self.assertEqual(self.standing(), {"ada": "1,2,3,4"})

@@ -534,6 +534,32 @@ class Held(LettersTest):
         self.told("held", 1, "--enter")
         self.assertEqual(self.exported()[0], f"ada {RANKS}\n")
 
+    def test_a_copy_of_one_that_was_typed_or_of_which_one_of_two_was_entered(self) -> None:
+        """What was entered of a letter itself lies not between it and its copy."""
+        came, again = (
+            (letter("fay", f"fay {RANKS}\nor fay {OTHER}", time), letter("gus", f"gus {RANKS}\n\ngus {OTHER}", time)) for time in (TEN, TEN.replace("10:", "12:"))
+        )
+        self.add(*came)
+        self.told("held", 3, "--as", f"fay {OTHER}")
+        self.told("held", 4, "--enter", 3)
+        self.assertIn("0 ballots of letters went in; 2 letters wait; 2 copies passed over.", self.add(*again))
+        # one that has to wait nevertheless does not replace in silence what was typed
+        self.told("held", 5, "--wait")
+        said = "letter 5: its ballot was typed; nothing was changed: type it again with debvote-election held 5 --as LINE; if this line is meant, repeat it with --force"
+        self.assert_refused(("held", 5, "--enter"), 9, said)
+        self.assertEqual(self.lines(), [f"fay {OTHER}", f"gus {OTHER}"])
+
+    def test_a_copy_of_one_that_was_struck_or_taken_back_and_set_aside(self) -> None:
+        fays, guss = f"fay {RANKS}", f"gus {RANKS}"
+        self.add(*(letter(text[:3], text).replace(f" [{elections.ANY_MARK}]".encode(), b"") for text in (fays, guss)))
+        self.told("held", 3, "--enter")
+        self.told("strike", 1, "--because", "not hers", "--yes")
+        self.told("held", 4, "--enter")
+        self.told("undo", "--yes")
+        self.told("held", 3, 4, "--set-aside")
+        said = self.add(*(letter(text[:3], text, TEN.replace("10:", "12:")) for text in (fays, guss)))
+        self.assertIn("0 ballots of letters went in; 2 letters wait; 2 copies passed over.", said)
+
     def test_it_asks_once_at_a_terminal_and_wrong_words(self) -> None:
         self.add(letter("cleo", OTHER))
         desk = Terminal(self, "held", "1", "3", "--enter")

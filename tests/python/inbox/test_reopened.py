@@ -112,9 +112,10 @@ class Reopened(LettersTest):
         self.assertEqual(self.stands("ada"), RANKS)
 
     def test_what_was_entered_anew_and_struck_is_entered_anew_again(self) -> None:
-        """As the fault of `held` says; a line of a file is known all the time, and once."""
-        self.told("close")
+        """As the fault of `held` says, of a letter of after the end and before the close; a line of a file is known all the time, and once."""
+        self.told("call", "--until", "2026-11-25 09:20", "--zone", "UTC")
         self.set_clock("2026-11-25T10:00:00+00:00")
+        self.told("close")
         self.add(letter("ben", f"ben {RANKS}", time="Wed, 25 Nov 2026 09:30:00 +0000"))
         self.told("held", 1, "--enter")
         self.add_lines(BALLOT)
@@ -193,6 +194,22 @@ class Reopened(LettersTest):
         self.reopen()
         self.told("held", 2, "--enter", "--force")
         self.assertEqual((self.lines(), self.late_lines()), ([BALLOT], [BALLOT]))
+
+    def test_a_letter_of_after_the_first_close(self) -> None:
+        """Its late ballot is not one of those that may have come in time, as a line of a file may."""
+        self.told("close")
+        self.set_clock("2026-11-25T10:00:00+00:00")
+        self.add(letter("ada", BALLOT, time="Wed, 25 Nov 2026 09:30:00 +0000"))
+        self.told("held", 1, "--enter")
+        self.add_lines(f"ben {RANKS}")
+        said = "--in-time: envelope 1 is of a letter that arrived after the first close; nothing was changed: leave it out"
+        self.assert_refused(("reopen", "--in-time", 1, 2, *IN_TIME), 9, said)
+        self.assertIn("Note: 1 line late; for those that came before the first close:\n  debvote-election close && debvote-election reopen --in-time 2 --because ", self.reopen())
+        said = "letter 1: its ballot of ada was entered, and is late; nothing was changed: there is nothing to do"
+        self.assert_refused(("held", 1, "--enter"), 9, said)
+        self.told("close")
+        self.reopen("--in-time", 2)
+        self.assertEqual((self.lines(), self.late_lines()), ([f"ben {RANKS}"], [BALLOT, f"ben {RANKS}"]))
 
     def test_a_call_that_was_closed_and_taken_back(self) -> None:
         """A close stays; where an earlier version took the call back, the next one is open until its own close."""
