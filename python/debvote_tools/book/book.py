@@ -81,8 +81,8 @@ ActName = (
 #   letters: letters, and box, what the box of the web host had; add: files, lines, letters, unsigned, and passed_over, how many came before;
 #     desk: lines
 #   add, desk: came_before_close, after reopen
-#   set aside, put back: letters; enter: letters, and lines, empty if the ballot was typed; left_out, by the number of a
-#     letter the answers that did not go in, since their electors had later ones, each as a ballot
+#   set aside, put back: letters; enter: letters, and lines, empty if the ballot was typed; left_out, of what was typed by the
+#     number of its letter the answers that did not go in, since their electors had later ones, each as a ballot
 #   undo: act, that it takes back; strike: envelope
 #   close: questions, by label what it fixes of each (`Fixed`); early; left, the letters that had arrived in time and wait, and
 #     waiting, how many these are; after_end and before_call, how many others wait

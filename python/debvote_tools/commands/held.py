@@ -84,7 +84,7 @@ def held(election: Election, arguments: Arguments) -> None:
     shown = [] if is_act else chosen_letters(found, arguments.numbers)
     for letter in chosen_letters(found, arguments.numbers) if is_act else ():
         if letter.reason and letter.reason.reason is Reason.NOT_ENTERED:
-            tell(f"{name_of(letter)} waits on; {why(letter)}")
+            tell(f"{name_of(letter)} waits on; {for_secretary(letter.reason)}")
     for letter in shown:
         tell(*letter_words.whole(letter))
     if not (is_act or shown):
@@ -188,6 +188,7 @@ def what_is_entered(vote: Vote, arguments: Arguments, typed: Sequence[BallotLine
         with kept_in(faults):
             is_one = len(wanted) == 1
             lines = typed or named_lines(letter, arguments.enter or [], is_one=is_one)
+            demand_one_answer(letter, lines)
             chosen.append(Chosen(letter, lines))
     electors = {line.elector for one in chosen for line in one.lines}
     there = ballots_in(vote, electors)
@@ -325,13 +326,20 @@ def demand_one_line(
         raise Fault(name, "it has a word without a name", "enter it by a command of its own")
 
 
+def demand_one_answer(letter: LetterCase, lines: Sequence[BallotLine]) -> None:
+    """Stops if several of these lines answer one question for one elector."""
+    answers = itertools.chain.from_iterable(line.answers for line in lines)
+    [((elector, _), count)] = collections.Counter(answers).most_common(1)
+    if count > 1:
+        words = f"{count} of these lines are ballots of {elector}"
+        raise Fault(name_of(letter), words, "name the one that counts")
+
+
 # ---- what stands against it
 def why_not_now(vote: Vote, history: History, chosen: Sequence[Chosen]) -> Iterator[Fault]:
     """What can't be forced."""
     for one in chosen:
         letter, name = one.letter, name_of(one.letter)
-        answers = itertools.chain.from_iterable(line.answers for line in one.lines)
-        [((twice, _), count)] = collections.Counter(answers).most_common(1)
         if again := one.again:
             electors = dict.fromkeys(ballot.elector for ballot in again)
             words = f"its ballot of {ENGLISH.joined([*electors])} was entered"
@@ -350,9 +358,6 @@ def why_not_now(vote: Vote, history: History, chosen: Sequence[Chosen]) -> Itera
             reopen = vote.election.command("reopen", "--because", "TEXT")
             words = "it arrived in time, and the vote is closed"
             yield Fault(name, words, f"if it has a ballot, run {reopen} first")
-        elif count > 1:
-            words = f"{count} of these lines are ballots of {twice}"
-            yield Fault(name, words, "name the one that counts")
 
 
 def what_then(

@@ -291,7 +291,7 @@ def log(election: Election, arguments: LogArguments) -> None:
         whole = f"The chain is whole: {count_of(len(acts), 'act')}, the last digest is"
         tell(f"{whole} {acts[-1].digest}")
     else:
-        tell(*acts_in_words(election.book.acts()))
+        tell(*acts_in_words(election.history().acts))
 
 
 def acts_in_words(acts: Sequence[DoneAct]) -> Iterator[str]:
