@@ -221,8 +221,7 @@ def show(election: Election, arguments: ShowArguments) -> None:
 
 
 def elector_named(election: Election, vote: Vote, name: str) -> queries.Elector:
-    typed, names = name.strip(), vote.names
-    meant = [typed] if typed in names.roll else names.meant_by(typed)
+    meant = vote.names.meant_by(name.strip())
     found = [one for one in queries.electors(election.book) if one.name in meant]
     if len(found) == 1:
         return found[0]

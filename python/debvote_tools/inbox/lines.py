@@ -166,20 +166,13 @@ class Names:
 
     def meant_by(self, name: str) -> list[str]:
         """The electors whose name on the roll or real name this is, as people write it."""
-        small = name.lower()
-        is_of_one = small in self.roll and small not in self.real_names_of_others
-        return [small] if is_of_one else self.of_folds(self.folds(name))
+        on_roll = self.on_roll(name)
+        return [on_roll] if on_roll else self.of_folds(self.folds(name))
 
     def of_folds(self, folds: set[str]) -> list[str]:
         """The electors whose name on the roll or real name is one of these, folded."""
         real = (elector for fold in folds for elector in self.electors_by_real_name.get(fold, ()))
         return sorted({*folds & self.roll, *real})
-
-    def whose(self, name: str) -> list[str]:
-        """The same; of several questions a name as it is on the roll is of this elector alone, as it is
-        where nothing has to be changed.
-        """
-        return [name] if self.labels and name in self.roll else self.meant_by(name)
 
     def taken_apart(self, line: str) -> tuple[str, str] | None:
         """The name in a line, as people write it, or nothing, and the answers behind it, as they are
