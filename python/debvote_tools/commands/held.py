@@ -296,7 +296,7 @@ def named_lines(letter: LetterCase, enter: Sequence[str], *, is_one: bool) -> li
     lines = [*dict.fromkeys((*letter.offered, *letter.ballots))]
     texts = [text.strip() for text in ",".join(enter).split(",")]
     if is_the_one := texts == [THE_ONE]:
-        lines = [line for line in lines if letter.left_in(line)] or lines
+        lines = [line for line in lines if letter.left_in(line.as_entered)] or lines
     there = grouped((str(line.number), line) for line in lines)
     if is_the_one:
         demand_one_line(letter, there, is_one=is_one)

@@ -145,11 +145,10 @@ def why(letter: LetterCase, elector: str = "") -> str:
 def near_words(letter: LetterCase) -> Iterator[str]:
     for line in (*letter.ballots, *letter.offered):
         left = without(line.as_entered, letter.answered_since[line.as_entered]) or line.as_entered
-        if shown := letter.left_in(line) if letter.left else left:
+        if shown := letter.left_in(line.as_entered) if letter.left else left:
             yield f"line {line.number}: {shown}"
-    for ballot in letter.left:
-        if any(one.is_typed and ballot.startswith(f"{one.elector} ") for one in letter.standing):
-            yield f"left out of what was typed: {ballot}"
+    for typed in filter(None, map(letter.left_in, letter.left_out or ())):
+        yield f"left out of what was typed: {typed}"
     for near in letter.near:
         within = ", within other words" if near.is_within else ""
         why = near.answer or "a ballot, but not alone on its line"

@@ -14,7 +14,7 @@ import functools
 import itertools
 import re
 import unicodedata
-from collections.abc import Collection, Mapping, Sequence
+from collections.abc import Collection, Mapping, Sequence, Set
 
 from debvote_tools.book import queries
 from debvote_tools.book.queries import Elector, EnteredBallot, KeptLetter
@@ -33,7 +33,7 @@ from debvote_tools.inbox.reasons import Reason, ReasonWithValues
 from debvote_tools.inbox.written import GAP, UNFILLED
 from debvote_tools.poll.box import third_part
 from debvote_tools.poll.sealed import MARKS, marks_in
-from debvote_tools.text.ballots import answers_in, answers_of, without
+from debvote_tools.text.ballots import answers_in, without
 from debvote_tools.text.motions import Words, may_answer, words_in
 
 # how far the clock of a mail server or of an elector may be ahead
@@ -154,10 +154,10 @@ class LetterCase:
     # of each ballot of it the labels of the answers to which its elector has later ones
     answered_since: Mapping[str, Collection[str]] = {}
     # the ballots of it that were entered; if some were by hand, of what was typed the answers that were
-    # left out, else None; and the answers for which it waits on: both as ballots
+    # left out, as ballots, else None; and the answers for which it waits on, as in `not_entered`
     entered: Sequence[EnteredBallot] = ()
     left_out: Sequence[str] | None = None
-    left: Sequence[str] = ()
+    left: Set[tuple[str, str]] = frozenset()
 
     def __init__(
         self, letter: ReadLetter, circumstances: Circumstances, kept: KeptLetter = NOT_KEPT
@@ -362,39 +362,30 @@ class LetterCase:
         """The ballots of it that were entered, also if they were struck, and not taken back."""
         return [one for one in self.entered if not one.is_taken_back]
 
-    def without_entered(self, ballot: str) -> str:
-        """A ballot of it without the answers that were entered; empty if none is left."""
-        elector, _, _ = ballot.partition(" ")
-        done = (one.line for one in self.standing if one.elector == elector)
-        return without(ballot, {label for line in done for label in answers_of(line)})
-
     @functools.cached_property
-    def not_entered(self) -> list[str]:
-        """Its answers that were not entered, as ballots; of an elector whose ballot has to be typed the name alone.
-        What was typed takes the place of the lines of its elector; and once something was, each of those
-        who share the sender's address has a ballot in it.
+    def not_entered(self) -> set[tuple[str, str]]:
+        """Its answers that were not entered, each as elector and label, which is empty of a ballot that has to
+        be typed. What was typed takes the place of the lines of its elector; and once something was, each of
+        those who share the sender's address has a ballot in it.
         """
-        done, every = {one.elector for one in self.standing}, (*self.ballots, *self.likely)
+        having, every = {one.elector for one in self.standing}, (*self.ballots, *self.likely)
         # a line that may be of several is of the one whose ballot was entered
-        known = {one.numbers: one.elector for one in every if one.elector in done}
+        known = {one.numbers: one.elector for one in every if one.elector in having}
         typed = {one.elector for one in self.standing if one.is_typed}
         lines = [
             one
             for one in every
             if one.elector not in typed and known.get(one.numbers, one.elector) == one.elector
         ]
-        ballots = (*(one.as_entered for one in lines), *(self.left_out or ()))
-        found = dict.fromkeys(filter(None, map(self.without_entered, ballots)))
         is_shared = len(self.sharing) > 1 and any(one.is_typed for one in self.entered)
-        having = {one.elector for one in lines} | done
-        return [*found, *(name for name in self.sharing if is_shared and name not in having)]
+        others = {*self.sharing} - having - {one.elector for one in lines} if is_shared else ()
+        given = (*(one.answers for one in lines), *map(answers_in, self.left_out or ()))
+        done = itertools.chain.from_iterable(one.answers for one in self.standing)
+        return {(name, "") for name in others}.union(*given).difference(done)
 
-    def left_in(self, line: BallotLine) -> str:
-        """A line of it with the answers for which it waits on; empty if there are none."""
-        left = {
-            label for one in self.left for name, label in answers_in(one) if name == line.elector
-        }
-        return without(line.as_entered, answers_of(line.as_entered).keys() - left)
+    def left_in(self, ballot: str) -> str:
+        """A ballot of it with the answers for which it waits on; empty if there are none."""
+        return without(ballot, {label for _, label in answers_in(ballot) - self.left})
 
     @property
     def is_decided(self) -> bool:

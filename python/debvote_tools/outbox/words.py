@@ -18,7 +18,7 @@ from debvote_tools.inbox.reasons import for_elector
 from debvote_tools.poll.announced import address_in
 from debvote_tools.poll.call import CallData
 from debvote_tools.poll.plain_names import without_accents
-from debvote_tools.text.ballots import answers_in, faults_of
+from debvote_tools.text.ballots import faults_of
 from debvote_tools.text.language import marked
 from debvote_tools.text.rendering import one_line, render_letter
 from debvote_tools.text.times import time_in_words
@@ -245,10 +245,9 @@ class Composer:
         language, letter, envelope = self.call_data.language, fate.came_by, fate.envelope
         left, left_out = list[str](), list[str]()
         if letter is not None and envelope is not None and not envelope.is_struck:
-            left, others = (
-                labels_in(ballots, name) for ballots in (letter.left, letter.not_entered)
-            )
-            left_out = [label for label in others if label not in left]
+            left = sorted(label for one, label in letter.left if one == name)
+            others = letter.not_entered - letter.left
+            left_out = sorted(label for one, label in others if one == name)
         for said, labels in ((NOT_ALL, fate.replaced), (LEFT_OUT, left_out), (LEFT, left)):
             if labels:
                 named = list(map(self.call_data.questions.titled, labels))
@@ -264,13 +263,6 @@ class Composer:
         line = fate.envelope.line if fate.envelope and fate.why_refused is not None else b""
         is_quoted = self.call_data.questions.is_several or QUOTED.fullmatch(line)
         return f"|{line.decode()}" if line and is_quoted else ""
-
-
-def labels_in(ballots: Sequence[str], name: str) -> list[str]:
-    """The labels of the answers in those ballots that are an elector's, in their order."""
-    return sorted(
-        {label for one in ballots for elector, label in answers_in(one) if elector == name}
-    )
 
 
 def is_on_paper(elector: Elector) -> bool:
