@@ -398,10 +398,10 @@ class ReceiptsAndReminders(OutTest):
         self.assertIn(f"{of_others} is entered yet: the secretary has to look at it first.", texts["ben"])
         self.assertIn(ELSEWHERE, texts["dan"])
         # of one that was set aside, too
-        self.add(letter("ada", f"My vote, and his:\nada {OTHER_RANKS}\nben {RANKS}\n", number=2, time="Mon, 23 Nov 2026 11:00:00 +0000"))
-        self.done("held", 3, "--enter", 2)
+        self.add(letter("ada", f"My vote, and his:\nada {OTHER_RANKS}\nben {RANKS}\n", number=2))
+        self.done("held", 3, "--enter", 2, "--force")
         self.done("held", 3, "--set-aside")
-        self.assertIn(f"{of_others} was entered.".replace("10:00", "11:00"), self.texts("receipts")["ben"])
+        self.assertIn(f"{of_others} was entered.", self.texts("receipts")["ben"])
         shown = {name: "letter 2, from " in self.told("show", name) for name in ("cleo", "dan", "eve")}
         self.assertEqual(shown, {"cleo": True, "dan": True, "eve": False})
 
