@@ -3,7 +3,7 @@
 import contextlib
 import dataclasses
 import re
-from collections.abc import Collection, Iterator, Mapping, Sequence
+from collections.abc import Collection, Iterator, Sequence
 
 from debvote_tools.book import outgoing, queries
 from debvote_tools.book.book import Book, Detail, DoneAct
@@ -17,7 +17,7 @@ from debvote_tools.commands.held import THE_ONE, named_lines
 from debvote_tools.grouping import grouped
 from debvote_tools.inbox import letter_words
 from debvote_tools.inbox.entering import Entry
-from debvote_tools.inbox.judging import judged
+from debvote_tools.inbox.judging import judged, letters_now
 from debvote_tools.inbox.lines import name_in
 from debvote_tools.inbox.rules import LetterCase
 from debvote_tools.inbox.taking import MOST_NAMED
@@ -47,11 +47,13 @@ def undo(election: Election, arguments: UndoArguments) -> None:
     """Take back the last act that entered lines; a second undo takes back the one before."""
     book = election.book_for(arguments)
     vote = Vote(election)
-    judged_before = judged_now(vote)
+    judged_before = letters_now(vote)
     change = carried_out(book, lambda: what_is_taken_back(vote, arguments))
     ballots = () if change.question else change.ballots
     tell(f"Took back {what(change.undone, change.struck)}.", *ballots, *change.others)
-    judged_after = tell_judged_anew(vote, change, judged_before)
+    # the letters whose own ballots it was are told apart
+    judged_after = letters_now(vote)
+    tell(*letter_words.judged_anew(judged_before, judged_after, change.letters))
     following = f"{election.command('status')}; another {election.command('undo')} takes back the act before"
     if change.letters and not change.is_typed_or_late:
         enter = words_to_enter([judged_after[number] for number in change.letters], change.struck)
@@ -115,27 +117,6 @@ def what_else_changes(book: Book, struck: Sequence[int], letters: Sequence[int])
         yield f"These electors have receipts that are no longer true: {', '.join(names)}"
 
 
-def judged_now(vote: Vote) -> dict[int, LetterCase]:
-    """The letters as they are judged now, by number."""
-    kept = queries.may_wait(vote.book)
-    return {one.number: one for one in judged(vote, vote.election.history(), kept)}
-
-
-def tell_judged_anew(
-    vote: Vote, change: Change, before: Mapping[int, LetterCase]
-) -> dict[int, LetterCase]:
-    """Tells of the letters that went in or waited otherwise before a ballot of their elector was
-    struck. Those whose own ballot it was are told apart. Returns all as they are judged now.
-    """
-    after = judged_now(vote)
-    for number, letter in after.items():
-        was = before.get(number, letter)
-        is_other = (letter.outcome, letter.reason) != (was.outcome, was.reason)
-        if is_other and number not in change.letters:
-            tell(*letter_words.why_it_waits(letter))
-    return after
-
-
 def words_to_enter(letters: Sequence[LetterCase], struck: Collection[int]) -> list[str]:
     """What is typed after `held` to enter again what was taken back; empty if no one command does it."""
     numbers, is_one = [str(letter.number) for letter in letters], len(letters) == 1
@@ -183,7 +164,7 @@ def strike(election: Election, arguments: StrikeArguments) -> None:
     because = demand_reason(arguments.because, "strike")
     book = election.book_for(arguments)
     vote = Vote(election)
-    judged_before = judged_now(vote)
+    judged_before = letters_now(vote)
     change = carried_out(book, lambda: what_is_struck(vote, arguments, because))
     [envelope] = queries.envelopes(book, "envelope = ?", arguments.number)
     tell(f"Struck {in_words(envelope, vote)}, because: {because}")
@@ -193,7 +174,7 @@ def strike(election: Election, arguments: StrikeArguments) -> None:
         whose = "that code" if vote.has_codes else elector
         current = "none" if answers is None else vote.answers_in_words(answers)
         tell(f"The current ballot of {whose}: {current}")
-    tell_judged_anew(vote, change, judged_before)
+    tell(*letter_words.judged_anew(judged_before, letters_now(vote), change.letters))
     tell("A strike cannot be undone: if it was a mistake, enter the line again.")
     tell(f"Next: {election.command('status')}")
 

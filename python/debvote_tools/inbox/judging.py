@@ -61,6 +61,12 @@ def judged(
     return judge_all(cases, lambda names: ballots_in(vote, names))
 
 
+def letters_now(vote: Vote) -> dict[int, LetterCase]:
+    """The letters that may wait, and their copies, as they are judged now, by number."""
+    kept = queries.may_wait(vote.book)
+    return {one.number: one for one in judged(vote, vote.election.history(), kept)}
+
+
 # ---- what they are judged by
 def read_kept(vote: Vote, kept: Sequence[KeptLetter]) -> list[ReadLetter]:
     """What the book keeps of letters. A signature is checked anew if the letter came before the

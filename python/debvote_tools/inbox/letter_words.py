@@ -4,7 +4,7 @@ line.
 
 import itertools
 import re
-from collections.abc import Iterator, Sequence
+from collections.abc import Collection, Iterator, Mapping, Sequence
 
 from debvote_tools.cli.console import act_time, count_of, listed, shown_line, shown_text
 from debvote_tools.inbox.letter import is_quoted
@@ -115,6 +115,19 @@ def why_it_waits(letter: LetterCase) -> Iterator[str]:
     why, *others = why_words(letter)
     yield f"{who_and_when(letter)}: {why}"
     yield from (f"  {line}" for line in others)
+
+
+def judged_anew(
+    before: Mapping[int, LetterCase], after: Mapping[int, LetterCase], others: Collection[int] = ()
+) -> Iterator[str]:
+    """What is told of letters, but for some others, after a change that made them go in, wait otherwise or be
+    of somebody else.
+    """
+    for number, letter in after.items():
+        known = (letter, before.get(number, letter))
+        facts = {(one.outcome, one.reason, one.is_pending and one.electors) for one in known}
+        if len(facts) > 1 and number not in others:
+            yield from why_it_waits(letter)
 
 
 def why_words(letter: LetterCase) -> list[str]:

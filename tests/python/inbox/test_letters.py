@@ -106,6 +106,14 @@ class Adding(LettersTest):
             said,
         )
 
+    def test_ranks_alone_of_an_address_that_becomes_somebody_elses(self) -> None:
+        self.add(letter("ada", RANKS), letter("ben", f"ben {RANKS}"), letter("cleo", "hello"))
+        members = elections.members_of(elections.NAMES)
+        self.write("members.csv", members.replace("ben@", "new@").replace("ada@", "ben2@").replace("cleo@", "ada@"))
+        said = self.told("roll", "--yes")
+        self.assertIn(f"\nletter 1, from Ada <ada@club.example>, 2026-11-23 10:00:00 UTC: the ranks have no name before them\n  line 1: cleo {RANKS}\n", said)
+        self.assertEqual(said.count("letter "), 2)
+
     def test_other_acts_between_question_and_answer(self) -> None:
         desk = Terminal(self, "add", str(self.box(letter("ada", f"ada {RANKS}"), letter("ben", f"ben {RANKS}"))))
         desk.until("Enter 2 ballots?")
