@@ -21,7 +21,7 @@ from debvote_tools.inbox.rules import Circumstances, LetterCase, LetterOutcome
 from debvote_tools.inbox.vote import Vote
 from debvote_tools.poll.call import SUBJECT, call_letter, current_call
 from debvote_tools.text import times
-from debvote_tools.text.ballots import answers_of, differ, without
+from debvote_tools.text.ballots import answers_of, differ
 from debvote_tools.text.language import ENGLISH
 
 # what an act decided holds, whatever the rules say, unless part of what was entered is left

@@ -9,7 +9,7 @@ import dataclasses
 import datetime
 import functools
 import re
-from collections.abc import Collection, Iterator, Mapping, Sequence
+from collections.abc import Iterator, Sequence
 
 from debvote_tools.book.queries import Elector
 from debvote_tools.inbox.rules import LetterOutcome
