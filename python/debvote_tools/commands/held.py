@@ -171,9 +171,14 @@ class Chosen(NamedTuple):
 
     def left_of(self, line: BallotLine, in_time: InTime) -> tuple[str, set[str], set[str]]:
         """A ballot without the answers that were entered, and without those to which its elector has later
-        ones; and the labels of both.
+        ones; and the labels of both. What is typed is not entered yet if it says something else.
         """
-        done = {label for _, label in line.answers & self.entered.keys()}
+        entered = self.entered
+        done = {
+            label
+            for name, label in line.answers & entered.keys()
+            if line.number or not differ(line.as_entered, entered[name, label].line)
+        }
         later = answered_since(self.letter, line.as_entered, in_time) - done
         return without(line.as_entered, later | done), done, later
 

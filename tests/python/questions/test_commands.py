@@ -82,6 +82,8 @@ class Held(QuestionsTest):
         self.assertIn("letter 1 waits on; not entered yet: the answer of ada to B\n", self.told("held", "1", "--enter", "1", "--yes"))
         self.assertRegex(self.told("held"), r"not entered yet: the answer of ada to B\n +line 5: ada B 1,2,3\n +other words")
         self.assert_refused(["close", "--early"], 9, "these letters arrived in time, and wait: 1;")
+        said = "letter 1: its ballot of ada was entered; nothing was changed: to enter another one in its place, run debvote-election strike 1 --because TEXT first"
+        self.assert_refused(["held", "1", "--as", "ada A 2,1 B 1,2,3", "--yes"], 9, said)
         self.assertIn("2 counted  ada: B (", self.told("held", "1", "--enter", "--yes"))
         for _ in range(2):
             self.done("undo", "--yes")
