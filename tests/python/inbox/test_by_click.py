@@ -399,11 +399,32 @@ class Clicks(boxes.BoxElectionTest):
         arrived = time.strftime("%a, %d %b %Y %H:%M:%S +0000")
         own = boxes.link_in(next((self.folder / "letters/call").rglob("*ada*.eml")).read_bytes())[1]
         place = f"#ada/{own}/{links['ada']}"
+        # broken where a program breaks it, with letters by their numbers, alone, and as the name of a line
         text = f"{place.upper()}\nI opened {self.host.at}{place} and it says\nada 1,2,3\n"
-        self.write("inbox.mbox", mailbox(self.of_this_vote(letter("ada", text, time=arrived))))
+        texts = [
+            text,
+            text.replace(own + "/", f"{own}/\n> "),
+            text.replace(own + "/", f"{own}/ "),
+            text.replace("/", "%2F"),
+            f"{links['ada']} is my code\nada 1,2\n",
+            f"{place[1:]} 1,2,3,4\n{links['ada']} 1,2,3,4\n",
+        ]
+        letters = [
+            letter("ada", one, time=arrived, number=number) for number, one in enumerate(texts)
+        ]
+        subject = f"Re: {self.host.at}{place} [{self.mark()}]"
+        letters.append(letter("ada", "ada 1,2\n", time=arrived, number=9, subject=subject))
+        self.write("inbox.mbox", mailbox(*letters))
         said = self.election("add", "inbox.mbox").output + self.done("held").output
-        said += "".join(self.done("held", str(number)).output for number in (1, 2, 3))
+        numbers = range(1, len(letters) + 3)
+        said += "".join(self.done("held", str(number)).output for number in numbers)
         self.assertIn(f"#ada/{own}/.. and it says", said)
+        self.assertIn(f"{own}%2F.. and it says", said)
+        said += self.done("show", "ada").output
+        said += self.election("add", "-", given=texts[-1]).faults
+        said += self.done("desk", given=texts[-1]).output
+        self.assertIn(f"ada/{own}/.. 1,2,3,4: column 4", said)
+        self.assertIn(" .. 1,2,3,4: .. is not on the roll", said)
         self.done("letters", "receipts")
         receipts = [
             email.message_from_bytes(file.read_bytes())
