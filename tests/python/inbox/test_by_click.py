@@ -446,6 +446,20 @@ class Clicks(boxes.BoxElectionTest):
             )
         )
 
+    def test_a_record_without_a_ballot_is_told_to_whose_link_it_is(self) -> None:
+        """The page makes none, but whoever has the link can."""
+        links = self.begun()
+        for name, answer in (("ada", "A"), ("ben", "YES")):
+            self.click(name, answer, links[name])
+        self.assertIn("2 letters wait", self.done("add", "--box", "--yes").output)
+        told = self.receipts()
+        self.assertEqual({*told}, {"ada", "ben"})
+        for text in told.values():
+            self.assertRegex(text, "A ballot of .* came by the page of the vote, with your link. It is not entered yet: ")
+            self.assertIn("no line of it is a ballot of this vote.", text)
+        self.assertIn("letter 1, from the page of the vote", self.done("show", "ada").output)
+        self.assertNotIn("No receipt is about", self.done("letters", "receipts").output)
+
     def test_what_is_gone_is_told_once(self) -> None:
         links = self.begun()
         self.click("ada", "1,2,3,4", links["ada"])
