@@ -523,8 +523,10 @@ def letter_clocks(book: Book) -> dict[int, int]:
 
 
 def records_since(book: Book, act: int) -> dict[int, str]:
-    """The records of the box that came since an act: the numbers of their letters, and digests."""
-    words = "SELECT letter, json_extract(known, '$.digest') FROM letter WHERE json_extract(known, '$.link') <> '' AND act > ?"
+    """The records of the box that came since an act, but for fetched ones: the numbers of their letters,
+    and digests.
+    """
+    words = "SELECT letter, json_extract(known, '$.digest') FROM letter WHERE json_extract(known, '$.link') <> '' AND known ->> 'is_fetched' IS NOT 1 AND act > ?"
     return dict(book.rows(words, act))
 
 

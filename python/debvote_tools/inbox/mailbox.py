@@ -105,6 +105,8 @@ class RawLetter:
     link: str = ""
     asked_before: datetime.datetime | None = None
     behind: int = 0
+    # whether it is a record that was fetched with the file of the box
+    is_fetched: bool = False
 
     @functools.cached_property
     def digest(self) -> str:
@@ -178,7 +180,9 @@ def records_of_file(name: str, data: bytes) -> list[RawLetter]:
     found = WHOLE.match(data)
     whole = found[0] if found else b""
     rest = RawLetter(f"{name}, at its end", why_not_read=NotRead.CUT_OFF)
-    return [*(letters_of_file(name, whole) if whole else ()), *([rest] if whole != data else ())]
+    letters = letters_of_file(name, whole) if whole else []
+    fetched = [dataclasses.replace(one, is_fetched=True) for one in letters]
+    return [*fetched, *([rest] if whole != data else ())]
 
 
 def ends_of(sections: Sequence[tuple[bytes, bytes, bytes]]) -> set[int]:

@@ -108,6 +108,10 @@ class Reason(enum.Enum):
         "it came by the page of the vote with a link that is not that of {elector} now: a new address makes a new one, and a book that was put back lacks some",
         LOOKED_AT,
     )
+    FETCHED = (
+        "it is in the file of the box, which others may have changed: run add --box, or enter it if the box does not answer",
+        LOOKED_AT,
+    )
     NOT_THERE_BEFORE = (
         "it is older than {asked}, when the box of the web host was asked and did not have it",
         LOOKED_AT,

@@ -438,8 +438,8 @@ def why_not_in_time(case: LetterCase) -> ReasonWithValues | None:
 
 
 def why_not_from_its_elector(case: LetterCase) -> ReasonWithValues | None:
-    """It comes by the link of its elector; or from an address of theirs, after `call --marked` with the
-    own mark, too.
+    """It comes by the link of its elector, from the box itself; or from an address of theirs, after
+    `call --marked` with the own mark, too.
     """
     sender, elector, circumstances = case.read.sender, case.elector, case.circumstances
     if not (sender or case.read.link):
@@ -447,6 +447,8 @@ def why_not_from_its_elector(case: LetterCase) -> ReasonWithValues | None:
     if case.ballot is None:
         return None
     if elector in case.sharing:
+        if case.read.is_fetched:
+            return Reason.FETCHED()
         if case.read.link or case.has_own_mark or not circumstances.is_marked:
             return None
         return why_not_of_this_vote(case) or Reason.NO_OWN_MARK(elector=elector)

@@ -140,8 +140,7 @@ class Fetched(ElectionTest):
         self.write("box.php", FIRST + "".join(records).encode())
         said = self.done("add", "--yes", "box.php").output
         self.assertIn(
-            "it came from box@page.invalid, but the list of members has ada@club.example for ada",
-            said,
+            "it came by the page of the vote with a link that is not that of ada now", said
         )
         self.assertIn("0 ballots of letters went in; 2 letters wait.", said)
         self.assertEqual(said.count(f"{arrived[:10]} {arrived[11:19]} UTC"), 2)

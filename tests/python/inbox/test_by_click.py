@@ -247,11 +247,35 @@ class Clicks(boxes.BoxElectionTest):
         self.assertTrue(self.read("fetched.php").startswith(FIRST))
         ended = self.done("add", "--yes", "fetched.php")
         self.assertIn("2 new letters", ended.output)
+        self.assertEqual(ended.output.count("it is in the file of the box, which others may have changed"), 2)
         self.assertEqual(self.standing(), {})
+        for text in self.receipts().values():
+            self.assertRegex(text, "A ballot of .* came by the page of the vote, with your link. It is not entered yet: the secretary has to look at it first. If ")
         self.done("held", "1", "--enter", "--force")
-        self.done("add", "--box", "--yes")
+        said = self.done("add", "--box", "--yes").output
+        self.assertNotIn("it has no more", said)
         self.assertEqual(self.standing(), {"ada": "1,2,3,4", "ben": "1,2,3,4"})
         self.assertEqual(self.rows("SELECT count(*) FROM envelope"), [(2,)])
+
+    def test_by_ftp_and_set_aside(self) -> None:
+        """Then it came by the page, too, and not from another address."""
+        links = self.begun()
+        self.click("ada", "1,2,3,4", links["ada"])
+        data = self.file().read_bytes()
+        # whoever has the file has none of another link
+        self.write("fetched.php", data + data.removeprefix(FIRST).replace(links["ada"].encode(), b"2" * 16))
+        self.done("add", "--yes", "fetched.php")
+        self.done("held", "1", "2", "--set-aside")
+        self.done("add", "--box", "--yes")
+        self.assertEqual(self.standing(), {"ada": "1,2,3,4"})
+        text = self.receipts()["ada"]
+        self.assertNotIn("from another address", text)
+        for said in (
+            "It came by the page of the vote. It was read as (ada 1,2,3,4)",
+            "came by the page of the vote, with your link. It was not entered. The reason: the secretary has looked at it, and set it aside.",
+            "A ballot in your name came by the page of the vote, but not with your present link. The secretary has set it aside.",
+        ):
+            self.assertIn(said, text)
 
     def test_order_between_clicks_and_letters(self) -> None:
         links = self.begun()
@@ -902,7 +926,9 @@ class Clocks(unittest.TestCase):
                 self.outcomes(self.record_at("ada", "1,2,3,4", at(10), 0, link)),
                 ["waits: other link"],
             )
-        # the same bytes without the asking are a letter of a stranger
+        # fetched with the file of the box it waits; and the same bytes of a mailbox are a letter of a stranger
+        fetched = dataclasses.replace(self.record_at("ada", "1,2,3,4", at(10), 0), is_fetched=True)
+        self.assertEqual(self.outcomes(fetched), ["waits: fetched"])
         plain = dataclasses.replace(self.record_at("ada", "1,2,3,4", at(10), 0), link="")
         self.assertEqual(self.outcomes(plain), ["waits: other sender"])
 

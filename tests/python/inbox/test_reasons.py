@@ -83,5 +83,5 @@ class Sentences(unittest.TestCase):
         # of letters about a motion (test_motions.py)
         found |= {"word", "word alone", "another answer"}
         # and of records of the box (test_by_click.py)
-        found |= {"other link", "not there before", "clock at the end", "clocks"}
+        found |= {"other link", "fetched", "not there before", "clock at the end", "clocks"}
         self.assertEqual({label(reason()) for reason in Reason} - found, set())
