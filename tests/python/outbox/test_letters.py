@@ -238,6 +238,11 @@ class Paper(OutTest):
         self.done("call")
         self.assertNotIn("Note", self.done("letters", "call").output)
         self.assertIn("The words at the head of this letter say where it goes.", " ".join(self.read(name[2]).decode().split()))
+        # with an address since, a letter that answers none is no answer to the one on paper
+        self.write("members.csv", self.members.replace("Eve,", "Eve,eve@club.example"))
+        self.told("roll", "--yes")
+        self.add(letter("eve", f"> Vote now\n\neve {RANKS}\n", subject=f"Re: {self.written('call')['eve']['Subject']}", time=EARLIER))
+        self.assertEqual((self.numbers()["waiting"], self.stands("eve")), (1, ""))
 
     def test_a_printed_letter_says_who_sends_it_and_where_to_answer(self) -> None:
         """Where the secretary's own words do not begin it."""
