@@ -108,6 +108,9 @@ class Before(CalledTest):
         self.assertIn(f"\n  monday:1: `ada {RANKS}` came before, and ada has voted since (envelope 3)\n", output)
         self.assertNotIn("monday:2", output)
         self.assertEqual(len(self.lines()), 3)
+        # the same ballot in a newer envelope is no change
+        self.told("desk", given=f"ada {RANKS}\n")
+        self.assertNotIn("came before, and", self.assert_ignored(2, 0, name="monday"))
 
     def test_it_was_struck(self) -> None:
         self.told("strike", 1, "--because", "a test")

@@ -146,6 +146,8 @@ class Written(unittest.TestCase):
             # beside a checksum of our letter
             f"On Monday you wrote:\n> ada\n> A 1,2\n> B _,_,_,_\n> C 1,2,3\n>\n>   b9{'d0217c6e' * 7}ab1234  A/poll.toml\n>   {'c1' * 32}": filled,
             "ada\nA _1_,_2_": "waits: filled in (1: ada A 1,2)",
+            "ada\nA _1_,_2_\nB 2,1,3,-": "waits: filled in (1: ada A 1,2 B 2,1,3,-)",
+            "ada\nA 1,2\nB _2_,_1_,3,-": "waits: filled in (1: ada A 1,2 B 2,1,3,-)",
             "ada\nA 1,2\nB _,_,_,_\nC 1,2,3": "waits: filled in (1: ada A 1,2 C 1,2,3)",
             # not quoted, as Outlook leaves them, but for a line that is in no letter of ours
             "ada A 1,2\n\nRules: 1, 2 and 3 are ranks": "in: ada A 1,2",
