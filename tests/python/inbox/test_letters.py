@@ -722,7 +722,9 @@ class Signed(LettersTest):
         self.write("members.csv", f"who,mail,key\n{rows}")
         self.told("roll", "--yes")
         (self.scratch / "ring").write_bytes(self.keys.ring(*names))
-        self.told("call", "--to", "vote@club.example", "--keyring", self.scratch / "ring")
+        without = ", ".join(name for name in elections.NAMES if name not in names)
+        said = self.told("call", "--to", "vote@club.example", "--keyring", self.scratch / "ring")
+        self.assertIn(f"Note: the list of members has no key for {without}; their letters wait.\n", said)
 
     def signed(self, name: str, number: int = 1) -> bytes:
         return letter(name, self.keys.inline(name, f"{name} {RANKS}\n[{self.mark}]\n", "20261123T095000"), number=number)
