@@ -726,6 +726,11 @@ class Signed(LettersTest):
         said = self.told("call", "--to", "vote@club.example", "--keyring", self.scratch / "ring")
         self.assertIn(f"Note: the list of members has no key for {without}; their letters wait.\n", said)
 
+    def test_a_keyring_that_lacks_a_key(self) -> None:
+        (self.scratch / "ring").write_bytes(self.keys.ring("ada"))
+        said = "it lacks the keys that the list of members has for: cleo; nothing was changed: export these keys, too"
+        self.assert_refused(("call", "--keyring", self.scratch / "ring"), 9, said)
+
     def signed(self, name: str, number: int = 1) -> bytes:
         return letter(name, self.keys.inline(name, f"{name} {RANKS}\n[{self.mark}]\n", "20261123T095000"), number=number)
 
