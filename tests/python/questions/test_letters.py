@@ -133,6 +133,12 @@ class Written(unittest.TestCase):
             with self.subTest(text=text, name=name):
                 self.assertEqual([outcome(one) for one in judged(letter(name, text))], [wanted])
 
+    def test_a_letter_of_a_family(self) -> None:
+        """The ballots with real names can be entered by their numbers, too."""
+        [case] = judged(letter("ada", "ada A 1,2\n\nFay Fox A 2,1\n\nFay Fox B B 1,2,3,4\n"))
+        found = {line.number: line.as_entered for line in (*case.ballots, *case.offered)}
+        self.assertEqual((outcome(case), found), ("waits: several electors", {1: "ada A 1,2", 3: "fay A 2,1", 5: "gus B 1,2,3,4"}))
+
     def test_the_lines_of_our_letter(self) -> None:
         filled = "waits: filled in (2: ada A 1,2 C 1,2,3)"
         for text, wanted in {
