@@ -291,6 +291,8 @@ class OfOpenVotes(OfElections):
         wanted = ["No elector has a ballot that counts: nobody's vote has decided this."]
         wanted += ["More than half of the lines of the ballot file are refused: 1 of 1."]
         self.expect("doubts", self.doubts(), [*wanted, "The vote was not closed when this page was made: more ballots may come in."])
+        short = "<summary><strong>3 doubts:</strong> no ballot counts, most lines refused, vote not closed</summary>"
+        self.expect("doubts in short", short in self.page(), True)
         given = [text.text() for text in next(pages.tree_of(self.page()).all("div", "given")).all("p")]
         self.expect("the reason", given[1:], ["A <test>.", "No more."])
         self.expect("it is in the act", [doubt["kind"] for doubt in self.acts()[-1].detail["doubts"]], ["no ballot", "mostly refused", "not closed"])
