@@ -46,9 +46,11 @@ class Reopened(LettersTest):
         self.set_clock("2026-11-25T10:00:00+00:00")
         self.add(letter("ada", OTHER, time="Wed, 25 Nov 2026 09:30:00 +0000"))
         self.assertIn("1 late  ada: ", self.told("held", 1, "--enter"))
-        self.reopen()
+        self.reopen("--in-time", 1)
+        # what is late again `held` enters no second time
+        self.assertNotIn("--enter", self.told("undo", "--yes"))
         self.assertIn("a later ballot of ada, of 2026-11-25 09:30:", self.add(letter("ada", BALLOT, number=2)))
-        self.assertEqual((self.stands("ada"), self.numbers()["waiting"]), ("", 1))
+        self.assertEqual((self.stands("ada"), self.numbers()["waiting"]), ("", 2))
 
     def test_an_older_late_line_after_a_newer_one(self) -> None:
         self.told("close")
