@@ -808,6 +808,9 @@ class OwnMarks(LettersTest):
             self.assertIn(f"line 1: {line}\n", listed)
             self.told("held", number, "--enter", 1)
         self.assertEqual(self.lines()[2:], [f"gus {RANKS}", f"hal {RANKS}", "ida 2,1,3,-"])
+        # the own mark ties its elector to the letter, from whatever address it comes
+        self.add(self.marked("ben", "for the lake", sender="x@y.example", number=3))
+        self.assertIn(f"counted  ben: {LAKE}\n", self.told("held", 10, "--as", f"ben {RANKS}"))
 
 
 class Secret(OwnMarks):
@@ -972,6 +975,16 @@ class RealNames(LettersTest):
 
 class OtherVote(LettersTest):
     """Letters with the mark of another vote: told in a line, shown by their numbers, and entered only by force."""
+
+    def test_the_mark_of_a_call_that_was_taken_back(self) -> None:
+        """It is of this vote: the letter waits."""
+        before = self.mark
+        self.told("call", "--take-back")
+        self.write("poll.toml", elections.POLL.replace("spring", "autumn"))
+        self.told("call")
+        self.assertNotEqual(self.mark, before)
+        said = self.add(letter("ada", f"ada {RANKS}").replace(elections.ANY_MARK.encode(), before.encode()))
+        self.assertEqual((self.numbers()["waiting"], "Letters of other votes" in said), (1, False))
 
     def test_it_is_told_and_entered_by_force(self) -> None:
         mark = "77d0" * 4
