@@ -811,6 +811,9 @@ class OwnMarks(LettersTest):
         # the own mark ties its elector to the letter, from whatever address it comes
         self.add(self.marked("ben", "for the lake", sender="x@y.example", number=3))
         self.assertIn(f"counted  ben: {LAKE}\n", self.told("held", 10, "--as", f"ben {RANKS}"))
+        # a letter from an address of one elector alone waits for nobody else
+        self.add(letter("cleo", "dan is for the lake", number=3))
+        self.assertNotIn("waits on", self.told("held", 11, "--as", f"dan {RANKS}", "--force"))
 
 
 class Secret(OwnMarks):

@@ -220,6 +220,8 @@ class Paper(OutTest):
         page = self.read(name[2]).decode()
         self.assertIn("<bdi>Ada &lt;script&gt;alert(1)&lt;/script&gt; &amp; Söhne</bdi>", page)
         self.assertNotIn("<script>alert", page)
+        # only codes must not lie on somebody's back
+        self.assertNotIn("Print on one side", page)
         # a ballot has what an option needs only where it is more than a plain majority
         ballot = re.findall(r'<span class="rank"></span>\s*([^<]*)</p>', page)[:4]
         self.assertEqual(f"{' '.join(ballot)}", OPTIONS)

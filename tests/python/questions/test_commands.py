@@ -176,6 +176,12 @@ class TakenAway(QuestionsTest):
         self.assertIn("Left out of letter 2: A, since it was entered\n4 counted  ada: B (", said)
         self.assert_refused(["held", "2", "--as", "ada B 1,2,3", "--yes"], 9, "its ballot of ada was entered")
         self.assertIn("The current ballot: ada A 1,2 B 1,2,3: ", self.told("show", "ada"))
+        # why is said once, the later answer first
+        self.told("strike", "4", "--because", "again", "--yes")
+        self.add(letter("ada", "ada A 2,1\n", number=3, time=at(12)))
+        said = self.told("held", "2", "--enter", "--yes")
+        self.assertEqual(said.count("Left out of letter 2: A, since "), 1, said)
+        self.assertIn("Left out of letter 2: A, since ada has a later answer\n", said)
 
     def test_an_answer_that_was_left_out_of_what_was_typed_comes_back(self) -> None:
         """It is to be typed again, as `strike` and `undo` of the later answer say."""
