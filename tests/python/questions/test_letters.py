@@ -111,6 +111,8 @@ class Written(unittest.TestCase):
             "ada A 1,2\n2,1,3,4": stray,
             "ada A 1,2\n-- \nB 2,1,3,4": stray,
             "ada A 1,2\n\nregards\nada B 2,1,3,4": "waits: two ballots",
+            # the name again, below another line that is alone
+            "ada\nA 1,2\nhello\nAda\nB 2,1,3,-": "waits: two ballots",
             # refused, misplaced, or of somebody else
             "ada A 1,2 B 2,1": "waits: no ballot",
             "ada\nA 1,2\nB 2,1": "waits: no ballot",
