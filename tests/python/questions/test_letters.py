@@ -146,7 +146,7 @@ class Written(unittest.TestCase):
         """On one of the questions that the letter answers; on any, if it answers none."""
         for text, ballot, wanted in (("A 1,2", "ada A 2,1", True), ("A 1,2", "ada B 1,2,3,4", False), ("when?", "ada B 1,2,3,4", True)):
             [case] = judged(letter("ada", text), ballots={"ada": [Ballot(at(12), ballot)]})
-            self.assertEqual(case.has_voted_since, wanted, (text, ballot))
+            self.assertEqual(bool(case.voted_since), wanted, (text, ballot))
 
     def test_the_lines_of_our_letter(self) -> None:
         filled = "waits: filled in (2: ada A 1,2 C 1,2,3)"
