@@ -323,7 +323,12 @@ class LetterCase:
     def near(self) -> tuple[Near, ...]:
         """What is told of it. A letter that a program wrote quotes others, so nothing is."""
         is_told = not self.ballots and not self.is_automatic
-        told = {number for line in self.offered for number in line.numbers} & {*self.read.strays}
+        told = {
+            number
+            for line, why in self.offered.items()
+            for number in line.numbers
+            if why is Reason.REAL_NAME or number in self.read.strays
+        }
         near = (one for one in self.every_near if is_told and one.number not in told)
         return tuple(near)
 

@@ -1076,7 +1076,7 @@ class RealNames(LettersTest):
 
     def test_a_line_with_the_name_of_two(self) -> None:
         self.add(letter("dan", f"Ben Blum {RANKS}\n"))
-        self.assertIn(f"\nline 1: ben {RANKS}\nline 1: cleo {RANKS}\n", self.told("held", 1))
+        self.assertIn(f"\nline 1: ben {RANKS}\nline 1: cleo {RANKS}\n1 letter waits.\n", self.told("held", 1))
         for lines in ((), (1,)):
             said = "letter 1: line 1 has the name of ben and cleo; nothing was changed: if you know whose it is, type it with --as LINE"
             self.assert_refused(("held", 1, "--enter", *lines, "--force"), 9, said)
