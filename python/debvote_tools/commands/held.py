@@ -171,9 +171,14 @@ class Chosen(NamedTuple):
 
     def left_of(self, line: BallotLine, in_time: InTime) -> tuple[str, set[str], set[str]]:
         """A ballot without the answers that were entered, and without those to which its elector has later
-        ones; and the labels of both.
+        ones; and the labels of both. What is typed is not entered yet if it says something else.
         """
-        done = {label for _, label in line.answers & self.entered.keys()}
+        entered = self.entered
+        done = {
+            label
+            for name, label in line.answers & entered.keys()
+            if line.number or not differ(line.as_entered, entered[name, label].line)
+        }
         later = answered_since(self.letter, line.as_entered, in_time) - done
         return without(line.as_entered, later | done), done, later
 
@@ -296,7 +301,7 @@ def named_lines(letter: LetterCase, enter: Sequence[str], *, is_one: bool) -> li
     lines = [*dict.fromkeys((*letter.offered, *letter.ballots))]
     texts = [text.strip() for text in ",".join(enter).split(",")]
     if is_the_one := texts == [THE_ONE]:
-        lines = [line for line in lines if letter.left_in(line)] or lines
+        lines = [line for line in lines if letter.left_in(line.as_entered)] or lines
     there = grouped((str(line.number), line) for line in lines)
     if is_the_one:
         demand_one_line(letter, there, is_one=is_one)

@@ -7,7 +7,7 @@ import collections
 import datetime
 import itertools
 import operator
-from collections.abc import Callable, Collection, Iterable, Iterator, Mapping, Sequence
+from collections.abc import Callable, Collection, Iterable, Iterator, Mapping, Sequence, Set
 
 from debvote_tools.book import queries
 from debvote_tools.book.election import BOX_KEY, KEYRING, History
@@ -21,7 +21,7 @@ from debvote_tools.inbox.rules import Circumstances, LetterCase, LetterOutcome
 from debvote_tools.inbox.vote import Vote
 from debvote_tools.poll.call import SUBJECT, call_letter, current_call
 from debvote_tools.text import times
-from debvote_tools.text.ballots import answers_of, differ, without
+from debvote_tools.text.ballots import answers_of, differ
 from debvote_tools.text.language import ENGLISH
 
 # what an act decided holds, whatever the rules say, unless part of what was entered is left
@@ -188,32 +188,32 @@ def decided(case: LetterCase) -> Judgement:
     """
     if not case.left or case.state not in (queries.ENTERED, queries.STRUCK):
         return DECIDED[case.state]
-    having = {one.elector for one in case.standing}
-    labels = grouped(
-        (one.partition(" ")[0], label) for one in case.left for label in answers_of(one) or [""]
-    )
+    having, labels = {one.elector for one in case.standing}, grouped(sorted(case.left))
     names = [name for name in labels if name not in having]
     rest = [f"a ballot of {ENGLISH.joined(names)}"] if names else []
     rest += (
-        f"the answer of {name} to {ENGLISH.joined(sorted(its))}"
-        for name, its in labels.items()
+        f"the answer of {name} to {ENGLISH.joined(labels[name])}"
+        for name in labels
         if name in having
     )
     return LetterOutcome.WAITS, Reason.NOT_ENTERED(rest=ENGLISH.joined(rest))
 
 
-def what_is_left(case: LetterCase, in_time: InTime) -> list[str]:
-    """The answers of a letter that are left when ballots of it were entered by hand, as ballots: of an elector of
-    whom some were, those to which they have no later one; a late one counts for nothing, so it is none.
+def what_is_left(case: LetterCase, in_time: InTime) -> Set[tuple[str, str]]:
+    """The answers of a letter that are left when ballots of it were entered by hand: of an elector of whom
+    some were, those to which they have no later one.
     """
     if case.left_out is None:
-        return []
-    having, found = {one.elector for one in case.standing}, list[str]()
-    for ballot in case.not_entered:
-        elector, _, _ = ballot.partition(" ")
-        later = answered_since(case, ballot, in_time) if elector in having else ()
-        found.append(without(ballot, later) if later else ballot)
-    return [*filter(None, found)]
+        return frozenset()
+    having = {one.elector for one in case.standing}
+    ballots = (*(line.as_entered for line in (*case.ballots, *case.likely)), *case.left_out)
+    return case.not_entered.difference(
+        *(
+            {(name, label) for label in answered_since(case, ballot, in_time)}
+            for ballot in ballots
+            if (name := ballot.partition(" ")[0]) in having
+        )
+    )
 
 
 def last_answers(ballots: Iterable[Ballot]) -> dict[str, Ballot]:
@@ -278,9 +278,8 @@ def has_voted_since(
     some are left only these are asked about.
     """
     its = last.get(elector, {})
-    ballots = case.left or [line.as_entered for line in (*case.ballots, *case.offered)]
-    lines = [one for one in ballots if one.partition(" ")[0] == elector]
-    if case.left and not lines:
+    lines = [line.as_entered for line in (*case.ballots, *case.offered) if line.elector == elector]
+    if case.left and not (lines := [*filter(None, map(case.left_in, lines))]):
         return None
     labels = {label for ballot in lines for label in answers_of(ballot)} or its.keys()
     pairs = [(line, [its[label]]) for line in lines or [""] for label in labels & its.keys()]

@@ -14,13 +14,7 @@ from debvote_tools.inbox.reasons import for_secretary
 from debvote_tools.inbox.vote import IS_CODE, Vote
 from debvote_tools.text.ballots import without
 from debvote_tools.text.language import ENGLISH
-from debvote_tools.poll.sealed import OWN_LENGTH, OWN_SIGNS
 
-# in the place of the third part of a personal link, with which somebody could vote
-LINK, LEFT_OUT = (
-    re.compile(rf"(/[{OWN_SIGNS}]{{{OWN_LENGTH}}}/)\w+", re.IGNORECASE),
-    r"\1..",
-)
 # how many attachments are named
 MAX_ATTACHMENTS = 5
 READ_THESE = "Read these: they have other words, or more to look at."
@@ -158,11 +152,10 @@ def why(letter: LetterCase, elector: str = "") -> str:
 def near_words(letter: LetterCase) -> Iterator[str]:
     for line in (*letter.ballots, *letter.offered):
         left = without(line.as_entered, letter.answered_since[line.as_entered]) or line.as_entered
-        if shown := letter.left_in(line) if letter.left else left:
+        if shown := letter.left_in(line.as_entered) if letter.left else left:
             yield f"line {line.number}: {shown}"
-    for ballot in letter.left:
-        if any(one.is_typed and ballot.startswith(f"{one.elector} ") for one in letter.standing):
-            yield f"left out of what was typed: {ballot}"
+    for typed in filter(None, map(letter.left_in, letter.left_out or ())):
+        yield f"left out of what was typed: {typed}"
     for near in letter.near:
         within = ", within other words" if near.is_within else ""
         why = near.answer or "a ballot, but not alone on its line"
@@ -196,7 +189,7 @@ def whole(letter: LetterCase) -> Iterator[str]:
             yield f"      .. {count} of a letter of ours, which it quotes"
             continue
         for number in numbers:
-            yield f"{number:4}  {shown_line(LINK.sub(LEFT_OUT, lines[number - 1]).encode())}"
+            yield f"{number:4}  {shown_line(lines[number - 1].encode())}"
     if letter.outcome is LetterOutcome.ENTERED:
         yield "It was entered."
     elif letter.reason is not None:
@@ -277,4 +270,4 @@ def other_words(letter: LetterCase) -> str:
         return words != [""] and not is_usual and not TELEPHONE.fullmatch(line)
 
     own = (line for index, line in enumerate(lines[: above_end(lines)]) if index not in left_out)
-    return shown_text(LINK.sub(LEFT_OUT, " ".join(filter(says_something, map(str.strip, own)))))
+    return shown_text(" ".join(filter(says_something, map(str.strip, own))))

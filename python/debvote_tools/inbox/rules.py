@@ -14,7 +14,7 @@ import functools
 import itertools
 import re
 import unicodedata
-from collections.abc import Collection, Mapping, Sequence
+from collections.abc import Collection, Mapping, Sequence, Set
 
 from debvote_tools.book import queries
 from debvote_tools.book.queries import Elector, EnteredBallot, KeptLetter
@@ -33,7 +33,7 @@ from debvote_tools.inbox.reasons import Reason, ReasonWithValues
 from debvote_tools.inbox.written import GAP, UNFILLED
 from debvote_tools.poll.box import third_part
 from debvote_tools.poll.sealed import MARKS, marks_in
-from debvote_tools.text.ballots import answers_in, answers_of, without
+from debvote_tools.text.ballots import answers_in, without
 from debvote_tools.text.motions import Words, may_answer, words_in
 
 # how far the clock of a mail server or of an elector may be ahead
@@ -140,6 +140,15 @@ class Circumstances:
             for key in dict.fromkeys(filter(None, map(address_key, elector.addresses)))
         )
 
+    def senders_of(self, letter: ReadLetter) -> list[str]:
+        """The electors who have the sender's address; of a record the one on it, if the link is theirs."""
+        if not letter.link:
+            return self.electors_by_address.get(letter.sender, [])
+        name = next(iter(letter.shown_lines), "").partition(" ")[0]
+        elector = self.electors.get(name)
+        is_theirs = elector and letter.link == third_part(self.box_key, name, elector.mark)
+        return [name] if is_theirs else []
+
 
 # ---- a letter
 class LetterCase:
@@ -154,10 +163,10 @@ class LetterCase:
     # of each ballot of it the labels of the answers to which its elector has later ones
     answered_since: Mapping[str, Collection[str]] = {}
     # the ballots of it that were entered; if some were by hand, of what was typed the answers that were
-    # left out, else None; and the answers for which it waits on: both as ballots
+    # left out, as ballots, else None; and the answers for which it waits on, as in `not_entered`
     entered: Sequence[EnteredBallot] = ()
     left_out: Sequence[str] | None = None
-    left: Sequence[str] = ()
+    left: Set[tuple[str, str]] = frozenset()
 
     def __init__(
         self, letter: ReadLetter, circumstances: Circumstances, kept: KeptLetter = NOT_KEPT
@@ -167,9 +176,9 @@ class LetterCase:
         self.number, self.source = kept.number, kept.source
         # the lines with what looks like a code or an alias, if they are told
         self.code_lines = letter.code_lines if circumstances.tells_codes else ()
-        # the electors who have the sender's address, and the one whose own mark the subject has. A
-        # subject with several, or with that of nobody, counts as one with the poll's mark alone
-        self.sharing = circumstances.electors_by_address.get(letter.sender, [])
+        # the electors who may have sent it, and the one whose own mark the subject has. A subject with
+        # several, or with that of nobody, counts as one with the poll's mark alone
+        self.sharing = circumstances.senders_of(letter)
         owns = {own for mark, own in letter.marks if own and mark == circumstances.mark}
         self.marked_elector = circumstances.electors_by_mark.get(*owns) if len(owns) == 1 else None
         self.is_automatic = letter.is_automatic or (is_server(letter.sender) and not self.sharing)
@@ -367,39 +376,30 @@ class LetterCase:
         """The ballots of it that were entered, also if they were struck, and not taken back."""
         return [one for one in self.entered if not one.is_taken_back]
 
-    def without_entered(self, ballot: str) -> str:
-        """A ballot of it without the answers that were entered; empty if none is left."""
-        elector, _, _ = ballot.partition(" ")
-        done = (one.line for one in self.standing if one.elector == elector)
-        return without(ballot, {label for line in done for label in answers_of(line)})
-
     @functools.cached_property
-    def not_entered(self) -> list[str]:
-        """Its answers that were not entered, as ballots; of an elector whose ballot has to be typed the name alone.
-        What was typed takes the place of the lines of its elector; and once something was, each of those
-        who share the sender's address has a ballot in it.
+    def not_entered(self) -> set[tuple[str, str]]:
+        """Its answers that were not entered, each as elector and label, which is empty of a ballot that has to
+        be typed. What was typed takes the place of the lines of its elector; and once something was, each of
+        those who share the sender's address has a ballot in it.
         """
-        done, every = {one.elector for one in self.standing}, (*self.ballots, *self.likely)
+        having, every = {one.elector for one in self.standing}, (*self.ballots, *self.likely)
         # a line that may be of several is of the one whose ballot was entered
-        known = {one.numbers: one.elector for one in every if one.elector in done}
+        known = {one.numbers: one.elector for one in every if one.elector in having}
         typed = {one.elector for one in self.standing if one.is_typed}
         lines = [
             one
             for one in every
             if one.elector not in typed and known.get(one.numbers, one.elector) == one.elector
         ]
-        ballots = (*(one.as_entered for one in lines), *(self.left_out or ()))
-        found = dict.fromkeys(filter(None, map(self.without_entered, ballots)))
         is_shared = len(self.sharing) > 1 and any(one.is_typed for one in self.entered)
-        having = {one.elector for one in lines} | done
-        return [*found, *(name for name in self.sharing if is_shared and name not in having)]
+        others = {*self.sharing} - having - {one.elector for one in lines} if is_shared else ()
+        given = (*(one.answers for one in lines), *map(answers_in, self.left_out or ()))
+        done = itertools.chain.from_iterable(one.answers for one in self.standing)
+        return {(name, "") for name in others}.union(*given).difference(done)
 
-    def left_in(self, line: BallotLine) -> str:
-        """A line of it with the answers for which it waits on; empty if there are none."""
-        left = {
-            label for one in self.left for name, label in answers_in(one) if name == line.elector
-        }
-        return without(line.as_entered, answers_of(line.as_entered).keys() - left)
+    def left_in(self, ballot: str) -> str:
+        """A ballot of it with the answers for which it waits on; empty if there are none."""
+        return without(ballot, {label for _, label in answers_in(ballot) - self.left})
 
     @property
     def is_decided(self) -> bool:
@@ -438,14 +438,6 @@ class LetterCase:
         """Whether it is known to have arrived after the end or the first close."""
         return self.arrived_after(*self.circumstances.ends)
 
-    def is_from(self, name: str) -> bool:
-        """Whether it came from an address of an elector, or by their link."""
-        now, link = self.circumstances, self.read.link
-        if not link:
-            return name in self.sharing
-        elector = now.electors.get(name)
-        return elector is not None and link == third_part(now.box_key, name, elector.mark)
-
     @property
     def arrived_in_time(self) -> bool:
         """Whether nobody knows that it came too late; nor before the call, unless it has the mark of
@@ -456,12 +448,12 @@ class LetterCase:
 
     @property
     def sending_elector(self) -> str | None:
-        """The only elector who has the sender's address."""
+        """The only elector who may have sent it."""
         return self.sharing[0] if len(self.sharing) == 1 else None
 
     @functools.cached_property
     def electors(self) -> tuple[str, ...]:
-        """The electors on its ballots, or near to one; else the one who has the sender's address."""
+        """The electors on its ballots, or near to one; else the one who sent it."""
         named = [line.elector for line in (*self.ballots, *self.offered)]
         near = (near.ballot.partition(" ")[0] for near in self.every_near)
         named += [name for name in near if name in self.circumstances.electors]
@@ -512,15 +504,17 @@ def why_not_in_time(case: LetterCase) -> ReasonWithValues | None:
 
 
 def why_not_from_its_elector(case: LetterCase) -> ReasonWithValues | None:
-    """It comes by the link of its elector; or from an address of theirs, after `call --marked` with the
-    own mark, too.
+    """It comes by the link of its elector, from the box itself; or from an address of theirs, after
+    `call --marked` with the own mark, too.
     """
     sender, elector, circumstances = case.read.sender, case.elector, case.circumstances
     if not (sender or case.read.link):
         return Reason.NO_SENDER(sender=case.read.shown_sender)
     if case.ballot is None:
         return None
-    if case.is_from(elector):
+    if elector in case.sharing:
+        if case.read.is_fetched:
+            return Reason.FETCHED()
         if case.read.link or case.has_own_mark or not circumstances.is_marked:
             return None
         return why_not_of_this_vote(case) or Reason.NO_OWN_MARK(elector=elector)

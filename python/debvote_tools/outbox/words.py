@@ -9,7 +9,7 @@ import dataclasses
 import datetime
 import functools
 import re
-from collections.abc import Collection, Iterator, Mapping, Sequence
+from collections.abc import Iterator, Sequence
 
 from debvote_tools.book.queries import Elector
 from debvote_tools.inbox.rules import LetterOutcome
@@ -18,7 +18,7 @@ from debvote_tools.inbox.reasons import for_elector
 from debvote_tools.poll.announced import address_in
 from debvote_tools.poll.call import CallData
 from debvote_tools.poll.plain_names import without_accents
-from debvote_tools.text.ballots import answers_in, faults_of
+from debvote_tools.text.ballots import faults_of
 from debvote_tools.text.language import marked
 from debvote_tools.text.rendering import one_line, render_letter
 from debvote_tools.text.times import time_in_words
@@ -230,11 +230,10 @@ class Composer:
                 for line in fate.letter.near
                 for fault in faults(line.answer, name, language, is_within=line.is_within)
             )
-            why, _, advice = language.say(for_elector(fate.letter.reason)).partition(". ")
-            # after the end nobody is asked to send it better
-            sentences.append(
-                f"{why}. {advice}" if advice and not self.is_over else f"{why.rstrip('.')}."
-            )
+            if reason := for_elector(fate.letter.reason):
+                told = language.say(reason)
+                # after the end nobody is asked to send it better
+                sentences.append(f"{told.split('. ')[0].rstrip('.')}." if self.is_over else told)
             sentences += dict.fromkeys(near)
         elif fate.became == REFUSED:
             sentences += faults(fate.why_refused, name, language)
@@ -245,10 +244,9 @@ class Composer:
         language, letter, envelope = self.call_data.language, fate.came_by, fate.envelope
         left, left_out = list[str](), list[str]()
         if letter is not None and envelope is not None and not envelope.is_struck:
-            left, others = (
-                labels_in(ballots, name) for ballots in (letter.left, letter.not_entered)
-            )
-            left_out = [label for label in others if label not in left]
+            left = sorted(label for one, label in letter.left if one == name)
+            others = letter.not_entered - letter.left
+            left_out = sorted(label for one, label in others if one == name)
         for said, labels in ((NOT_ALL, fate.replaced), (LEFT_OUT, left_out), (LEFT, left)):
             if labels:
                 named = list(map(self.call_data.questions.titled, labels))
@@ -264,13 +262,6 @@ class Composer:
         line = fate.envelope.line if fate.envelope and fate.why_refused is not None else b""
         is_quoted = self.call_data.questions.is_several or QUOTED.fullmatch(line)
         return f"|{line.decode()}" if line and is_quoted else ""
-
-
-def labels_in(ballots: Sequence[str], name: str) -> list[str]:
-    """The labels of the answers in those ballots that are an elector's, in their order."""
-    return sorted(
-        {label for one in ballots for elector, label in answers_in(one) if elector == name}
-    )
 
 
 def is_on_paper(elector: Elector) -> bool:

@@ -82,6 +82,8 @@ class Held(QuestionsTest):
         self.assertIn("letter 1 waits on; not entered yet: the answer of ada to B\n", self.told("held", "1", "--enter", "1", "--yes"))
         self.assertRegex(self.told("held"), r"not entered yet: the answer of ada to B\n +line 5: ada B 1,2,3\n +other words")
         self.assert_refused(["close", "--early"], 9, "these letters arrived in time, and wait: 1;")
+        said = "letter 1: its ballot of ada was entered; nothing was changed: to enter another one in its place, run debvote-election strike 1 --because TEXT first"
+        self.assert_refused(["held", "1", "--as", "ada A 2,1 B 1,2,3", "--yes"], 9, said)
         self.assertIn("2 counted  ada: B (", self.told("held", "1", "--enter", "--yes"))
         for _ in range(2):
             self.done("undo", "--yes")
@@ -198,6 +200,12 @@ class TakenAway(QuestionsTest):
         self.assertIn("Left out of letter 2: A, since it was entered\n4 counted  ada: B (", said)
         self.assert_refused(["held", "2", "--as", "ada B 1,2,3", "--yes"], 9, "its ballot of ada was entered")
         self.assertIn("The current ballot: ada A 1,2 B 1,2,3: ", self.told("show", "ada"))
+        # why is said once, the later answer first
+        self.told("strike", "4", "--because", "again", "--yes")
+        self.add(letter("ada", "ada A 2,1\n", number=3, time=at(12)))
+        said = self.told("held", "2", "--enter", "--yes")
+        self.assertEqual(said.count("Left out of letter 2: A, since "), 1, said)
+        self.assertIn("Left out of letter 2: A, since ada has a later answer\n", said)
 
     def test_an_answer_that_was_left_out_waits_whatever_became_of_the_others(self) -> None:
         """It stops the close. One that was struck was entered, and is none that was left out."""
@@ -306,6 +314,20 @@ class Told(QuestionsTest):
         self.done("letters", "receipts")
         self.assertIn("It was read as ada (B 1,2,3)", self.last_receipt())
         self.assertNotIn("not entered", self.last_receipt())
+
+    def test_receipts_say_what_was_left_out_of_a_letter_of_two(self) -> None:
+        """To her of whom it is, also if her ballot came late, and is entered anew."""
+        close = ("close", "--early", "--force", "--because", "x", "--yes")
+        self.done(*close)
+        self.set_clock("2026-11-25T10:00:00+00:00")
+        self.done("reopen", "--because", "a slow server")
+        self.add_lines("ada B 3,2,1", words=["--came-before-close", "yes"])
+        self.add(letter("ada", "as listed, and ben too\n", time="Wed, 25 Nov 2026 09:30:00 +0000"))
+        self.done("held", "1", "--as", "ada A 1,2 B 1,2,3", "--as", "ben A 2,1", "--force", "--yes")
+        self.done(*close)
+        self.done("reopen", "--in-time", "2", "3", "--because", "a slow server")
+        texts = self.letters("receipts")
+        self.assertEqual({name: text.count("These of its answers were not entered") for name, text in texts.items()}, {"ada": 2, "ben": 0})
 
     def test_who_has_answered_one_question_is_not_reminded(self) -> None:
         self.add_lines("ada B 1,2,3", "ben B 1,2", words=["--force"])
