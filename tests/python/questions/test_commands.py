@@ -256,8 +256,9 @@ class TakenAway(QuestionsTest):
 
     def test_what_was_typed_stays_so_when_it_is_entered_anew(self) -> None:
         """Nothing of the letter's own line is entered beside it or in its place."""
-        self.done("close", "--early", "--force", "--because", "x", "--yes")
+        self.done("call", "--until", "2026-11-25 09:20", "--zone", "UTC")
         self.set_clock("2026-11-25T10:00:00+00:00")
+        self.done("close", "--force", "--because", "x", "--yes")
         self.add(letter("ada", "ada A 2,1 B 1,2,3\n\nNo, the other way round, and nothing on the chair.\n", time="Wed, 25 Nov 2026 09:30:00 +0000"))
         self.done("held", "1", "--as", "ada A 1,2", "--yes")
         self.done("reopen", "--in-time", "1", "--because", "a slow server")
