@@ -347,6 +347,8 @@ class Secret(CallTest):
         self.assertEqual(len(codes), 9)
         for text in (ended.output, self.texts(), self.done("status").output, self.done("status", "--json").output, self.done("log").output):
             self.assertFalse(codes & set(re.findall(r"[2-9a-hjkmnp-z]{10}", text)))
+        # nobody knows to whom one would go
+        self.assertNotIn("receipt", self.texts())
         self.assertIsNone(json.loads(self.done("status", "--json").output)["without_ballot"])
         # they lapse with the call
         self.assertIn("then run debvote-election roll\n", self.done("call", "--take-back").output)
