@@ -190,10 +190,13 @@ class Letters(CallTest):
     def test_with_marks_alone(self) -> None:
         told = self.done("call", *UNTIL, "--to", "vote@club.example", "--at", "https://club.example/vote/", "--marked").output
         self.assertIn("A letter goes in by itself only with the own mark of its elector.\n", told)
-        said = "Open the link in your letter, or answer that letter: then the subject has your own mark"
-        self.assertIn(said, " ".join(self.texts().split()))
         self.done("call", "--marked", "--until", "2026-12-05 18:00")
         self.assertIs(self.announced("marked"), True)
+        # a letter with the mark of the poll alone would wait
+        for name in ("call/index.html", "call/call.txt", "letters/extension.txt"):
+            text = " ".join(self.read(name).decode().split())
+            self.assertIn("Open the link in your letter, or answer that letter: then the subject has your own mark", text, name)
+            self.assertNotIn("in a letter whose subject ends with", text, name)
         self.done("call", "--take-back")
         self.done("call", *UNTIL, "--to", "vote@club.example")
         self.assertNotIn("your own mark", " ".join(self.texts().split()))
