@@ -165,8 +165,11 @@ class OpenTest(PublishedTest):
         self.assertIn("as it was published before", self.publish())
         self.assertEqual((self.contents(), self.last_act()), (before, act))
         # a casting vote that was another one is doubtful where it was
-        ended = self.election("publish", "--casting", "B=Mary Somerville", "--casting", "C=Tiles", *CAST)
-        self.assert_fault(ended, 9, "question C: an earlier publication has a casting vote for Slate")
+        again = f"--casting 'B=Mary Somerville' --cast-by '{CAST[1]}' --cast-on {CAST[3]} --casting C=Slate --cast-by"
+        for words in (("B=Mary Somerville",), ("B=Mary Somerville", "--casting", "C=Tiles")):
+            ended = self.election("publish", "--casting", *words, *CAST)
+            self.assert_fault(ended, 9, "question C: an earlier publication has a casting vote for Slate", again)
+        self.assertEqual(self.election("publish", "--language", "fr").faults.count(again), 2)
         self.publish("--casting", "B=Mary Somerville", "--casting", "C=Tiles", *CAST, "--force", "--because", "it was noted wrongly")
         self.assertEqual(self.doubted(), ["C"])
         self.assertIn("Made the folder", self.publish())

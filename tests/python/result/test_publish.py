@@ -434,16 +434,20 @@ class OfOpenVotes(OfElections):
         self.expect("on the page", said in self.sections()["Result"].text(), True)
         won = "Winner: Option 1: 72 Euro by casting vote. Option 1: 72 Euro against Option 2: Größe: 1 to 1."
         self.expect("in the letter", [text in self.letter().replace("\n", " ") for text in (said, won)], [True, True])
-        self.stops("publish", "--casting", "Groesse", *cast, said=["an earlier publication has a casting vote for 72 Euro"])
+        earlier = ["an earlier publication has a casting vote for 72 Euro", "publish --casting '72 Euro' --cast-by 'Anna <b>' --cast-on 2026-11-20"]
+        for words in (("--casting", "Groesse", *cast), ("--language", "fr")):
+            self.stops("publish", *words, said=earlier)
         self.reopened_with("cleo 1,2,3\n")
         self.replace("--casting", "72 Euro", *cast, "--language", "en")
         texts = (self.sections()["Result"].text(), self.letter())
         self.expect("one that decides nothing is not told", ["casting vote" in text for text in texts], [False, False])
         self.reopened_with("dan 2,1,3\n")
         self.replace("--casting", "Groesse", *cast, "--force", "--because", "She had meant this", "--language", "en")
-        self.expect("another casting vote", self.doubts(), ["An earlier result of this vote was published with another casting vote, for 72 Euro."])
+        self.expect("another casting vote", self.doubts(), ["An earlier result of this vote was published with a casting vote for 72 Euro."])
         self.expect("the letter says whom it chose", "Winner: Option 2: Größe by casting vote" in self.letter(), True)
         self.expect("and again", "as it was published before" in self.say("publish"), True)
+        self.replace("--force", "--because", "It was none", "--language", "en", status=1)
+        self.expect("one that is left out", self.doubts(), ["An earlier result of this vote was published with a casting vote for Größe."])
 
     @FORKED
     def test_a_publication_that_is_killed_after_its_act(self):
