@@ -19,6 +19,7 @@ from debvote_tools.result.folder import NewFolder, beside
 
 from tests.support import elections, expecting, page_parts as pages
 from tests.support.called import CalledTest
+from tests.support.terminal import Terminal
 
 POLL = """title = "Wo wir uns treffen: Größe"
 options = ["72 Euro", "Größe"]
@@ -642,6 +643,10 @@ class OfSecretVotes(OfElections):
         self.say("publish", status=1)
         # that of Zoë has the same order, which is published as it was; that of Ada has another one
         self.add("cleo 1,2,3\nzoe-mueller 5,4,6\nada-lovelace 2,1,3\n")
+        terminal = Terminal(self, "reopen", "--because", "Cleo's letter")
+        terminal.until("because: Cleo's letter? Only the log tells this reason. [y/n] ")
+        terminal.type("n\n")
+        self.expect("it is asked", terminal.end()[1], 9)
         self.say("reopen", "--because", "Cleo's letter", "--in-time", "6", "7", "8")
         self.say("close")
         self.stops("publish", "result-2", said=["a comparison with the earlier result shows how these voted: ada-lovelace, cleo"], folder="result-2")
