@@ -23,7 +23,15 @@ from debvote_tools.book.election import (
 )
 from debvote_tools.poll.box import SCRIPT, records_file
 from debvote_tools.poll.questions import Questions
-from debvote_tools.files import OWN, locked, read_text, uninterrupted, write_made
+from debvote_tools.files import (
+    OWN,
+    left_beside,
+    locked,
+    read_text,
+    real_place,
+    uninterrupted,
+    write_made,
+)
 from debvote_tools.inbox.stopping import Pending, pending_letters
 from debvote_tools.cli.faults import Fault, bad_words
 from debvote_tools.text.language import LANGUAGES
@@ -193,13 +201,14 @@ def demand_place(target_folder: pathlib.Path, history: History) -> None:
     another election, stays. After a run that was killed, its folder is beside the place, which has
     what was published before.
     """
-    place = folder.real_place(target_folder)
+    place = real_place(target_folder)
     folder.demand_outside(target_folder)
     if folder.is_free(place):
         return
     sums = [act.detail["checksums"][CHECKSUMS] for act in history.publications]
     was_killed = sums and any(
-        folder.is_publication(beside, sums[-1]) for beside in folder.left_beside(place)
+        folder.is_publication(beside, sums[-1])
+        for beside in left_beside(place, folder.BESIDE_PLACE)
     )
     if any(folder.is_publication(place, sum) for sum in sums[-2 if was_killed else -1 :]):
         return
