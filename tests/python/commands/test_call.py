@@ -76,10 +76,10 @@ class Open(CallTest):
         self.write("poll.toml", elections.POLL.replace("quorum = 1", "quorum = 99"))
         self.write("letter.txt", b"\xff")
         self.write("members.csv", elections.members_of(elections.NAMES[1:]))
-        ended = self.election("call", "--until", "2026-11-01 18:00", "--to", "nobody", "--at", "file:///etc")
+        ended = self.election("call", "--until", "2026-11-01 18:00", "--to", "nobody", "--at", "file:///etc", "--keyring", "nofile")
         self.assertEqual(ended.status, 2)
-        parts = ["is past", "--to: it must be one mail address", "--at: it must be", "since roll read it", "letter.txt:1: ", "quorum: "]
-        self.assertEqual([part in line for part, line in zip(parts, ended.faults.splitlines(), strict=True)], [True] * 6, ended.faults)
+        parts = ["is past", "--to: it must be one mail address", "--at: it must be", "nofile: No such file", "since roll read it", "letter.txt:1: ", "quorum: "]
+        self.assertEqual([part in line for part, line in zip(parts, ended.faults.splitlines(), strict=True)], [True] * 7, ended.faults)
         self.assertFalse((self.folder / "call").exists())
 
 

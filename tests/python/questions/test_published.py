@@ -220,10 +220,11 @@ class OpenTest(PublishedTest):
         votes = ("--casting", "C=Tiles", "--casting", "B=Ada Lovelace")
         ida, ben = ("--cast-by", "Ida", "--cast-on", "2026-11-23"), ("--cast-by", "Ben", "--cast-on", "2026-11-24")
         act, how = self.last_act(), "nothing was published: give it once for all, or once for each --casting, in their order"
+        three = self.election("publish", *votes, *ida, *ben, *ida).faults.splitlines()
+        self.assertEqual(three, [f"debvote-election: {one}: 3 are given, and of --casting 2; {how}" for one in ("--cast-by", "--cast-on")])
         for words, said in (
-            ((*votes, *ida, *ben, *ida), f"--cast-by: 3 are given, and of --casting 2; {how}"),
             ((*votes, *ida, *ben[2:], *ben[2:]), f"--cast-on: 3 are given, and of --casting 2; {how}"),
-            ((*votes[:2], *ida, *ben), f"--cast-by: 2 are given, and of --casting 1; {how}"),
+            ((*votes[:2], *ida, *ben[:2]), f"--cast-by: 2 are given, and of --casting 1; {how}"),
             ((*votes, *ida[:2], *ben[:2]), "say it with --cast-by"),
             ((*votes, *ida, "--cast-by", "Ben", "--cast-on", "2999-01-01"), "--cast-on: 2999-01-01 is in the future"),
         ):

@@ -388,6 +388,9 @@ class OfOpenVotes(OfElections):
             self.write("about", data)
             self.stops("publish", "--about", "about", said=[said], status=2)
         self.stops("publish", "--about", "none", said=["none: No such file or directory"], status=2)
+        wrong = ("--casting", "xx", "--cast-by", '"', "--cast-on", "tomorrow", "--about", "none", "--force", "--because", "\u202e")
+        all_wrong = ["--cast-by: it must be a name", "`tomorrow` is not a day", "U+202E", "none: No such file or directory", "--casting=xx: no option"]
+        self.stops("publish", *wrong, said=all_wrong, status=2)
         for text, said in [("a\u202eb", "the text has the character U+202E"), ("x" * 2001, "the text has 2001 characters; at most 2000 are allowed")]:
             self.stops("publish", "--force", "--because", text, said=[f"--because: {said}"], status=2)
         (self.folder / "about").write_bytes(b"\xef\xbb\xbfOne\r\n\r\n\xd7\x93 <i>two</i>\r\n")
