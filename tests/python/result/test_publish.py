@@ -593,7 +593,8 @@ class OfSecretVotes(OfElections):
         self.say("publish", "--force", "--yes", status=1)
         self.expect("the act keeps what was agreed to", self.acts()[-1].detail["agreed"], [hashlib.sha256(b"of <Ada>").hexdigest()])
         self.say("publish", "--language", "fr", status=1)
-        self.write("about", f"x {queries.electors(self.book)[0].code}\n")
+        code = queries.electors(self.book)[0].code
+        self.write("about", f"x {code[:16]}\n{code[16:].upper()}\n")
         self.stops("publish", "--about", "about", "--yes", said=["index.html would have the code of an elector in it"])
 
     def test_texts_of_options_are_asked_for_before_the_call(self):
