@@ -203,6 +203,9 @@ def try_made(folder, count, names):
     for number, text in names.items():
         shown = f"<bdi>{pages.escaped(text)}</bdi>" if number else f'<h1 dir="auto">{pages.escaped(text)}</h1>'
         demand(shown in page, f"name of {number}")
+    # on paper a table is never larger than the text around it, and smaller only if it has many columns
+    [size] = re.findall(r"@media print \{ table \{ font-size: ([\d.]+)rem; \} \}", page)
+    demand(float(size) == 1 if len(count.poll.names) < 10 else float(size) <= 1, f"the table on paper: {size}")
     try_refused(page, count)
     return pages.Parts(page, letter, count, names).check()
 

@@ -58,6 +58,7 @@ class New(elections.ElectionTest):
         self.done("new", "spring")
         self.write("spring/lines", "ada 1,2,3,4\n")
         before, folder = self.contents(), self.folder / "spring"
+        self.assertIn("there are no electors yet; run debvote-election roll first\n", self.election("check", cwd=folder).faults)
         for words in ("add --yes lines", "desk", "undo", "strike 1 --because x", "show ada", "close", "count", "publish", "export x"):
             self.assert_fault(self.election(*words.split(), cwd=folder), 9, "there is no call for votes yet")
             self.assertEqual(self.contents(), before, words)

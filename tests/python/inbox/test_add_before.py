@@ -1,5 +1,7 @@
 """`add`: what came before is ignored, whatever became of it, and what has changed since is told."""
 
+import itertools
+
 from debvote_tools.book import queries
 
 from tests.support.called import OTHER_RANKS, RANKS, CalledTest
@@ -108,6 +110,17 @@ class Before(CalledTest):
         self.assertIn(f"\n  monday:1: `ada {RANKS}` came before, and ada has voted since (envelope 3)\n", output)
         self.assertNotIn("monday:2", output)
         self.assertEqual(len(self.lines()), 3)
+        # the same ballot in a newer envelope is no change
+        self.told("desk", given=f"ada {RANKS}\n")
+        self.assertNotIn("came before, and", self.assert_ignored(2, 0, name="monday"))
+
+    def test_many_have_changed(self) -> None:
+        ranks = itertools.islice(itertools.permutations("1234"), 22)
+        self.write("more", "".join(f"cleo {','.join(one)}\n" for one in ranks))
+        self.told("add", "more")
+        self.told("desk", given="cleo 1,1,1,1\n")
+        output = self.assert_ignored(22, 0)
+        self.assertEqual((output.count(" came before, and cleo has voted since"), "\n  and 2 more\n" in output), (20, True), output)
 
     def test_it_was_struck(self) -> None:
         self.told("strike", 1, "--because", "a test")

@@ -82,9 +82,9 @@ class Bombs(unittest.TestCase):
 
     def test_more_lines_than_debvote_takes_at_once(self) -> None:
         """It is asked in parts. Else some hundred letters of a stranger would stop each command that judges letters."""
-        lines = [b"ada 1,2", b"ben 2,1", b"x" * 31, b"cleo 1", b"dan 1"]
+        parts = [[b"x" * 31], [b"ada 1,2", b"ben 2,1"], [b"cleo 1", b"dan 1"], [b"y" * 15], [b"y" * 16], [b"z" * 15, b"z" * 15]]
         with unittest.mock.patch.object(vote, "LINES_LIMIT", 2), unittest.mock.patch.object(vote, "BALLOTS_LIMIT", 32):
-            self.assertEqual(list(vote.in_parts(lines)), [lines[:2], lines[2:3], lines[3:]])
+            self.assertEqual(list(vote.in_parts([line for part in parts for line in part])), parts)
 
 
 class Random(unittest.TestCase):

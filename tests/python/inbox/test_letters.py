@@ -722,7 +722,14 @@ class Signed(LettersTest):
         self.write("members.csv", f"who,mail,key\n{rows}")
         self.told("roll", "--yes")
         (self.scratch / "ring").write_bytes(self.keys.ring(*names))
-        self.told("call", "--to", "vote@club.example", "--keyring", self.scratch / "ring")
+        without = ", ".join(name for name in elections.NAMES if name not in names)
+        said = self.told("call", "--to", "vote@club.example", "--keyring", self.scratch / "ring")
+        self.assertIn(f"Note: the list of members has no key for {without}; their letters wait.\n", said)
+
+    def test_a_keyring_that_lacks_a_key(self) -> None:
+        (self.scratch / "ring").write_bytes(self.keys.ring("ada"))
+        said = "it lacks the keys that the list of members has for: cleo; nothing was changed: export these keys, too"
+        self.assert_refused(("call", "--keyring", self.scratch / "ring"), 9, said)
 
     def signed(self, name: str, number: int = 1) -> bytes:
         return letter(name, self.keys.inline(name, f"{name} {RANKS}\n[{self.mark}]\n", "20261123T095000"), number=number)
@@ -801,6 +808,12 @@ class OwnMarks(LettersTest):
             self.assertIn(f"line 1: {line}\n", listed)
             self.told("held", number, "--enter", 1)
         self.assertEqual(self.lines()[2:], [f"gus {RANKS}", f"hal {RANKS}", "ida 2,1,3,-"])
+        # the own mark ties its elector to the letter, from whatever address it comes
+        self.add(self.marked("ben", "for the lake", sender="x@y.example", number=3))
+        self.assertIn(f"counted  ben: {LAKE}\n", self.told("held", 10, "--as", f"ben {RANKS}"))
+        # a letter from an address of one elector alone waits for nobody else
+        self.add(letter("cleo", "dan is for the lake", number=3))
+        self.assertNotIn("waits on", self.told("held", 11, "--as", f"dan {RANKS}", "--force"))
 
 
 class Secret(OwnMarks):
@@ -965,6 +978,16 @@ class RealNames(LettersTest):
 
 class OtherVote(LettersTest):
     """Letters with the mark of another vote: told in a line, shown by their numbers, and entered only by force."""
+
+    def test_the_mark_of_a_call_that_was_taken_back(self) -> None:
+        """It is of this vote: the letter waits."""
+        before = self.mark
+        self.told("call", "--take-back")
+        self.write("poll.toml", elections.POLL.replace("spring", "autumn"))
+        self.told("call")
+        self.assertNotEqual(self.mark, before)
+        said = self.add(letter("ada", f"ada {RANKS}").replace(elections.ANY_MARK.encode(), before.encode()))
+        self.assertEqual((self.numbers()["waiting"], "Letters of other votes" in said), (1, False))
 
     def test_it_is_told_and_entered_by_force(self) -> None:
         mark = "77d0" * 4

@@ -150,7 +150,7 @@ class Taken(LettersTest):
         self.assert_stops(self.election("held", "1", "3", "--enter", "--yes"), before, 9, "letter 1: it has a word without a name", "by a command of its own")
         # the receipt says that the letter waits, and not that it is written wrongly
         self.told("letters", "receipts")
-        self.assertIn("Der Grund: Die Wahlleitung muss sie sich ansehen. Wenn Sie", self.receipt("cleo"))
+        self.assertIn("Die Wahlleitung muss sie erst ansehen. Wenn Sie", self.receipt("cleo"))
         self.told("held", "3", "4", "--enter", "--yes")
         self.told("held", "1", "--enter", "--yes")
         self.told("held", "2", "--enter", "1", "--yes")
@@ -160,12 +160,20 @@ class Taken(LettersTest):
         self.told("letters", "receipts")
         self.assertIn("(ada 1,2), in Worten: Ja: Wir kaufen a second boat.", self.receipt("ada"))
         self.assertIn("(ben 2,1), in Worten: Nein: No, one is enough.", self.receipt("ben"))
+        # a word that answers a receipt is no answer
+        [number] = re.findall(r"Message-ID: (<.*>)", self.last_receipt("ada").as_string())
+        self.add(letter("ada", "Ja\n", number=2, head=f"In-Reply-To: {number}\n"))
+        self.assertEqual(self.told("held").count("        no ballot found\n        other words: Ja\n"), 2)
 
     def receipt(self, name: str) -> str:
         """The words of the last receipt of an elector."""
+        return " ".join(self.last_receipt(name).get_content().split())
+
+    def last_receipt(self, name: str) -> email.message.EmailMessage:
         found = {int(file.split("/")[2]): data for file, data in self.contents().items() if "letters/receipts" in file and f"To: {name}@".encode() in data}
         letter = email.message_from_bytes(found[max(found)], policy=email.policy.default)
-        return " ".join(letter.get_content().split())
+        assert isinstance(letter, email.message.EmailMessage)
+        return letter
 
 
 class Answering(LettersTest):

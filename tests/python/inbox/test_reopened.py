@@ -31,6 +31,27 @@ class Reopened(LettersTest):
         self.assertIn("a later ballot of ada, of 2026-11-25 09:00:", self.add(letter("ada", "ada 1,1,4,3")))
         self.assertEqual((self.stands("ada"), self.numbers()["waiting"]), (OTHER_RANKS, 1))
 
+    def test_a_look_says_what_add_would_ask(self) -> None:
+        self.told("close")
+        self.reopen()
+        self.write("more", f"{BALLOT}\n")
+        note = "Note: add will ask whether these lines came before the close; this preview assumes that they did.\n"
+        for words, is_noted, became in (((), True, "counted"), (("yes",), False, "counted"), (("no",), False, "late")):
+            said = self.told("add", "--look", *(["--came-before-close", *words] if words else []), "more")
+            self.assertEqual((note in said, f"1 {became}  ada: " in said), (is_noted, True), said)
+
+    def test_a_letter_before_one_that_is_late_waits(self) -> None:
+        """The late one counts for nothing, so the other is not passed over for it."""
+        self.told("close")
+        self.set_clock("2026-11-25T10:00:00+00:00")
+        self.add(letter("ada", OTHER, time="Wed, 25 Nov 2026 09:30:00 +0000"))
+        self.assertIn("1 late  ada: ", self.told("held", 1, "--enter"))
+        self.reopen("--in-time", 1)
+        # what is late again `held` enters no second time
+        self.assertNotIn("--enter", self.told("undo", "--yes"))
+        self.assertIn("a later ballot of ada, of 2026-11-25 09:30:", self.add(letter("ada", BALLOT, number=2)))
+        self.assertEqual((self.stands("ada"), self.numbers()["waiting"]), ("", 2))
+
     def test_an_older_late_line_after_a_newer_one(self) -> None:
         self.told("close")
         self.add_lines(BALLOT)

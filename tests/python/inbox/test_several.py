@@ -101,6 +101,10 @@ class Several(unittest.TestCase):
         later = {"ada": [Ballot(at(11), OTHER)]}
         self.assertEqual(outcomes(first(), again, ballots=later), ["waits: later ballot", "waits: came before"])
         self.assertEqual(outcomes(first(), b"X-Status: R\n" + first(), ballots=later), ["waits: later ballot", "copy"])
+        self.assertEqual(outcomes(first(), first().rstrip() + b" \n\n\n", ballots=later), ["waits: later ballot", "copy"])
+        # while it waits it hides none that breaks a rule
+        automatic = first().replace(b"To: ", b"Auto-Submitted: auto-replied\nTo: ")
+        self.assertEqual(outcomes(first(), automatic, ballots=later), ["waits: later ballot", "waits: automatic"])
         self.assertEqual(sorted(outcomes(first(), other(hour(10)), again)), ["copy", "waits: same time", "waits: same time"])
         # a server delivers again what it has delivered, and a new letter
         new = other(hour(12))
@@ -183,6 +187,8 @@ class Several(unittest.TestCase):
         self.assertEqual(outcomes(data, again), ["waits: no ballot", "copy"])
         for decision, becomes in ((queries.SET_ASIDE, "set aside: set aside"), (queries.PUT_BACK, "waits: put back")):
             self.assertEqual(outcomes(data, again, decisions={parsed(data).digest: decision}), [becomes, "copy"])
+            # one that arrived before, in a mailbox that is read later
+            self.assertEqual(outcomes(letter("ada", "when?", time=hour(9)), data, decisions={parsed(data).digest: decision}), ["copy", becomes])
         # for another reason it is told
         self.assertEqual(outcomes(data, b"Auto-Submitted: auto-replied\n" + data), ["waits: no ballot", "waits: automatic"])
         # a second delivery after the end that is read first
@@ -194,8 +200,11 @@ class Several(unittest.TestCase):
         """A second mailbox had it later. Another late copy is one of it."""
         late, again = parsed(first(time=hour(13))), b"X-Status: R\n" + first(time=hour(14))
         for decision, becomes in ((queries.ENTERED, "entered"), (queries.STRUCK, "set aside: struck"), (queries.TAKEN_BACK, "waits: taken back")):
-            found = outcomes(late, again, first(), b"X-Status: R\n" + first(), end=at(12), decisions={late.digest: decision})
+            how = {"end": at(12), "decisions": {late.digest: decision}}
+            found = outcomes(late, again, first(), b"X-Status: R\n" + first(), **how)
             self.assertEqual(found, [f"in: {BALLOT}", "copy", becomes, "copy"])
+            automatic = first(time=hour(15)).replace(b"To: ", b"Auto-Submitted: auto-replied\nTo: ")
+            self.assertEqual(outcomes(late, automatic, **how), [becomes, "copy"])
 
     def test_what_an_act_decided_holds_for_copies(self) -> None:
         wanted = {

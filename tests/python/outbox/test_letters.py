@@ -220,6 +220,8 @@ class Paper(OutTest):
         page = self.read(name[2]).decode()
         self.assertIn("<bdi>Ada &lt;script&gt;alert(1)&lt;/script&gt; &amp; Söhne</bdi>", page)
         self.assertNotIn("<script>alert", page)
+        # only codes must not lie on somebody's back
+        self.assertNotIn("Print on one side", page)
         # a ballot has what an option needs only where it is more than a plain majority
         ballot = re.findall(r'<span class="rank"></span>\s*([^<]*)</p>', page)[:4]
         self.assertEqual(f"{' '.join(ballot)}", OPTIONS)
@@ -238,6 +240,11 @@ class Paper(OutTest):
         self.done("call")
         self.assertNotIn("Note", self.done("letters", "call").output)
         self.assertIn("The words at the head of this letter say where it goes.", " ".join(self.read(name[2]).decode().split()))
+        # with an address since, a letter that answers none is no answer to the one on paper
+        self.write("members.csv", self.members.replace("Eve,", "Eve,eve@club.example"))
+        self.told("roll", "--yes")
+        self.add(letter("eve", f"> Vote now\n\neve {RANKS}\n", subject=f"Re: {self.written('call')['eve']['Subject']}", time=EARLIER))
+        self.assertEqual((self.numbers()["waiting"], self.stands("eve")), (1, ""))
 
     def test_a_printed_letter_says_who_sends_it_and_where_to_answer(self) -> None:
         """Where the secretary's own words do not begin it."""

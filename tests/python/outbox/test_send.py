@@ -181,6 +181,12 @@ class Sending(SendTest):
                     self.assertEqual((again["To"], again["Message-ID"]), (address, first["Message-ID"]))
                 self.done("letters", "reminders", "--send", "--yes")
                 self.assertEqual(self.not_reached(), {"ada": "came back"})
+                if what == "whole":
+                    # also her receipt, which a server has taken; that to her earlier address goes out once
+                    self.add_lines(f"ada {RANKS}")
+                    for said in ("Sent 2 of 2 letters.\n", "Sent 1 of 1 letter.\n"):
+                        self.assert_sent("receipts", said)
+                    self.assertEqual(self.server.addresses()[-1], address)
 
     def test_a_letter_that_came_back_is_no_news_once_a_ballot_came(self) -> None:
         """Nor is a copy of it that is added later. A ballot on paper shows nothing."""

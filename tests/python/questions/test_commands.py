@@ -176,6 +176,12 @@ class TakenAway(QuestionsTest):
         self.assertIn("Left out of letter 2: A, since it was entered\n4 counted  ada: B (", said)
         self.assert_refused(["held", "2", "--as", "ada B 1,2,3", "--yes"], 9, "its ballot of ada was entered")
         self.assertIn("The current ballot: ada A 1,2 B 1,2,3: ", self.told("show", "ada"))
+        # why is said once, the later answer first
+        self.told("strike", "4", "--because", "again", "--yes")
+        self.add(letter("ada", "ada A 2,1\n", number=3, time=at(12)))
+        said = self.told("held", "2", "--enter", "--yes")
+        self.assertEqual(said.count("Left out of letter 2: A, since "), 1, said)
+        self.assertIn("Left out of letter 2: A, since ada has a later answer\n", said)
 
     def test_an_answer_that_was_left_out_of_what_was_typed_comes_back(self) -> None:
         """It is to be typed again, as `strike` and `undo` of the later answer say."""
@@ -253,6 +259,20 @@ class Told(QuestionsTest):
         receipt = " ".join((self.folder / f"letters/receipts/{self.last_act()}/ada.eml").read_text().split())
         self.assertIn("It was read as ada (B 1,2,3)", receipt)
         self.assertNotIn("not entered", receipt)
+
+    def test_receipts_say_what_was_left_out_of_a_letter_of_two(self) -> None:
+        """To her of whom it is, also if her ballot came late, and is entered anew."""
+        close = ("close", "--early", "--force", "--because", "x", "--yes")
+        self.done(*close)
+        self.set_clock("2026-11-25T10:00:00+00:00")
+        self.done("reopen", "--because", "a slow server")
+        self.add_lines("ada B 3,2,1", words=["--came-before-close", "yes"])
+        self.add(letter("ada", "as listed, and ben too\n", time="Wed, 25 Nov 2026 09:30:00 +0000"))
+        self.done("held", "1", "--as", "ada A 1,2 B 1,2,3", "--as", "ben A 2,1", "--force", "--yes")
+        self.done(*close)
+        self.done("reopen", "--in-time", "2", "3", "--because", "a slow server")
+        texts = self.letters("receipts")
+        self.assertEqual({name: text.count("These of its answers were not entered") for name, text in texts.items()}, {"ada": 2, "ben": 0})
 
     def test_who_has_answered_one_question_is_not_reminded(self) -> None:
         self.add_lines("ada B 1,2,3", "ben B 1,2", words=["--force"])

@@ -111,6 +111,8 @@ class Written(unittest.TestCase):
             "ada A 1,2\n2,1,3,4": stray,
             "ada A 1,2\n-- \nB 2,1,3,4": stray,
             "ada A 1,2\n\nregards\nada B 2,1,3,4": "waits: two ballots",
+            # the name again, below another line that is alone
+            "ada\nA 1,2\nhello\nAda\nB 2,1,3,-": "waits: two ballots",
             # refused, misplaced, or of somebody else
             "ada A 1,2 B 2,1": "waits: no ballot",
             "ada\nA 1,2\nB 2,1": "waits: no ballot",
@@ -133,6 +135,18 @@ class Written(unittest.TestCase):
             with self.subTest(text=text, name=name):
                 self.assertEqual([outcome(one) for one in judged(letter(name, text))], [wanted])
 
+    def test_a_letter_of_a_family(self) -> None:
+        """The ballots with real names can be entered by their numbers, too."""
+        [case] = judged(letter("ada", "ada A 1,2\n\nFay Fox A 2,1\n\nFay Fox B B 1,2,3,4\n"))
+        found = {line.number: line.as_entered for line in (*case.ballots, *case.offered)}
+        self.assertEqual((outcome(case), found), ("waits: several electors", {1: "ada A 1,2", 3: "fay A 2,1", 5: "gus B 1,2,3,4"}))
+
+    def test_who_has_voted_since(self) -> None:
+        """On one of the questions that the letter answers; on any, if it answers none."""
+        for text, ballot, wanted in (("A 1,2", "ada A 2,1", True), ("A 1,2", "ada B 1,2,3,4", False), ("when?", "ada B 1,2,3,4", True)):
+            [case] = judged(letter("ada", text), ballots={"ada": [Ballot(at(12), ballot)]})
+            self.assertEqual(case.has_voted_since, wanted, (text, ballot))
+
     def test_the_lines_of_our_letter(self) -> None:
         filled = "waits: filled in (2: ada A 1,2 C 1,2,3)"
         for text, wanted in {
@@ -146,6 +160,8 @@ class Written(unittest.TestCase):
             # beside a checksum of our letter
             f"On Monday you wrote:\n> ada\n> A 1,2\n> B _,_,_,_\n> C 1,2,3\n>\n>   b9{'d0217c6e' * 7}ab1234  A/poll.toml\n>   {'c1' * 32}": filled,
             "ada\nA _1_,_2_": "waits: filled in (1: ada A 1,2)",
+            "ada\nA _1_,_2_\nB 2,1,3,-": "waits: filled in (1: ada A 1,2 B 2,1,3,-)",
+            "ada\nA 1,2\nB _2_,_1_,3,-": "waits: filled in (1: ada A 1,2 B 2,1,3,-)",
             "ada\nA 1,2\nB _,_,_,_\nC 1,2,3": "waits: filled in (1: ada A 1,2 C 1,2,3)",
             # not quoted, as Outlook leaves them, but for a line that is in no letter of ours
             "ada A 1,2\n\nRules: 1, 2 and 3 are ranks": "in: ada A 1,2",

@@ -292,6 +292,8 @@ class OfOpenVotes(OfElections):
         wanted = ["No elector has a ballot that counts: nobody's vote has decided this."]
         wanted += ["More than half of the lines of the ballot file are refused: 1 of 1."]
         self.expect("doubts", self.doubts(), [*wanted, "The vote was not closed when this page was made: more ballots may come in."])
+        short = "<summary><strong>3 doubts:</strong> no ballot counts, most lines refused, vote not closed</summary>"
+        self.expect("doubts in short", short in self.page(), True)
         given = [text.text() for text in next(pages.tree_of(self.page()).all("div", "given")).all("p")]
         self.expect("the reason", given[1:], ["A <test>.", "No more."])
         self.expect("it is in the act", [doubt["kind"] for doubt in self.acts()[-1].detail["doubts"]], ["no ballot", "mostly refused", "not closed"])
@@ -349,8 +351,9 @@ class OfOpenVotes(OfElections):
     def test_what_comes_after_the_end(self):
         """Lines and ballots of a desk are told that came after the end; not those that were struck, nor letters, which wait."""
         letter = "Received: by mx; Mon, 1 Mar 2027 12:30:00 +0000\nFrom: cleo@x.example\n\ncleo 3,2,1\n"
-        self.set_clock("2027-03-01T10:00:00+00:00")
-        self.say("call", "--until", "2027-03-01 12:00", "--zone", "UTC")
+        for day, hour in (("02-26", 11), ("02-27", 12)):
+            self.set_clock(f"2027-{day}T10:00:00+00:00")
+            self.say("call", "--until", f"2027-03-01 {hour}:00", "--zone", "UTC")
         self.add("ada-lovelace 1,2,3\n")
         self.set_clock("2027-03-01T13:00:00+00:00")
         self.add("zoe-mueller 1,2,3\ncleo 1,2,3\ndan 1,2,3\n")
@@ -370,6 +373,7 @@ class OfOpenVotes(OfElections):
         # a late one that arrived after the end is no doubt
         self.say("publish", "--language", "en")
         done = self.sections()["What-was-done"].text()
+        self.expect("when the vote was", "Vote of 26 February 2027 to 1 March 2027 · Result" in self.page(), True)
         for said in (
             "2 lines came after the end, and are in time, since the vote was not closed yet.",
             "12:50 (UTC): The clock of the secretary's computer went back: the act before has a later time, Monday, 1 March 2027, 13:00 (UTC).",
