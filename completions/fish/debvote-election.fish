@@ -56,7 +56,7 @@ complete -c debvote-election -n "__fish_seen_subcommand_from held" -l enter -x -
 complete -c debvote-election -n "__fish_seen_subcommand_from held" -l as -x -d "Enter this line as a ballot of the letter, with the letter's time; once for each of its electors."
 complete -c debvote-election -n "__fish_seen_subcommand_from held" -l set-aside -d "Set the letters aside: they are dealt with, and wait no longer."
 complete -c debvote-election -n "__fish_seen_subcommand_from held" -l wait -d "Have the letters wait again."
-complete -c debvote-election -n "__fish_seen_subcommand_from held" -l force -d "Enter the ballot although its elector has or may have voted since, the letter has the mark of another vote, its ballot was typed or, with --as, nothing ties the elector to the letter."
+complete -c debvote-election -n "__fish_seen_subcommand_from held" -l force -d "Enter the ballot although its elector has or may have voted since, the letter has the mark of another vote or call, its ballot was typed or, with --as, nothing ties the elector to the letter."
 complete -c debvote-election -n "__fish_seen_subcommand_from held" -l yes -d "Enter the ballots without asking."
 complete -c debvote-election -n "__fish_seen_subcommand_from held" -l moved -d "Go on although the election was moved here, or an older copy was restored; the result page says so."
 complete -c debvote-election -n "__fish_seen_subcommand_from held" -l because -x -d "The reason, in your words, for --moved, --force, strike or reopen."

@@ -1,10 +1,12 @@
 """What the tests of letters that come share: letters, the circumstances in which they are judged, and debvote, which is asked about lines."""
 
+import collections
 import datetime
 import json
 import os
 import re
 import subprocess
+import sys
 from collections.abc import Collection, Mapping, Sequence
 
 from debvote_tools.book import queries
@@ -172,6 +174,18 @@ def as_kept(state: str | None) -> KeptLetter:
 def judged_alone(one: ReadLetter, now: Circumstances) -> LetterCase:
     [found] = judge_all([LetterCase(one, now)], lambda _: in_order({}))
     return found
+
+
+def calls_while_judged(letters: Sequence[ReadLetter]) -> int:
+    """How many functions are called while letters are judged, of which the first goes in."""
+    cases, events = [LetterCase(one, circumstances()) for one in letters], collections.Counter[str]()
+    sys.setprofile(lambda _, event, __: events.update([event]))
+    try:
+        found = judge_all(cases, lambda _: in_order({}))
+    finally:
+        sys.setprofile(None)
+    assert found[0].outcome is LetterOutcome.GOES_IN, outcome(found[0])
+    return events.total()
 
 
 def label(why: ReasonWithValues) -> str:

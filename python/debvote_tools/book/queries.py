@@ -7,7 +7,7 @@ import collections
 import datetime
 import json
 import sys
-from collections.abc import Callable, Collection, Iterable, Iterator, Mapping, Sequence
+from collections.abc import Callable, Collection, Iterable, Iterator, Mapping, Sequence, Set
 from typing import Final, NamedTuple, TypeVar
 
 from debvote_tools.book.book import Book, NewAct, as_text, from_text
@@ -166,9 +166,9 @@ class Ballot(NamedTuple):
         return (self.time < other.time) != (ours < theirs) and differ(self.line, other.line)
 
     @property
-    def labels(self) -> set[str]:
+    def labels(self) -> Set[str]:
         """Those of the questions that it answers."""
-        return {*answers_of(self.line)}
+        return answers_of(self.line).keys()
 
 
 ABallot = TypeVar("ABallot", Ballot, Envelope)

@@ -392,14 +392,11 @@ def codes(election: Election, arguments: CodesArguments) -> None:
     write_slips(election, sealed)
     when = "after the call, which adds the end of the vote and the address for ballots"
     tell(f"The slips: {private / SLIPS}. Print them{f' {when}' if history.call is None else ''}.")
-    without = [one.name for one in queries.electors(election.book) if not one.code]
     if history.has_codes_on_roll:
         words = "Destroy the slips that are left over, and their file."
         tell(f"Nobody may keep a list of who gets which code. {words}")
     else:
         tell(f"The table of codes: {private / CODES}. Let nobody else see it.")
-        if without:
-            tell(f"Without a code: {', '.join(without)}")
     tell(f"Next: {what_next(election, history, sealed.counted)}")
 
 

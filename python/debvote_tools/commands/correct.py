@@ -12,11 +12,11 @@ from debvote_tools.book.queries import Envelope, NewEnvelope
 from debvote_tools.cli.arguments import Acting, demand_reason, flag, option, positional
 from debvote_tools.cli.console import act_time, count_of, shown_line, tell
 from debvote_tools.cli.faults import Fault, bad_words, stop_at
-from debvote_tools.commands.held import elector_of, left_out
+from debvote_tools.commands.held import left_out
 from debvote_tools.grouping import grouped
 from debvote_tools.inbox import letter_words
 from debvote_tools.inbox.entering import Entry
-from debvote_tools.inbox.judging import judged
+from debvote_tools.inbox.judging import elector_of, judged
 from debvote_tools.inbox.rules import LetterCase
 from debvote_tools.inbox.taking import MOST_NAMED
 from debvote_tools.inbox.vote import envelope_words, standing_words, Vote

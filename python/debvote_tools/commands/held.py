@@ -7,7 +7,7 @@ from typing import NamedTuple
 
 from debvote_tools.cli.arguments import Acting, flag, given, option, positional
 from debvote_tools.book import queries
-from debvote_tools.book.book import ActName, Book
+from debvote_tools.book.book import ActName
 from debvote_tools.book.change import Change, carried_out, terminal_question
 from debvote_tools.book.election import Election, History
 from debvote_tools.book.queries import Envelope
@@ -15,20 +15,23 @@ from debvote_tools.cli.console import count_of, shown_line, shown_text, tell
 from debvote_tools.cli.faults import Fault, bad_words, kept_in, stop_at
 from debvote_tools.grouping import grouped
 from debvote_tools.inbox import letter_words
-from debvote_tools.inbox.fates import TAKEN_BACK
 from debvote_tools.inbox.letter_words import name_of, who_and_when, why
 from debvote_tools.inbox.judging import (
     BallotsByElector,
     answered_by,
     ballots_in,
+    elector_of,
+    entered_in,
     judged,
     surely_later,
+    typed_last,
+    waits_for,
 )
-from debvote_tools.inbox.reasons import Reason
+from debvote_tools.inbox.reasons import Reason, for_secretary
 from debvote_tools.inbox.letter_lines import BallotLine
-from debvote_tools.inbox.rules import LetterCase, LetterOutcome
+from debvote_tools.inbox.rules import LetterCase, LetterOutcome, why_other_mark
 from debvote_tools.inbox.taking import LetterEntry, envelope_of
-from debvote_tools.inbox.lines import Line, lines_in, name_in
+from debvote_tools.inbox.lines import Line, lines_in
 from debvote_tools.inbox.vote import Vote, said_of
 from debvote_tools.inbox.stopping import other_votes_words
 from debvote_tools.text.ballots import answers_of, differ, without
@@ -59,7 +62,7 @@ class Arguments(Acting):
     set_aside: bool = flag("Set the letters aside: they are dealt with, and wait no longer")
     wait: bool = flag("Have the letters wait again")
     force: bool = flag(
-        "Enter the ballot although its elector has or may have voted since, the letter has the mark of another vote, its ballot was "
+        "Enter the ballot although its elector has or may have voted since, the letter has the mark of another vote or call, its ballot was "
         "typed or, with --as, nothing ties the elector to the letter"
     )
     yes: bool = flag("Enter the ballots without asking")
@@ -177,25 +180,9 @@ class Chosen(NamedTuple):
         return [there[answer] for answer in answered if answer in there]
 
     @property
-    def typed_last(self) -> list[str]:
-        """The electors whose last ballot of it was typed, though it may be struck or taken back."""
-        last = {elector_of(one): one.number for one in self.before}
-        return [name for name, number in last.items() if number in self.typed]
-
-    @property
     def waits_for(self) -> list[str]:
-        """For whose ballots the letter waits on when these are entered: of those who have one in it, or had
-        one typed; and, once the secretary has typed one, of those who share the sender's address. One that
-        was struck since was one; one that was taken back was none.
-        """
-        is_typed = any(one.number in self.typed for one in self.before)
-        is_typed |= not all(line.number for line in self.lines)
-        sharing = self.letter.sharing if is_typed and len(self.letter.sharing) > 1 else []
-        left = [elector_of(one) for one in self.before if one.became != TAKEN_BACK]
-        having = {*(line.elector for line in self.lines), *left}
-        lines = (*self.letter.ballots, *self.letter.likely)
-        names = dict.fromkeys([*(line.elector for line in lines), *sharing, *self.typed_last])
-        return [name for name in names if name not in having]
+        """For whose ballots the letter waits on when these are entered."""
+        return waits_for(self.letter, self.before, self.typed, self.lines)
 
     def left_of(
         self, line: BallotLine, by_elector: BallotsByElector
@@ -257,7 +244,7 @@ def entry_of(
         },
         shown=[
             *(
-                f"{who_and_when(letter)}: {vote.ballot_in_words(line.as_entered)}\n  {why(letter)}"
+                f"{who_and_when(letter)}: {vote.ballot_in_words(line.as_entered)}\n  {why(letter, line.elector)}"
                 for letter, line in lines
             ),
             *said,
@@ -319,16 +306,6 @@ def left_out(vote: Vote, electors: Collection[str]) -> Iterator[str]:
                 how = ("--as", left) if envelope.number in typed else ("--enter",)
                 enter = vote.election.command("held", str(number), *how)
                 yield f"letter {number} has an answer that was left out, `{left}`: {enter}"
-
-
-def entered_in(book: Book) -> dict[int, list[Envelope]]:
-    """The envelopes of letters, by the numbers of the letters."""
-    found = queries.envelopes(book, "letter IS NOT NULL")
-    return grouped((envelope.letter or 0, envelope) for envelope in found)
-
-
-def elector_of(envelope: Envelope) -> str:
-    return name_in(envelope.line).decode("ascii")
 
 
 def would_be_late(history: History, letter: LetterCase) -> bool:
@@ -416,15 +393,15 @@ def why_not_now(vote: Vote, history: History, chosen: Sequence[Chosen]) -> Itera
 
 
 def why_not_unforced(chosen: Sequence[Chosen], by_elector: BallotsByElector) -> Iterator[Fault]:
-    """The letter is of another vote; nothing ties the elector of a typed ballot to it; or the
+    """The letter has the mark of another vote or call; nothing ties the elector of a typed ballot to it; or the
     elector has a later ballot, or another one of its time.
     """
     cure = "if this ballot must count, repeat it with --force"
     for letter, lines, *_ in chosen:
         name, time = name_of(letter), letter.time
-        if mark := letter.other_vote:
-            words = f"it has the mark of another vote, [{mark}]"
-            yield Fault(name, words, f"add it to that vote; {cure}")
+        if why_other := why_other_mark(letter):
+            words, _, advice = for_secretary(why_other).partition("; ")
+            yield Fault(name, words, f"{advice}; {cure}")
         tied = {*letter.electors, *letter.sharing, letter.marked_elector}
         for line in lines:
             there = by_elector[line.elector]
@@ -446,7 +423,8 @@ def why_typed_again(vote: Vote, chosen: Sequence[Chosen]) -> Iterator[Fault]:
     """What was typed for a letter, though it may be taken back: its own lines may say something else."""
     for one in chosen:
         letter = one.letter
-        if any(line.number and line.elector in one.typed_last for line in one.lines):
+        last = typed_last(one.before, one.typed)
+        if any(line.number and line.elector in last for line in one.lines):
             is_taken_back = letter.state == queries.TAKEN_BACK
             words = f"its ballot was typed{', and taken back' if is_taken_back else ''}"
             again = vote.election.command("held", str(letter.number), "--as")

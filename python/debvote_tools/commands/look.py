@@ -221,13 +221,13 @@ def show(election: Election, arguments: ShowArguments) -> None:
 
 
 def elector_named(election: Election, vote: Vote, name: str) -> queries.Elector:
-    on_roll = name.strip().lower()
-    meant = [on_roll] if on_roll in vote.names.roll else vote.names.meant_by(name)
+    typed, names = name.strip(), vote.names
+    meant = [typed] if typed in names.roll else names.meant_by(typed)
     found = [one for one in queries.electors(election.book) if one.name in meant]
     if len(found) == 1:
         return found[0]
     if found:
-        words = f"several electors have the real name {shown_text(name)}"
+        words = f"several electors have the name {shown_text(name)}"
         cure = f"name one of {', '.join(elector.name for elector in found)}"
         raise Fault("show", words, cure, done=None)
     what, cure = "elector", f"{election.command('status')} and roll show the names"
@@ -291,7 +291,7 @@ def log(election: Election, arguments: LogArguments) -> None:
         whole = f"The chain is whole: {count_of(len(acts), 'act')}, the last digest is"
         tell(f"{whole} {acts[-1].digest}")
     else:
-        tell(*acts_in_words(election.book.acts()))
+        tell(*acts_in_words(election.history().acts))
 
 
 def acts_in_words(acts: Sequence[DoneAct]) -> Iterator[str]:

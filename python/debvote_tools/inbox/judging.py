@@ -4,22 +4,27 @@ and the book as they are now. Letters are judged anew whenever they are looked a
 
 import bisect
 import collections
+import datetime
+import itertools
 import operator
 from collections.abc import Callable, Collection, Iterable, Mapping, Sequence
 
 from debvote_tools.book import queries
 from debvote_tools.book.election import BOX_KEY, KEYRING, History
-from debvote_tools.book.queries import Ballot, KeptLetter
+from debvote_tools.book.book import Book
+from debvote_tools.book.queries import Ballot, Envelope, KeptLetter
 from debvote_tools.grouping import grouped
 from debvote_tools.inbox.letter import Body
-from debvote_tools.inbox.letter_lines import ReadLetter, from_json, read_letters
+from debvote_tools.inbox.letter_lines import BallotLine, ReadLetter, from_json, read_letters
+from debvote_tools.inbox.lines import name_in
 from debvote_tools.inbox.mailbox import RawLetter
 from debvote_tools.inbox.reasons import Reason, ReasonWithValues
 from debvote_tools.inbox.rules import WENT_IN, Circumstances, LetterCase, LetterOutcome
 from debvote_tools.inbox.vote import Vote
 from debvote_tools.poll.call import SUBJECT, call_letter, current_call
 from debvote_tools.text import times
-from debvote_tools.text.ballots import answers_of, differ, without
+from debvote_tools.text.ballots import answers_of, differ
+from debvote_tools.text.language import ENGLISH
 
 # what an act decided holds, whatever the rules say
 DECIDED = {
@@ -48,7 +53,52 @@ def judged(
     found, circumstances = read_kept(vote, kept), circumstances_now(vote, history)
     cases = [LetterCase(read, circumstances, letter) for read, letter in zip(found, kept)]
     cases += (LetterCase(read, circumstances) for read in previewed)
-    return judge_all(cases, lambda names: ballots_in(vote, names))
+    cases = judge_all(cases, lambda names: ballots_in(vote, names))
+    if put_back := [case for case in cases if case.state == queries.PUT_BACK]:
+        entered, typed = entered_in(vote.book), queries.typed_envelopes(vote.book)
+        for case in put_back:
+            if names := waits_for(case, entered.get(case.number, ()), typed):
+                case.reason = Reason.NOT_ALL_ENTERED(electors=ENGLISH.joined(names))
+    return cases
+
+
+# ---- what was entered of them
+def entered_in(book: Book) -> dict[int, list[Envelope]]:
+    """The envelopes of letters, by the numbers of the letters."""
+    found = queries.envelopes(book, "letter IS NOT NULL")
+    return grouped((envelope.letter or 0, envelope) for envelope in found)
+
+
+def elector_of(envelope: Envelope) -> str:
+    return name_in(envelope.line).decode("ascii")
+
+
+def typed_last(before: Iterable[Envelope], typed: Collection[int]) -> list[str]:
+    """The electors whose last ballot of a letter was typed, though it may be struck or taken back, of its
+    envelopes and the numbers of those that were typed.
+    """
+    last = {elector_of(one): one.number for one in before}
+    return [name for name, number in last.items() if number in typed]
+
+
+def waits_for(
+    letter: LetterCase,
+    before: Sequence[Envelope],
+    typed: Collection[int],
+    lines: Sequence[BallotLine] = (),
+) -> list[str]:
+    """For whose ballots a letter waits on, if one of it was entered, when these lines are entered, too: of
+    those who have one in it, or had one typed; and, once the secretary has typed one, of those who share
+    the sender's address. One that was struck since was one; one that was taken back was none.
+    """
+    is_typed = any(one.number in typed for one in before)
+    is_typed |= not all(line.number for line in lines)
+    sharing = letter.sharing if is_typed and len(letter.sharing) > 1 else []
+    left = [elector_of(one) for one in before if one.became != queries.TAKEN_BACK]
+    having = {*(line.elector for line in lines), *left}
+    there = (line.elector for line in (*letter.ballots, *letter.likely))
+    names = dict.fromkeys([*there, *sharing, *typed_last(before, typed)])
+    return [name for name in names if having and name not in having]
 
 
 # ---- what they are judged by
@@ -154,18 +204,19 @@ def judge_all(
     judge_originals(cases, originals, by_elector)
     for group in groups:
         judge_copies(group, originals, by_elector)
-    # of each elector the last ballot that answers a question
-    last = {
-        elector: {label: one for one in its for label in one.labels}
-        for elector, its in by_elector.items()
-    }
+    last = {elector: last_answers(its) for elector, its in by_elector.items()}
     for case in cases:
         if not case.is_decided and case.outcome is LetterOutcome.WAITS and case.other_vote:
             case.outcome, case.reason = LetterOutcome.OTHER_VOTE, Reason.OTHER_MARK(
                 mark=case.other_vote
             )
-        case.has_voted_since = any(has_voted_since(case, one, last) for one in case.electors)
+        case.voted_since = [one for one in case.electors if has_voted_since(case, one, last)]
     return cases
+
+
+def last_answers(ballots: Iterable[Ballot]) -> dict[str, Ballot]:
+    """The last ballot that answers each question, of ballots in the order `queries.by_time`."""
+    return {label: one for one in ballots for label in one.labels}
 
 
 def surely_later(case: LetterCase, ballot: str, its_ballots: Sequence[Ballot]) -> Sequence[Ballot]:
@@ -202,54 +253,77 @@ def original_of(group: Sequence[LetterCase]) -> LetterCase | None:
     return None if is_hidden else original
 
 
+class Beside:
+    """The ballots of an elector beside which letters are judged. Of thousands each letter looks at few."""
+
+    def __init__(self, in_book: Sequence[Ballot], of_letters: Iterable[Ballot]) -> None:
+        self.last = last_answers(in_book)
+        self.last_by_letter = last_answers(filter(IS_BY_LETTER, in_book))
+        # those in the book, and of letters that do not wait, by how far the clock of each was behind
+        self.by_clock = grouped((one.behind, one) for one in in_book)
+        answers = (
+            ((one.time, label), ranks)
+            for one in (*in_book, *of_letters)
+            for label, ranks in answers_of(one.line).items()
+        )
+        # the different answers to a question that have the same time
+        self.at_once = grouped(dict.fromkeys(answers))
+
+    def turned(self, own: Ballot) -> Ballot | None:
+        """The first one that may stand on the other side of a ballot by the clock of this computer: of each
+        other clock only those may whose times are within the difference.
+        """
+        found = list[Ballot]()
+        for behind, its in self.by_clock.items():
+            by_its_clock = own.time + datetime.timedelta(seconds=own.behind - behind)
+            within = sorted((own.time, by_its_clock))
+            places = range(*(bisect.bisect_right(its, time, key=TIME) for time in within))
+            found += itertools.islice(filter(own.may_turn, map(its.__getitem__, places)), 1)
+        return min(found, key=queries.by_time) if found else None
+
+
 def judge_originals(
     cases: Sequence[LetterCase], originals: Collection[LetterCase], by_elector: BallotsByElector
 ) -> None:
     """Judges the letters that break no rule, by their times, and puts the ballots of those that do
     not wait to the others of their electors.
     """
-    in_order = [case for case in cases if case in originals]
-    ballots = (((case.elector, case.time), case.sole_ballot.as_entered) for case in in_order)
-    # each once: of a thousand letters of one time each is compared with all
-    at_its_time = grouped(dict.fromkeys(ballots))
+    own = {case: ballot_of(case) for case in cases if case in originals}
+    of_letters = grouped((case.elector, one) for case, one in own.items())
+    beside = {elector: Beside(by_elector[elector], its) for elector, its in of_letters.items()}
     # copies of these are not known as such, while gpgv does not answer
     unchecked = [case for case in cases if case.is_decided and case.read.is_slow]
     unchecked_ballots = {line.as_entered for case in unchecked for line in case.ballots}
-    for case in in_order:
-        assert case.time is not None
-        own = Ballot(case.time, case.sole_ballot.as_entered, True, case.read.behind)
-        at_once = at_its_time[case.elector, case.time]
-        case.outcome, case.reason = outcome_of_original(
-            case, own, by_elector[case.elector], at_once, unchecked_ballots
-        )
+    for case, ballot in own.items():
+        its = beside[case.elector]
+        case.outcome, case.reason = outcome_of_original(case, ballot, its, unchecked_ballots)
         if case.outcome is not LetterOutcome.WAITS:
-            bisect.insort(by_elector[case.elector], own, key=queries.by_time)
+            bisect.insort(by_elector[case.elector], ballot, key=queries.by_time)
+            bisect.insort(its.by_clock.setdefault(ballot.behind, []), ballot, key=TIME)
+
+
+def ballot_of(case: LetterCase) -> Ballot:
+    """That of a letter that breaks no rule."""
+    assert case.time is not None
+    return Ballot(case.time, case.sole_ballot.as_entered, True, case.read.behind)
 
 
 def outcome_of_original(
-    case: LetterCase,
-    own: Ballot,
-    its_ballots: Sequence[Ballot],
-    at_once: Sequence[str],
-    unchecked_ballots: Collection[str],
+    case: LetterCase, own: Ballot, its: Beside, unchecked_ballots: Collection[str]
 ) -> Judgement:
     """What becomes of a letter that breaks no rule, beside the ballots of its elector: they have to be
-    older, but for the same one; and the vote may not be closed. `at_once` are the ballots of letters
-    of its time.
+    older, but for the same one; and the vote may not be closed.
     """
     elector, time = case.elector, own.time
-    # those that answer one of its questions
-    there = [one for one in its_ballots if not own.labels.isdisjoint(one.labels)]
-    if turned := next(filter(own.may_turn, there), None):
+    if turned := its.turned(own):
         return LetterOutcome.WAITS, Reason.CLOCKS(elector=elector, time=turned.time)
-    if later := queries.later(there, time):
-        case.answered_since = answered_by(own.line, later)
+    if later := later_answers(own, its.last):
+        case.answered_since = later
         # this one can count in no case; the time of a line is only when somebody entered it
-        is_older = not without(own.line, answered_by(own.line, filter(IS_BY_LETTER, later)))
-        reason = Reason.LATER_BALLOT(elector=elector, time=later[-1].time)
+        is_older = later_answers(own, its.last_by_letter).keys() == own.labels
+        reason = Reason.LATER_BALLOT(elector=elector, time=max(later.values()))
         return LetterOutcome.OLDER if is_older else LetterOutcome.WAITS, reason
-    since = (one.line for one in there[bisect.bisect_left(there, time, key=TIME) :])
-    if any(differ(own.line, one) for one in (*at_once, *since)):
+    if any(len(its.at_once[time, label]) > 1 for label in own.labels):
         return LetterOutcome.WAITS, Reason.SAME_TIME(elector=elector, time=time)
     if own.line in unchecked_ballots:
         return LetterOutcome.WAITS, Reason.PERHAPS_COPY()
@@ -257,6 +331,12 @@ def outcome_of_original(
         # it would become late, and the plainer a ballot is, the less would that be noticed
         return LetterOutcome.WAITS, Reason.CLOSED()
     return LetterOutcome.GOES_IN, None
+
+
+def later_answers(own: Ballot, last: Mapping[str, Ballot]) -> dict[str, datetime.datetime]:
+    """The labels of the answers in a ballot to which the last ones are later, with their times."""
+    there = ((label, last[label]) for label in own.labels & last.keys())
+    return {label: one.time for label, one in there if queries.later([one], own.time)}
 
 
 def answered_by(ballot: str, later: Iterable[Ballot]) -> set[str]:

@@ -13,6 +13,7 @@ from debvote_tools.inbox.rules import LetterCase, LetterOutcome, above_end
 from debvote_tools.inbox.reasons import for_secretary
 from debvote_tools.inbox.vote import IS_CODE, Vote
 from debvote_tools.text.ballots import without
+from debvote_tools.text.language import ENGLISH
 
 # how many attachments are named
 MAX_ATTACHMENTS = 5
@@ -120,14 +121,18 @@ def attachment_words(letter: LetterCase) -> Iterator[str]:
         yield f"attachments: {listed(list(map(shown_text, names)), MAX_ATTACHMENTS)}"
 
 
-def why(letter: LetterCase) -> str:
-    """Why a letter waits, or what became of it."""
+def why(letter: LetterCase, elector: str = "") -> str:
+    """Why a letter waits, or what became of it; and who has voted since, or whether an elector has."""
     said = letter.outcome.value if letter.reason is None else for_secretary(letter.reason)
     if letter.outcome is LetterOutcome.GOES_IN:
         # nobody has agreed to it yet
         said = "it goes in with the next add of letters"
-    since = f"; {'may have' if letter.time is None else 'has'} voted since"
-    return said + (since if letter.is_pending and letter.has_voted_since else "")
+    since = [one for one in letter.voted_since if elector in ("", one)]
+    if not (letter.is_pending and since):
+        return said
+    who = f"{ENGLISH.joined(since)} " if len(letter.electors) > 1 else ""
+    have = "may have" if letter.time is None else "has" if len(since) == 1 else "have"
+    return f"{said}; {who}{have} voted since"
 
 
 def near_words(letter: LetterCase) -> Iterator[str]:

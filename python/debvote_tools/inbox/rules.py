@@ -159,7 +159,8 @@ class LetterCase:
 
     outcome = LetterOutcome.WAITS
     reason: ReasonWithValues | None = None
-    has_voted_since = False
+    # its electors who have a later ballot, or may have
+    voted_since: Collection[str] = ()
     # the labels of the questions to which its elector has a later answer
     answered_since: Collection[str] = ()
 
@@ -313,6 +314,13 @@ class LetterCase:
     def has_own_mark(self) -> bool:
         """Whether its subject has the own mark of the elector on its ballot."""
         return self.marked_elector == self.elector
+
+    @property
+    def marks(self) -> set[str]:
+        """The marks of polls in its subject, and in a text that must be signed."""
+        signed = self.read.shown_lines if self.circumstances.is_signed else ()
+        in_text = itertools.chain.from_iterable(map(marks_in, signed))
+        return {mark for mark, _ in (*self.read.marks, *in_text)}
 
     @property
     def other_vote(self) -> str:
@@ -526,12 +534,21 @@ def why_not_first(case: LetterCase) -> ReasonWithValues | None:
 
 def why_not_of_this_vote(case: LetterCase) -> ReasonWithValues | None:
     """Its subject has the mark of the poll, and no other; nor has a text that must be signed."""
-    own, marks = case.circumstances.mark, [mark for mark, _ in case.read.marks]
-    signed = case.read.shown_lines if case.circumstances.is_signed else ()
-    there = {*marks, *(mark for line in signed for mark, _ in marks_in(line))}
-    if others := sorted(mark for mark in there if not are_alike(mark, own)):
-        return Reason.OTHER_MARK(mark=others[0])
-    return None if marks and there == {own} else Reason.NO_SUBJECT_MARK(mark=own)
+    own = case.circumstances.mark
+    has_own_alone = case.read.marks and case.marks == {own}
+    return why_other_mark(case) or (None if has_own_alone else Reason.NO_SUBJECT_MARK(mark=own))
+
+
+def why_other_mark(case: LetterCase) -> ReasonWithValues | None:
+    """It has no mark of another vote, or of a call that was taken back: the ranks would be those of
+    other options.
+    """
+    now = case.circumstances
+    others = (mark for mark in sorted(case.marks) if not are_alike(mark, now.mark))
+    if (mark := next(others, None)) is None:
+        return None
+    is_old = any(are_alike(mark, one) for one in now.marks)
+    return Reason.OLD_MARK(mark=mark) if is_old else Reason.OTHER_MARK(mark=mark)
 
 
 def are_alike(mark: str, other: str) -> bool:

@@ -100,6 +100,8 @@ class LettersDue(Run):
     earlier_receipts: Sequence[OutgoingLetter] = ()
     # those whom the call has reached, to whom the letter of an extension is due
     had_call: Collection[int] = ()
+    # those whose ballot goes in once the secretary agrees: in place of a reminder they get a receipt
+    in_hand: Collection[int] = ()
     # the numbers of the letters that wait and are in no elector's receipt; and how many wait in
     # all, if they were looked at
     in_no_receipt: Sequence[int] = ()
@@ -123,7 +125,8 @@ class LettersDue(Run):
     def subject(self, letter: OutgoingLetter) -> tuple[str, str]:
         """The subject of a letter, and the mark that ends it."""
         is_extension, own = letter.elector in self.had_call, self.elector(letter).mark
-        subject = self.composer.subject(self.kind, is_extension=is_extension)
+        kind = "receipts" if letter.elector in self.in_hand else self.kind
+        subject = self.composer.subject(kind, is_extension=is_extension)
         return subject, self.composer.call_data.mark_of(own)
 
     def elector(self, letter: OutgoingLetter) -> Elector:
@@ -270,9 +273,9 @@ def letters_pending_in(fates: Mapping[str, Sequence[Fate]]) -> int:
 
 
 def reminders_due(run: Run) -> LettersDue:
-    """A letter to each elector whose ballot does not count yet. A run of this day goes on if it
-    was cut off, or the server refused some for now: then those are reminded, too, who came to it
-    since. Else each run is a new one.
+    """A letter to each elector whose ballot does not count yet; a receipt, if only a yes in `add` is lacking.
+    A run of this day goes on if it was cut off, or the server refused some for now: then those are
+    reminded, too, who came to it since. Else each run is a new one.
     """
     fates = fates_of(run.election, run.history)
     counting = queries.what_counts(run.election.book)
@@ -282,10 +285,17 @@ def reminders_due(run: Run) -> LettersDue:
     # whose letter came back is reminded again, but not in the same run
     run = dataclasses.replace(run, electors=silent, returned_ids=())
 
+    in_hand = {
+        number
+        for number, elector in silent.items()
+        if any(one.became is LetterOutcome.GOES_IN for one in fates[elector.name])
+    }
+
     def text_of(elector: Elector, letter: OutgoingLetter) -> str:
         told = told_of(fates[elector.name]).values()
         left = [one for one in told if one.became is not LetterOutcome.SET_ASIDE]
-        return run.composer.reminder(elector, left)
+        say = run.composer.receipt if elector.number in in_hand else run.composer.reminder
+        return say(elector, left)
 
     last = max((letter.for_act for letter in run.noted_before), default=0)
     due = to_each(run, last, text_of)
@@ -296,7 +306,7 @@ def reminders_due(run: Run) -> LettersDue:
     )
     if not (run.is_sending and any(are_unsent)):
         due = to_each(run, run.next_act, text_of)
-    return dataclasses.replace(due, letters_pending=letters_pending_in(fates))
+    return dataclasses.replace(due, in_hand=in_hand, letters_pending=letters_pending_in(fates))
 
 
 def receipts_due(run: Run) -> LettersDue:

@@ -156,11 +156,11 @@ class Composer:
 
     def receipt(self, elector: Elector, fates: Sequence[Fate]) -> str:
         """What became of what came from an elector. It has the right line if the last of it was
-        refused, waits or was set aside. What was struck, taken back or late asks nobody to vote again.
+        refused, waits or was set aside. What goes in, was struck, taken back or late asks nobody to vote again.
         """
         decides = (one for one in fates if one.is_own or one.became in (COUNTS, REFUSED))
         last = next(reversed([one.became for one in decides]), COUNTS)
-        has_right_line = not self.is_over and last != COUNTS
+        has_right_line = not self.is_over and last not in (COUNTS, LetterOutcome.GOES_IN)
         return self.text("receipts.txt", elector, fates=fates, has_right_line=has_right_line)
 
     def text(self, template: str, elector: Elector, **values: object) -> str:

@@ -43,6 +43,8 @@ class Open(CallTest):
         subprocess.run(["sha256sum", "--quiet", "-c", "SHA256SUMS"], cwd=self.folder / "call", check=True)
         # made again it is the same, and no act
         before, log = {file: file.read_bytes() for file in (self.folder / "call").iterdir()}, self.done("log").output
+        # in the zone of the vote
+        self.assertRegex(log, r"(?m)^3 2026-11-\d\d \d\d:\d\d:\d\d UTC\+01:00 call ")
         self.write("poll.toml", "title = 5\n")
         self.write("members.csv", "nothing\n")
         for file in before:

@@ -11,7 +11,7 @@ from debvote_tools.inbox import entering, signature
 from debvote_tools.outbox import letter_folder
 
 from tests.support import elections, letters, pgp
-from tests.support.called import LAKE, LettersTest
+from tests.support.called import HALL, LAKE, LettersTest
 from tests.support.letters import OTHER_RANKS as OTHER, RANKS, TEN, mailbox
 from tests.support.terminal import Terminal
 
@@ -116,6 +116,16 @@ class Adding(LettersTest):
         self.assertIn("the vote is closed: to enter it, reopen", desk.after("y\n", "2 letters wait"))
         desk.end()
         self.assertEqual(self.exported(), (f"ada {OTHER}\n", ""))
+
+    def test_what_nobody_agreed_to_goes_in_next_time_unless_it_is_kept_out(self) -> None:
+        desk = Terminal(self, "add", str(self.box(letter("ada", f"ada {RANKS}"), letter("ben", f"ben {RANKS}"))))
+        desk.until("Enter 2 ballots?")
+        said = desk.after("n\n", "keeps one out.")
+        self.assertIn("2 letters wait.\nThe next add --yes, by cron too, enters these ballots: debvote-election held NUMBER --wait keeps one out.", said)
+        desk.end()
+        self.told("held", 2, "--wait")
+        self.add(letter("cleo", "hello"))
+        self.assertEqual(self.lines(), [f"ada {RANKS}"])
 
     def test_an_older_letter_after_lines(self) -> None:
         """A line that was refused is no later ballot, and one that was struck holds back no letter. A late ballot is a later one."""
@@ -832,6 +842,20 @@ class Secret(OwnMarks):
 class Family(LettersTest):
     """Ballots of two electors in one letter."""
 
+    def test_it_is_said_who_has_voted_since_and_for_whom_it_waits_on(self) -> None:
+        self.change_roll("ben@", "ada@")
+        later = "Mon, 23 Nov 2026 12:00:00 +0000"
+        self.add(letter("ada", f"ada {RANKS}\nben {OTHER}\ncleo {RANKS}"), letter("ada", f"ada {OTHER}", later, number=2))
+        why = "ballots of several electors: ada, ben, cleo"
+        self.assertIn(f"        {why}; ada has voted since\n", self.told("held"))
+        self.assertIn(f": {HALL}\n  {why}\n2 counted  ben: ", self.told("held", 1, "--enter", 2))
+        for words in (("held", 1), ("held",), ("show", "ada")):
+            self.assertIn("a ballot was entered from it, and none yet of ada and cleo", self.told(*words))
+        said = self.told("held", 1, "--enter", 1, "--force")
+        self.assertIn(f": {LAKE}\n  a ballot was entered from it, and none yet of ada and cleo; ada has voted since\n", said)
+        self.told("desk", given=f"cleo {OTHER}\nben {OTHER}\n")
+        self.assertIn("a ballot was entered from it, and none yet of cleo; ada, ben and cleo have voted since\n", self.told("held"))
+
     def assert_left(self, waiting: int, *lines: str) -> None:
         self.assertEqual((self.numbers()["waiting"], self.lines()), (waiting, list(lines)))
 
@@ -1006,3 +1030,25 @@ class OtherVote(LettersTest):
         near = self.mark[:-2] + self.mark[-2:].translate(str.maketrans("0123456789abcdef", "123456789abcdef0"))
         self.add(letter("dan", f"dan {RANKS}").replace(elections.ANY_MARK.encode(), near.encode()))
         self.told("held", 4, "--enter")
+
+    def test_what_may_be_of_this_vote_is_entered_by_force_too(self) -> None:
+        """Of a call that was taken back, whose options may have had another order, and with two marks."""
+        old, other = self.mark, "77d0" * 4
+        self.set_clock("2026-11-20T10:00:00+00:00")
+        self.told("call", "--take-back")
+        self.write("poll.toml", elections.POLL.replace('"At the lake", "In the town hall"', '"In the town hall", "At the lake"'))
+        self.told("call", *self.call_words)
+        self.set_clock(self.now)
+        self.add(*(
+            letter(name, f"{name} {RANKS}").replace(elections.ANY_MARK.encode(), marks.encode())
+            for name, marks in (("ada", old), ("ben", f"{self.mark}] [{old}"), ("cleo", f"{self.mark}] [{other}"))
+        ))  # fmt: skip
+        of_old = (f"it has the mark of a call that was taken back, [{old}]", "look whether its options were the same")
+        of_other = (f"it has the mark of another vote, [{other}]", "add it to that vote")
+        for number, name, (words, cure) in ((1, "ada", of_old), (2, "ben", of_old), (3, "cleo", of_other)):
+            self.assertIn(f"\nIt waits: {words}; {cure}\n", self.told("held", number))
+            said = f"letter {number}: {words}; nothing was changed: {cure}; if this ballot must count, repeat it with --force"
+            for how in (("--enter",), ("--as", f"{name} {OTHER}")):
+                self.assert_refused(("held", number, *how), 9, said)
+        self.told("held", 1, 2, 3, "--enter", "--force")
+        self.assertEqual(self.lines(), [f"{name} {RANKS}" for name in ("ada", "ben", "cleo")])

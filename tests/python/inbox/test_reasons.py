@@ -79,7 +79,7 @@ class Sentences(unittest.TestCase):
         signed = [becomes for _, becomes, _ in test_signatures.Table().rows()]
         found = {one.partition(": ")[2] for one in (*(row.becomes for row in test_table_of_letters.TABLE), *signed)}
         # these are of letters beside others, of what an act decided, and of a gpgv that hangs
-        found |= {"came before", "parted off", "taken back", "put back", "set aside", "struck", "slow signature", "perhaps copy"}
+        found |= {"came before", "parted off", "taken back", "put back", "not all entered", "set aside", "struck", "slow signature", "perhaps copy"}
         # of letters about a motion (test_motions.py)
         found |= {"word", "word alone", "another answer"}
         # and of records of the box (test_by_click.py)

@@ -219,8 +219,8 @@ class Several(unittest.TestCase):
         self.assertEqual(outcomes(kept, first(), decisions={kept.digest: queries.TAKEN_BACK}), ["copy", "waits: taken back"])
         # a ballot that goes in counts for those after it
         found = judged(first(), letter("ada", "hello", number=2, time=hour(9)))
-        told = [(outcome(one), one.has_voted_since) for one in found]
-        self.assertEqual(told, [("waits: no ballot", True), (f"in: {BALLOT}", False)])
+        told = [(outcome(one), one.voted_since) for one in found]
+        self.assertEqual(told, [("waits: no ballot", ["ada"]), (f"in: {BALLOT}", [])])
 
 
 # ---------------------------------------------------------------- mailboxes in any order

@@ -15,7 +15,7 @@ from debvote_tools.poll.questions import LONGEST_LINE
 
 from tests.support import elections
 from tests.support.called import LAKE
-from tests.support.letters import letter
+from tests.support.letters import letter, mailbox
 from tests.support.outgoing import AT, END, OTHER_RANKS, RANKS, TITLE, OutTest, one_line, parsed
 
 FORM = f"The page of the vote, which writes the line of your ballot for you, and on which the result will be: {AT}"
@@ -535,7 +535,11 @@ class ReceiptsAndReminders(OutTest):
             letter("eve", f"eve {RANKS}\n", sender="x@x.example", time="Mon, 23 Nov 2026 08:00:00 +0000"),
             letter("eve", "I want the lake\n", number=2, time="Mon, 23 Nov 2026 09:00:00 +0000"),
         )
-        texts = self.texts("reminders")
+        # nobody has agreed to this one yet
+        self.write("inbox.mbox", mailbox(letter("ida", f"ida {RANKS}\n")))
+        self.election("add", "inbox.mbox")
+        messages = self.written("reminders")
+        texts = {name: one_line(message) for name, message in messages.items()}
         self.assertEqual(sorted(texts), [name for name in elections.NAMES if name != "ada"])
         for name in ("ben", "hal"):
             self.assertTrue(texts[name].startswith(f"Dear {name.title()}, {NONE} {WHEN} {FORM}#{name}/"), texts[name])
@@ -557,6 +561,12 @@ class ReceiptsAndReminders(OutTest):
         # nor hides it an own letter that waits
         self.assertIn(f"{ELSEWHERE} Your letter of Monday, 23 November 2026, 09:00 (UTC) has arrived.", texts["eve"])
         self.assertIn("You can send a right line now", texts["eve"])
+        # who has voted reads that the ballot has come, and is not entered yet
+        for name, begins in (("ida", "Receipt: "), ("hal", "Not yet voted: ")):
+            self.assertTrue(messages[name]["Subject"].startswith(begins), name)
+        self.assertIn("Your letter of Monday, 23 November 2026, 10:00 (UTC) has arrived. No ballot from it is entered yet: ", texts["ida"])
+        for words in (NONE, "You can send a right line now", "ida _,_,_,_"):
+            self.assertNotIn(words, texts["ida"])
 
     def test_the_end_after_two_extensions_in_reminders_and_receipts(self) -> None:
         for day, words in ((6, "Sunday, 6 December"), (8, "Tuesday, 8 December")):

@@ -1,5 +1,6 @@
 """Letters with answers to several questions: what goes in has each answer that stands in it, and no other; random ones, and ones that somebody forged."""
 
+import dataclasses
 import datetime
 import random
 import re
@@ -16,7 +17,7 @@ from debvote_tools.text.motions import Words, words_of
 
 from tests.python.inbox import test_forgeries
 from tests.support import letters
-from tests.support.letters import NAMES, TEN, answer, at, circumstances, in_order, judged_alone, letter, marked, names, outcome, parsed
+from tests.support.letters import NAMES, OTHER_RANKS, RANKS, TEN, answer, at, circumstances, in_order, judged_alone, letter, marked, names, outcome, parsed
 
 WORDS = words_of("en", motion=True)
 IN_WORDS = ("{A} {r}", "{A}: {R}", "{a}) {r}!", "{A} {r}.", "{r}", "I say {r}", "{A} {r} for the reasons that we have told you all", "{A}: {r} please")
@@ -145,7 +146,7 @@ class Written(unittest.TestCase):
         """On one of the questions that the letter answers; on any, if it answers none."""
         for text, ballot, wanted in (("A 1,2", "ada A 2,1", True), ("A 1,2", "ada B 1,2,3,4", False), ("when?", "ada B 1,2,3,4", True)):
             [case] = judged(letter("ada", text), ballots={"ada": [Ballot(at(12), ballot)]})
-            self.assertEqual(case.has_voted_since, wanted, (text, ballot))
+            self.assertEqual(bool(case.voted_since), wanted, (text, ballot))
 
     def test_the_lines_of_our_letter(self) -> None:
         filled = "waits: filled in (2: ada A 1,2 C 1,2,3)"
@@ -297,6 +298,20 @@ class Later(unittest.TestCase):
         ):  # fmt: skip
             with self.subTest(there):
                 self.assertEqual(self.becomes(two, *there), wanted)
+
+    def test_of_many_letters_of_an_elector_each_is_compared_with_few(self) -> None:
+        """Twice as many take about twice as long, also after one by another clock, which may turn others."""
+        texts = {"one": (f"ada {RANKS}", f"ada {OTHER_RANKS}"), "three": ("ada A 1,2", "ada A 2,1 B 1,2,3,4", "ada B 4,3,2,1 C 1,2,3", "ada C 3,2,1")}
+        for questions, read_of in (("one", letters.read), ("three", read)):
+            for behind in (0, -7_200, 7_200):
+                calls = []
+                for number in (200, 400):
+                    times = [f"Mon, 23 Nov 2026 1{minute // 60}:{minute % 60:02}:00 +0000" for minute in range(number)]
+                    given = [letter("ada", texts[questions][one % len(texts[questions])], number=one, time=time) for one, time in enumerate(times)]
+                    first, *others = read_of(*given)
+                    calls.append(letters.calls_while_judged([dataclasses.replace(first, behind=behind), *others]))
+                with self.subTest(questions, behind=behind):
+                    self.assertLess(calls[1], 2.4 * calls[0])
 
     def test_two_letters_of_one_time(self) -> None:
         for texts, wanted in {
