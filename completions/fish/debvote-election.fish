@@ -89,6 +89,7 @@ complete -c debvote-election -n "__fish_seen_subcommand_from close" -l moved -d 
 complete -c debvote-election -n "__fish_seen_subcommand_from close" -l because -x -d "The reason, in your words, for --moved, --force, strike or reopen."
 complete -c debvote-election -n "__fish_seen_subcommand_from reopen" -l in-time -x -d "Late envelopes whose ballots came before the first close: they are entered anew, and count."
 complete -c debvote-election -n "__fish_seen_subcommand_from reopen" -l force -d "Enter them although their electors have later ballots that count."
+complete -c debvote-election -n "__fish_seen_subcommand_from reopen" -l yes -d "Open it without asking."
 complete -c debvote-election -n "__fish_seen_subcommand_from reopen" -l moved -d "Go on although the election was moved here, or an older copy was restored; the result page says so."
 complete -c debvote-election -n "__fish_seen_subcommand_from reopen" -l because -x -d "The reason, in your words, for --moved, --force, strike or reopen."
 complete -c debvote-election -n "__fish_seen_subcommand_from count" -l casting -x -d "The exact name of the option that the casting vote chooses in a tie; write --casting=NAME if the name begins with a hyphen. Of several questions each tie has its own, with its label: B=NAME."

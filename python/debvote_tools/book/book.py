@@ -19,7 +19,7 @@ from typing import Any, Final, Literal, NamedTuple
 from debvote_tools.book import chain
 from debvote_tools.book.machine_note import MachineNote, Note, machine_of
 from debvote_tools.cli.faults import Fault, Status, bad_words, kept_in
-from debvote_tools.files import read_at_most, uninterrupted
+from debvote_tools.files import read_at_most, uninterrupted, whole_folder
 from debvote_tools.poll.announced import address_in
 from debvote_tools.text import times
 from debvote_tools.text.ballots import part_of
@@ -390,9 +390,9 @@ class Book:
         return bool(self.digest_at(number) == digest)
 
     def back_up(self, target: pathlib.Path) -> None:
-        with sqlite_faults(target):
-            os.close(os.open(target, os.O_WRONLY | os.O_CREAT | os.O_EXCL, 0o600))
-            with contextlib.closing(sqlite3.connect(target)) as copy:
+        with sqlite_faults(target), whole_folder(target, NAME) as folder:
+            (folder / NAME).touch(0o600)
+            with contextlib.closing(sqlite3.connect(folder / NAME)) as copy:
                 self.connection.backup(copy)
 
 

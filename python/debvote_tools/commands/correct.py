@@ -237,6 +237,7 @@ class ReopenArguments(Acting):
         default=[],
     )
     force: bool = flag("Enter them although their electors have later ballots that count")
+    yes: bool = flag("Open it without asking")
 
 
 def reopen(election: Election, arguments: ReopenArguments) -> None:
@@ -278,9 +279,13 @@ def what_is_reopened(vote: Vote, arguments: ReopenArguments, because: str) -> Re
     if older := list(faults_of_older(vote, offered)):
         stop_at([] if arguments.force else older)
         detail["force"] = True
+    is_secret = vote.election.questions.is_secret
+    told = "Only the log tells this reason." if is_secret else "Everybody will read this reason."
+    question = f"Open the vote again, because: {because}? {told}"
     return Reopening(
         "reopen",
         detail,
+        question=terminal_question(question, arguments.yes),
         vote=vote,
         envelopes=[
             NewEnvelope(one.line, one.place, one.source, one.letter, one.time, one.why_refused)

@@ -29,7 +29,8 @@ FOR_SECRETARY = {
         "one is a ballot, run debvote-election reopen --because TEXT, then debvote-election held NUMBER --enter"
     ),
     "other casting vote": (
-        "an earlier publication has a casting vote for {option}; only one can be right, so find out which was given"
+        "an earlier publication has a casting vote for {option}; only one can be right, so find out which was given; the earlier one again: "
+        "{command}"
     ),
 }
 
@@ -81,6 +82,8 @@ class Doubt(Told):
     stops: bool = True
     # that of the question that it is about; empty if it is about the whole vote
     label: str = ""
+    # a command that puts it right
+    command: str = ""
 
     def as_data(self) -> dict[str, Any]:
         """As the act of a publication keeps it."""
@@ -88,7 +91,7 @@ class Doubt(Told):
         return {"kind": self.kind, **self.shown(datetime.datetime.isoformat), **question}
 
     def for_secretary(self) -> str:
-        return FOR_SECRETARY[self.kind].format(**self.shown(time_in_words))
+        return FOR_SECRETARY[self.kind].format(command=self.command, **self.shown(time_in_words))
 
 
 def doubts_about(sheet: Sheet, label: str) -> Iterator[Doubt]:

@@ -25,7 +25,7 @@ from debvote_tools.poll.questions import Questions, place_of
 from debvote_tools.poll.sealed import SealedPoll
 from debvote_tools.result.facts import Act, Doubt, Facts, PublishedWords
 from debvote_tools.result.file_names import BALLOTS
-from debvote_tools.result.sheet import Castings, Sheet, sheet_in
+from debvote_tools.result.sheet import Castings, Sheet, publishing, sheet_in
 from debvote_tools.text.ballots import ballot_file, in_normal_form
 from debvote_tools.text.language import Language, language_of
 from debvote_tools.text.rendering import render_letter
@@ -140,7 +140,7 @@ def facts_of(election: Election, words: PublishedWords, pending: Pending) -> dic
         "has_codes": call.has_codes_on_roll,
         "at": call.at,
         "questions": public,
-        "doubts": [*doubts_of(history, public, words.castings, pending, stopping)],
+        "doubts": [*doubts_of(election, history, words.castings, pending, stopping)],
     }
     return {
         label: Facts(
@@ -210,8 +210,8 @@ def shown_by_comparison(election: Election, history: History, label: str, kept: 
 
 
 def doubts_of(
+    election: Election,
     history: History,
-    questions: Questions,
     castings: Castings,
     pending: Pending,
     stopping: Collection[str],
@@ -226,12 +226,17 @@ def doubts_of(
     if is_unasked_since_end(history):
         # at the end `close --force` has agreed to it
         yield Doubt(BOX, stops=BOX in stopping)
-    for label, casting in castings.items():
-        names = {one.plain: one.name for one in questions[label].choices}
-        given = (act.detail["casting"].get(label, casting) for act in history.named("publish"))
-        for option in dict.fromkeys(given):
+    last = history.last_publication
+    all_castings = {**(last.detail["casting"] if last else {}), **castings}
+    for label, poll in election.questions.items():
+        names, casting = {one.plain: one.name for one in poll.choices}, castings.get(label)
+        # without one: since the last close, after which it was the same tie
+        acts = history.publications if casting is None else history.named("publish")
+        for option in dict.fromkeys(act.detail["casting"].get(label, casting) for act in acts):
             if option != casting:
-                yield Doubt("other casting vote", {"option": names[option]}, label=label)
+                command = publishing(election, {**all_castings, label: option})
+                places = {"option": names[option]}
+                yield Doubt("other casting vote", places, label=label, command=command)
     if numbers := pending.untold:
         waits = {"number": len(numbers), "letters": ", ".join(map(str, numbers))}
         # an earlier publication may have had it

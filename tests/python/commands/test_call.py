@@ -78,10 +78,10 @@ class Open(CallTest):
         self.write("poll.toml", elections.POLL.replace("quorum = 1", "quorum = 99"))
         self.write("letter.txt", b"\xff")
         self.write("members.csv", elections.members_of(elections.NAMES[1:]))
-        ended = self.election("call", "--until", "2026-11-01 18:00", "--to", "nobody", "--at", "file:///etc")
+        ended = self.election("call", "--until", "2026-11-01 18:00", "--to", "nobody", "--at", "file:///etc", "--keyring", "nofile")
         self.assertEqual(ended.status, 2)
-        parts = ["is past", "--to: it must be one mail address", "--at: it must be", "since roll read it", "letter.txt:1: ", "quorum: "]
-        self.assertEqual([part in line for part, line in zip(parts, ended.faults.splitlines(), strict=True)], [True] * 6, ended.faults)
+        parts = ["is past", "--to: it must be one mail address", "--at: it must be", "nofile: No such file", "since roll read it", "letter.txt:1: ", "quorum: "]
+        self.assertEqual([part in line for part, line in zip(parts, ended.faults.splitlines(), strict=True)], [True] * 7, ended.faults)
         self.assertFalse((self.folder / "call").exists())
 
 
@@ -192,10 +192,13 @@ class Letters(CallTest):
     def test_with_marks_alone(self) -> None:
         told = self.done("call", *UNTIL, "--to", "vote@club.example", "--at", "https://club.example/vote/", "--marked").output
         self.assertIn("A letter goes in by itself only with the own mark of its elector.\n", told)
-        said = "Open the link in your letter, or answer that letter: then the subject has your own mark"
-        self.assertIn(said, " ".join(self.texts().split()))
         self.done("call", "--marked", "--until", "2026-12-05 18:00")
         self.assertIs(self.announced("marked"), True)
+        # a letter with the mark of the poll alone would wait
+        for name in ("call/index.html", "call/call.txt", "letters/extension.txt"):
+            text = " ".join(self.read(name).decode().split())
+            self.assertIn("Open the link in your letter, or answer that letter: then the subject has your own mark", text, name)
+            self.assertNotIn("in a letter whose subject ends with", text, name)
         self.done("call", "--take-back")
         self.done("call", *UNTIL, "--to", "vote@club.example")
         self.assertNotIn("your own mark", " ".join(self.texts().split()))
@@ -349,6 +352,8 @@ class Secret(CallTest):
         self.assertEqual(len(codes), 9)
         for text in (ended.output, self.texts(), self.done("status").output, self.done("status", "--json").output, self.done("log").output):
             self.assertFalse(codes & set(re.findall(r"[2-9a-hjkmnp-z]{10}", text)))
+        # nobody knows to whom one would go
+        self.assertNotIn("receipt", self.texts())
         self.assertIsNone(json.loads(self.done("status", "--json").output)["without_ballot"])
         # they lapse with the call
         self.assertIn("then run debvote-election roll\n", self.done("call", "--take-back").output)

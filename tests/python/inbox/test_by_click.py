@@ -39,7 +39,7 @@ class CallWithBox(elections.ElectionTest):
             (("--at", "https://club.example/?a=/"), ["--box: the page needs"]),
             (
                 ("--keyring", "x", "--at", "http://club.example/"),
-                ["--box: the page needs", "--box: letters have to be signed"],
+                ["--box: the page needs", "--box: letters have to be signed", "x: No such file"],
             ),
         ):
             with self.subTest(words=words):

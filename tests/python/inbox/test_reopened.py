@@ -167,10 +167,22 @@ class Reopened(LettersTest):
         self.told("close")
         self.assertIn("Note: 1 line late; ", self.reopen("--in-time", 1, "--in-time", 3))
         self.assertEqual((self.lines(), self.late_lines()), ([late[0], late[2]], late))
-        # only those that were not entered before are named, also at a terminal, which is not asked
+        # only those that were not entered before are named, also at a terminal, which is asked about the reason
         self.told("close")
-        terminal = Terminal(self, "reopen", *IN_TIME)
-        self.assertRegex(terminal.end()[0], "Note: 1 line late; [^\n]*\n  debvote-election close && debvote-election reopen --in-time 2 --because")
+        before = self.last_act()
+        for answer, status, said in (
+            ("n", 9, "you did not say yes; nothing was changed"),
+            ("y", 0, "Note: 1 line late; [^\n]*\n  debvote-election close && debvote-election reopen --in-time 2 --because"),
+        ):
+            self.assertEqual(self.last_act(), before)
+            terminal = Terminal(self, "reopen", *IN_TIME)
+            self.assertIn("because: it was in time? Everybody will read this reason.", terminal.until("[y/n] "))
+            terminal.type(f"{answer}\n")
+            shown, ended = terminal.end()
+            self.assertRegex(shown, said)
+            self.assertEqual(ended, status)
+        self.told("close")
+        self.assertNotIn("[y/n]", Terminal(self, "reopen", "--yes", *IN_TIME).end()[0])
 
     def test_that_command_before_the_announced_end(self) -> None:
         """It closes early again, which the program does not do unasked."""

@@ -716,6 +716,7 @@ class CloseAndResult(OutTest):
         telephone = "A page can't vouch for itself. So on a telephone, which has no such command, ask somebody with a computer to compare it."
         self.assertIn(f"{telephone} The subject of each true letter to you ends with your own mark", texts["ada"])
         self.assertIn("open the index.html that you downloaded and compared, and read that file", texts["ada"])
+        self.assertIn("The program recount.py, which counts anew, is that of the web site until its checksum is compared: run it only if", texts["ada"])
         # each act that the page tells
         self.assertIn("That was before the time until which one could vote.", texts["ada"])
         # none of a vote that is open again; each publication has its letters

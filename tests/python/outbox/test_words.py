@@ -133,12 +133,14 @@ class Texts(unittest.TestCase):
         """The letter for all, and within it, behind the winner, the own ballot and where the result is."""
         rest = "THE FILES OF THE RESULT\n\nDownload them.\n"
         place = "The result is published at:\n  https://club.example/vote/\n"
-        for letter in ("RESULT\n", f"RESULT\n\n{rest}", f"RESULT\n\n{place}\nDOUBTS\n\n{rest}"):
+        earlier = place.replace("club", "earlier")
+        for letter in ("RESULT\n", f"RESULT\n\n{rest}", f"RESULT\n\n{place}\nDOUBTS\n\n{rest}", f"RESULT\n\n{earlier}\nDOUBTS\n\n{rest}"):
             texts = [now.text("result_to_elector.txt", ADA, letter=letter, answers="2,1,3") for now in (vote(), vote(has_aliases=True))]
-            end = letter.removeprefix("RESULT\n").removeprefix(f"\n{place}")
+            end = letter.removeprefix("RESULT\n").removeprefix(f"\n{place}").removeprefix(f"\n{earlier}")
             for text in texts:
                 self.assertTrue(text.startswith(f"Dear Ada L.,\n\nRESULT\n\n{place}\nYour "), text)
                 self.assertTrue(text.endswith(end), text)
+                self.assertEqual(text.count(place.partition("\n")[0]), 1)
             own = "Your own ballot is (ada 2,1,3), in words: Hall, then Lake, then None. The page shows it at: https://club.example/vote/#ada"
             self.assertIn(own, " ".join(texts[0].split()))
             self.assertNotRegex(texts[1], "#|2,1,3|Hall")

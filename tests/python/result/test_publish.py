@@ -19,6 +19,7 @@ from debvote_tools.result.folder import NewFolder, beside
 
 from tests.support import elections, expecting, page_parts as pages
 from tests.support.called import CalledTest
+from tests.support.terminal import Terminal
 
 POLL = """title = "Wo wir uns treffen: Größe"
 options = ["72 Euro", "Größe"]
@@ -391,6 +392,9 @@ class OfOpenVotes(OfElections):
             self.write("about", data)
             self.stops("publish", "--about", "about", said=[said], status=2)
         self.stops("publish", "--about", "none", said=["none: No such file or directory"], status=2)
+        wrong = ("--casting", "xx", "--cast-by", '"', "--cast-on", "tomorrow", "--about", "none", "--force", "--because", "\u202e")
+        all_wrong = ["--cast-by: it must be a name", "`tomorrow` is not a day", "U+202E", "none: No such file or directory", "--casting=xx: no option"]
+        self.stops("publish", *wrong, said=all_wrong, status=2)
         for text, said in [("a\u202eb", "the text has the character U+202E"), ("x" * 2001, "the text has 2001 characters; at most 2000 are allowed")]:
             self.stops("publish", "--force", "--because", text, said=[f"--because: {said}"], status=2)
         (self.folder / "about").write_bytes(b"\xef\xbb\xbfOne\r\n\r\n\xd7\x93 <i>two</i>\r\n")
@@ -438,16 +442,20 @@ class OfOpenVotes(OfElections):
         self.expect("on the page", said in self.sections()["Result"].text(), True)
         won = "Winner: Option 1: 72 Euro by casting vote. Option 1: 72 Euro against Option 2: Größe: 1 to 1."
         self.expect("in the letter", [text in self.letter().replace("\n", " ") for text in (said, won)], [True, True])
-        self.stops("publish", "--casting", "Groesse", *cast, said=["an earlier publication has a casting vote for 72 Euro"])
+        earlier = ["an earlier publication has a casting vote for 72 Euro", "publish --casting '72 Euro' --cast-by 'Anna <b>' --cast-on 2026-11-20"]
+        for words in (("--casting", "Groesse", *cast), ("--language", "fr")):
+            self.stops("publish", *words, said=earlier)
         self.reopened_with("cleo 1,2,3\n")
         self.replace("--casting", "72 Euro", *cast, "--language", "en")
         texts = (self.sections()["Result"].text(), self.letter())
         self.expect("one that decides nothing is not told", ["casting vote" in text for text in texts], [False, False])
         self.reopened_with("dan 2,1,3\n")
         self.replace("--casting", "Groesse", *cast, "--force", "--because", "She had meant this", "--language", "en")
-        self.expect("another casting vote", self.doubts(), ["An earlier result of this vote was published with another casting vote, for 72 Euro."])
+        self.expect("another casting vote", self.doubts(), ["An earlier result of this vote was published with a casting vote for 72 Euro."])
         self.expect("the letter says whom it chose", "Winner: Option 2: Größe by casting vote" in self.letter(), True)
         self.expect("and again", "as it was published before" in self.say("publish"), True)
+        self.replace("--force", "--because", "It was none", "--language", "en", status=1)
+        self.expect("one that is left out", self.doubts(), ["An earlier result of this vote was published with a casting vote for Größe."])
 
     @FORKED
     def test_a_publication_that_is_killed_after_its_act(self):
@@ -589,7 +597,8 @@ class OfSecretVotes(OfElections):
         self.say("publish", "--force", "--yes", status=1)
         self.expect("the act keeps what was agreed to", self.acts()[-1].detail["agreed"], [hashlib.sha256(b"of <Ada>").hexdigest()])
         self.say("publish", "--language", "fr", status=1)
-        self.write("about", f"x {queries.electors(self.book)[0].code}\n")
+        code = queries.electors(self.book)[0].code
+        self.write("about", f"x {code[:16]}\n{code[16:].upper()}\n")
         self.stops("publish", "--about", "about", "--yes", said=["index.html would have the code of an elector in it"])
 
     def test_texts_of_options_are_asked_for_before_the_call(self):
@@ -642,6 +651,10 @@ class OfSecretVotes(OfElections):
         self.say("publish", status=1)
         # that of Zoë has the same order, which is published as it was; that of Ada has another one
         self.add("cleo 1,2,3\nzoe-mueller 5,4,6\nada-lovelace 2,1,3\n")
+        terminal = Terminal(self, "reopen", "--because", "Cleo's letter")
+        terminal.until("because: Cleo's letter? Only the log tells this reason. [y/n] ")
+        terminal.type("n\n")
+        self.expect("it is asked", terminal.end()[1], 9)
         self.say("reopen", "--because", "Cleo's letter", "--in-time", "6", "7", "8")
         self.say("close")
         self.stops("publish", "result-2", said=["a comparison with the earlier result shows how these voted: ada-lovelace, cleo"], folder="result-2")
