@@ -42,8 +42,9 @@ class Reopened(LettersTest):
 
     def test_a_letter_before_one_that_is_late_waits(self) -> None:
         """The late one counts for nothing, so the other is not passed over for it."""
-        self.told("close")
+        self.told("call", "--until", "2026-11-25 09:20", "--zone", "UTC")
         self.set_clock("2026-11-25T10:00:00+00:00")
+        self.told("close")
         self.add(letter("ada", OTHER, time="Wed, 25 Nov 2026 09:30:00 +0000"))
         self.assertIn("1 late  ada: ", self.told("held", 1, "--enter"))
         self.reopen("--in-time", 1)

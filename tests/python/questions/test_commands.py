@@ -318,14 +318,12 @@ class Told(QuestionsTest):
 
     def test_receipts_say_what_was_left_out_of_a_letter_of_two(self) -> None:
         """To her of whom it is, also if her ballot came late, and is entered anew."""
-        close = ("close", "--early", "--force", "--because", "x", "--yes")
-        self.done(*close)
-        self.set_clock("2026-11-25T10:00:00+00:00")
-        self.done("reopen", "--because", "a slow server")
-        self.add_lines("ada B 3,2,1", words=["--came-before-close", "yes"])
+        self.done("call", "--until", "2026-11-25 09:20", "--zone", "UTC")
+        self.set_clock("2026-11-25T09:40:00+00:00")
+        self.add_lines("ada B 3,2,1")
+        self.done("close", "--force", "--because", "x", "--yes")
         self.add(letter("ada", "as listed, and ben too\n", time="Wed, 25 Nov 2026 09:30:00 +0000"))
         self.done("held", "1", "--as", "ada A 1,2 B 1,2,3", "--as", "ben A 2,1", "--force", "--yes")
-        self.done(*close)
         self.done("reopen", "--in-time", "2", "3", "--because", "a slow server")
         texts = self.letters("receipts")
         self.assertEqual({name: text.count("These of its answers were not entered") for name, text in texts.items()}, {"ada": 2, "ben": 0})
