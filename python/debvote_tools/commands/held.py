@@ -170,17 +170,16 @@ class Chosen(NamedTuple):
         return [*dict.fromkeys(entered[one] for one in answers if one in entered)]
 
     def left_of(self, line: BallotLine, in_time: InTime) -> tuple[str, set[str], set[str]]:
-        """A ballot without the answers that were entered, and without those to which its elector has later
-        ones; and the labels of both. What is typed is not entered yet if it says something else.
+        """A ballot without the answers to which its elector has later ones, and without those that were
+        entered; and the labels of both. What is typed is not entered yet if it says something else.
         """
-        entered = self.entered
+        entered, later = self.entered, answered_since(self.letter, line.as_entered, in_time)
         done = {
             label
             for name, label in line.answers & entered.keys()
             if line.number or not differ(line.as_entered, entered[name, label].line)
         }
-        later = answered_since(self.letter, line.as_entered, in_time) - done
-        return without(line.as_entered, later | done), done, later
+        return without(line.as_entered, later | done), later, done - later
 
 
 def what_is_entered(vote: Vote, arguments: Arguments, typed: Sequence[BallotLine]) -> LetterEntry:
@@ -246,7 +245,7 @@ def without_answered(chosen: Sequence[Chosen], in_time: InTime) -> tuple[list[Ch
     for one in chosen:
         kept, left_out = list[BallotLine](), list[str]()
         for line in one.lines:
-            left, done, later = one.left_of(line, in_time)
+            left, later, done = one.left_of(line, in_time)
             kept.append(BallotLine(line.numbers, left or line.as_entered))
             whys = {f"{line.elector} has a later answer": later, "it was entered": done}
             said += (

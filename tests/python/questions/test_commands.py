@@ -220,7 +220,7 @@ class TakenAway(QuestionsTest):
         # ben votes on A again, and his desk's ballot is struck
         self.add(letter("ben", "ben A 2,1\n", number=3, time=at(10)))
         self.assertIn("\n  line 1: ben B 1,2,3\n", self.told("strike", "3", "--because", "x", "--yes"))
-        self.assertIn("Left out of letter 2: A, since it was entered\n6 counted  ben: B (", self.told("held", "2", "--enter", "--yes"))
+        self.assertIn("Left out of letter 2: A, since ben has a later answer\n6 counted  ben: B (", self.told("held", "2", "--enter", "--yes"))
         for number in (4, 5):
             self.assertNotIn("letter 2", self.told("strike", str(number), "--because", "x", "--yes"))
         self.assertEqual((self.numbers()["waiting"], self.lines()), (0, ["ben B 1,2,3"]))
