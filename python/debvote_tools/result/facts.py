@@ -149,7 +149,7 @@ class Facts:
     # anew; and unless the vote is secret the file of all, with these
     late_number: int = 0
     late: bytes | None = None
-    # the letter of the last close
+    # the letter of the last close, unless the vote was opened again: it has the checksum of other ballots
     closed: bytes | None = None
     # by the names on the roll, if they are published
     real_names: Mapping[str, str] = dataclasses.field(default_factory=dict)

@@ -135,7 +135,7 @@ def facts_of(election: Election, words: PublishedWords, pending: Pending) -> dic
         "language": election.language if words.language is None else language_of(words.language),
         "acts": acts_of(book, history, is_secret=public.is_secret),
         "labels_after_end": labels_after_end(book, history),
-        "closed": closing_letter(history, public, election.language) if history.closes else None,
+        "closed": closing_letter(history, public, election.language) if history.is_closed else None,
         "real_names": call.real_names or {},
         "has_codes": call.has_codes_on_roll,
         "at": call.at,

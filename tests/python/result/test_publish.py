@@ -299,6 +299,11 @@ class OfOpenVotes(OfElections):
         self.replace("--force", "--because", "nothing", "--language", "en")
         self.expect("half of the lines are refused", json.loads(self.files()["result.json"])["refused"], 1)
         self.expect("force where nothing stops", (self.doubts(), "nothing" in self.sections()["Result"].text()), ([], False))
+        self.say("reopen", "--because", "a lost letter")
+        self.replace("--force", "--because", "A <test>.", "--language", "en")
+        said = [" ".join(self.letter().split()), self.sections()["How-to-verify"].text()]
+        found = "closed.txt" in self.files(), ["letter of the close" in text for text in said]
+        self.expect("no close has fixed ballots that may become more", found, (False, [False, False]))
 
     def test_each_act_is_told(self):
         self.say("call")
