@@ -10,7 +10,6 @@ from typing import Any
 
 from debvote_tools.debvote import Finding, casting_words, standing_in
 from debvote_tools.poll.questions import Questions
-from debvote_tools.text.ballots import ballot_lines
 from debvote_tools.poll.sealed import SealedPoll
 from debvote_tools.result.sheet import Castings, Sheet
 from debvote_tools.result.why import Why
@@ -146,9 +145,9 @@ class Facts:
     acts: Sequence[Act] = ()
     labels_after_end: Sequence[Collection[str]] = ()
     # the lines that were entered after the close: how many came late, without those that a reopen entered
-    # anew; and unless the vote is secret the file of all, with these
+    # anew; and unless the vote is secret all, each with what became of it
     late_number: int = 0
-    late: bytes | None = None
+    late: Sequence[tuple[bytes, str]] | None = None
     # the letter of the last close, unless the vote was opened again: it has the checksum of other ballots
     closed: bytes | None = None
     # by the names on the roll, if they are published
@@ -201,10 +200,6 @@ class Facts:
     @property
     def lines_after_end(self) -> int:
         return sum(self.label in labels for labels in self.labels_after_end)
-
-    @property
-    def late_lines(self) -> list[bytes]:
-        return ballot_lines(self.late or b"")
 
     @property
     def casting(self) -> str | None:

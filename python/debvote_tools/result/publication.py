@@ -45,9 +45,8 @@ class Kept(NamedTuple):
     numbers: queries.Numbers
     refused: list[int]
     counting: dict[str, str]
-    # the lines that came late; how many they are without those that were entered anew as in time
-    late: bytes
-    late_number: int
+    # the lines that came late, each with what became of it
+    late: list[tuple[bytes, str]]
 
 
 def kept_of(election: Election, history: History, labels: Iterable[str]) -> dict[str, Kept]:
@@ -81,8 +80,7 @@ def kept_of_question(book: Book, label: str, poll: SealedPoll) -> Kept:
         numbers=queries.Numbers(lines, lines - bad, bad, len(counting)),
         refused=refused,
         counting=counting,
-        late=ballot_file(queries.late_lines(book)),
-        late_number=len(queries.lines(book, queries.LEFT_LATE)),
+        late=queries.late_lines(book),
     )
 
 
@@ -159,7 +157,8 @@ def facts_of_ballots(
     """The facts about the ballots of a question. Stops if debvote does not find them as they are kept."""
     standing = election.debvote.standing(kept.poll.as_bytes(), kept.ballots)
     demand_kept(election, standing, kept.counting)
-    found = {"ballots": kept.public, "late_number": kept.late_number}
+    left_late = sum(became == "late" for _, became in kept.late)
+    found = {"ballots": kept.public, "late_number": left_late}
     if not kept.poll.secret:
         return found | {"late": kept.late}
     return found | {

@@ -382,6 +382,11 @@ class ReceiptsAndReminders(OutTest):
         self.assertIn("so it is late and does not count.", late["gus"])
         for text in late.values():
             self.assertNotRegex(text, r"_,_|unless you|You can send")
+        # what was entered anew is told once
+        self.done("reopen", "--in-time", 10, "--because", "it was in time")
+        anew = self.texts("receipts")
+        self.assertEqual((list(anew), anew["fay"].count("It was read as")), (["fay"], 1))
+        self.assertIn("has arrived, and it counts. It was read as (fay", anew["fay"])
 
     def test_a_letter_of_which_one_ballot_is_entered(self) -> None:
         """Its elector is told once of that, and the other elector that the letter waits: Ben, who has the same address, or Dan."""

@@ -341,6 +341,10 @@ class OfOpenVotes(OfElections):
         ]
         self.expect("on the page", self.what_was_done(), [*called[:3], *told[:-1], called[3], told[-1]])
         self.expect("the late ones stay late", self.files()["late.txt"], b"zoe-mueller 1,2,3\ncleo 1,2,3\n")
+        refused, late = self.sections()["Refused-lines"].text(), "Late, and not counted"
+        found = "none came late." in refused, "do not count" in refused, late in self.say("status"), self.say("export", "copy")[:4]
+        self.expect("of what was entered anew nobody says that it does not count", found, (True, False, False, "Made"))
+        self.expect("it was late", self.read("copy/late.txt"), self.files()["late.txt"])
         self.expect("the times are in one zone", self.sections()["What-was-done"].text().count("(UTC+01:00): "), 11)
         self.say("publish", "--language", "de")
         letters = self.texts_of_messages()
