@@ -186,9 +186,9 @@ def demand_due(election: Election, history: History, kind: str, *, is_over: bool
     elif kind == "call" and history.announced("box") and history.until is None:
         words = "the call has a box, and says no end of the vote"
         cure = f"say it: {election.command('call', '--until', 'TIME')}"
-    elif kind == "closed" and not history.is_closed:
+    elif kind in ("closed", "result") and not history.is_closed:
         words, cure = "the vote is not closed", f"run {election.command('close')} first"
-    elif kind == "result" and not (history.is_closed and history.last_publication):
+    elif kind == "result" and not history.last_publication:
         words, cure = "nothing is published", f"run {election.command('publish')} first"
     else:
         return

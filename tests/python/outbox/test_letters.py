@@ -673,7 +673,7 @@ class NoBallots(OutTest):
 
 class CloseAndResult(OutTest):
     def test_an_open_vote(self) -> None:
-        self.assert_fault(self.election("letters", "result"), 9, "nothing is published")
+        self.assert_fault(self.election("letters", "result"), 9, "the vote is not closed")
         self.add_lines(f"ada {RANKS}", f"ben {RANKS}")
         self.done("close", "--early")
         self.done("publish")
@@ -702,7 +702,7 @@ class CloseAndResult(OutTest):
         self.assertIn("That was before the time until which one could vote.", texts["ada"])
         # none of a vote that is open again; each publication has its letters
         self.done("reopen", "--because", "a bag was forgotten")
-        self.assert_fault(self.election("letters", "result"), 9, "nothing is published")
+        self.assert_fault(self.election("letters", "result"), 9, "the vote is not closed", "run debvote-election close first")
         self.done("desk", "--came-before-close", "yes", given="ada 1,3,4,2\n")
         self.done("close", "--early")
         self.done("publish", "result-2")

@@ -287,7 +287,8 @@ class OfOpenVotes(OfElections):
         told = ["no elector has a ballot that counts", "more than half of the lines are refused, 1 of 1", "the vote is not closed"]
         self.stops("publish", said=[*told, "--force --because"])
         self.stops("publish", "--force", said=told)
-        self.say("publish", "--force", "--because", "A <test>.\n\nNo more.", "--language", "en")
+        output = self.say("publish", "--force", "--because", "A <test>.\n\nNo more.", "--language", "en")
+        self.expect("no result ends the vote", output.splitlines()[-1], "Next: debvote-election close, then debvote-election publish once more")
         wanted = ["No elector has a ballot that counts: nobody's vote has decided this."]
         wanted += ["More than half of the lines of the ballot file are refused: 1 of 1."]
         self.expect("doubts", self.doubts(), [*wanted, "The vote was not closed when this page was made: more ballots may come in."])
