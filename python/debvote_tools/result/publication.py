@@ -4,7 +4,6 @@ then each compares it with what it asks of debvote.
 """
 
 import dataclasses
-import datetime
 import operator
 from collections.abc import Collection, Iterable, Iterator, Mapping
 from typing import Any, NamedTuple
@@ -169,11 +168,13 @@ def facts_of_ballots(
     }
 
 
-def early_end(history: History) -> datetime.datetime | None:
-    """Until when one should have been able to vote, if the first close came before; after it nobody
-    could.
-    """
-    return history.until if history.was_closed_early else None
+def early_close(history: History) -> Doubt | None:
+    """The doubt about a first close before the announced end; after it nobody could vote."""
+    if not history.was_closed_early:
+        return None
+    closed = history.closes[0].time.astimezone(history.zone)
+    # `close --early` has agreed to it
+    return Doubt("closed early", {"closed": closed, "until": history.until}, stops=False)
 
 
 def closing_letter(history: History, questions: Questions, language: Language) -> bytes:
@@ -182,7 +183,8 @@ def closing_letter(history: History, questions: Questions, language: Language) -
     """
     close, zone = history.closes[-1], history.zone
     values = {"close": close, "time": close.time.astimezone(zone), "questions": questions}
-    values |= {"fixed": fixed_by(close), "early_end": early_end(history), "earlier": None}
+    values |= {"fixed": fixed_by(close), "until": history.until, "earlier": None}
+    values["early"] = early_close(history)
     if earlier := history.closes[:-1]:
         reopened = [act for act in history.since_call("reopen") if act.number < close.number]
         values |= {"earlier": fixed_by(earlier[-1])}
@@ -218,10 +220,8 @@ def doubts_of(
     """The doubts that the book shows before the count; `stopping` is what `what_stops` finds."""
     if not history.is_closed:
         yield Doubt("not closed")
-    if (until := early_end(history)) is not None:
-        closed = history.closes[0].time.astimezone(until.tzinfo)
-        # `close --early` has agreed to it
-        yield Doubt("closed early", {"closed": closed, "until": until}, stops=False)
+    if early := early_close(history):
+        yield early
     if is_unasked_since_end(history):
         # at the end `close --force` has agreed to it
         yield Doubt(BOX, stops=BOX in stopping)
