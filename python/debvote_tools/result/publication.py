@@ -9,7 +9,7 @@ from collections.abc import Collection, Iterable, Iterator, Mapping
 from typing import Any, NamedTuple
 
 from debvote_tools.book import queries
-from debvote_tools.book.book import Book, DoneAct, as_text, from_text
+from debvote_tools.book.book import RESTORED, Book, Detail, DoneAct, as_text, from_text
 from debvote_tools.book.election import TEXTS, Election, Fixed, History, fixed_by
 from debvote_tools.cli.console import is_terminal, is_yes, tell_aside
 from debvote_tools.cli.faults import Fault
@@ -290,10 +290,21 @@ def acts_of_page(act: DoneAct, book: Book, history: History, *, is_secret: bool)
             yield Act(time, "reopened", because=reason)
         case "moved":
             noted, there = detail["noted"] and detail["noted"]["act"], detail["there"]["act"]
-            done = "restored" if noted == there else "moved from afar" if noted is None else "moved"
-            yield Act(time, done, {"noted": noted, "there": there}, detail["because"])
+            places = {"noted": noted, "there": there}
+            yield Act(time, how_moved(detail, history), places, detail["because"])
     if detail.get("keyring"):
         yield Act(time, "keyring")
+
+
+def how_moved(detail: Detail, history: History) -> str:
+    """What the pages say of an act `moved`: they tell as restored only what the secretary says is."""
+    if detail["why"] == RESTORED:
+        return "restored"
+    noted, there = detail["noted"], detail["there"]["act"]
+    if noted is None:
+        return "moved from afar"
+    is_other = noted["act"] <= there and history.act(noted["act"]).digest != noted["digest"]
+    return "moved to others" if is_other else "moved"
 
 
 def close_of(act: DoneAct, book: Book, history: History) -> dict[str, Any]:
