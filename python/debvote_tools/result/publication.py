@@ -277,7 +277,9 @@ def acts_of_page(act: DoneAct, book: Book, history: History, *, is_secret: bool)
         case "take back":
             yield Act(time, "taken back")
         case "extend" if until:
-            yield Act(time, "extended", until)
+            earlier = [one for one in history.timing if one.number < act.number]
+            done = "extended" if earlier[-1].detail.get("until") else "end said"
+            yield Act(time, done, until)
         case "addresses":
             yield Act(time, "roll changed", {"number": detail["electors"]})
         case "strike":

@@ -143,6 +143,16 @@ class Refused(OutTest):
         self.assertRegex(text, r"Send your ballot as the secretary announces\. .* WHAT DECIDES .* WHAT WILL BE PUBLIC ")
         self.assertEqual(found["ada"]["From"], "vote@other.example")
         self.assertIn(f"{LINE}ada _,_,_,_", self.texts("reminders", "--from", "v@x.example")["ada"])
+        # the first end that is said may be less time
+        for day in (4, 6):
+            self.done("call", "--until", f"2026-12-0{day} 18:00", "--zone", "UTC")
+        message = self.written("call", "--from", "v@x.example")["ada"]
+        self.assertRegex(message["Subject"], rf"^When the vote ends: {TITLE} {MARKS}$")
+        self.assertIn("You can now vote until the time below.", one_line(message))
+        self.done("close", "--early")
+        self.done("publish", "--force", "--because", "nobody has voted")
+        first, second = "The end of the vote was announced: one could vote until Friday, 4", "The time was extended: one could vote until Sunday, 6"
+        self.assertRegex(" ".join(self.read("letters/result.txt").decode().split()), f"{first} .* {second} ")
 
     def test_addresses_of_before_the_call_and_that_of_the_result(self) -> None:
         # of several addresses the first that each server takes
