@@ -98,7 +98,7 @@ class Reopened(LettersTest):
         closes = [detail["questions"][""]["checksum"] for name, detail in self.acts() if name == "close"]
         self.assertEqual([checksum in letter for checksum in closes], [False, True, True])
         self.told("publish")
-        self.assertEqual(self.read("result/index.html").decode().count("lines that came in: 1; "), 2)
+        self.assertEqual(self.read("result/index.html").decode().count("lines in time that came in: 1; "), 2)
 
     def test_a_late_line_is_entered_once(self) -> None:
         """What was entered again came once: the same line in a file is another one."""
@@ -181,6 +181,8 @@ class Reopened(LettersTest):
         self.add_lines(BALLOT, f"ben {RANKS}")
         self.reopen("--in-time", 1, 2)
         self.assertIn("came before; 0 are new", self.add_lines(BALLOT, words=("--came-before-close", "yes")))
+        said = "envelope 1 is late, and was entered anew as in time, which would count on; nothing was changed: strike its new envelope"
+        self.assert_refused(("strike", 1, "--because", "a slip"), 9, said)
         self.told("undo", "--yes")
         self.assertEqual((self.lines(), self.late_lines()), ([], [BALLOT, f"ben {RANKS}"]))
         self.assertIn("came before, and was late (envelope 1)", self.add_lines(BALLOT, words=("--came-before-close", "yes")))

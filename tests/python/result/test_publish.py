@@ -338,7 +338,7 @@ class OfOpenVotes(OfElections):
             f"The secretary struck envelope 1: its line does not count.{because} wrong hand",
             f"The vote was closed. Lines in time: 2. Checksum: {checksum}. {early} 2 letters that had arrived in time were left waiting. "
             "1 letter that had arrived after the end did not go in. "
-            f"Since the close before this one, lines that came in: 2; lines that were struck: 1.{because} in a hurry",
+            f"Since the close before this one, lines in time that came in: 2; that were struck: 1.{because} in a hurry",
         ]
         self.expect("on the page", self.what_was_done(), [*called[:3], *told[:-1], called[3], told[-1]])
         self.expect("the late ones stay late", self.files()["late.txt"], b"zoe-mueller 1,2,3\ncleo 1,2,3\n")
