@@ -22,11 +22,8 @@ FOR_SECRETARY = {
     "mostly refused": "more than half of the lines are refused, {refused} of {lines}; debvote explain says why",
     "not closed": "the vote is not closed; close it first",
     "closed early": "the vote was closed on {closed}, before its announced end, {until}",
-    "box not asked": "the box of the web host was not asked since the end: run debvote-election add --box",
-    "letters left": (
-        "these letters arrived in time, and wait: {letters}; set aside what is no ballot (debvote-election held NUMBER --set-aside); if "
-        "one is a ballot, run debvote-election reopen --because TEXT, then debvote-election held NUMBER --enter"
-    ),
+    "box not asked": "the box of the web host was not asked since the end: run {command}",
+    "letters left": "these letters arrived in time, and wait: {letters}; {command}",
     "other casting vote": (
         "an earlier publication has a casting vote for {option}; only one can be right, so find out which was given"
     ),
@@ -80,6 +77,8 @@ class Doubt(Told):
     stops: bool = True
     # that of the question that it is about; empty if it is about the whole vote
     label: str = ""
+    # a command that puts it right
+    command: str = ""
 
     def as_data(self) -> dict[str, Any]:
         """As the act of a publication keeps it."""
@@ -87,7 +86,7 @@ class Doubt(Told):
         return {"kind": self.kind, **self.shown(datetime.datetime.isoformat), **question}
 
     def for_secretary(self) -> str:
-        return FOR_SECRETARY[self.kind].format(**self.shown(time_in_words))
+        return FOR_SECRETARY[self.kind].format(command=self.command, **self.shown(time_in_words))
 
 
 def doubts_about(sheet: Sheet, label: str) -> Iterator[Doubt]:

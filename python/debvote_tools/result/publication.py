@@ -17,7 +17,7 @@ from debvote_tools.debvote import casting_words
 from debvote_tools.files import sha256_of
 from debvote_tools.inbox.asked import is_unasked_since_end
 from debvote_tools.inbox.lines import name_in
-from debvote_tools.inbox.stopping import BOX, LETTERS, Pending, what_stops
+from debvote_tools.inbox.stopping import BOX, LETTERS, Pending, letters_cure, what_stops
 from debvote_tools.poll.call import current_call
 from debvote_tools.poll.secret import alias_in, aliased_ballots, sealed_checksum
 from debvote_tools.poll.questions import Questions, place_of
@@ -137,7 +137,7 @@ def facts_of(election: Election, words: PublishedWords, pending: Pending) -> dic
         "has_codes": call.has_codes_on_roll,
         "at": call.at,
         "questions": public,
-        "doubts": [*doubts_of(history, public, words.castings, pending, stopping)],
+        "doubts": [*doubts_of(election, history, words.castings, pending, stopping)],
     }
     return {
         label: Facts(
@@ -211,8 +211,8 @@ def shown_by_comparison(election: Election, history: History, label: str, kept: 
 
 
 def doubts_of(
+    election: Election,
     history: History,
-    questions: Questions,
     castings: Castings,
     pending: Pending,
     stopping: Collection[str],
@@ -224,9 +224,9 @@ def doubts_of(
         yield early
     if is_unasked_since_end(history):
         # at the end `close --force` has agreed to it
-        yield Doubt(BOX, stops=BOX in stopping)
+        yield Doubt(BOX, stops=BOX in stopping, command=election.command("add", "--box"))
     for label, casting in castings.items():
-        names = {one.plain: one.name for one in questions[label].choices}
+        names = {one.plain: one.name for one in election.questions[label].choices}
         given = (act.detail["casting"].get(label, casting) for act in history.named("publish"))
         for option in dict.fromkeys(given):
             if option != casting:
@@ -234,7 +234,8 @@ def doubts_of(
     if numbers := pending.untold:
         waits = {"number": len(numbers), "letters": ", ".join(map(str, numbers))}
         # an earlier publication may have had it
-        yield Doubt(LETTERS, waits, stops=LETTERS in stopping)
+        cure = letters_cure(election, "publish", is_closed=True)
+        yield Doubt(LETTERS, waits, stops=LETTERS in stopping, command=cure)
 
 
 # ---- what was done
