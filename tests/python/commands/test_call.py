@@ -386,8 +386,14 @@ class Secret(CallTest):
         letters = [email.message_from_bytes(file.read_bytes()) for file in (self.folder / "letters" / "call").rglob("*.eml")]
         texts = [letter.get_payload(decode=True).decode() for letter in letters]
         for text in (*texts, self.read("call/index.html").decode()):
-            self.assertIn("each code that was given out with it is void", " ".join(text.split()))
+            self.assertIn("each code that was given out with it is void. Only your new code is valid.", " ".join(text.split()))
         self.assertEqual((len(texts), self.read("private/slips.html").decode().count("An earlier slip is void.")), (10, 10))
+        # where the next vote is open, nobody has a new code
+        self.done("call", "--take-back")
+        self.write("poll.toml", elections.POLL)
+        self.done("call", *UNTIL)
+        self.assertRegex(self.texts(), r"with\s+it\s+is\s+void\.")
+        self.assertNotRegex(self.texts(), r"new\s+code")
 
     def test_not_a_secret_vote(self) -> None:
         self.write("poll.toml", elections.POLL)
