@@ -33,11 +33,19 @@ class BoxElectionTest(elections.ElectionTest):
 
     def setUp(self) -> None:
         super().setUp()
-        self.web = self.scratch / "web"
-        self.web.mkdir()
-        settings = clock_of_php(self.scratch) if self.has_clock else []
-        self.host = self.enterContext(Host(self.web, *settings, workers=self.workers))
+        self.settings = clock_of_php(self.scratch) if self.has_clock else []
+        self.begin_host("web")
         self.numbers = itertools.count(1)
+
+    def begin_host(self, folder: str) -> None:
+        self.web = self.scratch / folder
+        self.web.mkdir()
+        self.host = self.enterContext(Host(self.web, *self.settings, workers=self.workers))
+
+    def move(self) -> str:
+        """The page gets another web host, to which nothing is uploaded yet: what the call says."""
+        self.begin_host("moved")
+        return self.done("call", "--at", self.host.at).output
 
     def call(self, *words: str) -> elections.Ended:
         """The call, an hour ago."""

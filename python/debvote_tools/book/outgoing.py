@@ -88,12 +88,12 @@ def detail_of(letter: OutgoingLetter) -> str:
     return json.dumps(detail, ensure_ascii=False)
 
 
-# when each own mark of now was made; and of each address of each elector what a server answered last
-# to a letter, with its act, and whether the call went there with that mark, without the letters of one
-# act. A letter that is only written went out on paper, or by a mail program unless it was for a server
+# since which act letters to each elector have their own mark of now, and the page of now, as all have
+# since ?1; and of each address of each elector what a server answered last to a letter, with its
+# act, and whether the call went there since then, without the letters of one act. A letter that is only written went out on paper, or by a mail program unless it was for a server
 MARKED = """
 WITH marked AS MATERIALIZED (
-  SELECT elector, min(act) AS since FROM elector_state AS state WHERE mark = (
+  SELECT elector, max(min(act), ?1) AS since FROM elector_state AS state WHERE mark = (
     SELECT mark FROM elector_state AS last WHERE last.elector = state.elector ORDER BY act DESC LIMIT 1
   ) GROUP BY elector
 )"""
@@ -106,9 +106,9 @@ UNREACHED = f"""
 {MARKED}, ours AS (
   SELECT elector, kind, act, state, since, detail ->> 'address' AS address, detail ->> 'for_act' AS for_act,
     detail ->> 'reply' AS reply, detail ->> 'by_server' AS by_server, max(sent) AS last, total(state = 'taken' AND act >= since) AS taken
-  FROM sent JOIN marked USING (elector) WHERE act > ?1 GROUP BY elector, address, kind, for_act, detail ->> 'message_id'
+  FROM sent JOIN marked USING (elector) WHERE act > ?2 GROUP BY elector, address, kind, for_act, detail ->> 'message_id'
 ), answered AS MATERIALIZED (
-  SELECT elector, address, act, state, reply, total(kind = 'call' AND for_act <> ?2 AND (
+  SELECT elector, address, act, state, reply, total(kind = 'call' AND for_act <> ?3 AND (
     taken OR state = 'written' AND act >= since AND (address = '' OR NOT by_server)
   )) AS has_call, max(CASE WHEN state <> 'written' THEN last END) FROM ours GROUP BY elector, address
 ), back AS MATERIALIZED (
@@ -116,7 +116,7 @@ UNREACHED = f"""
   FROM letter JOIN act USING (act), json_each(known, '$.returned') GROUP BY identity, value
 ), found AS (
   SELECT back.act, came, sender, elector, detail ->> 'address' AS address FROM sent CROSS JOIN back
-  ON value = substr(detail ->> 'message_id', 2, 32) WHERE sent.act > ?1 AND EXISTS (SELECT 1 FROM back)
+  ON value = substr(detail ->> 'message_id', 2, 32) WHERE sent.act > ?2 AND EXISTS (SELECT 1 FROM back)
   UNION SELECT act, came, sender, elector, NULL FROM back JOIN elector_now ON value = mark
 ), returned AS MATERIALIZED (
   SELECT elector, coalesce(address, address_in(mail)) AS address, max(found.act) AS act FROM found JOIN elector_now USING (elector)
@@ -135,9 +135,9 @@ WHERE why IS NOT NULL OR NOT coalesce(has_call, 0) GROUP BY elector ORDER BY pos
 """
 
 
-def unreached(book: Book, call: int, without: int) -> list[tuple[int, str, str]]:
+def unreached(book: Book, page: int, call: int, without: int) -> list[tuple[int, str, str]]:
     """The electors whom the call has not reached, why, and what a server said."""
-    return [row[:3] for row in book.rows(UNREACHED, call, without)]
+    return [row[:3] for row in book.rows(UNREACHED, page, call, without)]
 
 
 def call_addresses(book: Book, call: int) -> dict[str, list[str]]:
@@ -151,9 +151,9 @@ def call_addresses(book: Book, call: int) -> dict[str, list[str]]:
     return grouped(book.rows(words, call))
 
 
-def own_marks_since(book: Book) -> dict[int, int]:
-    """The act that made the own mark of now, by elector."""
-    return dict(book.rows(f"{MARKED} SELECT * FROM marked"))
+def right_since(book: Book, page: int) -> dict[int, int]:
+    """The act since which letters have the own mark and the page of now, by elector."""
+    return dict(book.rows(f"{MARKED} SELECT * FROM marked", page))
 
 
 # a state of an elector, and the next one, which has other addresses

@@ -521,10 +521,12 @@ def letter_clocks(book: Book) -> dict[int, int]:
     return dict(book.rows(words))
 
 
-def records_since(book: Book, act: int) -> dict[int, str]:
-    """The records of the box that came since an act: the numbers of their letters, and digests."""
-    words = "SELECT letter, json_extract(known, '$.digest') FROM letter WHERE json_extract(known, '$.link') <> '' AND act > ?"
-    return dict(book.rows(words, act))
+def records_since(book: Book, act: int, at: str | None = None) -> dict[int, str]:
+    """The records of the box that came since an act, from this address if one is given: the numbers of
+    their letters, and digests.
+    """
+    words = "SELECT letter, known ->> 'digest' FROM letter JOIN act USING (act) WHERE act > ? AND detail ->> '$.box.at' = coalesce(?, detail ->> '$.box.at')"
+    return dict(book.rows(words, act, at))
 
 
 def source_of(book: Book, source: int) -> bytes:

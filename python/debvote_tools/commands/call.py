@@ -16,6 +16,7 @@ from debvote_tools.cli.console import act_time, tell
 from debvote_tools.result.publication import agreed_texts, texts_of
 from debvote_tools.commands.begin import CODES, SLIPS, demand_read, write_slips
 from debvote_tools.book.election import (
+    BOX_KEY,
     CALL,
     KEYRING,
     LETTER_TEXT,
@@ -34,9 +35,9 @@ from debvote_tools.poll.announced import (
     parse_until,
 )
 from debvote_tools.cli.faults import Fault, bad_words, kept_in, stop_at
-from debvote_tools.inbox.asked import unasked_fault
+from debvote_tools.inbox.asked import last_box, unasked_fault
 from debvote_tools.inbox.signature import read_keyring
-from debvote_tools.poll.box import SCRIPT, box_files, script_address
+from debvote_tools.poll.box import SCRIPT, box_files, records_file, script_address
 from debvote_tools.poll.secret import aliased, demand_no_code
 from debvote_tools.poll.sealed import new_own_mark
 
@@ -257,12 +258,13 @@ def announced(arguments: Arguments, history: History, faults: list[Fault]) -> De
         if arguments.at is not None:
             demand_web_address(arguments.at)
             said["at"] = arguments.at
-    if history.announced("box") or (arguments.box and history.call is None):
+    is_new = arguments.box and history.call is None
+    if is_new or history.announced("box"):
         with kept_in(faults):
             script_address(said.get("at") or history.announced("at"))
-        if arguments.keyring is not None:
-            words = "letters have to be signed, and no click is"
-            faults.append(bad_words("--box", words, LEAVE_OUT))
+    if is_new and arguments.keyring is not None:
+        words = "letters have to be signed, and no click is"
+        faults.append(bad_words("--box", words, LEAVE_OUT))
     return said
 
 
@@ -353,13 +355,8 @@ def call_in_words(election: Election, data: CallData) -> Iterator[str]:
     unsaid = {"when the vote ends (--until)": data.until, "where ballots go (--to)": data.to}
     if missing := [words for words, value in unsaid.items() if value is None]:
         yield f"The call does not say {' nor '.join(missing)}."
-    put = f"put {folder} on the web site"
     if data.has_box:
-        ask = election.command("add", "--box")
-        put = f"upload the files of {folder} to {data.at}, {SCRIPT} too, then run {ask}, which tries whether it works"
-        if election.history().askings:
-            # what lies there is fetched before somebody deletes it
-            put = f"run {ask}, then {put}"
+        yield from old_page_in_words(election, data)
         yield f"To ask for the ballots of the page each hour, by cron: {cron_line(election)}"
     yield f"{sealed} and texts/ of this folder are no longer read; roll still reads addresses and keys."
     if election.history().closes:
@@ -367,7 +364,25 @@ def call_in_words(election: Election, data: CallData) -> Iterator[str]:
         return
     send = election.to_all("call", letter)
     enter = f"{election.command('add', 'FILE')} or {election.command('desk')}"
-    yield f"Next: {put}, and write to the electors: {send}; enter the ballots that come: {enter}"
+    yield f"Next: {put_words(election, data)}, and write to the electors: {send}; enter the ballots that come: {enter}"
+
+
+def put_words(election: Election, data: CallData) -> str:
+    """What is done with the folder: what lies at its address is fetched before somebody deletes it."""
+    folder, ask = election.path(CALL), election.command("add", "--box")
+    if not data.has_box:
+        return f"put {folder} on the web site"
+    first = f"run {ask}, then " if last_box(election.history()).get("at") == data.at else ""
+    return f"{first}upload the files of {folder} to {data.at}, {SCRIPT} too, then run {ask}, which tries whether it works"
+
+
+def old_page_in_words(election: Election, data: CallData) -> Iterator[str]:
+    """What is done with the page of before, to which letters have links, until that of now was asked."""
+    asked_at = last_box(election.history()).get("at", data.at)
+    if asked_at != data.at:
+        file = records_file(queries.sealed(election.book, BOX_KEY))
+        add = election.command("add", "FILE")
+        yield f"Note: the page at {asked_at} still takes ballots, which add --box fetches no more: remove its {SCRIPT}, then fetch its file {file} by FTP, and add it: {add}."
 
 
 def cron_line(election: Election) -> str:

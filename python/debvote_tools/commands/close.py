@@ -109,9 +109,14 @@ def came_last(history: History, lines: str) -> str:
     """Which lines there are, when the last ones came, the end and the strikes: who has put back a
     disk sees what is missing.
     """
+    adding = history.named("letters", "add", "enter")
+    # an asking may bring nothing
     added, at_desks = (
         act_time(acts[-1].time) if acts else "never"
-        for acts in (history.named("letters", "add", "enter"), history.named("desk"))
+        for acts in (
+            [act for act in adding if act.detail.get("letters") != 0],
+            history.named("desk"),
+        )
     )
     end = times.time_in_words(history.until) if history.until else "not announced"
     strikes = len(history.since_call("strike"))

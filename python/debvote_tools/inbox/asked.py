@@ -15,6 +15,8 @@ from debvote_tools.text.times import now
 # how old an asking may be where ballots still come
 FRESH = datetime.timedelta(minutes=10)
 
+# the letters that have links to the page
+WITH_LINKS = ("call", "reminders")
 # what follows a close, and needs an asking after an early one
 AFTER_CLOSE = ("count", "closed", "publish")
 # what needs an asking, as kinds of letters, a new address (`at`), a close at the end, one that is `early`,
@@ -40,10 +42,10 @@ NEEDS = {
 )
 
 
-def last_box(history: History) -> Detail:
-    """What the last asking noted; nothing if there was none."""
-    box: Detail = history.askings[-1].detail["box"] if history.askings else {}
-    return box
+def last_box(history: History, at: str | None = None) -> Detail:
+    """What the last asking noted, at this address if one is given; nothing if there was none."""
+    boxes = [act.detail["box"] for act in history.askings]
+    return next((box for box in reversed(boxes) if at in (None, box["at"])), {})
 
 
 def has_list_of_now(election: Election, digest: str) -> bool:
@@ -88,20 +90,27 @@ def is_unasked_since_end(history: History) -> bool:
 def unasked_fault(election: Election, history: History, what: str) -> Fault | None:
     """Why something has to wait until the box is asked; None if it need not."""
     closes, recently, last = history.closes, now() - FRESH, asked_last(election, history)
-    is_missing = {
-        "call": history.announced("box") and not (last and last["is_present"]),
-        "reminders": is_unasked(history, recently),
+    # a letter has a link only if the host knows it
+    is_unseen = (
+        what in WITH_LINKS and history.announced("box") and not (last and last["is_present"])
+    )
+    times = {
+        "reminders": recently,
         # before the first asking no letter has a link to the page
-        "at": last and is_unasked(history, recently),
+        "at": recently if last else None,
         # what comes after the first close is late
-        "close": not closes and is_unasked(history, history.until),
-        "early": not closes and is_unasked(history, recently),
-        **dict.fromkeys(AFTER_CLOSE, history.was_closed_early and is_unasked_since_end(history)),
+        "close": None if closes else history.until,
+        "early": None if closes else recently,
+        **dict.fromkeys(AFTER_CLOSE, closes[0].time if history.was_closed_early else None),
     }
-    if not is_missing.get(what):
+    since = times.get(what)
+    if not is_unseen and not is_unasked(history, since):
         return None
-    words, force = NEEDS[what]
-    first = "upload the folder call, then " if what == "call" else ""
+    words, force = NEEDS["call" if is_unseen else what]
+    if last and since and not is_unseen and history.askings[-1].time > since:
+        there = act_time(from_text(last["time"]))
+        words += f": when the box was asked last, it was only {there} by its own clock"
+    first = "upload the folder call, then " if is_unseen else ""
     cure = f"{first}run {election.command('add', '--box')}"
     if force:
         cure += f"; if it does not answer any more, {force}"

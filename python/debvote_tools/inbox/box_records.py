@@ -3,6 +3,7 @@ becomes of them is decided elsewhere.
 """
 
 import collections
+import contextlib
 import datetime
 import http.client
 import re
@@ -111,12 +112,12 @@ def answer_of(address: str, body: bytes) -> HostAnswer:
     word is for this address alone.
     """
     parts = urllib.parse.urlsplit(address)
-    connection = http.client.HTTPConnection(parts.netloc)
-    if parts.scheme == "https":
-        context = ssl.create_default_context()
-        connection = http.client.HTTPSConnection(parts.netloc, context=context)
     try:
-        with within(PATIENCE):
+        connection = http.client.HTTPConnection(parts.netloc)
+        if parts.scheme == "https":
+            context = ssl.create_default_context()
+            connection = http.client.HTTPSConnection(parts.netloc, context=context)
+        with within(PATIENCE), contextlib.closing(connection):
             connection.request("POST", parts.path, body, FIELDS)
             response, time = connection.getresponse(), times.now()
             data = response.read(LONGEST_ANSWER + 1)
@@ -137,8 +138,6 @@ def answer_of(address: str, body: bytes) -> HostAnswer:
         said = (isinstance(error, OSError) and error.strerror) or str(error) or type(error).__name__
         cure = "look whether it opens in a browser; then run the command again"
         raise Fault(address, f"it does not answer: {shown_text(said)}", cure) from None
-    finally:
-        connection.close()
 
 
 def demand_box(address: str, answer: HostAnswer) -> None:
@@ -173,9 +172,10 @@ def asked_box(vote: Vote) -> tuple[list[RawLetter], Detail, list[str]]:
         cure = f"add files; see {vote.election.command('status')}"
         raise bad_words("--box", "the call was made without it", cure)
     key, at = queries.sealed(book, BOX_KEY), history.announced("at")
-    asked, before = ask(at, vote.questions.mark, asking_word(key)), last_box(history)
+    # of another host neither the clock nor the records say anything of this one
+    asked, before = ask(at, vote.questions.mark, asking_word(key)), last_box(history, at)
     letters, others = records_in(vote, asked, before, key)
-    kept = queries.records_since(book, vote.call.number)
+    kept = queries.records_since(book, vote.call.number, at)
     box: Detail = {
         "at": at,
         "time": asked.time.isoformat(),

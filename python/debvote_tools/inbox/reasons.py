@@ -104,7 +104,7 @@ class Reason(enum.Enum):
     )
     # it came by the page of the vote
     OTHER_LINK = (
-        "it came by the page of the vote with a link that is not that of {elector} now: a new address makes a new one, and a book that was put back lacks some",
+        "it came by the page of the vote with a link that is not that of {elector} now: a new address or a new call makes a new one, and a book that was put back lacks some",
         LOOKED_AT,
     )
     NOT_THERE_BEFORE = (

@@ -16,7 +16,7 @@ from debvote_tools.inbox.asked import unasked_fault
 from debvote_tools.inbox.fates import ANEW, COUNTS, NOBODY, Fate, fates_of
 from debvote_tools.inbox.rules import LetterOutcome
 from debvote_tools.inbox.stopping import pending_letters, what_stops
-from debvote_tools.outbox.reached import CAME_BACK, unreached_and_printed, unreached
+from debvote_tools.outbox.reached import CAME_BACK, page_since, unreached_and_printed, unreached
 from debvote_tools.outbox.words import Composer
 from debvote_tools.poll.announced import address_in
 from debvote_tools.poll.call import CallData, current_call
@@ -221,9 +221,9 @@ def call_data_of(
 # ---- each kind
 def to_each(run: Run, for_act: int, text_of: TextOf, had_call: Collection[int] = ()) -> LettersDue:
     """One letter to each elector. One to the same address for the same act stays as it is, if it
-    was written since its elector has the own mark of now: each mark is told by a letter.
+    was written since its elector has the own mark and the link of now: each is told by a letter.
     """
-    since = outgoing.own_marks_since(run.election.book)
+    since = outgoing.right_since(run.election.book, page_since(run.history))
     before = {
         (letter.elector, letter.address): letter
         for letter in run.noted_before

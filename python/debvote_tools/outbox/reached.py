@@ -15,14 +15,29 @@ WAS_REFUSED, CAME_BACK = "refused", "came back"
 Unreached = tuple[Elector, str, str]
 
 
+def page_since(history: History) -> int:
+    """The act that named the address of the page of now, if the page takes ballots, since a click on an
+    older page reaches nobody; else 0. What a letter of the result names is no such page.
+    """
+    since, at = 0, None
+    for act in history.since_call("call", "extend", "announce", "close"):
+        if act.name == "close" or not history.announced("box"):
+            break
+        if act.detail.get("at", at) != at:
+            since, at = act.number, act.detail["at"]
+    return since
+
+
 def unreached(election: Election, history: History, *, without: int = 0) -> list[Unreached]:
     """The electors whom the call has not reached: to whom no letter of it went out with their own
-    mark of now, at their address of now or on paper; whose address a server refused, and took no
-    letter since; and from whose address a letter came back, unless a ballot of theirs came by
-    letter since. `without` is an act whose letters reach nobody yet.
+    mark of now and the page of now, at their address of now or on paper; whose address a server
+    refused, and took no letter since; and from whose address a letter came back, unless a ballot of
+    theirs came by letter since. `without` is an act whose letters reach nobody yet.
     """
     electors = {one.number: one for one in queries.electors(election.book)}
-    found = outgoing.unreached(election.book, election.called(history).number, without)
+    found = outgoing.unreached(
+        election.book, page_since(history), election.called(history).number, without
+    )
     return [(electors[number], why, said) for number, why, said in found]
 
 

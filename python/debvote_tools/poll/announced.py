@@ -19,7 +19,8 @@ NAME_LIMIT = 100
 
 # printable ASCII without blanks, what ends an address in a letter, and the # of a personal link
 WEB = re.compile(r"[!$-;=?-_a-z~]{1,500}")
-HOST = re.compile(r"[A-Za-z0-9.-]*[A-Za-z0-9]|\[[0-9A-Fa-f:.]+\]")
+# a host with its port, if it has one
+HOST = re.compile(r"([A-Za-z0-9.-]*[A-Za-z0-9]|\[[0-9A-Fa-f:.]+\])(:[0-9]*)?")
 
 
 # ---- the end of the vote
@@ -115,8 +116,8 @@ def demand_web_address(text: str) -> None:
     """Stops at what is no address by http or https, and at a user, a password or a fragment."""
     try:
         parts = urllib.parse.urlsplit(text if WEB.fullmatch(text) else "")
-        host = parts.netloc.rpartition(":")[0] or parts.netloc
-        if parts.scheme in ("http", "https") and parts.port != 0 and HOST.fullmatch(host):
+        is_web = parts.scheme in ("http", "https")
+        if is_web and parts.port != 0 and HOST.fullmatch(parts.netloc):
             return
     except ValueError:
         pass

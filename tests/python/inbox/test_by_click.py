@@ -10,6 +10,7 @@ import resource
 import shutil
 import time
 import unittest
+import zoneinfo
 from concurrent.futures import ThreadPoolExecutor
 
 from debvote_tools.inbox.judging import Ballot
@@ -22,6 +23,7 @@ from tests.support import at_browser, boxes, elections
 from tests.support.letters import OWN, at, judged, letter, mailbox, outcome, outcomes, parsed
 from tests.support.web_host import FIRST, NEEDS_PHP, Liar, ballot, passed_on, request_of, record
 
+BERLIN = zoneinfo.ZoneInfo("Europe/Berlin")
 HTTPS = ("--at", "https://club.example/vote/")
 
 
@@ -60,6 +62,12 @@ class CallWithBox(elections.ElectionTest):
 
     def test_the_folder_the_key_and_another_call(self) -> None:
         ended = self.done("call", "--box", *HTTPS)
+        # nor can a vote with a box be one with signatures afterwards
+        ended_again = self.election("call", "--keyring", "x", "--at", "http://club.example/")
+        self.assert_fault(ended_again, 2, "--box: the page needs an address by https")
+        self.assertNotIn("signed", ended_again.faults)
+        fault = "--keyring: the call was made without it"
+        self.assert_fault(self.election("call", "--keyring", "x"), 9, fault)
         self.assertIn("0 * * * * XDG_STATE_HOME=", ended.output)
         self.assertIn(f"debvote-election add --folder {self.folder} --box --yes", ended.output)
         self.assertIn(
@@ -238,6 +246,16 @@ class Clicks(boxes.BoxElectionTest):
         self.assertEqual(self.standing(), {"ben": "1,2,3,4"})
         self.done("held", "2", "--enter")
         self.assertEqual(self.standing(), {"ada": "1,2,3,4", "ben": "1,2,3,4"})
+
+    def test_a_link_of_a_call_that_was_taken_back(self) -> None:
+        links = self.begun()
+        self.click("ada", "1,2,3,4", links["ada"])
+        self.done("call", "--take-back")
+        self.call()
+        said = self.done("add", "--box", "--yes").output
+        why = "a link that is not that of ada now: a new address or a new call makes a new one, and"
+        self.assertIn(why, said)
+        self.assertEqual(self.standing(), {})
 
     def test_by_ftp_and_then_by_key(self) -> None:
         links = self.begun()
@@ -504,7 +522,10 @@ class Asked(boxes.BoxElectionTest):
         self.done("roll", "--yes")
         for words in (("add", "--box"), ("add", "--box", "--look")):
             self.done(*words)
-            self.assert_fault(self.election("letters", "call"), 9, "nobody has seen yet")
+            # no letter may have a link that the host does not know
+            for kind in ("call", "reminders"):
+                fault = f"{kind}: nobody has seen yet whether the box of the web host works, with the links of now"
+                self.assert_fault(self.election("letters", kind), 9, fault, "upload the folder call")
             self.upload()
         self.assertEqual(
             json.loads(self.done("status", "--json").output)["box"]["is_present"], False
@@ -514,11 +535,13 @@ class Asked(boxes.BoxElectionTest):
             json.loads(self.done("status", "--json").output)["box"]["is_present"], True
         )
         self.done("letters", "call")
-        # nor is one at another address
-        said = self.done("call", "--at", self.host.at.replace("127.0.0.1", "localhost")).output
-        self.assert_fault(self.election("letters", "call"), 9, "nobody has seen yet")
-        # what lies there is fetched first
+        # what lies at the address of now is fetched first
+        said = self.done("call").output
         self.assertIn("\nNext: run debvote-election add --box, then upload the files of call to", said)
+        # nor is an asking at another address one
+        self.move()
+        for kind in ("call", "reminders"):
+            self.assert_fault(self.election("letters", kind), 9, "nobody has seen yet")
 
     def test_status_says_when_it_was_asked_last(self) -> None:
         self.call()
@@ -554,6 +577,7 @@ class Asked(boxes.BoxElectionTest):
         self.done("letters", "reminders", "--yes", *self.forced)
         # the clock of the host is behind, so that by both clocks ten minutes are past
         self.assertIn("seconds behind", self.done("add", "--box").output)
+        fault = "would be told that they have not: when the box was asked last, it was only "
         self.assert_fault(self.election("letters", "reminders", "--yes"), 9, fault)
 
     def test_close_and_after_it(self) -> None:
@@ -615,8 +639,14 @@ class Asked(boxes.BoxElectionTest):
         self.assert_fault(self.election("close"), 9, fault)
         # by the clock of the host the end has not come
         self.done("add", "--box", "--yes")
-        self.assert_fault(self.election("close"), 9, fault)
-        self.assertNotIn("still takes ballots", self.done("close", *self.forced).output)
+        ended, asked = self.election("close"), str(self.boxes_kept()[-1]["time"])
+        time_there = datetime.datetime.fromisoformat(asked).astimezone(BERLIN)
+        fault = f"was not asked since the end: when the box was asked last, it was only {time_there:%Y-%m-%d %H:%M:%S} UTC+01:00 by its own clock; nothing was changed: run"
+        self.assert_fault(ended, 9, fault)
+        said = self.done("close", *self.forced).output
+        self.assertNotIn("still takes ballots", said)
+        # the last asking brought nothing
+        self.assertRegex(said, "Added last: (?!2099|never)")
         self.assertEqual(self.election("count").status, 0)
         self.done("publish")
         self.assertIn(
@@ -649,7 +679,7 @@ class Asked(boxes.BoxElectionTest):
         # by the clock of the host the end has come, by that of this computer it has not
         self.done("add", "--box")
         self.clock = {}
-        fault = "--box: the box of the web host was not asked since the end"
+        fault = "--box: the box of the web host was not asked since the end; "
         self.assert_fault(self.election("close"), 9, fault)
         self.done("add", "--box")
         time.sleep(1.1)
@@ -657,6 +687,101 @@ class Asked(boxes.BoxElectionTest):
         self.assertNotIn("the box of the web host", self.election("count").faults)
         self.done("publish")
         self.assertNotIn(b"that the secretary did not get", self.read("result/index.html"))
+
+
+@NEEDS_PHP
+class Moved(boxes.BoxElectionTest):
+    """`call --at` another web host, after letters went out with links to the page of before."""
+
+    has_clock = True
+
+    def test_what_the_page_of_before_goes_on_taking(self) -> None:
+        links = self.begun()
+        self.click("ada", "1,2,3,4", links["ada"])
+        self.done("add", "--box", "--yes")
+        before, file = self.host.at, self.file()
+        self.click("ben", "1,2,3,4", links["ben"])
+        said = self.move()
+        self.assertIn(
+            f"\nNote: the page at {before} still takes ballots, which add --box fetches no more: remove its vote.php, then fetch its file {file.name} by FTP, and add it: debvote-election add FILE.\n",
+            said,
+        )
+        # nothing lies at the new address yet
+        self.assertIn(
+            f"\nNext: upload the files of call to {self.host.at}, vote.php too, then run debvote-election add --box, which tries",
+            said,
+        )
+        self.upload()
+        # what the other host had is not missed here
+        self.assertNotIn("has no more", self.done("add", "--box", "--yes").output)
+        self.assertNotIn(before, self.done("call").output)
+        shutil.copy(file, self.folder / "fetched.php")
+        ended = self.done("add", "--yes", "fetched.php")
+        self.assertIn("1 letter waits; 1 copy passed over.", ended.output)
+        self.done("held", "3", "--enter")
+        self.assertEqual(self.standing(), {"ada": "1,2,3,4", "ben": "1,2,3,4"})
+
+    def test_the_call_goes_to_everybody_again(self) -> None:
+        self.begun()
+        self.demand_reached(*elections.NAMES)
+        self.move()
+        self.demand_reached()
+        self.upload()
+        self.done("add", "--box")
+        self.done("call", "--until", "2099-12-06 18:00")
+        self.demand_written(is_extension=False)
+        self.demand_reached(*elections.NAMES)
+        self.done("call", "--until", "2099-12-07 18:00", "--at", self.host.at)
+        self.demand_reached(*elections.NAMES)
+        self.demand_written(is_extension=True)
+        # the address of the result is not one of the page
+        self.done("desk", given="ada 1,2,3,4\n")
+        time.sleep(1.1)
+        self.done("close", "--early")
+        time.sleep(1.1)
+        self.done("add", "--box")
+        self.done("publish")
+        self.done("letters", "result", "--at", "https://club.example/result/")
+        self.demand_reached(*elections.NAMES)
+
+    def test_without_a_box_a_letter_is_as_good_as_before(self) -> None:
+        self.done("call", *boxes.UNTIL, "--to", "vote@club.example", *HTTPS)
+        self.done("letters", "call")
+        self.done("call", "--at", "https://club.example/moved/")
+        self.demand_reached(*elections.NAMES)
+
+    def test_what_was_asked_elsewhere_says_nothing_of_this_host(self) -> None:
+        """Neither when it was asked, by a clock that is behind, nor which records it has."""
+        links = self.begun()
+        self.click("ada", "1,2,3,4", links["ada"])
+        self.done("add", "--box", "--yes")
+        before, file = self.host.at, self.file()
+        self.move()
+        self.upload()
+        self.host_off(-50)
+        self.click("ben", "1,2,3,4", links["ben"])
+        self.done("add", "--box", "--yes")
+        self.assertEqual(self.standing(), {"ada": "1,2,3,4", "ben": "1,2,3,4"})
+        # of each host that is asked again it is said
+        self.done("call", "--at", before)
+        file.write_bytes(FIRST)
+        said = self.done("add", "--box", "--yes").output
+        self.assertIn("Note: 1 record that it had it has no more.", said)
+
+    def demand_reached(self, *names: str) -> None:
+        """The call has reached these electors, and nobody else."""
+        not_reached = json.loads(self.done("status", "--json").output)["not_reached"]
+        others = [name for name in elections.NAMES if name not in names]
+        self.assertEqual(not_reached, dict.fromkeys(others, "no letter"))
+
+    def demand_written(self, *, is_extension: bool) -> None:
+        """A letter to each elector, with the link to the page of now, is new: the call, or an extension."""
+        said = self.done("letters", "call").output
+        folder = re.findall(rf"^Wrote {len(elections.NAMES)} letters: (.*)$", said, re.M)[0]
+        for file in (self.folder / folder).glob("*.eml"):
+            text = email.message_from_bytes(file.read_bytes()).get_payload(decode=True).decode()  # type: ignore[union-attr]
+            self.assertIn(f"{self.host.at}#{file.stem}/", text)
+            self.assertEqual("has changed." in text, is_extension)
 
 
 MEMBERS = [f"m{number:02}" for number in range(1, 41)]

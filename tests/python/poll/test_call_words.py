@@ -252,10 +252,10 @@ class NoBallot(unittest.TestCase):
 
 class Addresses(unittest.TestCase):
     def test_web_addresses(self) -> None:
-        for good in (PAGE, "http://x", "https://example.org:8443/a/b?c=d", "https://xn--bcher-kva.example/", "http://[::1]:80/", "https://127.0.0.1/~ada/"):
+        for good in (PAGE, "http://x", "https://example.org:8443/a/b?c=d", "https://xn--bcher-kva.example/", "http://[::1]:80/", "https://[::1]/", "https://x:/", "https://127.0.0.1/~ada/"):
             demand_web_address(good)
         for bad in (
-            "", "example.org", "ftp://example.org/", "javascript:alert(1)", "https://", "https:///x", "https://bank.example@evil.example/", PAGE + "#a", PAGE + "\n",
+            "", "example.org", "ftp://example.org/", "javascript:alert(1)", "https://", "https:///x", "https://bank.example@evil.example/", "https://bank.example:x@evil.example/", "https://ada:@example.org/", PAGE + "#a", PAGE + "\n",
             "https://example.org/ x", 'https://example.org/"', "https://example.org/<b>", "https://b\u00fccher.example/", "https://example.org:0/", "https://example.org:x/",
             "https://example.org:99999/", "https://[::1", "https://a\\b/", "https://example.org/" + "x" * 500, "https://?x", "https://-/", " " + PAGE,
         ):  # fmt: skip
