@@ -265,6 +265,10 @@ class Paper(OutTest):
         for kind in (*kinds, "closed", "result"):
             [page] = [file for file in self.files(kind) if file.suffix == ".html"]
             self.assertEqual(begin in page.read_text(), kind not in ("call", "reminders"), kind)
+        # only what comes by e-mail has a subject
+        for file in self.files("result"):
+            text = page.read_text() if file == page else parsed(file.read_bytes()).get_content()
+            self.assertEqual("subject of each true letter" in " ".join(text.split()), file != page, file)
 
 
 class Names(OutTest):
