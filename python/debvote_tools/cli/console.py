@@ -16,7 +16,7 @@ import signal
 import sys
 import textwrap
 import unicodedata
-from collections.abc import Iterable, Sequence
+from collections.abc import Callable, Iterable, Sequence
 from typing import TextIO
 
 from debvote_tools.cli.faults import Fault, Status
@@ -26,6 +26,8 @@ LINES_AT_ONCE = 1_000
 
 # the zone in which times are told: that of the announced end, once the acts are read
 ZONE = contextvars.ContextVar[datetime.tzinfo | None]("zone", default=datetime.UTC)
+# leaves out of a text what is never shown, such as the links with which somebody could vote
+LEAVING_OUT = contextvars.ContextVar[Callable[[str], str]]("leaving out", default=str)
 
 
 class OutputFailed(Fault):
@@ -154,7 +156,8 @@ KNOWN = {"\r": "\\r", "\n": "\\n", "\t": "\\t"}
 
 
 def written(text: str) -> str:
-    """The text with each character that steers a terminal as its number, such as U+202E."""
+    """The text as it is shown, with each character that steers a terminal as its number, such as U+202E."""
+    text = LEAVING_OUT.get()(text)
     return text if text.isprintable() else STEERING.sub(lambda found: number_of(found[0]), text)
 
 
@@ -193,6 +196,7 @@ def seen(character: str) -> str:
 
 
 def cut(text: str, limit: int) -> str:
+    text = LEAVING_OUT.get()(text)
     return text if len(text) <= limit else text[:limit] + ".."
 
 

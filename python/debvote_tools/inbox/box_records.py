@@ -18,7 +18,7 @@ from debvote_tools.book.election import BOX_KEY
 from debvote_tools.cli.console import count_of, shown_text
 from debvote_tools.cli.faults import Fault, bad_words
 from debvote_tools.inbox.asked import has_list_of_now, last_box
-from debvote_tools.inbox.mailbox import RawLetter
+from debvote_tools.inbox.mailbox import BEGIN, RawLetter
 from debvote_tools.inbox.vote import Vote
 from debvote_tools.patience import within
 from debvote_tools.poll.box import SCRIPT, asking_word, third_part, script_address
@@ -27,9 +27,9 @@ from debvote_tools.text import times
 # in seconds and in bytes: how long an answer may take and be
 PATIENCE, LONGEST_ANSWER = 60, 33_554_432
 
-# how an answer begins, with the version of the protocol; how each record begins and ends
+# how an answer begins, with the version of the protocol; how each record ends
 HEAD = re.compile(rb"box 1 ([0-9a-f]{16}) ([0-9a-f]{64}) (\d{4}-\d\d-\d\dT\d\d:\d\d:\d\dZ)\n")
-BEGIN, END = b"From box@page.invalid ", b"\n-- \n\n"
+END = b"\n-- \n\n"
 # what a request may begin with, and an answer to one with another word
 FIELD, UNKNOWN = b"box=", b"unknown: "
 

@@ -74,7 +74,7 @@ def fates_of(
         time = letter.read.arrived or kept_at[letter.number]
         senders = letter.sharing if elector or len(letter.sharing) == 1 else ()
         for name in dict.fromkeys((*letter.electors, *senders)) or [NOBODY]:
-            is_own, names_them = letter.is_from(name), name in letter.electors
+            is_own, names_them = name in letter.sharing, name in letter.electors
             fates.append((name, Fate(time, letter.outcome, None, letter, is_own, names_them)))
     found = grouped(sorted(fates, key=lambda one: one[1].time))
     return {name: found.get(name, []) for name in (*names.values(), NOBODY)}

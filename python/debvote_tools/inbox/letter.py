@@ -145,6 +145,7 @@ class ParsedLetter:
     link: str = ""
     asked_before: datetime.datetime | None = None
     behind: int = 0
+    is_fetched: bool = False
 
     @property
     def is_never_signed(self) -> bool:
@@ -197,9 +198,10 @@ def parse(raw: RawLetter) -> ParsedLetter:
         else (),
         body=body,
         attachments=attachments_of(letter),
-        link=raw.link,
+        link=letter.value("x-link") if raw.is_fetched else raw.link,
         asked_before=raw.asked_before,
         behind=raw.behind,
+        is_fetched=raw.is_fetched,
     )
 
 

@@ -13,13 +13,7 @@ from debvote_tools.inbox.rules import LetterCase, LetterOutcome, above_end
 from debvote_tools.inbox.reasons import for_secretary
 from debvote_tools.inbox.vote import IS_CODE, Vote
 from debvote_tools.text.ballots import without
-from debvote_tools.poll.sealed import OWN_LENGTH, OWN_SIGNS
 
-# in the place of the third part of a personal link, with which somebody could vote
-LINK, LEFT_OUT = (
-    re.compile(rf"(/[{OWN_SIGNS}]{{{OWN_LENGTH}}}/)\w+", re.IGNORECASE),
-    r"\1..",
-)
 # how many attachments are named
 MAX_ATTACHMENTS = 5
 READ_THESE = "Read these: they have other words, or more to look at."
@@ -172,7 +166,7 @@ def whole(letter: LetterCase) -> Iterator[str]:
             yield f"      .. {count} of a letter of ours, which it quotes"
             continue
         for number in numbers:
-            yield f"{number:4}  {shown_line(LINK.sub(LEFT_OUT, lines[number - 1]).encode())}"
+            yield f"{number:4}  {shown_line(lines[number - 1].encode())}"
     if letter.outcome is LetterOutcome.ENTERED:
         yield "It was entered."
     elif letter.reason is not None:
@@ -253,4 +247,4 @@ def other_words(letter: LetterCase) -> str:
         return words != [""] and not is_usual and not TELEPHONE.fullmatch(line)
 
     own = (line for index, line in enumerate(lines[: above_end(lines)]) if index not in left_out)
-    return shown_text(LINK.sub(LEFT_OUT, " ".join(filter(says_something, map(str.strip, own)))))
+    return shown_text(" ".join(filter(says_something, map(str.strip, own))))

@@ -30,9 +30,13 @@ USUAL = re.compile(
 )
 MIN_USUAL = 2
 
-# what editors and the box of a vote put before the first line of a file, and the line that begins an
-# mbox
-START = re.compile(rb"(?:%b)?(?:<\?php exit; \?>\r?\n)?[\r\n]*(From [^\r\n]*\r?\n[\r\n]*)?" % MARK)
+# what editors put before the first line of a file, the first line of the file of a box, and the line
+# that begins an mbox
+START = re.compile(
+    rb"(?:%b)?(?P<box><\?php exit; \?>\r?\n)?[\r\n]*(?P<mbox>From [^\r\n]*\r?\n[\r\n]*)?" % MARK
+)
+# how a record in the file of a box begins, and all that are whole
+BEGIN, WHOLE = b"From box@page.invalid ", re.compile(rb"(?s).*\n-- \r?\n\r?\n")
 # lines that may begin a letter; in an mbox such a line does if it has the name of a day and after
 # it a time, or is bare as Thunderbird writes it
 FROM_LINE = re.compile(rb"(?im)^>?From [^\r\n]*(?:\r?\n|\Z)")
@@ -72,6 +76,10 @@ class NotRead(enum.Enum):
     ZIP = "it is a ZIP", "unpack it, and add the folder"
     PDF = "it is a PDF", "save the letter itself as .eml"
     NO_LETTER = "it does not look like a letter", "if it is a letter, save it as .eml"
+    CUT_OFF = (
+        "it is a record of the box that was cut off, of which nobody was told that it arrived",
+        "fetch the file again",
+    )
 
     @property
     def what(self) -> str:
@@ -97,6 +105,8 @@ class RawLetter:
     link: str = ""
     asked_before: datetime.datetime | None = None
     behind: int = 0
+    # whether it is a record that was fetched with the file of the box
+    is_fetched: bool = False
 
     @functools.cached_property
     def digest(self) -> str:
@@ -117,7 +127,9 @@ def kind_not_read(data: bytes) -> NotRead | None:
 
 
 def are_letters(data: bytes) -> bool:
-    """Whether a file begins as an mbox or a message does."""
+    """Whether a file begins as an mbox or a message does, or is that of a box."""
+    if records_begin(data):
+        return True
     start = begin_of(data)
     head = END_OF_HEAD.split(data[start.end() : start.end() + MAX_HEAD], maxsplit=1)[0]
     usual = {name.lower() for name in USUAL.findall(head)}
@@ -136,6 +148,8 @@ def letters_of_file(name: str, data: bytes) -> list[RawLetter]:
     kind = kind_not_read(data) or (None if are_letters(data) else NotRead.NO_LETTER)
     if kind is not None:
         return [RawLetter(name, why_not_read=kind)]
+    if begin := records_begin(data):
+        return records_of_file(name, data[begin:])
     found, sections = list[RawLetter](), sections_of(data)
     possible_ends = ends_of(sections)
     place, reach, is_ended = 0, 0, True
@@ -157,6 +171,18 @@ def letters_of_file(name: str, data: bytes) -> list[RawLetter]:
             is_ended = bool(below) and not message.is_open
         place += len(below)
     return found
+
+
+def records_of_file(name: str, data: bytes) -> list[RawLetter]:
+    """The records in the file of a box. Of what is below the last whole one nobody was told that it
+    arrived.
+    """
+    found = WHOLE.match(data)
+    whole = found[0] if found else b""
+    rest = RawLetter(f"{name}, at its end", why_not_read=NotRead.CUT_OFF)
+    letters = letters_of_file(name, whole) if whole else []
+    fetched = [dataclasses.replace(one, is_fetched=True) for one in letters]
+    return [*fetched, *([rest] if whole != data else ())]
 
 
 def ends_of(sections: Sequence[tuple[bytes, bytes, bytes]]) -> set[int]:
@@ -220,6 +246,12 @@ def sections_of(data: bytes) -> list[tuple[bytes, bytes, bytes]]:
     return sections
 
 
+def records_begin(data: bytes) -> int:
+    """Where records begin in the file of a box, which may have none; 0 in another file."""
+    place = begin_of(data).end("box")
+    return max(place, 0) if BEGIN.startswith(data[place : place + len(BEGIN)]) else 0
+
+
 def begin_of(data: bytes) -> re.Match[bytes]:
     start = START.match(data)
     assert start is not None
@@ -227,7 +259,7 @@ def begin_of(data: bytes) -> re.Match[bytes]:
 
 
 def begins_mailbox(start: re.Match[bytes]) -> bool:
-    return start[1] is not None and separates_letters(start[1])
+    return start["mbox"] is not None and separates_letters(start["mbox"])
 
 
 def separates_letters(line: bytes) -> bool:

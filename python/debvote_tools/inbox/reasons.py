@@ -16,7 +16,8 @@ Value = str | int | datetime.datetime
 
 # what electors read of several reasons. What they read of any begins so, and has translations
 UNCERTAIN = "The reason: its head or its parts can't be read with certainty. Send plain text alone."
-LOOKED_AT = "The reason: the secretary has to look at it."
+# what became of it says so already
+LOOKED_AT = ""
 SIGNATURE_UNREAD = "The reason: its signature can't be checked."
 ALONE = "The reason: the ballot is not the first line of it. Send the ballot alone, in a letter of its own."
 OTHER_ADDRESS = "The reason: the list of members has another address for the name on the ballot."
@@ -105,6 +106,10 @@ class Reason(enum.Enum):
     # it came by the page of the vote
     OTHER_LINK = (
         "it came by the page of the vote with a link that is not that of {elector} now: a new address or a new call makes a new one, and a book that was put back lacks some",
+        LOOKED_AT,
+    )
+    FETCHED = (
+        "it is in the file of the box, which others may have changed: run add --box, or enter it if the box does not answer",
         LOOKED_AT,
     )
     NOT_THERE_BEFORE = (
@@ -238,5 +243,5 @@ def shown_value(value: Value) -> str:
 
 
 def for_elector(why: ReasonWithValues) -> str:
-    """The reason as the elector reads it: a sentence to be translated."""
+    """The reason as the elector reads it: a sentence to be translated; empty if there is none to tell."""
     return why.reason.value[1]

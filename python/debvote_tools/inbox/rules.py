@@ -141,6 +141,15 @@ class Circumstances:
             for key in dict.fromkeys(filter(None, map(address_key, elector.addresses)))
         )
 
+    def senders_of(self, letter: ReadLetter) -> list[str]:
+        """The electors who have the sender's address; of a record the one on it, if the link is theirs."""
+        if not letter.link:
+            return self.electors_by_address.get(letter.sender, [])
+        name = next(iter(letter.shown_lines), "").partition(" ")[0]
+        elector = self.electors.get(name)
+        is_theirs = elector and letter.link == third_part(self.box_key, name, elector.mark)
+        return [name] if is_theirs else []
+
 
 # ---- a letter
 class LetterCase:
@@ -162,9 +171,9 @@ class LetterCase:
         self.number, self.source = kept.number, kept.source
         # the lines with what looks like a code or an alias, if they are told
         self.code_lines = letter.code_lines if circumstances.tells_codes else ()
-        # the electors who have the sender's address, and the one whose own mark the subject has. A
-        # subject with several, or with that of nobody, counts as one with the poll's mark alone
-        self.sharing = circumstances.electors_by_address.get(letter.sender, [])
+        # the electors who may have sent it, and the one whose own mark the subject has. A subject with
+        # several, or with that of nobody, counts as one with the poll's mark alone
+        self.sharing = circumstances.senders_of(letter)
         owns = {own for mark, own in letter.marks if own and mark == circumstances.mark}
         self.marked_elector = circumstances.electors_by_mark.get(*owns) if len(owns) == 1 else None
         self.is_automatic = letter.is_automatic or (is_server(letter.sender) and not self.sharing)
@@ -363,14 +372,6 @@ class LetterCase:
         """Whether it is known to have arrived after the end or the first close."""
         return self.arrived_after(*self.circumstances.ends)
 
-    def is_from(self, name: str) -> bool:
-        """Whether it came from an address of an elector, or by their link."""
-        now, link = self.circumstances, self.read.link
-        if not link:
-            return name in self.sharing
-        elector = now.electors.get(name)
-        return elector is not None and link == third_part(now.box_key, name, elector.mark)
-
     @property
     def arrived_in_time(self) -> bool:
         """Whether nobody knows that it came too late; nor before the call, unless it has the mark of
@@ -381,12 +382,12 @@ class LetterCase:
 
     @property
     def sending_elector(self) -> str | None:
-        """The only elector who has the sender's address."""
+        """The only elector who may have sent it."""
         return self.sharing[0] if len(self.sharing) == 1 else None
 
     @functools.cached_property
     def electors(self) -> tuple[str, ...]:
-        """The electors on its ballots, or near to one; else the one who has the sender's address."""
+        """The electors on its ballots, or near to one; else the one who sent it."""
         named = [line.elector for line in (*self.ballots, *self.offered)]
         near = (near.ballot.partition(" ")[0] for near in self.every_near)
         named += [name for name in near if name in self.circumstances.electors]
@@ -437,15 +438,17 @@ def why_not_in_time(case: LetterCase) -> ReasonWithValues | None:
 
 
 def why_not_from_its_elector(case: LetterCase) -> ReasonWithValues | None:
-    """It comes by the link of its elector; or from an address of theirs, after `call --marked` with the
-    own mark, too.
+    """It comes by the link of its elector, from the box itself; or from an address of theirs, after
+    `call --marked` with the own mark, too.
     """
     sender, elector, circumstances = case.read.sender, case.elector, case.circumstances
     if not (sender or case.read.link):
         return Reason.NO_SENDER(sender=case.read.shown_sender)
     if case.ballot is None:
         return None
-    if case.is_from(elector):
+    if elector in case.sharing:
+        if case.read.is_fetched:
+            return Reason.FETCHED()
         if case.read.link or case.has_own_mark or not circumstances.is_marked:
             return None
         return why_not_of_this_vote(case) or Reason.NO_OWN_MARK(elector=elector)

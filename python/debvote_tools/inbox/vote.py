@@ -9,7 +9,7 @@ from typing import NamedTuple
 
 from debvote_tools.book import queries
 from debvote_tools.book.election import Election, History
-from debvote_tools.cli.console import count_of, shown_line
+from debvote_tools.cli.console import LEAVING_OUT, count_of, shown_line
 from debvote_tools.cli.faults import Fault
 from debvote_tools.debvote import Finding, Findings
 from debvote_tools.files import BALLOTS_LIMIT, LINES_LIMIT
@@ -21,6 +21,7 @@ from debvote_tools.inbox.lines import (
     has_code,
     name_in,
 )
+from debvote_tools.poll.box import without_links
 from debvote_tools.text.ballots import answers_of, ballot_file, line_of, part_of, ranks_by_label
 from debvote_tools.text.language import ENGLISH
 
@@ -97,6 +98,8 @@ class Vote:
         self.election, self.book, self.debvote = election, election.book, election.debvote
         history = election.history()
         self.call = election.called(history)
+        if history.announced("box"):
+            LEAVING_OUT.set(functools.partial(without_links, self.book))
         # as ballots are counted
         self.questions = questions = election.questions
         # the one question that is answered without a label, if there is one

@@ -231,11 +231,10 @@ class Composer:
                 for line in fate.letter.near
                 for fault in faults(line.answer, name, language, is_within=line.is_within)
             )
-            why, _, advice = language.say(for_elector(fate.letter.reason)).partition(". ")
-            # after the end nobody is asked to send it better
-            sentences.append(
-                f"{why}. {advice}" if advice and not self.is_over else f"{why.rstrip('.')}."
-            )
+            if reason := for_elector(fate.letter.reason):
+                told = language.say(reason)
+                # after the end nobody is asked to send it better
+                sentences.append(f"{told.split('. ')[0].rstrip('.')}." if self.is_over else told)
             sentences += dict.fromkeys(near)
         elif fate.became == REFUSED:
             sentences += faults(fate.why_refused, name, language)

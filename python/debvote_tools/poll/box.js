@@ -22,7 +22,7 @@
   // What is on the page: the line, and the third part of the personal link, if the link is that of the elector on the line.
   function shown() {
     const line = byId("Line").textContent.replaceAll("\n", " ");
-    const [name, , link = ""] = location.hash.slice(1).toLowerCase().split("/");
+    const [name, , link = ""] = placeNamed().toLowerCase().split("/");
     const isLinked = LINK.test(link) && location.protocol.startsWith("http") && (line === "" || line.startsWith(`${name} `));
     return { line, link: isLinked ? link : "" };
   }

@@ -5,7 +5,9 @@ The key of the box never leaves the book: whoever has it makes the link of each 
 and own mark. The host gets digests alone; the word that asks makes no link.
 """
 
+import functools
 import hmac
+import re
 import secrets
 import urllib.parse
 from collections.abc import Mapping
@@ -15,7 +17,7 @@ from debvote_tools.book.book import Book
 from debvote_tools.book.election import BOX_KEY, BOX_SCRIPT
 from debvote_tools.cli.faults import bad_words
 from debvote_tools.files import sha256_of
-from debvote_tools.poll.sealed import OWN_SIGNS
+from debvote_tools.poll.sealed import OWN, OWN_SIGNS
 from debvote_tools.text.language import marked
 from debvote_tools.text.rendering import resources
 
@@ -23,6 +25,12 @@ from debvote_tools.text.rendering import resources
 SCRIPT, END_OF_CODE = "vote.php", b"\n__halt_compiler();\n"
 
 KEY_BYTES, LINK_LENGTH = 32, 16
+
+# what is behind an own mark in a personal link, and what may be its third part alone
+BEHIND_OWN = re.compile(rf"((?:/|%2f){OWN}(?:/|%2f))\w+", re.IGNORECASE)
+ALONE = re.compile(
+    rf"[{OWN_SIGNS}{OWN_SIGNS.upper()}]{{{LINK_LENGTH}}}(?<![^\W_].{{{LINK_LENGTH}}})(?![^\W_])"
+)
 
 # of this computer
 LOOPBACK = ("localhost", "127.0.0.1", "::1")
@@ -57,6 +65,22 @@ def third_part(key: bytes, name: str, own: str) -> str:
     number = int.from_bytes(hmac.digest(key, f"{name} {own}".encode(), "sha256"))
     places = (len(OWN_SIGNS) ** place for place in range(LINK_LENGTH))
     return "".join(OWN_SIGNS[number // place % len(OWN_SIGNS)] for place in places)
+
+
+@functools.cache
+def links_of(book: Book) -> frozenset[str]:
+    """The third parts of all personal links of a book."""
+    key, owns = queries.sealed(book, BOX_KEY), queries.own_marks(book)
+    return frozenset(third_part(key, name, own) for own, name in owns.items())
+
+
+def without_links(book: Book, text: str) -> str:
+    """A text without the third parts of personal links, and what is in the place of one."""
+    text = BEHIND_OWN.sub(r"\1..", text)
+    for found in ALONE.findall(text):
+        if found.lower() in links_of(book):
+            text = text.replace(found, "..")
+    return text
 
 
 # ---- the script

@@ -135,9 +135,10 @@ def with_roll(poll: SealedPoll, roll: Sequence[str]) -> SealedPoll:
 # ---- marks in subjects
 # an own mark has 10 of these signs, none of which is easily taken for another
 OWN_SIGNS, OWN_LENGTH = "23456789abcdefghjkmnpqrstuvwxyz", 10
+OWN = rf"[{OWN_SIGNS}]{{{OWN_LENGTH}}}"
 
 # a mark in a text without blanks, in either case
-MARKS = re.compile(rf"\[([0-9a-f]{{16}})(?:-([{OWN_SIGNS}]{{{OWN_LENGTH}}}))?\]")
+MARKS = re.compile(rf"\[([0-9a-f]{{16}})(?:-({OWN}))?\]")
 
 
 def new_own_mark() -> str:

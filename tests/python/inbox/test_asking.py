@@ -16,11 +16,12 @@ from debvote_tools.cli.faults import Fault, Status
 from debvote_tools.inbox import box_records
 from debvote_tools.inbox.box_records import Asked, ask, box_words
 from debvote_tools.inbox.letter import parse
-from debvote_tools.inbox.mailbox import are_letters, letters_of_file
+from debvote_tools.inbox.mailbox import NotRead, RawLetter, are_letters, letters_of_file
 from debvote_tools.poll.box import list_digest, script_of
 from debvote_tools.text import times
 
 from tests.support.elections import ElectionTest
+from tests.support.letters import read_in
 from tests.support.web_host import ASK, END, FIRST, KEY, LINKS, MARK, NEEDS_PHP, OWNS, WORD
 from tests.support.web_host import BoxTest, Host, Liar, answered, ballot, firewall, passed_on, record
 
@@ -139,8 +140,7 @@ class Fetched(ElectionTest):
         self.write("box.php", FIRST + "".join(records).encode())
         said = self.done("add", "--yes", "box.php").output
         self.assertIn(
-            "it came from box@page.invalid, but the list of members has ada@club.example for ada",
-            said,
+            "it came by the page of the vote with a link that is not that of ada now", said
         )
         self.assertIn("0 ballots of letters went in; 2 letters wait.", said)
         self.assertEqual(said.count(f"{arrived[:10]} {arrived[11:19]} UTC"), 2)
@@ -148,6 +148,33 @@ class Fetched(ElectionTest):
         self.done("held", "1", "--enter", "1")
         self.assertEqual(self.done("export", "out").status, 0)
         self.assertEqual(self.read("out/ballots.txt"), b"ada 1,2,3,4\n")
+
+    def test_what_is_below_its_last_whole_record_is_none(self) -> None:
+        """An empty box is a mailbox without letters, and a record that was cut off is passed over."""
+        one, two = (record(name, f"{name} 1,2,3,4", 1, "2026-11-28T12:00:00") for name in ("ada", "ben"))
+        cut = [RawLetter("box, at its end", why_not_read=NotRead.CUT_OFF)]
+        for line_end in (b"\n", b"\r\n"):
+            first, before, last = (data.replace(b"\n", line_end) for data in (FIRST, one.encode(), two.encode()))
+            self.assertTrue(are_letters(first))
+            self.assertEqual(letters_of_file("box", first), [])
+            [whole] = letters_of_file("box", first + before)
+            self.assertIsNone(whole.why_not_read)
+            self.assertEqual(letters_of_file("box", b"\xef\xbb\xbf" + first + before), [whole])
+            for end in range(1, len(last)):
+                self.assertTrue(are_letters(first + last[:end]))
+                self.assertEqual(letters_of_file("box", first + last[:end]), cut)
+                self.assertEqual(letters_of_file("box", first + before + last[:end]), [whole, *cut])
+            self.assertEqual(len(read_in(letters_of_file("box", first + before + last))), 2)
+
+    def test_an_empty_box_and_a_cut_one(self) -> None:
+        self.write("empty.php", FIRST)
+        said = self.done("add", "--yes", "empty.php").output
+        self.assertIn("0 new letters; 0 came before.\n0 ballots of letters went in; 0 letters wait.\n", said)
+        self.write("cut.php", FIRST + record("ada", "ada 1,2,3,4", 1, "2026-11-28T12:00:00").encode()[:-2])
+        said = self.done("add", "--yes", "cut.php").output
+        self.assertIn("cut.php, at its end: it is a record of the box that was cut off, of which nobody was told that it arrived, and was passed over; ", said)
+        self.assertEqual(self.rows("SELECT count(*) FROM source"), [(0,)])
+        self.done("close", "--early")
 
 
 class Addresses(AskingTest):

@@ -20,8 +20,8 @@ NEAR = "it came near the end or the close, and the clock of the web host was off
 # what electors read, while the vote runs and after it
 READ = f"It came by the page of the vote. It was read as ({{}} {RANKS}),"
 STAYS, COUNTS = (READ, "it counts unless you send a later one"), (READ, "and it counts.")
-WAITS = "came by the page of the vote, with your link. It is not entered yet: the secretary has to look at it first. The reason: "
-LATE, LOOKED_AT = f"{WAITS}{AFTER}.", f"{WAITS}the secretary has to look at it."
+WAITS = "came by the page of the vote, with your link. It is not entered yet: the secretary has to look at it first. "
+LATE, LOOKED_AT = f"{WAITS}The reason: {AFTER}.", f"{WAITS}If you have not sent this,"
 
 
 def now() -> datetime.datetime:

@@ -265,11 +265,35 @@ class Clicks(boxes.BoxElectionTest):
         self.assertTrue(self.read("fetched.php").startswith(FIRST))
         ended = self.done("add", "--yes", "fetched.php")
         self.assertIn("2 new letters", ended.output)
+        self.assertEqual(ended.output.count("it is in the file of the box, which others may have changed"), 2)
         self.assertEqual(self.standing(), {})
+        for text in self.receipts().values():
+            self.assertRegex(text, "A ballot of .* came by the page of the vote, with your link. It is not entered yet: the secretary has to look at it first. If ")
         self.done("held", "1", "--enter", "--force")
-        self.done("add", "--box", "--yes")
+        said = self.done("add", "--box", "--yes").output
+        self.assertNotIn("it has no more", said)
         self.assertEqual(self.standing(), {"ada": "1,2,3,4", "ben": "1,2,3,4"})
         self.assertEqual(self.rows("SELECT count(*) FROM envelope"), [(2,)])
+
+    def test_by_ftp_and_set_aside(self) -> None:
+        """Then it came by the page, too, and not from another address."""
+        links = self.begun()
+        self.click("ada", "1,2,3,4", links["ada"])
+        data = self.file().read_bytes()
+        # whoever has the file has none of another link
+        self.write("fetched.php", data + data.removeprefix(FIRST).replace(links["ada"].encode(), b"2" * 16))
+        self.done("add", "--yes", "fetched.php")
+        self.done("held", "1", "2", "--set-aside")
+        self.done("add", "--box", "--yes")
+        self.assertEqual(self.standing(), {"ada": "1,2,3,4"})
+        text = self.receipts()["ada"]
+        self.assertNotIn("from another address", text)
+        for said in (
+            "It came by the page of the vote. It was read as (ada 1,2,3,4)",
+            "came by the page of the vote, with your link. It was not entered. The reason: the secretary has looked at it, and set it aside.",
+            "A ballot in your name came by the page of the vote, but not with your present link. The secretary has set it aside.",
+        ):
+            self.assertIn(said, text)
 
     def test_order_between_clicks_and_letters(self) -> None:
         links = self.begun()
@@ -417,11 +441,32 @@ class Clicks(boxes.BoxElectionTest):
         arrived = time.strftime("%a, %d %b %Y %H:%M:%S +0000")
         own = boxes.link_in(next((self.folder / "letters/call").rglob("*ada*.eml")).read_bytes())[1]
         place = f"#ada/{own}/{links['ada']}"
+        # broken where a program breaks it, with letters by their numbers, alone, and as the name of a line
         text = f"{place.upper()}\nI opened {self.host.at}{place} and it says\nada 1,2,3\n"
-        self.write("inbox.mbox", mailbox(self.of_this_vote(letter("ada", text, time=arrived))))
+        texts = [
+            text,
+            text.replace(own + "/", f"{own}/\n> "),
+            text.replace(own + "/", f"{own}/ "),
+            text.replace("/", "%2F"),
+            f"{links['ada']} is my code\nada 1,2\n",
+            f"{place[1:]} 1,2,3,4\n{links['ada']} 1,2,3,4\n",
+        ]
+        letters = [
+            letter("ada", one, time=arrived, number=number) for number, one in enumerate(texts)
+        ]
+        subject = f"Re: {self.host.at}{place} [{self.mark()}]"
+        letters.append(letter("ada", "ada 1,2\n", time=arrived, number=9, subject=subject))
+        self.write("inbox.mbox", mailbox(*letters))
         said = self.election("add", "inbox.mbox").output + self.done("held").output
-        said += "".join(self.done("held", str(number)).output for number in (1, 2, 3))
+        numbers = range(1, len(letters) + 3)
+        said += "".join(self.done("held", str(number)).output for number in numbers)
         self.assertIn(f"#ada/{own}/.. and it says", said)
+        self.assertIn(f"{own}%2F.. and it says", said)
+        said += self.done("show", "ada").output
+        said += self.election("add", "-", given=texts[-1]).faults
+        said += self.done("desk", given=texts[-1]).output
+        self.assertIn(f"ada/{own}/.. 1,2,3,4: column 4", said)
+        self.assertIn(" .. 1,2,3,4: .. is not on the roll", said)
         self.done("letters", "receipts")
         receipts = [
             email.message_from_bytes(file.read_bytes())
@@ -442,6 +487,20 @@ class Clicks(boxes.BoxElectionTest):
                 for text in texts
             )
         )
+
+    def test_a_record_without_a_ballot_is_told_to_whose_link_it_is(self) -> None:
+        """The page makes none, but whoever has the link can."""
+        links = self.begun()
+        for name, answer in (("ada", "A"), ("ben", "YES")):
+            self.click(name, answer, links[name])
+        self.assertIn("2 letters wait", self.done("add", "--box", "--yes").output)
+        told = self.receipts()
+        self.assertEqual({*told}, {"ada", "ben"})
+        for text in told.values():
+            self.assertRegex(text, "A ballot of .* came by the page of the vote, with your link. It is not entered yet: ")
+            self.assertIn("no line of it is a ballot of this vote.", text)
+        self.assertIn("letter 1, from the page of the vote", self.done("show", "ada").output)
+        self.assertNotIn("No receipt is about", self.done("letters", "receipts").output)
 
     def test_what_is_gone_is_told_once(self) -> None:
         links = self.begun()
@@ -992,7 +1051,9 @@ class Clocks(unittest.TestCase):
                 self.outcomes(self.record_at("ada", "1,2,3,4", at(10), 0, link)),
                 ["waits: other link"],
             )
-        # the same bytes without the asking are a letter of a stranger
+        # fetched with the file of the box it waits; and the same bytes of a mailbox are a letter of a stranger
+        fetched = dataclasses.replace(self.record_at("ada", "1,2,3,4", at(10), 0), is_fetched=True)
+        self.assertEqual(self.outcomes(fetched), ["waits: fetched"])
         plain = dataclasses.replace(self.record_at("ada", "1,2,3,4", at(10), 0), link="")
         self.assertEqual(self.outcomes(plain), ["waits: other sender"])
 

@@ -150,7 +150,7 @@ class Taken(LettersTest):
         self.assert_stops(self.election("held", "1", "3", "--enter", "--yes"), before, 9, "letter 1: it has a word without a name", "by a command of its own")
         # the receipt says that the letter waits, and not that it is written wrongly
         self.told("letters", "receipts")
-        self.assertIn("Der Grund: Die Wahlleitung muss sie sich ansehen. Wenn Sie", self.receipt("cleo"))
+        self.assertIn("Die Wahlleitung muss sie erst ansehen. Wenn Sie", self.receipt("cleo"))
         self.told("held", "3", "4", "--enter", "--yes")
         self.told("held", "1", "--enter", "--yes")
         self.told("held", "2", "--enter", "1", "--yes")

@@ -34,7 +34,9 @@ class Sentences(unittest.TestCase):
         for reason in Reason:
             self.assertNotRegex(for_secretary(with_values(reason)), r"[{}]|^[A-Z]|\.$", reason)
             text = for_elector(with_values(reason))
-            self.assertRegex(text, r"^The reason: [^{}@]+\.$", reason)
+            # none that would say again that the secretary has to look at it
+            self.assertRegex(text, r"^(The reason: [^{}@]+\.)?$", reason)
+            self.assertNotIn("has to look at it", text)
             for value in VALUES.values():
                 if isinstance(value, str) and len(value) > 4:
                     self.assertNotRegex(text, rf"(?<!\w){re.escape(value)}(?!\w)")
@@ -81,5 +83,5 @@ class Sentences(unittest.TestCase):
         # of letters about a motion (test_motions.py)
         found |= {"word", "word alone", "another answer"}
         # and of records of the box (test_by_click.py)
-        found |= {"other link", "not there before", "clock at the end", "clocks"}
+        found |= {"other link", "fetched", "not there before", "clock at the end", "clocks"}
         self.assertEqual({label(reason()) for reason in Reason} - found, set())

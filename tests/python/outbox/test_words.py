@@ -119,6 +119,16 @@ class Texts(unittest.TestCase):
                     self.assertNotIn(said.partition(". ")[2], over)
                 self.assertNotIn("_,_", over)
 
+    def test_a_reason_that_says_nothing_is_not_told(self) -> None:
+        """That the secretary has to look at it is said once."""
+        texts = [
+            [vote(code).receipt(ADA, [WAITS._replace(letter=types.SimpleNamespace(reason=reason, near=(), read=WAITS.letter.read))])]  # type: ignore[arg-type,union-attr]
+            for code in LANGUAGES
+            for reason in (None, Reason.WORD(), Reason.ANOTHER_ANSWER(number=2))
+        ]
+        for without, *others in zip(*[iter(texts)] * 3):
+            self.assertEqual(others, [without, without])
+
     def test_of_a_result(self) -> None:
         """The letter for all, and within it, behind the winner, the own ballot and where the result is."""
         rest = "THE FILES OF THE RESULT\n\nDownload them.\n"

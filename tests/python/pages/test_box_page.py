@@ -202,6 +202,9 @@ class Clicks(RealBoxTest):
         for place, name, is_linked in (
             (ada, None, True),
             (ada.upper().replace("#ADA", "#Ada"), None, True),
+            # some programs write the letters of a link by their numbers
+            (ada.replace("#a", "#%61"), None, True),
+            (ada.replace("/", "%2F"), None, True),
             (ada, "ben", False),
             (ada, " Ada", True),
             ("#ada", None, False),
