@@ -214,7 +214,9 @@ class TakenAway(QuestionsTest):
         self.assert_refused(["held", "1", "--enter", "--yes"], 9, said)
         self.done("letters", "receipts")
         [receipt] = (self.folder / "letters" / "receipts").rglob("ada.eml")
-        self.assertEqual(" ".join(receipt.read_text().split()).count("The secretary typed it"), 2)
+        # of the late envelope nothing is told
+        said = " ".join(receipt.read_text().split())
+        self.assertEqual((said.count("The secretary typed it"), "it is late" in said), (1, False))
         self.assertNotIn("--enter", self.told("undo", "--yes"))
         self.assert_refused(["held", "1", "--enter", "--yes"], 9, "its ballot was typed, and taken back; ")
 
