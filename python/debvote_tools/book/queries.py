@@ -205,8 +205,7 @@ REFUSED = f"{TO_COUNT} AND answer IS NOT NULL"
 NOT_UNDONE = "act NOT IN (SELECT json_extract(detail, '$.act') FROM act WHERE name = 'undo')"
 
 # the late envelopes of which no new one stands that a `reopen` entered as in time
-STANDS_ANEW = "SELECT late FROM anew WHERE envelope NOT IN (SELECT envelope FROM struck)"
-LEFT_LATE = f"{LATE} AND envelope NOT IN ({STANDS_ANEW})"
+LEFT_LATE = f"{LATE} AND became = 'late'"
 
 # those that came in files of lines; a line that was entered anew came once, and is known by its last
 # envelope, though that may be struck
@@ -238,7 +237,7 @@ def envelopes(book: Book, condition: str = "1", *values: object) -> list[Envelop
 
 def lines(book: Book, condition: str, *values: object) -> list[bytes]:
     """The line of each envelope that meets a condition, in their order."""
-    words = f"SELECT line FROM entered WHERE {condition} ORDER BY envelope"
+    words = f"SELECT line FROM fate WHERE {condition} ORDER BY envelope"
     return [line for line, in book.rows(words, *values)]
 
 
@@ -254,11 +253,11 @@ def answered_lines(book: Book) -> list[tuple[bytes, str | None]]:
     return book.rows("SELECT line, answer FROM ballot ORDER BY envelope")
 
 
-def late_lines(book: Book) -> list[bytes]:
+def late_lines(book: Book) -> list[tuple[bytes, str]]:
     """The line of each envelope that is late and not struck: entered while the vote was closed, or
-    after a reopen if it had not come before the first close (`History.is_late`).
+    after a reopen if it had not come before the first close (`History.is_late`); and what became of it.
     """
-    return lines(book, LATE)
+    return book.rows(f"SELECT line, became FROM fate WHERE {LATE} ORDER BY envelope")
 
 
 def has_come(book: Book, since: int) -> bool:

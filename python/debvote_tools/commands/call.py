@@ -353,8 +353,10 @@ def call_in_words(election: Election, data: CallData) -> Iterator[str]:
         yield "A letter goes in by itself only with the own mark of its elector."
     if data.until is not None:
         yield f"End of the vote: {times.time_in_words(data.until)}"
+    letter = folder / "call.txt"
     if data.is_extended:
-        yield f"Made {election.path(LETTERS) / EXTENSION}: send it to all electors."
+        letter = election.path(LETTERS) / EXTENSION
+        yield f"Made {letter}, the letter to all that says so."
     unsaid = {"when the vote ends (--until)": data.until, "where ballots go (--to)": data.to}
     if missing := [words for words, value in unsaid.items() if value is None]:
         yield f"The call does not say {' nor '.join(missing)}."
@@ -365,7 +367,7 @@ def call_in_words(election: Election, data: CallData) -> Iterator[str]:
     if election.history().closes:
         yield f"Next: {election.command('status')}"
         return
-    send = election.to_all("call", folder / "call.txt")
+    send = election.to_all("call", letter)
     enter = f"{election.command('add', 'FILE')} or {election.command('desk')}"
     yield f"Next: {put_words(election, data)}, and write to the electors: {send}; enter the ballots that come: {enter}"
 

@@ -17,6 +17,7 @@ from debvote_tools.commands.held import THE_ONE, named_lines
 from debvote_tools.grouping import grouped
 from debvote_tools.inbox import letter_words
 from debvote_tools.inbox.entering import Entry
+from debvote_tools.inbox.fates import ANEW
 from debvote_tools.inbox.judging import judged, letters_now
 from debvote_tools.inbox.lines import name_in
 from debvote_tools.inbox.rules import LetterCase
@@ -218,6 +219,9 @@ def demand_envelope(vote: Vote, number: int) -> Envelope:
         time = act_time(history.act(envelope.struck).time)
         words = f"envelope {number} is struck already, by act {envelope.struck} at {time}"
         raise Fault(None, words, f"see {vote.election.command('log')}")
+    if envelope.became == ANEW:
+        words = f"envelope {number} is late, and was entered anew as in time, which would count on"
+        raise Fault(None, words, "strike its new envelope, which show NAME lists")
     return envelope
 
 

@@ -184,6 +184,11 @@ def tell_published(
     for label, one in outcomes.items():
         tell(f"{label and f'{label}: '}{one.sheet.last_line}", one.verified)
     tell(f"Made the folder {target}{as_before}.")
+    history = election.history()
+    if not history.is_closed:
+        # where the page of the vote is, people still vote
+        tell(f"Next: {election.command('close')}, then {election.command('publish')} once more")
+        return
     if tied := [label for label, one in outcomes.items() if one.sheet.winner is None]:
         ask = "it is a tie: ask for the casting vote, and then give its option, its holder and its day"
         # the next result has the casting votes of its own command alone
@@ -191,7 +196,7 @@ def tell_published(
     else:
         send = election.to_all("result", election.path(LETTERS) / RESULT_LETTER)
         tell(f"Next: put the folder {target} on the web site as it is, then {send}")
-    if election.history().announced("box"):
+    if history.announced("box"):
         key = queries.sealed(election.book, BOX_KEY)
         tell(f"Where it takes the place of the page, remove {SCRIPT} and {records_file(key)}.")
 

@@ -13,7 +13,7 @@ from debvote_tools.cli.arguments import demand_reason, has_reason
 from debvote_tools.cli.faults import Fault, bad_words, stop_at
 from debvote_tools.grouping import grouped
 from debvote_tools.inbox.asked import unasked_fault
-from debvote_tools.inbox.fates import COUNTS, NOBODY, Fate, fates_of
+from debvote_tools.inbox.fates import ANEW, COUNTS, NOBODY, Fate, fates_of
 from debvote_tools.inbox.rules import LetterOutcome
 from debvote_tools.inbox.stopping import pending_letters, what_stops
 from debvote_tools.outbox.reached import CAME_BACK, page_since, unreached_and_printed, unreached
@@ -187,9 +187,9 @@ def demand_due(election: Election, history: History, kind: str, *, is_over: bool
     elif kind == "call" and history.announced("box") and history.until is None:
         words = "the call has a box, and says no end of the vote"
         cure = f"say it: {election.command('call', '--until', 'TIME')}"
-    elif kind == "closed" and not history.is_closed:
+    elif kind in ("closed", "result") and not history.is_closed:
         words, cure = "the vote is not closed", f"run {election.command('close')} first"
-    elif kind == "result" and not (history.is_closed and history.last_publication):
+    elif kind == "result" and not history.last_publication:
         words, cure = "nothing is published", f"run {election.command('publish')} first"
     else:
         return
@@ -414,14 +414,15 @@ def results_due(run: Run) -> LettersDue:
 
 # ---- what electors are told
 def is_told(fate: Fate) -> bool:
-    """Whether an elector is told of something that came. A copy is the letter that it copies. One from
+    """Whether an elector is told of something that came. A copy is the letter that it copies; of what was
+    entered anew the new envelope tells. One from
     which ballots were entered is told to those whom it names: `told_of` leaves out those who have one of
     these. A program that answers by itself would answer; and a letter of ours that came back has the name
     of its elector.
     """
     letter = fate.letter
     if letter is None:
-        return True
+        return fate.became != ANEW
     is_automatic = letter.is_automatic and (fate.is_own or not letter.ballots)
     told = (
         LetterOutcome.WAITS,

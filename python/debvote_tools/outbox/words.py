@@ -41,8 +41,8 @@ SUBJECTS = marked(
         "result": "Result: {title}",
     }
 )
-# in place of that of the call
-EXTENSION = marked("Vote ends later: {title}")
+# in place of that of the call: if it said an end, and if not
+EXTENSION, END_SAID = marked("Vote ends later: {title}"), marked("When the vote ends: {title}")
 
 
 # what became of a ballot, as the view `fate` says
@@ -122,8 +122,10 @@ class Composer:
 
     def subject(self, kind: str, *, is_extension: bool = False) -> str:
         """The subject of a kind of letters, before the mark that ends it."""
-        said = EXTENSION if is_extension else SUBJECTS[kind]
-        return self.call_data.language.say(said, title=one_line(self.call_data.questions.name))
+        questions, said = self.call_data.questions, SUBJECTS[kind]
+        if is_extension:
+            said = EXTENSION if questions.deadline_time else END_SAID
+        return self.call_data.language.say(said, title=one_line(questions.name))
 
     def call_letter(
         self, elector: Elector, *, is_extension: bool, earlier: Sequence[str] = ()

@@ -43,6 +43,7 @@ from debvote_tools.result.sheet import (
     sheet_in,
     votes_csv,
 )
+from debvote_tools.text.ballots import ballot_file
 
 
 # programs and guide: what each is, where the package has it, and where a checkout has it
@@ -342,7 +343,9 @@ def further_files(outcome: Outcome, picture: bytes | None) -> dict[str, bytes]:
         file_names.DATA: result_json(sheet, facts.poll, outcome.version).encode(),
         file_names.TABLE: votes_csv(sheet).encode(),
         file_names.PICTURE: picture,
-        file_names.LATE: facts.late,
+        file_names.LATE: None
+        if facts.late is None
+        else ballot_file(line for line, _ in facts.late),
         file_names.CLOSED: facts.closed,
         file_names.SEAL: f"{facts.seal}\n".encode() if facts.seal else None,
     }

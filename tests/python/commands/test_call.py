@@ -99,13 +99,17 @@ class Again(CallTest):
         self.assertEqual(self.read("call/poll.toml"), self.poll)
         for text in (self.texts(), self.read("letters/extension.txt").decode(), self.done("status").output):
             self.assertIn(SECOND, " ".join(text.split()).replace("&nbsp;", " "))
-        self.assertIn("letters/extension.txt", ended.output)
+        made = "Made letters/extension.txt, the letter to all that says so.\n"
+        self.assertIn(made, ended.output)
+        # it goes to each elector once, and to none after the close
+        self.assertRegex(ended.output, r"write to the electors: debvote-election letters call; enter")
+        self.assertNotIn("send", ended.output)
         self.assert_fault(self.election("call", "--until", "2026-12-06 17:00"), 2, "is not later")
         self.set_clock("2026-12-06T17:00:00+01:00")
         self.assert_fault(self.election("close"), 9, SECOND)
         self.assertIn("the announced end of the vote has not come yet", self.done("close", "--early").output)
         self.assert_fault(self.election("call", "--until", "2027-01-01 12:00"), 9, "closed")
-        self.done("call")
+        self.assertNotRegex(self.done("call").output, "send|letters call")
 
     def test_what_is_added_and_what_not(self) -> None:
         for page, other in (("https://club.example/vote/", "moved/"), ("https://club.example/moved/", "vote/")):
@@ -365,6 +369,8 @@ class Secret(CallTest):
         self.done("call", *UNTIL)
         after = set(re.findall(r"\b([2-9a-hjkmnp-z]{10}) _", self.read("private/slips.html").decode()))
         self.assertEqual((len(after), codes & after), (10, set()))
+        # nobody can be written to, and all have the call
+        self.assertIn("electors: send letters/extension.txt to all electors; enter", self.done("call", "--until", "2099-12-04 12:00").output)
         self.assertIn("is void", self.texts())
 
     def published_codes(self) -> set[str]:
@@ -387,8 +393,14 @@ class Secret(CallTest):
         letters = [email.message_from_bytes(file.read_bytes()) for file in (self.folder / "letters" / "call").rglob("*.eml")]
         texts = [letter.get_payload(decode=True).decode() for letter in letters]
         for text in (*texts, self.read("call/index.html").decode()):
-            self.assertIn("each code that was given out with it is void", " ".join(text.split()))
+            self.assertIn("each code that was given out with it is void. Only your new code is valid.", " ".join(text.split()))
         self.assertEqual((len(texts), self.read("private/slips.html").decode().count("An earlier slip is void.")), (10, 10))
+        # where the next vote is open, nobody has a new code
+        self.done("call", "--take-back")
+        self.write("poll.toml", elections.POLL)
+        self.done("call", *UNTIL)
+        self.assertRegex(self.texts(), r"with\s+it\s+is\s+void\.")
+        self.assertNotRegex(self.texts(), r"new\s+code")
 
     def test_not_a_secret_vote(self) -> None:
         self.write("poll.toml", elections.POLL)

@@ -617,6 +617,10 @@ class InTime(LettersTest):
         self.told("close")
         self.add(self.wordy)
         self.assert_stops_count()
+        # from elsewhere each command that they say names the folder
+        for command in ("count", "publish"):
+            ended = self.election(command, "--folder", self.folder, cwd=self.scratch)
+            self.assert_fault(ended, 9, *(f"debvote-election {its} --folder {self.folder}" for its in ("held", "reopen")))
         self.told("held", 1, "--set-aside")
         self.election("add", self.box(letter("dan", f"dan {OTHER}")))
         self.assert_stops_count(2)

@@ -13,6 +13,9 @@ class Reopened(LettersTest):
     def reopen(self, *words: object) -> str:
         return self.told("reopen", *words, *IN_TIME)
 
+    def closing_letter(self) -> str:
+        return " ".join(self.read("letters/closed.txt").decode().split())
+
     def test_late_lines_go_in_by_their_times(self) -> None:
         """In whatever order they are named, and came where the clock was put back. What needed no force is not told as forced: a later line
         that is refused is no ballot.
@@ -112,12 +115,12 @@ class Reopened(LettersTest):
         self.assert_fault(self.election("call", "--until", "2026-12-24 12:00"), 9, said)
         self.add_lines(f"cleo {RANKS}", words=("--came-before-close", "yes"))
         self.told("close")
-        letter = " ".join(self.read("letters/closed.txt").decode().split())
+        letter = self.closing_letter()
         self.assertIn("11:00 (UTC), and opened again. The reason, in the secretary's words: (a bag was found) This", letter)
         closes = [detail["questions"][""]["checksum"] for name, detail in self.acts() if name == "close"]
         self.assertEqual([checksum in letter for checksum in closes], [False, True, True])
         self.told("publish")
-        self.assertEqual(self.read("result/index.html").decode().count("lines that came in: 1; "), 2)
+        self.assertEqual(self.read("result/index.html").decode().count("lines in time that came in: 1; "), 2)
 
     def test_a_late_line_is_entered_once(self) -> None:
         """What was entered again came once: the same line in a file is another one."""
@@ -197,9 +200,14 @@ class Reopened(LettersTest):
         for words in line.split(" && "):
             said = self.done(*shlex.split(words)[1:]).output
         self.assertEqual(self.lines(), [BALLOT])
+        end = "end: one should have been able to vote until Monday, 30 November 2026, 18:00 (UTC)."
+        self.assertIn(f"computer. That was before the announced {end}", self.closing_letter())
         self.set_clock("2026-11-30T18:00:00+00:00")
         self.assertIn("then debvote-election close --early\n", said)
         self.told("close")
+        # the first close was early, and not this one
+        first = "The vote was closed on Wednesday, 25 November 2026, 09:00 (UTC), before its announced"
+        self.assertIn(f"30 November 2026, 18:00 (UTC), by the clock of the secretary's computer. {first} {end}", self.closing_letter())
         self.assertIn("Next: debvote-election add FILE, then debvote-election close\n", self.reopen())
 
     def test_undo_of_a_reopen(self) -> None:
@@ -208,6 +216,8 @@ class Reopened(LettersTest):
         self.add_lines(BALLOT, f"ben {RANKS}")
         self.reopen("--in-time", 1, 2)
         self.assertIn("came before; 0 are new", self.add_lines(BALLOT, words=("--came-before-close", "yes")))
+        said = "envelope 1 is late, and was entered anew as in time, which would count on; nothing was changed: strike its new envelope"
+        self.assert_refused(("strike", 1, "--because", "a slip"), 9, said)
         self.told("undo", "--yes")
         self.assertEqual((self.lines(), self.late_lines()), ([], [BALLOT, f"ben {RANKS}"]))
         self.assertIn("came before, and was late (envelope 1)", self.add_lines(BALLOT, words=("--came-before-close", "yes")))

@@ -143,6 +143,16 @@ class Refused(OutTest):
         self.assertRegex(text, r"Send your ballot as the secretary announces\. .* WHAT DECIDES .* WHAT WILL BE PUBLIC ")
         self.assertEqual(found["ada"]["From"], "vote@other.example")
         self.assertIn(f"{LINE}ada _,_,_,_", self.texts("reminders", "--from", "v@x.example")["ada"])
+        # the first end that is said may be less time
+        for day in (4, 6):
+            self.done("call", "--until", f"2026-12-0{day} 18:00", "--zone", "UTC")
+        message = self.written("call", "--from", "v@x.example")["ada"]
+        self.assertRegex(message["Subject"], rf"^When the vote ends: {TITLE} {MARKS}$")
+        self.assertIn("You can now vote until the time below.", one_line(message))
+        self.done("close", "--early")
+        self.done("publish", "--force", "--because", "nobody has voted")
+        first, second = "The end of the vote was announced: one could vote until Friday, 4", "The time was extended: one could vote until Sunday, 6"
+        self.assertRegex(" ".join(self.read("letters/result.txt").decode().split()), f"{first} .* {second} ")
 
     def test_addresses_of_before_the_call_and_that_of_the_result(self) -> None:
         # of several addresses the first that each server takes
@@ -262,6 +272,10 @@ class Paper(OutTest):
         for kind in (*kinds, "closed", "result"):
             [page] = [file for file in self.files(kind) if file.suffix == ".html"]
             self.assertEqual(begin in page.read_text(), kind not in ("call", "reminders"), kind)
+        # only what comes by e-mail has a subject
+        for file in self.files("result"):
+            text = page.read_text() if file == page else parsed(file.read_bytes()).get_content()
+            self.assertEqual("subject of each true letter" in " ".join(text.split()), file != page, file)
 
 
 class Names(OutTest):
@@ -389,6 +403,11 @@ class ReceiptsAndReminders(OutTest):
         self.assertIn("so it is late and does not count.", late["gus"])
         for text in late.values():
             self.assertNotRegex(text, r"_,_|unless you|You can send")
+        # what was entered anew is told once
+        self.done("reopen", "--in-time", 10, "--because", "it was in time")
+        anew = self.texts("receipts")
+        self.assertEqual((list(anew), anew["fay"].count("It was read as")), (["fay"], 1))
+        self.assertIn("has arrived, and it counts. It was read as (fay", anew["fay"])
 
     def test_a_letter_of_which_one_ballot_is_entered(self) -> None:
         """Its elector is told once of that, and the other elector that the letter waits: Ben, who has the same address, or Dan."""
@@ -691,7 +710,7 @@ class NoBallots(OutTest):
 
 class CloseAndResult(OutTest):
     def test_an_open_vote(self) -> None:
-        self.assert_fault(self.election("letters", "result"), 9, "nothing is published")
+        self.assert_fault(self.election("letters", "result"), 9, "the vote is not closed")
         self.add_lines(f"ada {RANKS}", f"ben {RANKS}")
         self.done("close", "--early")
         self.done("publish")
@@ -721,7 +740,7 @@ class CloseAndResult(OutTest):
         self.assertIn("That was before the time until which one could vote.", texts["ada"])
         # none of a vote that is open again; each publication has its letters
         self.done("reopen", "--because", "a bag was forgotten")
-        self.assert_fault(self.election("letters", "result"), 9, "nothing is published")
+        self.assert_fault(self.election("letters", "result"), 9, "the vote is not closed", "run debvote-election close first")
         self.done("desk", "--came-before-close", "yes", given="ada 1,3,4,2\n")
         self.done("close", "--early")
         self.done("publish", "result-2")

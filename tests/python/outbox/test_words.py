@@ -230,8 +230,9 @@ class CallLetter(unittest.TestCase):
                 begin = first if first in greeting else f"Dear Ada L.,\n\n{first}"
                 self.assertTrue(text.startswith(f"{begin}\n\nMore.\n\n"), text)
         # with --marked it says to answer, or to use the link
-        for text in self.asking(vote(is_marked=True)):
-            self.assertIn("Open the link above, or answer this letter: then the subject has your own mark", " ".join(text.split()))
+        # a receipt of a vote with a box has the link nowhere
+        for text in [*self.asking(vote(is_marked=True)), *self.asking(vote(is_marked=True, has_box=True))]:
+            self.assertIn("Open your own link, or answer this letter: then the subject has your own mark", " ".join(text.split()))
         # one to an earlier address has no own mark
         for text in self.asking(vote(is_marked=True), ADA._replace(mark="")):
             self.assertIn("Open the link in your letter, or answer that letter: then", " ".join(text.split()))

@@ -266,7 +266,9 @@ class TakenAway(QuestionsTest):
         self.assert_refused(["held", "1", "--enter", "--yes"], 9, said)
         self.done("letters", "receipts")
         [receipt] = (self.folder / "letters" / "receipts").rglob("ada.eml")
-        self.assertEqual(" ".join(receipt.read_text().split()).count("The secretary typed it"), 2)
+        # of the late envelope nothing is told
+        said = " ".join(receipt.read_text().split())
+        self.assertEqual((said.count("The secretary typed it"), "it is late" in said), (1, False))
         self.assertNotIn("--enter", self.told("undo", "--yes"))
         self.assert_refused(["held", "1", "--enter", "--yes"], 9, "its ballot was typed, and taken back; ")
 
@@ -326,7 +328,7 @@ class Told(QuestionsTest):
         self.done("held", "1", "--as", "ada A 1,2 B 1,2,3", "--as", "ben A 2,1", "--force", "--yes")
         self.done("reopen", "--in-time", "2", "3", "--because", "a slow server")
         texts = self.letters("receipts")
-        self.assertEqual({name: text.count("These of its answers were not entered") for name, text in texts.items()}, {"ada": 2, "ben": 0})
+        self.assertEqual({name: text.count("These of its answers were not entered") for name, text in texts.items()}, {"ada": 1, "ben": 0})
 
     def test_who_has_answered_one_question_is_not_reminded(self) -> None:
         self.add_lines("ada B 1,2,3", "ben B 1,2", words=["--force"])

@@ -322,7 +322,7 @@ class OpenTest(PublishedTest):
         self.assertEqual(letter.count("struck envelope 5"), 1)
         sums = ", ".join(f"{label} {digest}" for label, (digest, _) in zip(self.polls, second[1:]))
         self.assertEqual(letter.count(f"The vote was closed. Lines in time: A 4, B 2, C 3. Checksum: {sums}."), 1)
-        self.assertIn("lines that came in: A 1, B 0, C 0; lines that were struck: A 0, B 0, C 0.", letter)
+        self.assertIn("lines in time that came in: A 1, B 0, C 0; that were struck: A 0, B 0, C 0.", letter)
         found = re.findall("struck envelope 5|The vote was opened again|The vote was closed", letter)
         self.assertEqual(found, ["struck envelope 5", "The vote was closed", "The vote was opened again", "The vote was closed"])
         for label in self.polls:

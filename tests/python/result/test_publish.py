@@ -288,7 +288,8 @@ class OfOpenVotes(OfElections):
         told = ["no elector has a ballot that counts", "more than half of the lines are refused, 1 of 1", "the vote is not closed"]
         self.stops("publish", said=[*told, "--force --because"])
         self.stops("publish", "--force", said=told)
-        self.say("publish", "--force", "--because", "A <test>.\n\nNo more.", "--language", "en")
+        output = self.say("publish", "--force", "--because", "A <test>.\n\nNo more.", "--language", "en")
+        self.expect("no result ends the vote", output.splitlines()[-1], "Next: debvote-election close, then debvote-election publish once more")
         wanted = ["No elector has a ballot that counts: nobody's vote has decided this."]
         wanted += ["More than half of the lines of the ballot file are refused: 1 of 1."]
         self.expect("doubts", self.doubts(), [*wanted, "The vote was not closed when this page was made: more ballots may come in."])
@@ -302,6 +303,11 @@ class OfOpenVotes(OfElections):
         self.replace("--force", "--because", "nothing", "--language", "en")
         self.expect("half of the lines are refused", json.loads(self.files()["result.json"])["refused"], 1)
         self.expect("force where nothing stops", (self.doubts(), "nothing" in self.sections()["Result"].text()), ([], False))
+        self.say("reopen", "--because", "a lost letter")
+        self.replace("--force", "--because", "A <test>.", "--language", "en")
+        said = [" ".join(self.letter().split()), self.sections()["How-to-verify"].text()]
+        found = "closed.txt" in self.files(), ["letter of the close" in text for text in said]
+        self.expect("no close has fixed ballots that may become more", found, (False, [False, False]))
 
     def test_each_act_is_told(self):
         self.say("call")
@@ -335,10 +341,14 @@ class OfOpenVotes(OfElections):
             f"The secretary struck envelope 1: its line does not count.{because} wrong hand",
             f"The vote was closed. Lines in time: 2. Checksum: {checksum}. {early} 2 letters that had arrived in time were left waiting. "
             "1 letter that had arrived after the end did not go in. "
-            f"Since the close before this one, lines that came in: 2; lines that were struck: 1.{because} in a hurry",
+            f"Since the close before this one, lines in time that came in: 2; that were struck: 1.{because} in a hurry",
         ]
         self.expect("on the page", self.what_was_done(), [*called[:3], *told[:-1], called[3], told[-1]])
         self.expect("the late ones stay late", self.files()["late.txt"], b"zoe-mueller 1,2,3\ncleo 1,2,3\n")
+        refused, late = self.sections()["Refused-lines"].text(), "Late, and not counted"
+        found = "none came late." in refused, "do not count" in refused, late in self.say("status"), self.say("export", "copy")[:4]
+        self.expect("of what was entered anew nobody says that it does not count", found, (True, False, False, "Made"))
+        self.expect("it was late", self.read("copy/late.txt"), self.files()["late.txt"])
         self.expect("the times are in one zone", self.sections()["What-was-done"].text().count("(UTC+01:00): "), 11)
         self.say("publish", "--language", "de")
         letters = self.texts_of_messages()
