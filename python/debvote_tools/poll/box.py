@@ -5,6 +5,7 @@ The key of the box never leaves the book: whoever has it makes the link of each 
 and own mark. The host gets digests alone; the word that asks makes no link.
 """
 
+import contextlib
 import functools
 import hmac
 import re
@@ -15,7 +16,7 @@ from collections.abc import Mapping
 from debvote_tools.book import queries
 from debvote_tools.book.book import Book
 from debvote_tools.book.election import BOX_KEY, BOX_SCRIPT
-from debvote_tools.cli.faults import bad_words
+from debvote_tools.cli.faults import Fault, bad_words
 from debvote_tools.files import sha256_of
 from debvote_tools.poll.sealed import OWN, OWN_SIGNS
 from debvote_tools.text.language import marked
@@ -78,8 +79,11 @@ def without_links(book: Book, text: str) -> str:
     """A text without the third parts of personal links, and what is in the place of one."""
     text = BEHIND_OWN.sub(r"\1..", text)
     for found in ALONE.findall(text):
-        if found.lower() in links_of(book):
-            text = text.replace(found, "..")
+        # while it is said that the book can't be read, it may be one
+        is_link = True
+        with contextlib.suppress(Fault):
+            is_link = found.lower() in links_of(book)
+        text = text.replace(found, "..") if is_link else text
     return text
 
 

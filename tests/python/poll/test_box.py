@@ -6,6 +6,7 @@ import itertools
 import math
 import re
 import unittest
+import unittest.mock
 
 from debvote_tools.cli.faults import Fault
 from debvote_tools.inbox.box_records import MOST
@@ -19,6 +20,7 @@ from debvote_tools.poll.box import (
     records_file,
     script_address,
     script_of,
+    without_links,
 )
 from debvote_tools.poll.sealed import OWN_LENGTH, OWN_SIGNS, new_own_mark
 
@@ -64,6 +66,12 @@ class Links(unittest.TestCase):
             records_file(KEY),
             f"box-{hashlib.sha256(asking_word(KEY).encode()).hexdigest()[:32]}.php",
         )
+
+    def test_what_may_be_a_link_is_left_out_where_the_book_can_not_be_read(self) -> None:
+        book, link = unittest.mock.Mock(), third_part(KEY, "ada", OWNS["ada"])
+        book.value.side_effect = book.rows.side_effect = Fault(None, "the book is damaged", "restore it")
+        said = f"[{MARK}] {{}} {OWNS['ada']}"
+        self.assertEqual(without_links(book, said.format(link)), said.format(".."))
 
 
 class Words(unittest.TestCase):
