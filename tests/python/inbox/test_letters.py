@@ -79,6 +79,13 @@ class Adding(LettersTest):
             self.assertEqual(self.exported()[0], "")
         self.assertIn("1 new letter; 0 came before.", self.told("add", "--yes", self.box(inner)))
         self.assertEqual(self.exported()[0], f"ben {RANKS}\n")
+        # also where both come in one command, in any order
+        for name, is_alone_first in (("cleo", False), ("dan", True)):
+            alone = self.of_this_vote(letter(name, f"{name} {RANKS}"))
+            self.write("outer.mbox", mailbox(letter("ada", f"hello {name}").rstrip(b"\n") + b"\n" + mailbox(alone).rstrip(b"\n")))
+            given = ("outer.mbox", self.box(alone))
+            self.told("add", "--yes", *(given[::-1] if is_alone_first else given))
+            self.assertEqual(self.stands(name), RANKS)
 
     def test_a_mailbox_longer_than_any_file_of_lines(self) -> None:
         """Else what is beyond that length would be in no list, and nobody would be told."""
