@@ -296,6 +296,7 @@ class ReadOnce(LettersTest):
         lines = f"Ada {RANKS}\nGsu {RANKS}\nben {RANKS}\n"
         for words, given, at_most in (
             (("add", "--look"), lines, 3),
+            (("add", "--look"), f"cleo {RANKS}\nben {RANKS}\n", 1),
             (("add",), lines, 3),
             (("add",), f"cleo {RANKS}\n", 2),
             (("desk",), f"ada {OTHER}\n", 2),
