@@ -646,6 +646,31 @@ class SeveralRuns(SendTest):
         # on a busy machine the last reminders are some seconds younger
         self.set_clock("2026-11-24T11:00:00+00:00")
         self.assertEqual((terminal.Terminal(self, *words).end()[1], len(self.server.taken)), (0, 36))
+        # a run that goes on asks nothing, though somebody has another address since; nor does one that reminds nobody
+        self.set_clock("2026-11-25T12:00:00+00:00")
+        self.server.rcpt_answers = {ALL[1]: "451 later"}
+        self.assertEqual(self.election(*words).status, 9)
+        self.server.rcpt_answers = {}
+        self.change_roll("cleo@club", "cleo@new")
+        self.assertIn("Sent 2 of 2 letters.", self.told(*words))
+        self.add_lines(*(f"{name} {RANKS}" for name in self.names))
+        self.assertEqual(self.told(*words), "There is no letter to send: the server has taken all that are due.\n")
+
+
+class Secret(SendTest):
+    poll = elections.POLL + "secret = true\n"
+
+    def test_a_code_that_a_server_took_at_last_went_to_that_address(self) -> None:
+        """It is told as such to the next one; not one that was refused and never taken."""
+        self.server.rcpt_answers = {ALL[0]: "451 later", ALL[1]: "550 none"}
+        self.assert_sent("call", status=9)
+        self.server.rcpt_answers = {ALL[1]: "550 none"}
+        self.assert_sent("call", status=9)
+        self.change_roll("@club", "@new")
+        self.assert_sent("call")
+        texts = {taken.to: " ".join(parsed(taken.data).get_content().split()) for taken in self.server.taken}
+        for name, is_told in (("ada", True), ("ben", False), ("cleo", True)):
+            self.assertEqual(f"It went to another address before: {name}@club.example." in texts[f"{name}@new.example"], is_told, name)
 
 
 class Encrypted(unittest.TestCase):
