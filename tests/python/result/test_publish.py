@@ -157,6 +157,7 @@ class OfOpenVotes(OfElections):
         self.expect("late lines", files["late.txt"], b"dan 3,2,1\n")
         label = json.loads(files["result.json"])["options"][1]
         self.expect("names as data", (label["name"], label["label"]), ("Groesse", "Größe"))
+        self.expect("of aliases nothing is said", "To find it without this page" in self.page(), False)
         self.expect("real names", self.items("Who-voted"), ["ada-lovelace Ada <Lovelace>", "cleo Cleo", "zoe-mueller Zoë Müller", "dan Dan"])
         refused = self.items("Refused-lines")
         self.expect("refused and late lines", (len(refused), refused[-1]), (2, "line 1: dan 3,2,1"))
