@@ -99,6 +99,8 @@ class Call(OutTest):
         self.done("call", "--until", "2026-12-06 12:00", "--zone", "UTC")
         found = self.written("call")
         texts = {name: one_line(message) for name, message in found.items()}
+        # also in a run after it
+        self.assertEqual(self.texts("call"), texts)
         self.assertRegex(found["ben"]["Subject"], rf"^Vote ends later: {TITLE} {MARKS}$")
         self.assertRegex(found["ada"]["Subject"], rf"^Vote: {TITLE} ")
         self.assertNotIn("You have more time", texts.pop("ada"))

@@ -603,6 +603,10 @@ class SeveralRuns(SendTest):
         self.write("members.csv", elections.members_of(self.names).replace("gus@club.example", "").replace("ben@club", "ben@new"))
         self.told("roll", "--yes")
         self.assert_sent("reminders", "Sent 8 of 8 letters.")
+        # one that a server refused for good
+        self.server.rcpt_answers = {"ben@new.example": "550 5.1.1 no such user"}
+        for _ in range(2):
+            self.assert_sent("reminders", "Sent 7 of 8 letters.", 9)
 
     def test_two_runs_at_once_send_each_letter_once(self) -> None:
         runs = [self.sending("call") for _ in range(3)]
