@@ -11,6 +11,7 @@ import shutil
 import signal
 import stat
 import tempfile
+import time
 from collections.abc import Collection, Iterator, Mapping
 from typing import BinaryIO
 
@@ -37,6 +38,10 @@ BEGINNINGS = {
 # how each temporary begins, and no file of anybody else: an editor puts its own beside a file, as
 # `.poll.toml.swp`
 TEMPORARY = ".debvote-"
+# that of what a run makes whole beside its place
+NEW = f"{TEMPORARY}new-"
+# in seconds; a run locks its folder at once
+NEVER_LOCKED = 60
 
 
 def sha256_of(data: bytes) -> str:
@@ -151,18 +156,55 @@ def temporary_folder(place: pathlib.Path, prefix: str = TEMPORARY) -> pathlib.Pa
     return pathlib.Path(tempfile.mkdtemp(prefix=prefix, dir=place))
 
 
+def real_place(place: pathlib.Path) -> pathlib.Path:
+    """Where a folder will be. If the place is a link, the link stays."""
+    return pathlib.Path(os.path.realpath(place))
+
+
 @contextlib.contextmanager
-def whole_folder(place: pathlib.Path) -> Iterator[pathlib.Path]:
-    """A new folder, which takes its place when all is in it; if that fails, nothing is left."""
-    parent = place.absolute().parent
-    made = temporary_folder(parent)
-    try:
+def folder_beside(place: pathlib.Path, prefix: str) -> Iterator[pathlib.Path]:
+    """A new folder beside a place. A run holds the lock of its own, so what is not locked is of a run
+    that was killed.
+    """
+    with naming(place):
+        made = temporary_folder(real_place(place).parent, prefix)
+    with locked(made, is_directory=True):
         yield made
-        made.rename(place)
-        sync_folder(parent)
-    except BaseException:
-        shutil.rmtree(made, ignore_errors=True)
-        raise
+
+
+def left_beside(place: pathlib.Path, prefix: str) -> list[pathlib.Path]:
+    """The folders beside a place that runs have made. Another run may take one away, and that of
+    another user can't be read.
+    """
+    found = []
+    for left in real_place(place).parent.glob(f"{prefix}*"):
+        with contextlib.suppress(OSError):
+            # an empty one may be about to be locked
+            if any(left.iterdir()) or time.time() - left.stat().st_mtime > NEVER_LOCKED:
+                found.append(left)
+    return found
+
+
+def remove_left(place: pathlib.Path, prefix: str) -> None:
+    """Removes what killed runs have left beside a place."""
+    for left in left_beside(place, prefix):
+        with contextlib.suppress(OSError), locked(left, is_directory=True):
+            shutil.rmtree(left, ignore_errors=True)
+
+
+@contextlib.contextmanager
+def whole_folder(place: pathlib.Path, file: str = "") -> Iterator[pathlib.Path]:
+    """A new folder, which takes its place when all is in it, or of which one file does. Nothing else is
+    left, nor what killed runs have left beside it.
+    """
+    with naming(place), folder_beside(place, NEW) as made:
+        try:
+            yield made
+            (made / file).rename(place)
+        finally:
+            shutil.rmtree(made, ignore_errors=True)
+            remove_left(place, NEW)
+        sync_folder(made.parent)
 
 
 def write_public(file: pathlib.Path, data: bytes) -> None:

@@ -195,8 +195,9 @@ class ElectionTest(unittest.TestCase):
 
     def of_this_vote(self, letter: bytes) -> bytes:
         """A letter with the mark of this election."""
-        found = re.search(rb"\[([0-9a-f]{16})\]", self.read("call/call.txt")) if ANY_MARK.encode() in letter else None
-        return letter.replace(ANY_MARK.encode(), found[1]) if found else letter
+        # the checksum of the poll, or of the list of polls, begins with it
+        found = re.findall(rb"\b([0-9a-f]{16})[0-9a-f]{48}\b", self.read("call/call.txt")) if ANY_MARK.encode() in letter else []
+        return letter.replace(ANY_MARK.encode(), found[-1]) if found else letter
 
     def read(self, name: str) -> bytes:
         return (self.folder / name).read_bytes()

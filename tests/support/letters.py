@@ -1,14 +1,16 @@
 """What the tests of letters that come share: letters, the circumstances in which they are judged, and debvote, which is asked about lines."""
 
+import collections
 import datetime
 import json
 import os
 import re
 import subprocess
+import sys
 from collections.abc import Collection, Mapping, Sequence
 
 from debvote_tools.book import queries
-from debvote_tools.book.queries import Elector, KeptLetter
+from debvote_tools.book.queries import Elector, EnteredBallot
 from debvote_tools.debvote import findings_in
 from debvote_tools.inbox.judging import Ballot, BallotsByElector, judge_all
 from debvote_tools.inbox.letter import ParsedLetter, parse
@@ -155,7 +157,7 @@ def judged(
     of_names = {name: value for name, value in other.items() if name in ("roll", "language", "real_names", "words")}
     of_others = {name: value for name, value in other.items() if name not in ("language", "real_names")}
     now = circumstances(**of_others)
-    cases = [LetterCase(one, now, as_kept(decisions.get(one.digest))) for one in read(*letters, reader=reader, **of_names)]
+    cases = [case_of(one, now, decisions.get(one.digest)) for one in read(*letters, reader=reader, **of_names)]
     return judge_all(cases, lambda _: in_order(ballots or {}))
 
 
@@ -164,14 +166,31 @@ def in_order(ballots: Mapping[str, Sequence[Ballot]]) -> BallotsByElector:
     return BallotsByElector(list, {name: sorted(its, key=queries.by_time) for name, its in ballots.items()})
 
 
-def as_kept(state: str | None) -> KeptLetter:
-    """A letter that the book has, by what the last act decided of it."""
-    return NOT_KEPT._replace(state=state or queries.NEVER_DECIDED)
+def case_of(one: ReadLetter, now: Circumstances, state: str | None) -> LetterCase:
+    """A letter that the book has, by what the last act decided of it, and with the ballot that was entered."""
+    case = LetterCase(one, now, NOT_KEPT._replace(state=state or queries.NEVER_DECIDED))
+    if state in (queries.ENTERED, queries.STRUCK, queries.TAKEN_BACK):
+        is_taken_back = state == queries.TAKEN_BACK
+        is_struck = state != queries.ENTERED
+        case.entered = [EnteredBallot(1, BALLOT, is_late=False, is_struck=is_struck, is_taken_back=is_taken_back, is_typed=False)]
+    return case
 
 
 def judged_alone(one: ReadLetter, now: Circumstances) -> LetterCase:
     [found] = judge_all([LetterCase(one, now)], lambda _: in_order({}))
     return found
+
+
+def calls_while_judged(letters: Sequence[ReadLetter]) -> int:
+    """How many functions are called while letters are judged, of which the first goes in."""
+    cases, events = [LetterCase(one, circumstances()) for one in letters], collections.Counter[str]()
+    sys.setprofile(lambda _, event, __: events.update([event]))
+    try:
+        found = judge_all(cases, lambda _: in_order({}))
+    finally:
+        sys.setprofile(None)
+    assert found[0].outcome is LetterOutcome.GOES_IN, outcome(found[0])
+    return events.total()
 
 
 def label(why: ReasonWithValues) -> str:

@@ -19,7 +19,7 @@ from typing import Any, Final, Literal, NamedTuple
 from debvote_tools.book import chain
 from debvote_tools.book.machine_note import MachineNote, Note, machine_of
 from debvote_tools.cli.faults import Fault, Status, bad_words, kept_in
-from debvote_tools.files import read_at_most, uninterrupted
+from debvote_tools.files import read_at_most, uninterrupted, whole_folder
 from debvote_tools.poll.announced import address_in
 from debvote_tools.text import times
 from debvote_tools.text.ballots import part_of
@@ -81,8 +81,8 @@ ActName = (
 #   letters: letters, and box, what the box of the web host had; add: files, lines, letters, unsigned, and passed_over, how many came before;
 #     desk: lines
 #   add, desk: came_before_close, after reopen
-#   set aside, put back: letters; enter: letters, and lines, empty if the ballot was typed; left_out, by the number of a
-#     letter the answers that did not go in, since their electors had later ones, each as a ballot
+#   set aside, put back: letters; enter: letters, and lines, empty if the ballot was typed; left_out, of what was typed by the
+#     number of its letter the answers that did not go in, since their electors had later ones, each as a ballot
 #   undo: act, that it takes back; strike: envelope
 #   close: questions, by label what it fixes of each (`Fixed`); early; left, the letters that had arrived in time and wait, and
 #     waiting, how many these are; after_end and before_call, how many others wait
@@ -390,9 +390,9 @@ class Book:
         return bool(self.digest_at(number) == digest)
 
     def back_up(self, target: pathlib.Path) -> None:
-        with sqlite_faults(target):
-            os.close(os.open(target, os.O_WRONLY | os.O_CREAT | os.O_EXCL, 0o600))
-            with contextlib.closing(sqlite3.connect(target)) as copy:
+        with sqlite_faults(target), whole_folder(target, NAME) as folder:
+            (folder / NAME).touch(0o600)
+            with contextlib.closing(sqlite3.connect(folder / NAME)) as copy:
                 self.connection.backup(copy)
 
 

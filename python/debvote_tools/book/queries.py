@@ -7,12 +7,12 @@ import collections
 import datetime
 import json
 import sys
-from collections.abc import Callable, Collection, Iterable, Iterator, Mapping, Sequence
+from collections.abc import Callable, Collection, Iterable, Iterator, Mapping, Sequence, Set
 from typing import Final, NamedTuple, TypeVar
 
 from debvote_tools.book.book import Book, NewAct, as_text, from_text
 from debvote_tools.grouping import grouped
-from debvote_tools.text.ballots import answers_of, answers_text, differ, without
+from debvote_tools.text.ballots import answers_in, answers_of, answers_text, differ
 
 
 # ---- electors
@@ -151,7 +151,7 @@ NEXT: Final = sys.maxsize
 class Ballot(NamedTuple):
     """A ballot that was entered, late or not, and is not struck, or that goes in or is passed over: its
     time, in whole seconds, its line, whether it came by letter and is in time, by how many seconds
-    the clock was behind that gave it, and its envelope.
+    the clock was behind that gave it, its envelope, and whether it is late.
     """
 
     time: datetime.datetime
@@ -159,6 +159,7 @@ class Ballot(NamedTuple):
     is_by_letter: bool = False
     behind: int = 0
     number: int = NEXT
+    is_late: bool = False
 
     def may_turn(self, other: "Ballot") -> bool:
         """Whether by the clock of this computer it may stand on the other side of another ballot."""
@@ -166,9 +167,9 @@ class Ballot(NamedTuple):
         return (self.time < other.time) != (ours < theirs) and differ(self.line, other.line)
 
     @property
-    def labels(self) -> set[str]:
+    def labels(self) -> Set[str]:
         """Those of the questions that it answers."""
-        return {*answers_of(self.line)}
+        return answers_of(self.line).keys()
 
 
 ABallot = TypeVar("ABallot", Ballot, Envelope)
@@ -204,8 +205,7 @@ REFUSED = f"{TO_COUNT} AND answer IS NOT NULL"
 NOT_UNDONE = "act NOT IN (SELECT json_extract(detail, '$.act') FROM act WHERE name = 'undo')"
 
 # the late envelopes of which no new one stands that a `reopen` entered as in time
-STANDS_ANEW = "SELECT late FROM anew WHERE envelope NOT IN (SELECT envelope FROM struck)"
-LEFT_LATE = f"{LATE} AND envelope NOT IN ({STANDS_ANEW})"
+LEFT_LATE = f"{LATE} AND became = 'late'"
 
 # those that came in files of lines; a line that was entered anew came once, and is known by its last
 # envelope, though that may be struck
@@ -237,7 +237,7 @@ def envelopes(book: Book, condition: str = "1", *values: object) -> list[Envelop
 
 def lines(book: Book, condition: str, *values: object) -> list[bytes]:
     """The line of each envelope that meets a condition, in their order."""
-    words = f"SELECT line FROM entered WHERE {condition} ORDER BY envelope"
+    words = f"SELECT line FROM fate WHERE {condition} ORDER BY envelope"
     return [line for line, in book.rows(words, *values)]
 
 
@@ -253,11 +253,11 @@ def answered_lines(book: Book) -> list[tuple[bytes, str | None]]:
     return book.rows("SELECT line, answer FROM ballot ORDER BY envelope")
 
 
-def late_lines(book: Book) -> list[bytes]:
+def late_lines(book: Book) -> list[tuple[bytes, str]]:
     """The line of each envelope that is late and not struck: entered while the vote was closed, or
-    after a reopen if it had not come before the first close (`History.is_late`).
+    after a reopen if it had not come before the first close (`History.is_late`); and what became of it.
     """
-    return lines(book, LATE)
+    return book.rows(f"SELECT line, became FROM fate WHERE {LATE} ORDER BY envelope")
 
 
 def has_come(book: Book, since: int) -> bool:
@@ -322,25 +322,66 @@ def typed_envelopes(book: Book) -> set[int]:
     return {number for number, in book.rows(words, acts)}
 
 
-def left_out(book: Book) -> dict[int, str]:
-    """What was left out when the rest of a letter was entered, since its elector had later answers, and
-    has not been entered since: as a ballot, by the envelopes of the rest, if they are not struck.
+class EnteredBallot(NamedTuple):
+    """A ballot of a letter that was entered, and what became of it. One that an `undo` took back is
+    struck, too.
     """
-    left = {
-        one.number: one.detail.get("left_out", {}) for one in book.acts() if one.name == "enter"
+
+    number: int
+    line: str
+    is_late: bool
+    is_struck: bool
+    is_taken_back: bool
+    # by `held --as`
+    is_typed: bool
+
+    @property
+    def elector(self) -> str:
+        return self.line.partition(" ")[0]
+
+    @property
+    def answers(self) -> set[tuple[str, str]]:
+        """The elector with the label of each answer."""
+        return answers_in(self.line)
+
+
+def entered_ballots(book: Book, letters: Sequence[int]) -> dict[int, list[EnteredBallot]]:
+    """The ballots of some letters that were entered, in the order of their envelopes, by the letters."""
+    typed = typed_envelopes(book)
+    undone = "struck IN (SELECT act FROM act WHERE name = 'undo')"
+    condition = "letter IN (SELECT value FROM json_each(?))"
+    words = f"SELECT letter, envelope, line, late, struck, {undone} FROM entered WHERE {condition} ORDER BY envelope"
+    return grouped(
+        (
+            letter,
+            EnteredBallot(
+                number,
+                line.decode("ascii"),
+                is_late=bool(late),
+                is_struck=struck is not None,
+                is_taken_back=bool(is_undone),
+                is_typed=number in typed,
+            ),
+        )
+        for letter, number, line, late, struck, is_undone in book.rows(words, json.dumps(letters))
+    )
+
+
+def entered_by_hand(book: Book) -> dict[int, list[str]]:
+    """The letters from which `held` entered ballots, though an `undo` took them back; each with the
+    answers that were left out of what was typed for it, since their electors had later ones, as ballots.
+    """
+    acts = book.acts()
+    undone = {act.detail["act"] for act in acts if act.name == "undo"}
+    entering = [act for act in acts if act.name == "enter"]
+    found: dict[int, list[str]] = {
+        number: [] for act in entering for number in act.detail["letters"]
     }
-    if not any(left.values()):
-        return {}
-    found, standing = dict[int, str](), envelopes(book, "letter IS NOT NULL AND struck IS NULL")
-    there = grouped(((one.letter, one.elector), one.line.decode("ascii")) for one in standing)
-    for one in standing:
-        lines = there[one.letter, one.elector]
-        entered = {label for line in lines for label in answers_of(line)}
-        for ballot in left.get(one.act, {}).get(str(one.letter), ()):
-            if ballot.split()[0] == lines[0].split()[0]:
-                found[one.number] = without(ballot, entered)
-    anew = book.rows("SELECT envelope, late FROM anew")
-    return found | {number: found[late] for number, late in anew if late in found}
+    for act in entering:
+        if act.is_typed and act.number not in undone:
+            [number] = act.detail["letters"]
+            found[number] += act.detail.get("left_out", {}).get(str(number), ())
+    return found
 
 
 # ---- lines by act, and those that came in files
@@ -496,7 +537,8 @@ class KeptLetter(NamedTuple):
     @property
     def is_unsettled(self) -> bool:
         """Whether no act has settled what becomes of it: by the rules it waits, goes in or is passed
-        over; after a decision that was taken back, or put back, it waits.
+        over; after a decision that was taken back, or put back, it waits. One of which ballots were
+        entered may wait, too (`may_wait`).
         """
         return self.state in (NEVER_DECIDED, PUT_BACK, TAKEN_BACK)
 
@@ -534,9 +576,10 @@ def source_of(book: Book, source: int) -> bytes:
     return bytes(book.value("SELECT data FROM source WHERE source = ?", source))
 
 
-def unsettled_and_copies(kept: list[KeptLetter]) -> list[KeptLetter]:
-    """The unsettled letters, and their copies."""
-    identities = {letter.identity for letter in kept if letter.is_unsettled}
+def may_wait(book: Book) -> list[KeptLetter]:
+    """The letters that are unsettled, or of which something may be left; and their copies."""
+    kept, by_hand = kept_letters(book), entered_by_hand(book)
+    identities = {one.identity for one in kept if one.is_unsettled or one.number in by_hand}
     return [letter for letter in kept if letter.identity in identities]
 
 

@@ -11,6 +11,7 @@ CREATE TEMP VIEW fate AS
   SELECT *, CASE
     WHEN struck IN (SELECT act FROM act WHERE name = 'undo') THEN 'taken back'
     WHEN struck IS NOT NULL THEN 'struck'
+    WHEN late AND envelope IN (SELECT late FROM anew WHERE envelope NOT IN (SELECT envelope FROM struck)) THEN 'entered anew'
     WHEN late THEN 'late'
     WHEN answer IS NOT NULL THEN 'refused'
     WHEN envelope IN (SELECT envelope FROM counting) THEN 'counts'

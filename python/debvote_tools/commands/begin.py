@@ -44,8 +44,11 @@ from debvote_tools.files import (
     write_whole,
 )
 from debvote_tools.grouping import several
+from debvote_tools.inbox import letter_words
+from debvote_tools.inbox.judging import letters_now
 from debvote_tools.inbox.lines import Names
 from debvote_tools.inbox.mime import address_key
+from debvote_tools.inbox.vote import Vote
 from debvote_tools.poll.announced import address_in
 from debvote_tools.poll.box import SCRIPT, box_files
 from debvote_tools.poll.call import current_call
@@ -161,7 +164,10 @@ def roll(election: Election, arguments: RollArguments) -> None:
         changed = {
             one: words for one, words in changes.items() if arguments.yes or agreed(one, words)
         }
+        vote = Vote(election)
+        letters_before = letters_now(vote)
         change_addresses(election, history, changed)
+        tell(*letter_words.judged_anew(letters_before, letters_now(vote)))
         after = election.command("status")
         if changed and not history.closes:
             after = f"{election.command('letters', 'call')}, for the new addresses"

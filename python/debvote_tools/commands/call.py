@@ -103,6 +103,9 @@ def call_first(election: Election, arguments: Arguments) -> None:
     if is_on_roll and arguments.marked:
         reason = "codes are on the roll, so no elector can be given an own mark"
         faults.append(bad_words("--marked", reason, LEAVE_OUT))
+    keyring: bytes | None = None
+    with kept_in(faults):
+        keyring = keyring_in(election, arguments.keyring)
     with kept_in(faults):
         demand_read(election, history)
     with kept_in(faults):
@@ -124,7 +127,8 @@ def call_first(election: Election, arguments: Arguments) -> None:
     }
     public = aliased(questions, electors) if questions.is_secret else questions
     sealed = Sealed(public, questions)
-    files = sealed_by(election, arguments, said, found.letter_text, sealed) | sealed.files()
+    files = sealed_by(election, arguments, said, found.letter_text, keyring, sealed)
+    files |= sealed.files()
     # nobody knows whose a code on the roll is
     marked = [] if is_on_roll else [one._replace(mark=new_own_mark()) for one in electors]
     if arguments.box:
@@ -160,7 +164,8 @@ def call_again(election: Election, arguments: Arguments) -> None:
     if until is not None and history.until is not None and until <= history.until:
         words = f"electors rely on {times.time_in_words(history.until)}, and {times.time_in_words(until)} is not later"
         raise bad_words("--until", words, "name a later time")
-    files = sealed_by(election, arguments, said, letter_text)
+    keyring = keyring_in(election, arguments.keyring)
+    files = sealed_by(election, arguments, said, letter_text, keyring)
     if arguments.keyring is not None:
         said["keyring"] = True
     name: ActName = "announce" if until is None else "extend"
@@ -210,13 +215,13 @@ def sealed_by(
     arguments: Arguments,
     said: Detail,
     letter_text: str,
+    keyring: bytes | None,
     sealed: Sealed | None = None,
 ) -> dict[str, bytes]:
     """What an act seals: the files of the call, so that they can be made again with the same bytes,
     the text of the letters if it is new, and the keyring. In a secret vote the act says, too, which
     texts everybody may read.
     """
-    keyring = keyring_in(election, arguments.keyring)
     data = dataclasses.replace(
         current_call(election, said=said, sealed=sealed), letter_text=letter_text
     )
@@ -348,8 +353,10 @@ def call_in_words(election: Election, data: CallData) -> Iterator[str]:
         yield "A letter goes in by itself only with the own mark of its elector."
     if data.until is not None:
         yield f"End of the vote: {times.time_in_words(data.until)}"
+    letter = folder / "call.txt"
     if data.is_extended:
-        yield f"Made {election.path(LETTERS) / EXTENSION}: send it to all electors."
+        letter = election.path(LETTERS) / EXTENSION
+        yield f"Made {letter}, the letter to all that says so."
     unsaid = {"when the vote ends (--until)": data.until, "where ballots go (--to)": data.to}
     if missing := [words for words, value in unsaid.items() if value is None]:
         yield f"The call does not say {' nor '.join(missing)}."
@@ -360,7 +367,7 @@ def call_in_words(election: Election, data: CallData) -> Iterator[str]:
     if election.history().closes:
         yield f"Next: {election.command('status')}"
         return
-    send = election.to_all("call", folder / "call.txt")
+    send = election.to_all("call", letter)
     enter = f"{election.command('add', 'FILE')} or {election.command('desk')}"
     yield f"Next: {put_words(election, data)}, and write to the electors: {send}; enter the ballots that come: {enter}"
 

@@ -1,25 +1,29 @@
 """The commands that take back or correct what was entered: `undo`, `strike` and `reopen`."""
 
+import contextlib
 import dataclasses
 import re
-from collections.abc import Collection, Iterator, Mapping, Sequence
+from collections.abc import Collection, Iterator, Sequence
 
 from debvote_tools.book import outgoing, queries
 from debvote_tools.book.book import Book, Detail, DoneAct
 from debvote_tools.book.change import Change, carried_out, terminal_question
 from debvote_tools.book.election import Election, History
-from debvote_tools.book.queries import Envelope, NewEnvelope
+from debvote_tools.book.queries import EnteredBallot, Envelope, NewEnvelope
 from debvote_tools.cli.arguments import Acting, demand_reason, flag, option, positional
 from debvote_tools.cli.console import act_time, count_of, shown_line, tell
 from debvote_tools.cli.faults import Fault, bad_words, stop_at
-from debvote_tools.commands.held import elector_of, left_out
+from debvote_tools.commands.held import THE_ONE, named_lines
 from debvote_tools.grouping import grouped
 from debvote_tools.inbox import letter_words
 from debvote_tools.inbox.entering import Entry
-from debvote_tools.inbox.judging import judged
+from debvote_tools.inbox.fates import ANEW
+from debvote_tools.inbox.judging import judged, letters_now
+from debvote_tools.inbox.lines import name_in
 from debvote_tools.inbox.rules import LetterCase
 from debvote_tools.inbox.taking import MOST_NAMED
 from debvote_tools.inbox.vote import envelope_words, standing_words, Vote
+from debvote_tools.text.ballots import differ
 from debvote_tools.text.times import now
 
 
@@ -35,8 +39,6 @@ class TakenBack(Change):
     undone: DoneAct
     # whether it takes back what came late, or was typed for a letter: --enter enters neither again
     is_typed_or_late: bool
-    # whose lines they were
-    electors: Collection[str]
     # what it changes, in words: current ballots, told once; and letters and receipts
     ballots: Sequence[str]
     others: Sequence[str]
@@ -46,16 +48,16 @@ def undo(election: Election, arguments: UndoArguments) -> None:
     """Take back the last act that entered lines; a second undo takes back the one before."""
     book = election.book_for(arguments)
     vote = Vote(election)
-    judged_before = judged_now(vote)
+    judged_before = letters_now(vote)
     change = carried_out(book, lambda: what_is_taken_back(vote, arguments))
     ballots = () if change.question else change.ballots
     tell(f"Took back {what(change.undone, change.struck)}.", *ballots, *change.others)
-    tell(*dict.fromkeys(left_out(vote, change.electors)))
-    tell_judged_anew(vote, change, judged_before)
+    # the letters whose own ballots it was are told apart
+    judged_after = letters_now(vote)
+    tell(*letter_words.judged_anew(judged_before, judged_after, change.letters))
     following = f"{election.command('status')}; another {election.command('undo')} takes back the act before"
     if change.letters and not change.is_typed_or_late:
-        numbers = map(str, change.letters)
-        enter = (*numbers, "--enter") if len(change.letters) <= MOST_NAMED else ()
+        enter = words_to_enter([judged_after[number] for number in change.letters], change.struck)
         does = "enters these letters again" if enter else "lists these letters"
         following += f"; {election.command('held', *enter)} {does}"
     tell(f"Next: {following}")
@@ -97,7 +99,6 @@ def what_is_taken_back(vote: Vote, arguments: UndoArguments) -> TakenBack:
         struck=struck,
         letters=dict.fromkeys(letters, queries.TAKEN_BACK),
         undone=act,
-        electors={elector_of(one) for one in envelopes if one.elector is not None},
         is_typed_or_late=act.name == "reopen"
         or not queries.typed_envelopes(book).isdisjoint(struck),
         ballots=ballots,
@@ -117,21 +118,28 @@ def what_else_changes(book: Book, struck: Sequence[int], letters: Sequence[int])
         yield f"These electors have receipts that are no longer true: {', '.join(names)}"
 
 
-def judged_now(vote: Vote) -> dict[int, LetterCase]:
-    """The letters as they are judged now, by number."""
-    kept = queries.unsettled_and_copies(queries.kept_letters(vote.book))
-    return {one.number: one for one in judged(vote, vote.election.history(), kept)}
+def words_to_enter(letters: Sequence[LetterCase], struck: Collection[int]) -> list[str]:
+    """What is typed after `held` to enter again what was taken back; empty if no one command does it."""
+    numbers, is_one = [str(letter.number) for letter in letters], len(letters) == 1
+    with contextlib.suppress(Fault):
+        for letter in letters:
+            named_lines(letter, [THE_ONE], is_one=is_one)
+        return [*numbers, "--enter"] if len(letters) <= MOST_NAMED else []
+    if not is_one:
+        return []
+    [letter] = letters
+    lines = [line_of(letter, one) for one in letter.entered if one.number in struck]
+    return [*numbers, "--enter", ",".join(dict.fromkeys(lines))] if all(lines) else []
 
 
-def tell_judged_anew(vote: Vote, change: Change, before: Mapping[int, LetterCase]) -> None:
-    """Tells of the letters that went in or waited otherwise before a ballot of their elector was
-    struck. Those whose own ballot it was are told apart.
-    """
-    for number, letter in judged_now(vote).items():
-        was = before.get(number, letter)
-        is_other = (letter.outcome, letter.reason) != (was.outcome, was.reason)
-        if is_other and number not in change.letters:
-            tell(*letter_words.why_it_waits(letter))
+def line_of(letter: LetterCase, ballot: EnteredBallot) -> str:
+    """The number of the first line of a letter that has the answers of a ballot; empty if none has."""
+    has_them = (
+        str(line.number)
+        for line in (*letter.ballots, *letter.offered)
+        if ballot.answers <= line.answers and not differ(ballot.line, line.as_entered)
+    )
+    return next(has_them, "")
 
 
 def demand_open(election: Election, history: History) -> None:
@@ -157,18 +165,17 @@ def strike(election: Election, arguments: StrikeArguments) -> None:
     because = demand_reason(arguments.because, "strike")
     book = election.book_for(arguments)
     vote = Vote(election)
-    judged_before = judged_now(vote)
+    judged_before = letters_now(vote)
     change = carried_out(book, lambda: what_is_struck(vote, arguments, because))
     [envelope] = queries.envelopes(book, "envelope = ?", arguments.number)
     tell(f"Struck {in_words(envelope, vote)}, because: {because}")
     if envelope.elector is not None:
-        elector = elector_of(envelope)
+        elector = name_in(envelope.line).decode("ascii")
         answers = queries.what_counts(book, {envelope.elector}).get(elector)
         whose = "that code" if vote.has_codes else elector
         current = "none" if answers is None else vote.answers_in_words(answers)
         tell(f"The current ballot of {whose}: {current}")
-        tell(*dict.fromkeys(left_out(vote, [elector])))
-    tell_judged_anew(vote, change, judged_before)
+    tell(*letter_words.judged_anew(judged_before, letters_now(vote), change.letters))
     tell("A strike cannot be undone: if it was a mistake, enter the line again.")
     tell(f"Next: {election.command('status')}")
 
@@ -212,6 +219,9 @@ def demand_envelope(vote: Vote, number: int) -> Envelope:
         time = act_time(history.act(envelope.struck).time)
         words = f"envelope {number} is struck already, by act {envelope.struck} at {time}"
         raise Fault(None, words, f"see {vote.election.command('log')}")
+    if envelope.became == ANEW:
+        words = f"envelope {number} is late, and was entered anew as in time, which would count on"
+        raise Fault(None, words, "strike its new envelope, which show NAME lists")
     return envelope
 
 
@@ -231,6 +241,7 @@ class ReopenArguments(Acting):
         default=[],
     )
     force: bool = flag("Enter them although their electors have later ballots that count")
+    yes: bool = flag("Open it without asking")
 
 
 def reopen(election: Election, arguments: ReopenArguments) -> None:
@@ -241,7 +252,7 @@ def reopen(election: Election, arguments: ReopenArguments) -> None:
     carried_out(book, lambda: what_is_reopened(vote, arguments, because))
     early = ["--early"] if election.history().ends_after(now()) else []
     close = election.command("close", *early)
-    if left := [str(envelope.number) for envelope in queries.envelopes(book, queries.LEFT_LATE)]:
+    if left := [str(envelope.number) for envelope in perhaps_in_time(vote)]:
         again = election.command("reopen", "--in-time", *left, "--because", because)
         tell(
             f"Note: {count_of(len(left), 'line')} late; for those that came before the first close:",
@@ -267,14 +278,18 @@ class Reopening(Entry):
 
 def what_is_reopened(vote: Vote, arguments: ReopenArguments, because: str) -> Reopening:
     demand_closed(vote.election, vote.election.history())
-    offered = chosen(vote.book, arguments.in_time)
+    offered = chosen(vote, arguments.in_time)
     detail: Detail = {"because": because, "in_time": [one.number for one in offered]}
     if older := list(faults_of_older(vote, offered)):
         stop_at([] if arguments.force else older)
         detail["force"] = True
+    is_secret = vote.election.questions.is_secret
+    told = "Only the log tells this reason." if is_secret else "Everybody will read this reason."
+    question = f"Open the vote again, because: {because}? {told}"
     return Reopening(
         "reopen",
         detail,
+        question=terminal_question(question, arguments.yes),
         vote=vote,
         envelopes=[
             NewEnvelope(one.line, one.place, one.source, one.letter, one.time, one.why_refused)
@@ -294,8 +309,21 @@ def demand_closed(election: Election, history: History) -> None:
         raise Fault(None, words, "hold the vote anew, with new codes")
 
 
-def chosen(book: Book, numbers: Sequence[int]) -> list[Envelope]:
+def perhaps_in_time(vote: Vote) -> list[Envelope]:
+    """The late envelopes that may have come in time: of a desk or a file, or of a letter that is not known
+    to have arrived after the first close.
+    """
+    late = queries.envelopes(vote.book, queries.LEFT_LATE)
+    letters = {envelope.letter for envelope in late}
+    kept = [one for one in queries.kept_letters(vote.book) if one.number in letters]
+    known = judged(vote, vote.election.history(), kept)
+    too_late = {letter.number for letter in known if letter.arrived_after_close}
+    return [envelope for envelope in late if envelope.letter not in too_late]
+
+
+def chosen(vote: Vote, numbers: Sequence[int]) -> list[Envelope]:
     """The late envelopes that had come in time, as the secretary says, in the order of their times."""
+    book = vote.book
     late = {envelope.number: envelope for envelope in queries.envelopes(book, queries.LATE)}
     if unknown := [str(number) for number in numbers if number not in late]:
         words = f"envelope {', '.join(unknown)} is not one of the late lines"
@@ -304,6 +332,10 @@ def chosen(book: Book, numbers: Sequence[int]) -> list[Envelope]:
     left = {envelope.number for envelope in queries.envelopes(book, queries.LEFT_LATE)}
     if again := [str(number) for number in numbers if number not in left]:
         words = f"envelope {', '.join(again)} was entered as in time by an earlier reopen"
+        raise Fault("--in-time", words, "leave it out")
+    may_be = {envelope.number for envelope in perhaps_in_time(vote)}
+    if too_late := [str(number) for number in numbers if number not in may_be]:
+        words = f"envelope {', '.join(too_late)} is of a letter that arrived after the first close"
         raise Fault("--in-time", words, "leave it out")
     return sorted((late[number] for number in set(numbers)), key=queries.by_time)
 

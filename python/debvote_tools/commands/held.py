@@ -1,41 +1,43 @@
 """The command `held`."""
 
+import bisect
 import collections
 import itertools
-from collections.abc import Collection, Iterator, Sequence
+from collections.abc import Iterator, Mapping, Sequence
 from typing import NamedTuple
 
 from debvote_tools.cli.arguments import Acting, flag, given, option, positional
 from debvote_tools.book import queries
-from debvote_tools.book.book import ActName, Book
+from debvote_tools.book.book import ActName
 from debvote_tools.book.change import Change, carried_out, terminal_question
 from debvote_tools.book.election import Election, History
-from debvote_tools.book.queries import Envelope
+from debvote_tools.book.queries import EnteredBallot
 from debvote_tools.cli.console import count_of, shown_line, shown_text, tell
 from debvote_tools.cli.faults import Fault, bad_words, kept_in, stop_at
 from debvote_tools.grouping import grouped
 from debvote_tools.inbox import letter_words
-from debvote_tools.inbox.fates import TAKEN_BACK
 from debvote_tools.inbox.letter_words import name_of, who_and_when, why
 from debvote_tools.inbox.judging import (
     BallotsByElector,
+    InTime,
     answered_by,
+    answered_since,
+    ballot_in,
     ballots_in,
+    in_time_by_label,
     judged,
+    perhaps_later,
     surely_later,
 )
-from debvote_tools.inbox.reasons import Reason
+from debvote_tools.inbox.reasons import Reason, for_secretary
 from debvote_tools.inbox.letter_lines import BallotLine
-from debvote_tools.inbox.rules import LetterCase, LetterOutcome
+from debvote_tools.inbox.rules import LetterCase, LetterOutcome, why_other_mark
 from debvote_tools.inbox.taking import LetterEntry, envelope_of
-from debvote_tools.inbox.lines import Line, lines_in, name_in
+from debvote_tools.inbox.lines import Line, lines_in
 from debvote_tools.inbox.vote import Vote, said_of
 from debvote_tools.inbox.stopping import other_votes_words
 from debvote_tools.text.ballots import answers_of, differ, without
 from debvote_tools.text.language import ENGLISH
-
-# the later ballots because of which answers are left out: a late one counts for nothing
-IN_TIME = f"{queries.VALID_OR_LATE} AND {queries.TO_COUNT}"
 
 # what --enter has without lines
 THE_ONE = "one"
@@ -59,7 +61,7 @@ class Arguments(Acting):
     set_aside: bool = flag("Set the letters aside: they are dealt with, and wait no longer")
     wait: bool = flag("Have the letters wait again")
     force: bool = flag(
-        "Enter the ballot although its elector has or may have voted since, the letter has the mark of another vote, its ballot was "
+        "Enter the ballot although its elector has or may have voted since, the letter has the mark of another vote or call, its ballot was "
         "typed or, with --as, nothing ties the elector to the letter"
     )
     yes: bool = flag("Enter the ballots without asking")
@@ -80,6 +82,9 @@ def held(election: Election, arguments: Arguments) -> None:
     found = all_letters(vote)
     pending = [letter for letter in found if letter.is_pending]
     shown = [] if is_act else chosen_letters(found, arguments.numbers)
+    for letter in chosen_letters(found, arguments.numbers) if is_act else ():
+        if letter.reason and letter.reason.reason is Reason.NOT_ENTERED:
+            tell(f"{name_of(letter)} waits on; {for_secretary(letter.reason)}")
     for letter in shown:
         tell(*letter_words.whole(letter))
     if not (is_act or shown):
@@ -145,109 +150,73 @@ def what_is_decided(vote: Vote, arguments: Arguments) -> Change:
 
 # ---- entering
 class Chosen(NamedTuple):
-    """Ballots of a letter that are entered; its envelopes, also those that an `undo` took back; and the
-    numbers of those that were typed, of all letters.
-    """
+    """Ballots of a letter that are entered. The line of one is 0 if it was typed."""
 
     letter: LetterCase
-    # the line of one is 0 if it was typed
     lines: Sequence[BallotLine]
-    before: Sequence[Envelope]
-    typed: Collection[int]
-    # the answers that are left out of these ballots, since their electors have later ones, as ballots
+    # the answers that are left out of what was typed, since their electors have later ones, as ballots
     left_out: Sequence[str] = ()
 
     @property
-    def entered(self) -> dict[tuple[str, str], Envelope]:
-        """The envelopes that are not struck, by the electors and the labels of the answers."""
-        return {
-            (elector_of(one), label): one
-            for one in self.before
-            if not one.is_struck
-            for label in answers_of(one.line.decode("ascii"))
-        }
+    def entered(self) -> dict[tuple[str, str], EnteredBallot]:
+        """The last ballot of the letter that is not struck, by elector and label."""
+        there = (one for one in self.letter.entered if not one.is_struck)
+        return {answer: one for one in there for answer in one.answers}
 
     @property
-    def again(self) -> list[Envelope]:
-        """The envelopes in which answers of these ballots were entered already."""
-        there = self.entered
-        answered = (
-            (line.elector, one) for line in self.lines for one in answers_of(line.as_entered)
-        )
-        return [there[answer] for answer in answered if answer in there]
+    def again(self) -> list[EnteredBallot]:
+        """Those in which answers of these ballots were entered already."""
+        entered, answers = self.entered, (one for line in self.lines for one in line.answers)
+        return [*dict.fromkeys(entered[one] for one in answers if one in entered)]
 
-    @property
-    def typed_last(self) -> list[str]:
-        """The electors whose last ballot of it was typed, though it may be struck or taken back."""
-        last = {elector_of(one): one.number for one in self.before}
-        return [name for name, number in last.items() if number in self.typed]
-
-    @property
-    def waits_for(self) -> list[str]:
-        """For whose ballots the letter waits on when these are entered: of those who have one in it, or had
-        one typed; and, once the secretary has typed one, of those who share the sender's address. One that
-        was struck since was one; one that was taken back was none.
-        """
-        is_typed = any(one.number in self.typed for one in self.before)
-        is_typed |= not all(line.number for line in self.lines)
-        sharing = self.letter.sharing if is_typed and len(self.letter.sharing) > 1 else []
-        left = [elector_of(one) for one in self.before if one.became != TAKEN_BACK]
-        having = {*(line.elector for line in self.lines), *left}
-        lines = (*self.letter.ballots, *self.letter.likely)
-        names = dict.fromkeys([*(line.elector for line in lines), *sharing, *self.typed_last])
-        return [name for name in names if name not in having]
-
-    def left_of(
-        self, line: BallotLine, by_elector: BallotsByElector
-    ) -> tuple[str, set[str], set[str]]:
+    def left_of(self, line: BallotLine, in_time: InTime) -> tuple[str, set[str], set[str]]:
         """A ballot without the answers to which its elector has later ones, and without those that were
-        entered; and the labels of both.
+        entered; and the labels of both. What is typed is not entered yet if it says something else.
         """
-        there = surely_later(self.letter, line.as_entered, by_elector[line.elector])
-        later, entered = answered_by(line.as_entered, there), self.entered
+        entered, later = self.entered, answered_since(self.letter, line.as_entered, in_time)
         done = {
-            one for one in answers_of(line.as_entered) if (line.elector, one) in entered
-        } - later
-        return without(line.as_entered, later | done), later, done
+            label
+            for name, label in line.answers & entered.keys()
+            if line.number or not differ(line.as_entered, entered[name, label].line)
+        }
+        return without(line.as_entered, later | done), later, done - later
 
 
 def what_is_entered(vote: Vote, arguments: Arguments, typed: Sequence[BallotLine]) -> LetterEntry:
     """The act that enters ballots of letters."""
-    history, entered = vote.election.history(), entered_in(vote.book)
-    were_typed = queries.typed_envelopes(vote.book)
-    wanted = chosen_letters(all_letters(vote), arguments.numbers)
+    history = vote.election.history()
+    found = all_letters(vote)
+    wanted = chosen_letters(found, arguments.numbers)
     chosen, faults = list[Chosen](), list[Fault]()
     for letter in sorted(wanted, key=lambda one: (one.time is None, one.time or one.number)):
         with kept_in(faults):
             is_one = len(wanted) == 1
             lines = typed or named_lines(letter, arguments.enter or [], is_one=is_one)
-            chosen.append(Chosen(letter, lines, entered.get(letter.number, ()), were_typed))
+            demand_one_answer(letter, lines)
+            chosen.append(Chosen(letter, lines))
     electors = {line.elector for one in chosen for line in one.lines}
-    chosen, said = without_answered(chosen, ballots_in(vote, electors, IN_TIME))
+    there = ballots_in(vote, electors)
+    chosen, said = without_answered(chosen, in_time_by_label(there))
     faults += why_not_now(vote, history, chosen)
     if not arguments.force:
         # of what was entered nothing more is said: no --force enters it again
         not_entered = [one for one in chosen if not one.again]
-        faults += why_not_unforced(not_entered, ballots_in(vote, electors))
-        faults += why_typed_again(vote, not_entered)
+        faults += why_not_unforced(not_entered, there)
+        faults += why_typed_again(vote, not_entered, found)
     stop_at(faults)
     if len({would_be_late(history, one.letter) for one in chosen}) > 1:
         words = "some of these letters arrived before the first close, and some after it"
         raise Fault("--enter", words, "enter those that arrived before it apart")
-    demand_one_order(chosen)
     return entry_of(vote, history, chosen, said, is_agreed=arguments.yes)
 
 
 def entry_of(
     vote: Vote, history: History, chosen: Sequence[Chosen], said: Sequence[str], *, is_agreed: bool
 ) -> LetterEntry:
-    """The act that enters these ballots. A letter waits on until each of its electors has one: it is
-    put back, or `add` would enter its own line once more, and it would wait for nobody.
-    """
+    """The act that enters these ballots."""
     lines = [(one.letter, line) for one in chosen for line in one.lines]
     numbers = [one.letter.number for one in chosen]
     left_out = {str(one.letter.number): one.left_out for one in chosen if one.left_out}
-    waits = {one.letter: one.waits_for for one in chosen if one.waits_for}
     return LetterEntry(
         "enter",
         {
@@ -257,35 +226,26 @@ def entry_of(
         },
         shown=[
             *(
-                f"{who_and_when(letter)}: {vote.ballot_in_words(line.as_entered)}\n  {why(letter)}"
+                f"{who_and_when(letter)}: {vote.ballot_in_words(line.as_entered)}\n  {why(letter, line.elector)}"
                 for letter, line in lines
             ),
             *said,
         ],
         question=terminal_question(f"Enter {count_of(len(lines), 'ballot')}?", is_agreed),
-        letters={
-            one.letter.number: queries.PUT_BACK if one.letter in waits else queries.ENTERED
-            for one in chosen
-        },
+        letters=dict.fromkeys(numbers, queries.ENTERED),
         vote=vote,
         envelopes=[envelope_of(letter, line.as_entered) for letter, line in lines],
         is_late=would_be_late(history, chosen[0].letter),
-        end=[
-            f"{name_of(letter)} waits on, for a ballot of {ENGLISH.joined(names)}"
-            for letter, names in waits.items()
-        ],
     )
 
 
-def without_answered(
-    chosen: Sequence[Chosen], by_elector: BallotsByElector
-) -> tuple[list[Chosen], list[str]]:
+def without_answered(chosen: Sequence[Chosen], in_time: InTime) -> tuple[list[Chosen], list[str]]:
     """The ballots without the answers that are left out, unless none is left; and what is said of these."""
     found, said = list[Chosen](), list[str]()
     for one in chosen:
         kept, left_out = list[BallotLine](), list[str]()
         for line in one.lines:
-            left, later, done = one.left_of(line, by_elector)
+            left, later, done = one.left_of(line, in_time)
             kept.append(BallotLine(line.numbers, left or line.as_entered))
             whys = {f"{line.elector} has a later answer": later, "it was entered": done}
             said += (
@@ -293,49 +253,19 @@ def without_answered(
                 for why, labels in whys.items()
                 if labels and left
             )
-            if later and left:
-                left_out.append(
-                    without(line.as_entered, answers_of(line.as_entered).keys() - later)
-                )
+            # no line of the letter has what was typed
+            if later and left and not line.number:
+                others = answers_of(line.as_entered).keys() - later
+                left_out.append(without(line.as_entered, others))
         found.append(one._replace(lines=kept, left_out=left_out))
     return found, said
-
-
-def left_out(vote: Vote, electors: Collection[str]) -> Iterator[str]:
-    """The answers of electors that were left out when the rest of a letter was entered, and to which
-    they have no later one now, since that was struck or taken back.
-    """
-    ballots = queries.left_out(vote.book)
-    if not any(ballot.partition(" ")[0] in electors for ballot in ballots.values()):
-        return
-    letters = {letter.number: letter for letter in all_letters(vote)}
-    by_elector, typed = ballots_in(vote, electors, IN_TIME), queries.typed_envelopes(vote.book)
-    for number, envelopes in entered_in(vote.book).items():
-        for envelope in envelopes:
-            line = BallotLine((), ballots.get(envelope.number, ""))
-            later = surely_later(letters[number], line.as_entered, by_elector[line.elector])
-            left = without(line.as_entered, answered_by(line.as_entered, later))
-            if left and line.elector in electors:
-                how = ("--as", left) if envelope.number in typed else ("--enter",)
-                enter = vote.election.command("held", str(number), *how)
-                yield f"letter {number} has an answer that was left out, `{left}`: {enter}"
-
-
-def entered_in(book: Book) -> dict[int, list[Envelope]]:
-    """The envelopes of letters, by the numbers of the letters."""
-    found = queries.envelopes(book, "letter IS NOT NULL")
-    return grouped((envelope.letter or 0, envelope) for envelope in found)
-
-
-def elector_of(envelope: Envelope) -> str:
-    return name_in(envelope.line).decode("ascii")
 
 
 def would_be_late(history: History, letter: LetterCase) -> bool:
     """Whether what is entered of a letter now is late: the vote is closed; or it is open again, and
     the letter is known to have arrived after the first close.
     """
-    return history.is_late(not letter.arrived_after(letter.circumstances.first_close))
+    return history.is_late(not letter.arrived_after_close)
 
 
 # ---- which lines
@@ -367,23 +297,46 @@ def named_lines(letter: LetterCase, enter: Sequence[str], *, is_one: bool) -> li
     named, or its only one.
     """
     name = name_of(letter)
-    there = {str(line.number): line for line in (*letter.offered, *letter.ballots)}
-    if [*enter] == [THE_ONE]:
-        if len({line.as_entered for line in there.values()}) != 1:
-            words = f"it has {count_of(len(there), 'line')} that can be entered"
-            cure = "name its lines with --enter LINE, or type the ballot with --as LINE"
-            raise Fault(name, words, cure)
-        [line, *_] = there.values()
-        if not is_one and letter.offered.get(line) is Reason.WORD_ALONE:
-            raise Fault(name, "it has a word without a name", "enter it by a command of its own")
-        return [line]
+    lines = [*dict.fromkeys((*letter.offered, *letter.ballots))]
     texts = [text.strip() for text in ",".join(enter).split(",")]
+    if is_the_one := texts == [THE_ONE]:
+        lines = [line for line in lines if letter.left_in(line.as_entered)] or lines
+    there = grouped((str(line.number), line) for line in lines)
+    if is_the_one:
+        demand_one_line(letter, there, is_one=is_one)
+        texts = [*there][:1]
     if wrong := [text for text in texts if text not in there]:
         can = f"these lines are: {', '.join(sorted(there, key=int))}" if there else ""
         words = f"line {shown_text(wrong[0])} of {name} is not a ballot of this poll"
         cure = "if you know which ballot is meant, type it with --as LINE"
         raise Fault("--enter", words, can or cure)
-    return [there[text] for text in texts]
+    if unclear := [text for text in texts if len(there[text]) > 1]:
+        electors = ENGLISH.joined([line.elector for line in there[unclear[0]]])
+        words = f"line {unclear[0]} has the name of {electors}"
+        raise Fault(name, words, "if you know whose it is, type it with --as LINE")
+    return [line for text in texts for line in there[text]]
+
+
+def demand_one_line(
+    letter: LetterCase, there: Mapping[str, Sequence[BallotLine]], *, is_one: bool
+) -> None:
+    """Stops if a letter has several lines that differ, or none, that can be entered."""
+    name = name_of(letter)
+    if len(there) != 1 and len({line.as_entered for its in there.values() for line in its}) != 1:
+        words = f"it has {count_of(len(there), 'line')} that can be entered"
+        cure = "name its lines with --enter LINE, or type the ballot with --as LINE"
+        raise Fault(name, words, cure)
+    if not is_one and Reason.WORD_ALONE in letter.offered.values():
+        raise Fault(name, "it has a word without a name", "enter it by a command of its own")
+
+
+def demand_one_answer(letter: LetterCase, lines: Sequence[BallotLine]) -> None:
+    """Stops if several of these lines answer one question for one elector."""
+    answers = itertools.chain.from_iterable(line.answers for line in lines)
+    [((elector, _), count)] = collections.Counter(answers).most_common(1)
+    if count > 1:
+        words = f"{count} of these lines are ballots of {elector}"
+        raise Fault(name_of(letter), words, "name the one that counts")
 
 
 # ---- what stands against it
@@ -391,16 +344,15 @@ def why_not_now(vote: Vote, history: History, chosen: Sequence[Chosen]) -> Itera
     """What can't be forced."""
     for one in chosen:
         letter, name = one.letter, name_of(one.letter)
-        [(twice, count)] = collections.Counter(line.elector for line in one.lines).most_common(1)
         if again := one.again:
-            electors = dict.fromkeys(map(elector_of, again))
+            electors = dict.fromkeys(ballot.elector for ballot in again)
             words = f"its ballot of {ENGLISH.joined([*electors])} was entered"
-            is_all = all(line.elector in electors for line in one.lines)
-            cure = "there is nothing to do" if is_all else "leave it out"
+            cure = what_then(vote, letter, one.lines, again)
             # who reads that there is nothing to do takes it for one that counts
-            if late := {str(envelope.number): None for envelope in again if envelope.is_late}:
-                reopen = vote.election.command("reopen", "--in-time", *late, "--because", "TEXT")
+            if late := {str(ballot.number): None for ballot in again if ballot.is_late}:
                 words = f"{words}, and is late"
+            if late and not letter.arrived_after_close:
+                reopen = vote.election.command("reopen", "--in-time", *late, "--because", "TEXT")
                 cure = f"if it came before the first close, have the vote closed, then run {reopen}"
             yield Fault(name, words, cure)
         elif letter.outcome is LetterOutcome.COPY:
@@ -410,21 +362,33 @@ def why_not_now(vote: Vote, history: History, chosen: Sequence[Chosen]) -> Itera
             reopen = vote.election.command("reopen", "--because", "TEXT")
             words = "it arrived in time, and the vote is closed"
             yield Fault(name, words, f"if it has a ballot, run {reopen} first")
-        elif count > 1:
-            words = f"{count} of these lines are ballots of {twice}"
-            yield Fault(name, words, "name the one that counts")
+
+
+def what_then(
+    vote: Vote, letter: LetterCase, lines: Sequence[BallotLine], again: Sequence[EnteredBallot]
+) -> str:
+    """What is done in place of entering what was entered already."""
+    if {line.elector for line in lines} - {ballot.elector for ballot in again}:
+        return "leave it out"
+    pairs = ((line, one) for line in lines for one in again if line.elector == one.elector)
+    if other := next((one for line, one in pairs if differ(line.as_entered, one.line)), None):
+        strike = vote.election.command("strike", str(other.number), "--because", "TEXT")
+        return f"to enter another one in its place, run {strike} first"
+    if letter.left:
+        return f"for what is left of it see {vote.election.command('held', str(letter.number))}"
+    return "there is nothing to do"
 
 
 def why_not_unforced(chosen: Sequence[Chosen], by_elector: BallotsByElector) -> Iterator[Fault]:
-    """The letter is of another vote; nothing ties the elector of a typed ballot to it; or the
-    elector has a later ballot, or another one of its time.
+    """The letter has the mark of another vote or call; nothing ties the elector of a typed ballot to it; or the
+    elector has or may have a later ballot, or another one of its time, also by a letter that is entered before it.
     """
     cure = "if this ballot must count, repeat it with --force"
     for letter, lines, *_ in chosen:
-        name, time = name_of(letter), letter.time
-        if mark := letter.other_vote:
-            words = f"it has the mark of another vote, [{mark}]"
-            yield Fault(name, words, f"add it to that vote; {cure}")
+        name = name_of(letter)
+        if why_other := why_other_mark(letter):
+            words, _, advice = for_secretary(why_other).partition("; ")
+            yield Fault(name, words, f"{advice}; {cure}")
         tied = {*letter.electors, *letter.sharing, letter.marked_elector}
         for line in lines:
             there = by_elector[line.elector]
@@ -433,36 +397,34 @@ def why_not_unforced(chosen: Sequence[Chosen], by_elector: BallotsByElector) -> 
                 yield Fault("--as", words, f"check the name; {cure}")
             if answered_by(line.as_entered, surely_later(letter, line.as_entered, there)):
                 yield Fault(name, "its elector has voted since", cure)
-            elif answered_by(line.as_entered, queries.later(there, time)):
+            elif answered_by(line.as_entered, perhaps_later(letter, line.as_entered, there)):
                 off = "as the clock of the web host was off"
-                why_unsure = "as nobody knows when it arrived" if time is None else off
+                why_unsure = "as nobody knows when it arrived" if letter.time is None else off
                 yield Fault(name, f"its elector may have voted since, {why_unsure}", cure)
-            elif any(one.time == time and differ(one.line, line.as_entered) for one in there):
-                words = "another ballot of its elector with the same time was entered"
-                yield Fault(name, words, cure)
+            elif any(
+                one.time == letter.time and differ(one.line, line.as_entered) for one in there
+            ):
+                yield Fault(name, "another ballot of its elector has the same time", cure)
+        for line in lines:
+            ballot = ballot_in(letter, line.as_entered)
+            bisect.insort(by_elector[line.elector], ballot, key=queries.by_time)
 
 
-def why_typed_again(vote: Vote, chosen: Sequence[Chosen]) -> Iterator[Fault]:
-    """What was typed for a letter, though it may be taken back: its own lines may say something else."""
+def why_typed_again(
+    vote: Vote, chosen: Sequence[Chosen], found: Sequence[LetterCase]
+) -> Iterator[Fault]:
+    """What was typed for a letter or a copy of it, though it may be taken back: its own lines may say
+    something else.
+    """
+    entered = [(letter.read.identity, ballot) for letter in found for ballot in letter.entered]
+    of_identity = grouped(sorted(entered, key=lambda one: one[1].number))
     for one in chosen:
         letter = one.letter
-        if any(line.number and line.elector in one.typed_last for line in one.lines):
+        its_ballots = of_identity.get(letter.read.identity, ())
+        typed_last = {ballot.elector: ballot.is_typed for ballot in its_ballots}
+        if any(line.number and typed_last.get(line.elector) for line in one.lines):
             is_taken_back = letter.state == queries.TAKEN_BACK
             words = f"its ballot was typed{', and taken back' if is_taken_back else ''}"
             again = vote.election.command("held", str(letter.number), "--as")
             cure = f"type it again with {again} LINE; if this line is meant, repeat it with --force"
             yield Fault(name_of(letter), words, cure)
-
-
-def demand_one_order(chosen: Sequence[Chosen]) -> None:
-    """Stops at two ballots of an elector of one time: nobody knows which is the later one."""
-    lines = [(one.letter, line) for one in chosen for line in one.lines]
-    at_once = grouped(((line.elector, letter.time), (letter, line)) for letter, line in lines)
-    pairs = itertools.chain.from_iterable(
-        itertools.combinations(one, 2) for one in at_once.values()
-    )
-    for (letter, line), (other, other_line) in pairs:
-        if differ(line.as_entered, other_line.as_entered):
-            name = f"letters {letter.number} and {other.number}"
-            words = f"they have different ballots of {line.elector}, and the same time"
-            raise Fault(name, words, "enter the one that counts")

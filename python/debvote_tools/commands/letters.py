@@ -14,7 +14,7 @@ from debvote_tools.book.election import LETTERS, Election, History
 from debvote_tools.cli.console import act_time, count_of, listed, shown_text, tell
 from debvote_tools.book.outgoing import TAKEN, WRITTEN, OutgoingLetter
 from debvote_tools.cli import console
-from debvote_tools.cli.faults import Fault, Status, bad_words
+from debvote_tools.cli.faults import Fault, Status, bad_words, kept_in, stop_at
 from debvote_tools.files import locked, uninterrupted
 from debvote_tools.outbox import letter_folder, smtp
 from debvote_tools.outbox.due import LettersDue, demand_due, is_present, letters_due
@@ -62,8 +62,7 @@ def letters(election: Election, arguments: Arguments) -> int:
     """Write letters to the electors, or send them: the call, receipts, reminders, the close, the
     result.
     """
-    demand_words(arguments)
-    named = None if arguments.server is None else smtp.server_of(arguments.server)
+    named = checked_words(arguments)
     election.demand_right_book(arguments)
     election.called(election.history())
     server = server_of(election.history(), named, arguments) if arguments.send else None
@@ -71,7 +70,6 @@ def letters(election: Election, arguments: Arguments) -> int:
     sender = arguments.sender or history.announced("to")
     if sender is None:
         raise bad_words("--from", "the call names no address", "give the sender's address with it")
-    demand_mail_address(sender, "--from")
     if arguments.at not in (None, history.announced("at")):
         demand_due(election, history, arguments.kind)
         with election.book.act("announce", {"at": arguments.at}, seen=history.last.number):
@@ -177,15 +175,26 @@ def unreached_words(election: Election) -> Iterator[str]:
 # ---- the words of the command line
 
 
-def demand_words(arguments: Arguments) -> None:
+def checked_words(arguments: Arguments) -> Server | None:
+    """The server that they name. Stops at all that is wrong with them alone."""
+    faults, server = list[Fault](), None
     if not arguments.send and (options := given(arguments, "server", "user", "password_file")):
         cure = "give --send too, or leave this out"
-        raise bad_words(", ".join(options), "only with --send", cure)
+        faults.append(bad_words(", ".join(options), "only with --send", cure))
     for option, kind in (("at", "result"), ("yes", "reminders")):
         if arguments.kind != kind and given(arguments, option):
-            raise bad_words(f"--{option}", f"only with {kind}", "leave it out")
-    if arguments.at is not None:
-        demand_web_address(arguments.at)
+            faults.append(bad_words(f"--{option}", f"only with {kind}", "leave it out"))
+    with kept_in(faults):
+        if arguments.at is not None:
+            demand_web_address(arguments.at)
+    with kept_in(faults):
+        if arguments.sender is not None:
+            demand_mail_address(arguments.sender, "--from")
+    with kept_in(faults):
+        if arguments.server is not None:
+            server = smtp.server_of(arguments.server)
+    stop_at(faults)
+    return server
 
 
 def remembered(history: History) -> Detail | None:

@@ -78,7 +78,7 @@ def state_of(election: Election, history: History) -> tuple[State, list[Envelope
         "stage": history.stage,
         "electors": len(electors),
         **numbers._asdict(),
-        "late": len(queries.late_lines(book)),
+        "late": len(queries.lines(book, queries.LATE)),
         "waiting": pending.count,
         "stopping": pending.stopping,
         "without_ballot": None
@@ -107,7 +107,7 @@ def questions_in(election: Election, history: History, *, has_late: bool) -> Sta
             "title": titles[label].name,
             "stage": history.stage,
             **queries.numbers(book)._asdict(),
-            "late": len(queries.late_lines(book)) if has_late else 0,
+            "late": len(queries.lines(book, queries.LATE)) if has_late else 0,
         }
         for label in queries.each_question_alone(book)
     }
@@ -142,8 +142,8 @@ def state_words(
     election: Election, history: History, state: State, refused: list[Envelope]
 ) -> Iterator[str]:
     yield f"Lines: {state['lines']} ({state['valid']} valid, {state['refused']} refused)"
-    if state["late"]:
-        yield f"Late, and not counted: {state['late']}"
+    if left := queries.lines(election.book, queries.LEFT_LATE):
+        yield f"Late, and not counted: {len(left)}"
     yield f"Electors with a valid ballot: {state['voters']} of {state['electors']}"
     yield from asked_words(history)
     yield from named("Electors without a ballot", state["without_ballot"])
@@ -221,13 +221,12 @@ def show(election: Election, arguments: ShowArguments) -> None:
 
 
 def elector_named(election: Election, vote: Vote, name: str) -> queries.Elector:
-    on_roll = name.strip().lower()
-    meant = [on_roll] if on_roll in vote.names.roll else vote.names.meant_by(name)
+    meant = vote.names.meant_by(name.strip())
     found = [one for one in queries.electors(election.book) if one.name in meant]
     if len(found) == 1:
         return found[0]
     if found:
-        words = f"several electors have the real name {shown_text(name)}"
+        words = f"several electors have the name {shown_text(name)}"
         cure = f"name one of {', '.join(elector.name for elector in found)}"
         raise Fault("show", words, cure, done=None)
     what, cure = "elector", f"{election.command('status')} and roll show the names"
@@ -291,7 +290,7 @@ def log(election: Election, arguments: LogArguments) -> None:
         whole = f"The chain is whole: {count_of(len(acts), 'act')}, the last digest is"
         tell(f"{whole} {acts[-1].digest}")
     else:
-        tell(*acts_in_words(election.book.acts()))
+        tell(*acts_in_words(election.history().acts))
 
 
 def acts_in_words(acts: Sequence[DoneAct]) -> Iterator[str]:
@@ -329,7 +328,7 @@ def exported(book: Book, questions: Questions) -> dict[str, bytes]:
                 ballots = ballot_file(queries.lines_to_count(book))
             files[place_of(label, "ballots.txt")] = ballots
         files["ballots.txt"] = ballot_file(queries.lines_to_count(book))
-        files["late.txt"] = ballot_file(queries.late_lines(book))
+        files["late.txt"] = ballot_file(queries.lines(book, queries.LATE))
         # what came has its number before its name, which is no path and has no characters that a
         # shell reads
         for number, name, data in queries.sources(book):

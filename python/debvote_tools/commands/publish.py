@@ -23,9 +23,17 @@ from debvote_tools.book.election import (
 )
 from debvote_tools.poll.box import SCRIPT, records_file
 from debvote_tools.poll.questions import Questions
-from debvote_tools.files import OWN, locked, read_text, uninterrupted, write_made
+from debvote_tools.files import (
+    OWN,
+    left_beside,
+    locked,
+    read_text,
+    real_place,
+    uninterrupted,
+    write_made,
+)
 from debvote_tools.inbox.stopping import Pending, pending_letters
-from debvote_tools.cli.faults import Fault, bad_words
+from debvote_tools.cli.faults import Fault, bad_words, kept_in, stop_at
 from debvote_tools.text.language import LANGUAGES
 from debvote_tools.result import folder, publication
 from debvote_tools.result.sheet import (
@@ -176,6 +184,11 @@ def tell_published(
     for label, one in outcomes.items():
         tell(f"{label and f'{label}: '}{one.sheet.last_line}", one.verified)
     tell(f"Made the folder {target}{as_before}.")
+    history = election.history()
+    if not history.is_closed:
+        # where the page of the vote is, people still vote
+        tell(f"Next: {election.command('close')}, then {election.command('publish')} once more")
+        return
     if tied := [label for label, one in outcomes.items() if one.sheet.winner is None]:
         ask = "it is a tie: ask for the casting vote, and then give its option, its holder and its day"
         # the next result has the casting votes of its own command alone
@@ -183,7 +196,7 @@ def tell_published(
     else:
         send = election.to_all("result", election.path(LETTERS) / RESULT_LETTER)
         tell(f"Next: put the folder {target} on the web site as it is, then {send}")
-    if election.history().announced("box"):
+    if history.announced("box"):
         key = queries.sealed(election.book, BOX_KEY)
         tell(f"Where it takes the place of the page, remove {SCRIPT} and {records_file(key)}.")
 
@@ -193,13 +206,14 @@ def demand_place(target_folder: pathlib.Path, history: History) -> None:
     another election, stays. After a run that was killed, its folder is beside the place, which has
     what was published before.
     """
-    place = folder.real_place(target_folder)
+    place = real_place(target_folder)
     folder.demand_outside(target_folder)
     if folder.is_free(place):
         return
     sums = [act.detail["checksums"][CHECKSUMS] for act in history.publications]
     was_killed = sums and any(
-        folder.is_publication(beside, sums[-1]) for beside in folder.left_beside(place)
+        folder.is_publication(beside, sums[-1])
+        for beside in left_beside(place, folder.BESIDE_PLACE)
     )
     if any(folder.is_publication(place, sum) for sum in sums[-2 if was_killed else -1 :]):
         return
@@ -237,24 +251,34 @@ def alone(election: Election) -> Iterator[None]:
 
 # ---- words of those who publish
 def published_words(arguments: Arguments, questions: Questions) -> PublishedWords:
-    """What the command line says, checked."""
+    """What the command line says, checked. Stops at all that is wrong."""
+    faults, number = list[Fault](), len(arguments.casting or ())
+    castings: Castings = {}
     reason, about = arguments.because if arguments.force else None, None
-    number = len(arguments.casting or ())
-    by = said_of_each(number, "--cast-by", arguments.cast_by or [])
-    on = said_of_each(number, "--cast-on", arguments.cast_on or [])
-    if reason is not None:
-        reason = demand_reason(reason, "--force", has_paragraphs=True)
-    if arguments.about is not None:
-        unread, empty = (
-            "give a file that you may read with --about",
-            "write it, or leave --about out",
-        )
-        about = read_text(arguments.about, TEXT_LIMIT, unread, empty, may_wait=True)
-    castings = castings_in(arguments.casting, questions)
+    by, on = arguments.cast_by or [], arguments.cast_on or []
+    if number and not (by and on):
+        words = "the page must say whose casting vote it was, and when it was given"
+        cure = 'say it with --cast-by "NAME" --cast-on 2026-12-05'
+        faults.append(bad_words("--casting", words, cure))
+    with kept_in(faults):
+        by = [*map(holder_in, said_of_each(number, "--cast-by", by))]
+    with kept_in(faults):
+        on = [*map(day_in, said_of_each(number, "--cast-on", on))]
+    with kept_in(faults):
+        if reason is not None:
+            reason = demand_reason(reason, "--force", has_paragraphs=True)
+    with kept_in(faults):
+        if arguments.about is not None:
+            unread = "give a file that you may read with --about"
+            empty = "write it, or leave --about out"
+            about = read_text(arguments.about, TEXT_LIMIT, unread, empty, may_wait=True)
+    with kept_in(faults):
+        castings = castings_in(arguments.casting, questions)
+    stop_at(faults)
     return PublishedWords(
         castings=castings,
-        cast_by=dict(zip(castings, map(holder_in, by))),
-        cast_on=dict(zip(castings, map(day_in, on))),
+        cast_by=dict(zip(castings, by)),
+        cast_on=dict(zip(castings, on)),
         about=about,
         is_forced=arguments.force,
         because=reason,
@@ -264,14 +288,11 @@ def published_words(arguments: Arguments, questions: Questions) -> PublishedWord
 
 def said_of_each(number: int, option: str, given: list[str]) -> list[str]:
     """What an option says of each of so many casting votes, in their order; given once, it holds for
-    all. Stops if it is missing, or given another number of times.
+    all. Stops if it is given another number of times.
     """
     if given and not number:
         raise bad_words(option, "it describes the casting vote of --casting", "give --casting too")
-    if number and not given:
-        words = "the page must say whose casting vote it was, and when it was given"
-        raise bad_words("--casting", words, 'say it with --cast-by "NAME" --cast-on 2026-12-05')
-    if len(given) not in (1, number):
+    if len(given) not in (0, 1, number):
         words = f"{len(given)} are given, and of --casting {number}"
         cure = "give it once for all, or once for each --casting, in their order"
         raise bad_words(option, words, cure)

@@ -14,7 +14,7 @@ from debvote_tools.inbox.vote import Vote
 # what belongs to no elector has this in place of a name
 NOBODY = ""
 # of what became of envelopes, in the words of the view `fate`
-COUNTS, REFUSED, TAKEN_BACK = "counts", "refused", "taken back"
+COUNTS, REFUSED, TAKEN_BACK, ANEW = "counts", "refused", "taken back", "entered anew"
 
 
 class Fate(NamedTuple):
@@ -30,6 +30,8 @@ class Fate(NamedTuple):
     letter: LetterCase | None = None
     is_own: bool = False
     names_them: bool = False
+    # the letter from which an envelope came
+    came_by: LetterCase | None = None
 
     @property
     def why_refused(self) -> str | None:
@@ -67,10 +69,17 @@ def fates_of(
         one.number: one.name for one in (queries.electors(book) if elector is None else [elector])
     }
     came = queries.envelopes(book) if elector is None else queries.envelopes_of(book, names)
-    fates = [(names.get(one.elector or 0, NOBODY), Fate(one.time, one.became, one)) for one in came]
     kept = queries.kept_letters(book)
     kept_at = {letter.number: history.act(letter.act).time for letter in kept}
-    for letter in judged(Vote(election), history, kept):
+    letters = {letter.number: letter for letter in judged(Vote(election), history, kept)}
+    fates = [
+        (
+            names.get(one.elector or 0, NOBODY),
+            Fate(one.time, one.became, one, came_by=letters.get(one.letter or 0)),
+        )
+        for one in came
+    ]
+    for letter in letters.values():
         time = letter.read.arrived or kept_at[letter.number]
         senders = letter.sharing if elector or len(letter.sharing) == 1 else ()
         for name in dict.fromkeys((*letter.electors, *senders)) or [NOBODY]:

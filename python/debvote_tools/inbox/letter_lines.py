@@ -27,7 +27,8 @@ from debvote_tools.inbox.lines import (
     RANKS,
     Names,
     has_code,
-    repaired_line,
+    repaired_but_for_name,
+    with_small_name,
 )
 from debvote_tools.inbox.mailbox import RawLetter
 from debvote_tools.inbox.reasons import Reason
@@ -41,7 +42,7 @@ from debvote_tools.inbox.written import (
     begins_with_answer,
     may_answer_question,
 )
-from debvote_tools.text.ballots import answers_of, answers_text
+from debvote_tools.text.ballots import answers_in, answers_of, answers_text
 from debvote_tools.text.motions import may_answer, with_ranks
 
 # the grammar of a ballot line, and ranks alone
@@ -94,6 +95,11 @@ class BallotLine:
         return self.as_entered.partition(" ")[0]
 
     @property
+    def answers(self) -> set[tuple[str, str]]:
+        """The elector with the label of each answer."""
+        return answers_in(self.as_entered)
+
+    @property
     def high_rank(self) -> int:
         """The number of options of the first answer with a rank above it, else 0: `Lars Winter 12,50`
         may be money.
@@ -138,8 +144,10 @@ class ReadLine:
 
     @property
     def as_ballot(self) -> BallotLine:
-        """It with the name of its elector, or of the first who may be meant."""
-        name = self.elector or (*self.real, *self.on_roll)[0]
+        """It with the name of its elector."""
+        return self.ballot_of(self.elector)
+
+    def ballot_of(self, name: str) -> BallotLine:
         return BallotLine(self.numbers, f"{name} {self.ranks}")
 
     @property
@@ -245,7 +253,7 @@ def read_line(number: int, line: str, names: Names) -> ReadLine | None:
     found = next(filter(None, readings), None)
     if found is not None and found.elector and found.reads_as_ballot:
         return found
-    near = near_in(number, line, text, names) if ranked == text else None
+    near = near_in(number, line, with_small(text), names) if ranked == text else None
     if found is None and near is None:
         return None
     return dataclasses.replace(found or ReadLine(number), near=near)
@@ -256,8 +264,8 @@ def read_text(number: int, text: str, why: Reason | None, names: Names) -> ReadL
     why it is none by itself.
     """
     name, _, ranks = text.partition(" ")
-    if BALLOT.fullmatch(text) and name in names.roll:
-        return ReadLine(number, elector=name, ranks=ranks, offered_for=why)
+    if RANKS_ALONE.fullmatch(ranks) and (elector := names.on_roll(name)):
+        return ReadLine(number, elector=elector, ranks=ranks, offered_for=why)
     named = names.taken_apart(text)
     if named is not None and len(unicodedata.normalize("NFKC", named[0])) <= MAX_NAME:
         return with_electors(ReadLine(number, ranks=named[1], offered_for=why), named[0], names)
@@ -325,8 +333,8 @@ def read_written(one: Written, names: Names) -> ReadLine | None:
     read = ReadLine(number, tuple(more), ranks=answers_text(one.answers), offered_for=why)
     if not one.name or one.may_be_longer:
         return None if one.name else read
-    if (name := one.name.lower()) in names.roll:
-        return dataclasses.replace(read, elector=name)
+    if elector := names.on_roll(one.name):
+        return dataclasses.replace(read, elector=elector)
     return with_electors(read, one.name, names)
 
 
@@ -372,7 +380,7 @@ def with_commas(text: str) -> str:
 def near_in(number: int, line: str, text: str, names: Names) -> Near | None:
     """A line shaped as a ballot, with a name of the roll at its start, or with a ballot in it."""
     for found in BALLOT_WITHIN.finditer(line[:MAX_LOOKED_THROUGH]):
-        ballot = repaired_text(f"{found[1]} {found[2]}", names)
+        ballot = with_small(repaired_text(f"{found[1]} {found[2]}", names))
         has_words = re.search(r"\w", line[: found.start()] + line[found.end() :]) is not None
         if has_words and ballot.partition(" ")[0] in names.roll:
             return Near(number, ballot, True)
@@ -384,11 +392,18 @@ def near_in(number: int, line: str, text: str, names: Names) -> Near | None:
 
 
 def repaired_text(line: str, names: Names) -> str:
-    """A line with the repairs that are allowed; in one that is too long blanks are joined."""
+    """A line with the repairs that are allowed, but with the capital letters of its name; in one that is
+    too long blanks are joined.
+    """
     data = line.encode("utf-8", "replace")
     if len(data) > 2 * names.longest_line:
         data = " ".join(line.split()).encode("utf-8", "replace")
-    return repaired_line(data, names.longest_line).decode("utf-8", "replace").replace("\n", " ")
+    repaired = repaired_but_for_name(data, names.longest_line)
+    return repaired.decode("utf-8", "replace").replace("\n", " ")
+
+
+def with_small(text: str) -> str:
+    return with_small_name(text.encode("utf-8", "replace")).decode("utf-8")
 
 
 # ---- debvote's answers

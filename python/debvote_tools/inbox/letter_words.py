@@ -4,7 +4,7 @@ line.
 
 import itertools
 import re
-from collections.abc import Iterator, Sequence
+from collections.abc import Collection, Iterator, Mapping, Sequence
 
 from debvote_tools.cli.console import act_time, count_of, listed, shown_line, shown_text
 from debvote_tools.inbox.letter import is_quoted
@@ -13,6 +13,7 @@ from debvote_tools.inbox.rules import LetterCase, LetterOutcome, above_end
 from debvote_tools.inbox.reasons import for_secretary
 from debvote_tools.inbox.vote import IS_CODE, Vote
 from debvote_tools.text.ballots import without
+from debvote_tools.text.language import ENGLISH
 
 # how many attachments are named
 MAX_ATTACHMENTS = 5
@@ -110,6 +111,19 @@ def why_it_waits(letter: LetterCase) -> Iterator[str]:
     yield from (f"  {line}" for line in others)
 
 
+def judged_anew(
+    before: Mapping[int, LetterCase], after: Mapping[int, LetterCase], others: Collection[int] = ()
+) -> Iterator[str]:
+    """What is told of letters, but for some others, after a change that made them go in, wait otherwise or be
+    of somebody else.
+    """
+    for number, letter in after.items():
+        known = (letter, before.get(number, letter))
+        facts = {(one.outcome, one.reason, one.is_pending and one.electors) for one in known}
+        if len(facts) > 1 and number not in others:
+            yield from why_it_waits(letter)
+
+
 def why_words(letter: LetterCase) -> list[str]:
     """Why a letter waits, lines that may be ballots, and what else there is to look at."""
     return [why(letter), *near_words(letter), *more_words(letter), *attachment_words(letter)]
@@ -120,19 +134,28 @@ def attachment_words(letter: LetterCase) -> Iterator[str]:
         yield f"attachments: {listed(list(map(shown_text, names)), MAX_ATTACHMENTS)}"
 
 
-def why(letter: LetterCase) -> str:
-    """Why a letter waits, or what became of it."""
+def why(letter: LetterCase, elector: str = "") -> str:
+    """Why a letter waits, or what became of it; and who has voted since, or whether an elector has."""
     said = letter.outcome.value if letter.reason is None else for_secretary(letter.reason)
     if letter.outcome is LetterOutcome.GOES_IN:
         # nobody has agreed to it yet
         said = "it goes in with the next add of letters"
-    since = f"; {'may have' if letter.time is None else 'has'} voted since"
-    return said + (since if letter.is_pending and letter.has_voted_since else "")
+    since = [one for one in letter.voted_since if elector in ("", one)]
+    if not (letter.is_pending and since):
+        return said
+    who = f"{ENGLISH.joined(since)} " if len(letter.electors) > 1 else ""
+    is_sure = all(letter.voted_since[one] for one in since)
+    have = "may have" if not is_sure else "has" if len(since) == 1 else "have"
+    return f"{said}; {who}{have} voted since"
 
 
 def near_words(letter: LetterCase) -> Iterator[str]:
     for line in (*letter.ballots, *letter.offered):
-        yield f"line {line.number}: {without(line.as_entered, letter.answered_since) or line.as_entered}"
+        left = without(line.as_entered, letter.answered_since[line.as_entered]) or line.as_entered
+        if shown := letter.left_in(line.as_entered) if letter.left else left:
+            yield f"line {line.number}: {shown}"
+    for typed in filter(None, map(letter.left_in, letter.left_out or ())):
+        yield f"left out of what was typed: {typed}"
     for near in letter.near:
         within = ", within other words" if near.is_within else ""
         why = near.answer or "a ballot, but not alone on its line"

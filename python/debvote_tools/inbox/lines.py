@@ -41,11 +41,13 @@ WRITTEN_NAME = r"[^\W_](?:[\w .'\u2019-]*[^\W_])?"
 RIGHT_ANSWERS = re.compile(rf"([a-z0-9.-]+)((?: [A-Z] {RANKS})+)")
 NAMED = re.compile(rf"({WRITTEN_NAME})(?:\s*:\s*|\s+)({RANKS})")
 
-# the code or the alias of a secret vote, or a code on the roll, within other text
-ON_ROLL_WITHIN = f"(?<![{OWN_SIGNS}])[{OWN_SIGNS}]{{{OWN_LENGTH}}}(?![{OWN_SIGNS}])"
-CODE_WITHIN = re.compile(rb"(?<![0-9a-f])[0-9a-f]{32}(?![0-9a-f])|%b" % ON_ROLL_WITHIN.encode())
-# the same as people type it, with the gaps of a slip
-TYPED_CODE = re.compile(r"(?<![0-9a-f])(?:[0-9a-f][ \t-]?+){31}[0-9a-f](?![0-9a-f])", re.IGNORECASE)
+# the code or the alias of a secret vote, and a code on the roll, within other text: as people type it, with
+# the gaps of a slip, over lines, and in capitals
+GAP = r"[ \t-]?+(?:\s*\n\s*)?+"
+TYPED_CODE, TYPED_ON_ROLL = (
+    re.compile(rf"(?<!{sign})(?=((?:{sign}{GAP}){{{length}}}{sign})(?!{sign}))", re.IGNORECASE)
+    for sign, length in (("[0-9a-f]", 31), (f"[{OWN_SIGNS}]", OWN_LENGTH - 1))
+)
 
 NO_BREAK = "\u00a0\u202f"
 DASHES = "\u2010\u2011\u2012\u2013\u2014\u2212"
@@ -154,22 +156,25 @@ class Names:
         folds = (fold for name in names for fold in self.folds(name))
         return {word for fold in folds for word in re.split("[.-]", fold)}
 
-    def meant_by(self, name: str) -> list[str]:
-        """The electors whose name on the roll or real name this is, as people write it."""
+    def on_roll(self, name: str) -> str:
+        """The name on the roll that this is, as people write it; nothing if it is none, or is not written so
+        there and is the real name of somebody else, too.
+        """
+        if name in self.roll:
+            return name
         small = name.lower()
         is_of_one = small in self.roll and small not in self.real_names_of_others
-        return [small] if is_of_one else self.of_folds(self.folds(name))
+        return small if is_of_one else ""
+
+    def meant_by(self, name: str) -> list[str]:
+        """The electors whose name on the roll or real name this is, as people write it."""
+        on_roll = self.on_roll(name)
+        return [on_roll] if on_roll else self.of_folds(self.folds(name))
 
     def of_folds(self, folds: set[str]) -> list[str]:
         """The electors whose name on the roll or real name is one of these, folded."""
         real = (elector for fold in folds for elector in self.electors_by_real_name.get(fold, ()))
         return sorted({*folds & self.roll, *real})
-
-    def whose(self, name: str) -> list[str]:
-        """The same; of several questions a name as it is on the roll is of this elector alone, as it is
-        where nothing has to be changed.
-        """
-        return [name] if self.labels and name in self.roll else self.meant_by(name)
 
     def taken_apart(self, line: str) -> tuple[str, str] | None:
         """The name in a line, as people write it, or nothing, and the answers behind it, as they are
@@ -227,6 +232,12 @@ def name_in(line: bytes) -> bytes:
 def has_code(text: str) -> bool:
     """Whether a text has what looks like a code or an alias."""
     return TYPED_CODE.search(text) is not None
+
+
+def codes_in(text: str) -> set[str]:
+    """What looks like a code or an alias in a text, in small letters and without gaps."""
+    typed = [*TYPED_CODE.findall(text), *TYPED_ON_ROLL.findall(text)]
+    return {re.sub(r"[\s-]", "", one).lower() for one in typed}
 
 
 def repaired_line(line: bytes, longest: int) -> bytes:

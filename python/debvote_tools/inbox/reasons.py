@@ -45,6 +45,7 @@ class Reason(enum.Enum):
     # (`told_of` in `outbox/due.py`)
     TAKEN_BACK = "its ballot was taken back", LOOKED_AT
     PUT_BACK = "it was put back to wait", LOOKED_AT
+    NOT_ENTERED = "not entered yet: {rest}", LOOKED_AT
     SET_ASIDE = "it was set aside", "The reason: the secretary has looked at it, and set it aside."
     STRUCK = "its ballot was struck", "The reason: the secretary has taken its ballot out again."
     # it can't be read with certainty
@@ -172,6 +173,10 @@ class Reason(enum.Enum):
     OTHER_MARK = (
         "it has the mark of another vote, [{mark}]; add it to that vote",
         "The reason: it has the mark of another vote. To vote here, answer a letter of this vote.",
+    )
+    OLD_MARK = (
+        "it has the mark of a call that was taken back, [{mark}]; look whether its options were the same",
+        "The reason: it has the mark of a call that was taken back. To vote, answer a later letter of this vote.",
     )
     # the ballots of the elector that are in
     LATER_BALLOT = "a later ballot of {elector}, of {time}, was entered already", LATER_ONE

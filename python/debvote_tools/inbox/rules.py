@@ -14,10 +14,10 @@ import functools
 import itertools
 import re
 import unicodedata
-from collections.abc import Collection, Mapping, Sequence
+from collections.abc import Collection, Mapping, Sequence, Set
 
 from debvote_tools.book import queries
-from debvote_tools.book.queries import Elector, KeptLetter
+from debvote_tools.book.queries import Elector, EnteredBallot, KeptLetter
 from debvote_tools.grouping import grouped
 from debvote_tools.inbox.letter import END, is_quoted, is_server, without_quote_signs
 from debvote_tools.inbox.letter_lines import (
@@ -33,6 +33,7 @@ from debvote_tools.inbox.reasons import Reason, ReasonWithValues
 from debvote_tools.inbox.written import GAP, UNFILLED
 from debvote_tools.poll.box import third_part
 from debvote_tools.poll.sealed import MARKS, marks_in
+from debvote_tools.text.ballots import answers_in, without
 from debvote_tools.text.motions import Words, may_answer, words_in
 
 # how far the clock of a mail server or of an elector may be ahead
@@ -69,8 +70,6 @@ class LetterOutcome(enum.Enum):
     OTHER_VOTE = "of another vote"
 
 
-# what acts decided of a letter whose ballot was entered, though it may be struck since
-WENT_IN = (queries.ENTERED, queries.TAKEN_BACK, queries.STRUCK)
 # in place of what the book has of a letter that is only looked at
 NOT_KEPT = KeptLetter(0, 0, 0, "", "", queries.NEVER_DECIDED)
 
@@ -159,9 +158,15 @@ class LetterCase:
 
     outcome = LetterOutcome.WAITS
     reason: ReasonWithValues | None = None
-    has_voted_since = False
-    # the labels of the questions to which its elector has a later answer
-    answered_since: Collection[str] = ()
+    # its electors who have a later ballot, or may have: whether it is sure
+    voted_since: Mapping[str, bool] = {}
+    # of each ballot of it the labels of the answers to which its elector has later ones
+    answered_since: Mapping[str, Collection[str]] = {}
+    # the ballots of it that were entered; if some were by hand, of what was typed the answers that were
+    # left out, as ballots, else None; and the answers for which it waits on, as in `not_entered`
+    entered: Sequence[EnteredBallot] = ()
+    left_out: Sequence[str] | None = None
+    left: Set[tuple[str, str]] = frozenset()
 
     def __init__(
         self, letter: ReadLetter, circumstances: Circumstances, kept: KeptLetter = NOT_KEPT
@@ -191,11 +196,10 @@ class LetterCase:
         valid = [line.as_ballot for line in self.named if line.answer is None]
         # beside these those with the real name of somebody else, as in the letter of a family; if
         # several have it, it is nobody's
-        unknown = [line for line in ballots if self.named and line.real and not line.elector]
-        self.unclear = [line for line in unknown if line.answer is None and len(line.meant) > 1]
-        others = [
-            line.as_ballot for line in unknown if line.answer is None and len(line.meant) == 1
-        ]
+        real = [line for line in ballots if self.named and line.real and not line.elector]
+        unknown = [line for line in real if line.answer is None]
+        self.unclear = [line for line in unknown if len(line.meant) > 1]
+        others = [line.ballot_of(*line.meant) for line in unknown if len(line.meant) == 1]
         # the ballot that may go in, and the indices of its lines
         end = above_end(letter.body.lines)
         self.ballot = next((line for line in valid if max(line.numbers) <= end), None)
@@ -251,13 +255,13 @@ class LetterCase:
 
     def elector_of(self, line: ReadLine) -> str | None:
         """Whose ballot a line is. If only one elector has the sender's address, they may have written
-        their own name with accents, or their real name. Ranks without a name are of the one whose own
-        mark is in the subject, or of the only one with the address; if these differ, of nobody.
+        their own name with accents, or their real name, though it is a name of somebody else, too. Ranks
+        without a name are of the one whose own mark is in the subject, or of the only one with the
+        address; if these differ, of nobody.
         """
         sender, marked = self.sending_elector, self.marked_elector
-        if line.elector or line.on_roll or line.real:
-            is_own = sender in line.meant and {sender}.issuperset(line.on_roll)
-            return line.elector or (sender if is_own else None)
+        if line.elector or line.meant:
+            return line.elector or (sender if sender in line.meant else None)
         if marked is None:
             return sender
         return marked if marked in (self.sharing or [marked]) else None
@@ -268,19 +272,32 @@ class LetterCase:
         if line.answer is not None:
             return None
         if not line.elector:
-            return Reason.REAL_NAME if len(line.meant) == 1 else None
+            return None if line in self.unclear else Reason.REAL_NAME
         is_money = why is not Reason.NO_NAME and line.as_ballot.high_rank
         # a line of our letter that is filled in is offered for whoever may have sent it
         senders = (*self.sharing, self.marked_elector)
         is_others = why is Reason.FILLED_IN and line.elector not in senders
         return None if is_money or is_others else why
 
+    def may_be_of(self, line: ReadLine) -> list[str]:
+        """Whose ballot a line is or may be: if several have the name, of those who have the sender's
+        address, if there are some.
+        """
+        return (
+            [line.elector] if line.elector else sorted(line.meant & {*self.sharing} or line.meant)
+        )
+
     @functools.cached_property
     def likely(self) -> Mapping[BallotLine, Reason]:
         """The lines that are no ballots by themselves, with the reasons why, of electors who have no
         ballot in it.
         """
-        found = {line.as_ballot: why for line in self.sent if (why := self.why_offered(line))}
+        found = {
+            line.ballot_of(name): why
+            for line in self.sent
+            if (why := self.why_offered(line))
+            for name in self.may_be_of(line)
+        }
         named = (line.as_ballot for line in self.named)
         having = {line.elector for line in (*named, *self.ballots)}
         return {line: why for line, why in found.items() if line.elector not in having}
@@ -289,7 +306,8 @@ class LetterCase:
     def offered(self) -> Mapping[BallotLine, Reason]:
         """Those of them that can be entered by their numbers. Of several answers all can, or none."""
         found, has_labels = self.likely, any(line.has_labels for line in self.sent)
-        is_all = len(found) == 1 and self.other_answers.issubset(*(one.numbers for one in found))
+        places = {line.numbers for line in found}
+        is_all = len(places) == 1 and self.other_answers.issubset(*places)
         return found if is_all or not has_labels else {}
 
     @functools.cached_property
@@ -305,7 +323,12 @@ class LetterCase:
     def near(self) -> tuple[Near, ...]:
         """What is told of it. A letter that a program wrote quotes others, so nothing is."""
         is_told = not self.ballots and not self.is_automatic
-        told = {number for line in self.offered for number in line.numbers} & {*self.read.strays}
+        told = {
+            number
+            for line, why in self.offered.items()
+            for number in line.numbers
+            if why is Reason.REAL_NAME or number in self.read.strays
+        }
         near = (one for one in self.every_near if is_told and one.number not in told)
         return tuple(near)
 
@@ -313,6 +336,13 @@ class LetterCase:
     def has_own_mark(self) -> bool:
         """Whether its subject has the own mark of the elector on its ballot."""
         return self.marked_elector == self.elector
+
+    @property
+    def marks(self) -> set[str]:
+        """The marks of polls in its subject, and in a text that must be signed."""
+        signed = self.read.shown_lines if self.circumstances.is_signed else ()
+        in_text = itertools.chain.from_iterable(map(marks_in, signed))
+        return {mark for mark, _ in (*self.read.marks, *in_text)}
 
     @property
     def other_vote(self) -> str:
@@ -334,11 +364,42 @@ class LetterCase:
         return next(filter(None, (rule(self) for rule in RULES)), None)
 
     def can_hide(self, copy: "LetterCase") -> bool:
-        """Whether it can hide a copy, also one that differs from it: it went in once, or breaks no rule.
-        One that went in by hand, and arrived after the end, hides none that did not.
+        """Whether it can hide a copy, also one that differs from it: it went in once, whatever was decided
+        of it since, or breaks no rule. One that went in by hand, and arrived after the end, hides none
+        that did not.
         """
         is_as_early = copy.arrived_after_end or not self.arrived_after_end
-        return is_as_early and (self.state in WENT_IN or self.first_broken_rule is None)
+        return is_as_early and (bool(self.entered) or self.first_broken_rule is None)
+
+    @property
+    def standing(self) -> list[EnteredBallot]:
+        """The ballots of it that were entered, also if they were struck, and not taken back."""
+        return [one for one in self.entered if not one.is_taken_back]
+
+    @functools.cached_property
+    def not_entered(self) -> set[tuple[str, str]]:
+        """Its answers that were not entered, each as elector and label, which is empty of a ballot that has to
+        be typed. What was typed takes the place of the lines of its elector; and once something was, each of
+        those who share the sender's address has a ballot in it.
+        """
+        having, every = {one.elector for one in self.standing}, (*self.ballots, *self.likely)
+        # a line that may be of several is of the one whose ballot was entered
+        known = {one.numbers: one.elector for one in every if one.elector in having}
+        typed = {one.elector for one in self.standing if one.is_typed}
+        lines = [
+            one
+            for one in every
+            if one.elector not in typed and known.get(one.numbers, one.elector) == one.elector
+        ]
+        is_shared = len(self.sharing) > 1 and any(one.is_typed for one in self.entered)
+        others = {*self.sharing} - having - {one.elector for one in lines} if is_shared else ()
+        given = (*(one.answers for one in lines), *map(answers_in, self.left_out or ()))
+        done = itertools.chain.from_iterable(one.answers for one in self.standing)
+        return {(name, "") for name in others}.union(*given).difference(done)
+
+    def left_in(self, ballot: str) -> str:
+        """A ballot of it with the answers for which it waits on; empty if there are none."""
+        return without(ballot, {label for _, label in answers_in(ballot) - self.left})
 
     @property
     def is_decided(self) -> bool:
@@ -366,6 +427,11 @@ class LetterCase:
     def arrived_after(self, *ends: datetime.datetime | None) -> bool:
         """Whether it is known to have arrived after one of these times."""
         return any(first > end for first in self.arrivals[:1] for end in ends if end is not None)
+
+    @property
+    def arrived_after_close(self) -> bool:
+        """Whether it is known to have arrived after the first close."""
+        return self.arrived_after(self.circumstances.first_close)
 
     @property
     def arrived_after_end(self) -> bool:
@@ -526,12 +592,21 @@ def why_not_first(case: LetterCase) -> ReasonWithValues | None:
 
 def why_not_of_this_vote(case: LetterCase) -> ReasonWithValues | None:
     """Its subject has the mark of the poll, and no other; nor has a text that must be signed."""
-    own, marks = case.circumstances.mark, [mark for mark, _ in case.read.marks]
-    signed = case.read.shown_lines if case.circumstances.is_signed else ()
-    there = {*marks, *(mark for line in signed for mark, _ in marks_in(line))}
-    if others := sorted(mark for mark in there if not are_alike(mark, own)):
-        return Reason.OTHER_MARK(mark=others[0])
-    return None if marks and there == {own} else Reason.NO_SUBJECT_MARK(mark=own)
+    own = case.circumstances.mark
+    has_own_alone = case.read.marks and case.marks == {own}
+    return why_other_mark(case) or (None if has_own_alone else Reason.NO_SUBJECT_MARK(mark=own))
+
+
+def why_other_mark(case: LetterCase) -> ReasonWithValues | None:
+    """It has no mark of another vote, or of a call that was taken back: the ranks would be those of
+    other options.
+    """
+    now = case.circumstances
+    others = (mark for mark in sorted(case.marks) if not are_alike(mark, now.mark))
+    if (mark := next(others, None)) is None:
+        return None
+    is_old = any(are_alike(mark, one) for one in now.marks)
+    return Reason.OLD_MARK(mark=mark) if is_old else Reason.OTHER_MARK(mark=mark)
 
 
 def are_alike(mark: str, other: str) -> bool:

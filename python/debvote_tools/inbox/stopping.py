@@ -75,17 +75,15 @@ def letters_cure(election: Election, step: str, *, is_closed: bool) -> str:
 
 
 def pending_letters(election: Election, history: History) -> Pending:
-    kept = queries.kept_letters(election.book)
-    if not kept:
+    # where letters have to be signed, what was signed says which are copies, which the book may not
+    # have known when they came
+    which = queries.kept_letters if history.announced("signed") else queries.may_wait
+    if not (kept := which(election.book)):
         return Pending()
     from debvote_tools.inbox.judging import judged
     from debvote_tools.inbox.rules import LetterOutcome
     from debvote_tools.inbox.vote import Vote
 
-    # where letters have to be signed, what was signed says which are copies, which the book may not
-    # have known when they came
-    if not history.announced("signed"):
-        kept = queries.unsettled_and_copies(kept)
     letters = judged(Vote(election), history, kept)
     found = [letter for letter in letters if letter.is_pending]
     arrived_in_time = sorted(letter.number for letter in found if letter.arrived_in_time)

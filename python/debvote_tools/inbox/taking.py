@@ -160,7 +160,11 @@ class GoingIn(LetterEntry):
 
     def declined(self, _: bool | None) -> None:
         waits = letter_words.wait_words(sum(letter.is_pending for letter in self.found))
-        tell(f"Nothing was entered. The letters are kept, and wait: {waits}.")
+        keeps_out = self.vote.election.command("held", "NUMBER", "--wait")
+        tell(
+            f"Nothing was entered. The letters are kept, and wait: {waits}.",
+            f"The next add --yes, by cron too, enters these ballots: {keeps_out} keeps one out.",
+        )
 
 
 def what_goes_in(

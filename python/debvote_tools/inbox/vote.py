@@ -20,6 +20,7 @@ from debvote_tools.inbox.lines import (
     Names,
     has_code,
     name_in,
+    with_small_name,
 )
 from debvote_tools.poll.box import without_links
 from debvote_tools.text.ballots import answers_of, ballot_file, line_of, part_of, ranks_by_label
@@ -138,23 +139,22 @@ class Vote:
         """
         names, labels = self.names, self.names.labels
         # of several answers each is repaired by itself: the first label may be part of the name
-        given = line.unframed if labels else line.repaired
+        given = line.unframed if labels else line.named
         text = names.with_ranks(given.decode("utf-8", "surrogateescape"))
         name, _, answers = text.partition(" ")
-        is_right = name in names.roll and (self.has_form(given) if labels else " " not in answers)
-        if is_right and not line.named.startswith(name.encode()):
-            is_right = name not in names.real_names_of_others
+        is_right = names.on_roll(name) and (self.has_form(given) if labels else " " not in answers)
         if is_right and not names.words:
             return line.repaired, []
         is_read = not (is_right or self.has_codes or self.why_too_long(line))
         found, unclear = names.taken_apart(text) if is_read else None, list[str]()
         if found and found[0]:
             name, answers = found
-            meant, longer = names.whose(name), names.longer_than(name, text)
+            meant, longer = names.meant_by(name), names.longer_than(name, text)
             unclear = sorted({*meant, *longer}) if longer or len(meant) > 1 else []
             if labels or len(meant) == 1:
                 text = f"{meant[0] if len(meant) == 1 else name.lower()} {answers}"
-        return text.encode("utf-8", "surrogateescape"), unclear
+        as_read = text.encode("utf-8", "surrogateescape")
+        return as_read if labels else with_small_name(as_read), unclear
 
     def with_ranks(self, line: bytes) -> bytes:
         text = self.names.with_ranks(line.decode("utf-8", "surrogateescape"))

@@ -132,7 +132,7 @@ def ballots_written(lines: Iterable[tuple[int, str]], names: Names) -> list[Writ
             continue
         if is_unfilled:
             one = one._replace(why=one.why or Reason.FILLED_IN)
-        if alone and not one.name and names.whose(alone[1]):
+        if alone and not one.name and names.meant_by(alone[1]):
             one = one._replace(numbers=(alone[0], number), name=alone[1])
         elif alone:
             may_go_on = False

@@ -13,7 +13,7 @@ from debvote_tools.cli.arguments import demand_reason, has_reason
 from debvote_tools.cli.faults import Fault, bad_words, stop_at
 from debvote_tools.grouping import grouped
 from debvote_tools.inbox.asked import unasked_fault
-from debvote_tools.inbox.fates import COUNTS, NOBODY, Fate, fates_of
+from debvote_tools.inbox.fates import ANEW, COUNTS, NOBODY, Fate, fates_of
 from debvote_tools.inbox.rules import LetterOutcome
 from debvote_tools.inbox.stopping import pending_letters, what_stops
 from debvote_tools.outbox.reached import CAME_BACK, page_since, unreached_and_printed, unreached
@@ -100,6 +100,8 @@ class LettersDue(Run):
     earlier_receipts: Sequence[OutgoingLetter] = ()
     # those whom the call has reached, to whom the letter of an extension is due
     had_call: Collection[int] = ()
+    # those whose ballot goes in once the secretary agrees: in place of a reminder they get a receipt
+    in_hand: Collection[int] = ()
     # the numbers of the letters that wait and are in no elector's receipt; and how many wait in
     # all, if they were looked at
     in_no_receipt: Sequence[int] = ()
@@ -123,7 +125,8 @@ class LettersDue(Run):
     def subject(self, letter: OutgoingLetter) -> tuple[str, str]:
         """The subject of a letter, and the mark that ends it."""
         is_extension, own = letter.elector in self.had_call, self.elector(letter).mark
-        subject = self.composer.subject(self.kind, is_extension=is_extension)
+        kind = "receipts" if letter.elector in self.in_hand else self.kind
+        subject = self.composer.subject(kind, is_extension=is_extension)
         return subject, self.composer.call_data.mark_of(own)
 
     def elector(self, letter: OutgoingLetter) -> Elector:
@@ -154,15 +157,13 @@ def letters_due(
         "result": results_due,
     }
     history, time, book = election.history(), now(), election.book
-    called, until = election.called(history).number, history.until
+    until = history.until
     is_over = bool(history.closes) or (until is not None and time > until)
     demand_due(election, history, kind, is_over=is_over)
     call_data, forced = call_data_of(election, history, kind, because)
     on_list, noted_before = queries.electors(book), outgoing.outgoing_letters(book, kind)
     electors = {elector.number: elector for elector in on_list}
-    typed, left_out = queries.typed_envelopes(book), queries.left_out(book)
-    records = queries.records_since(book, called)
-    composer = Composer(call_data, is_over, on_list, typed, left_out, records)
+    composer = Composer(call_data, is_over, on_list)
     not_reached, _ = unreached_and_printed(election, history)
     back = {elector.number for elector, why, _ in not_reached if why == CAME_BACK}
     present = [one for one in noted_before if one.elector in back and is_present(one, electors)]
@@ -186,9 +187,9 @@ def demand_due(election: Election, history: History, kind: str, *, is_over: bool
     elif kind == "call" and history.announced("box") and history.until is None:
         words = "the call has a box, and says no end of the vote"
         cure = f"say it: {election.command('call', '--until', 'TIME')}"
-    elif kind == "closed" and not history.is_closed:
+    elif kind in ("closed", "result") and not history.is_closed:
         words, cure = "the vote is not closed", f"run {election.command('close')} first"
-    elif kind == "result" and not (history.is_closed and history.last_publication):
+    elif kind == "result" and not history.last_publication:
         words, cure = "nothing is published", f"run {election.command('publish')} first"
     else:
         return
@@ -270,9 +271,9 @@ def letters_pending_in(fates: Mapping[str, Sequence[Fate]]) -> int:
 
 
 def reminders_due(run: Run) -> LettersDue:
-    """A letter to each elector whose ballot does not count yet. A run of this day goes on if it
-    was cut off, or the server refused some for now: then those are reminded, too, who came to it
-    since. Else each run is a new one.
+    """A letter to each elector whose ballot does not count yet; a receipt, if only a yes in `add` is lacking.
+    A run of this day goes on if it was cut off, or the server refused some for now: then those are
+    reminded, too, who came to it since. Else each run is a new one.
     """
     fates = fates_of(run.election, run.history)
     counting = queries.what_counts(run.election.book)
@@ -282,10 +283,17 @@ def reminders_due(run: Run) -> LettersDue:
     # whose letter came back is reminded again, but not in the same run
     run = dataclasses.replace(run, electors=silent, returned_ids=())
 
+    in_hand = {
+        number
+        for number, elector in silent.items()
+        if any(one.became is LetterOutcome.GOES_IN for one in fates[elector.name])
+    }
+
     def text_of(elector: Elector, letter: OutgoingLetter) -> str:
         told = told_of(fates[elector.name]).values()
         left = [one for one in told if one.became is not LetterOutcome.SET_ASIDE]
-        return run.composer.reminder(elector, left)
+        say = run.composer.receipt if elector.number in in_hand else run.composer.reminder
+        return say(elector, left)
 
     last = max((letter.for_act for letter in run.noted_before), default=0)
     due = to_each(run, last, text_of)
@@ -296,7 +304,7 @@ def reminders_due(run: Run) -> LettersDue:
     )
     if not (run.is_sending and any(are_unsent)):
         due = to_each(run, run.next_act, text_of)
-    return dataclasses.replace(due, letters_pending=letters_pending_in(fates))
+    return dataclasses.replace(due, in_hand=in_hand, letters_pending=letters_pending_in(fates))
 
 
 def receipts_due(run: Run) -> LettersDue:
@@ -406,14 +414,15 @@ def results_due(run: Run) -> LettersDue:
 
 # ---- what electors are told
 def is_told(fate: Fate) -> bool:
-    """Whether an elector is told of something that came. A copy is the letter that it copies. One from
+    """Whether an elector is told of something that came. A copy is the letter that it copies; of what was
+    entered anew the new envelope tells. One from
     which ballots were entered is told to those whom it names: `told_of` leaves out those who have one of
     these. A program that answers by itself would answer; and a letter of ours that came back has the name
     of its elector.
     """
     letter = fate.letter
     if letter is None:
-        return True
+        return fate.became != ANEW
     is_automatic = letter.is_automatic and (fate.is_own or not letter.ballots)
     told = (
         LetterOutcome.WAITS,

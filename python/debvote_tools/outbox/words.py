@@ -9,7 +9,7 @@ import dataclasses
 import datetime
 import functools
 import re
-from collections.abc import Collection, Iterator, Mapping, Sequence
+from collections.abc import Iterator, Sequence
 
 from debvote_tools.book.queries import Elector
 from debvote_tools.inbox.rules import LetterOutcome
@@ -18,7 +18,7 @@ from debvote_tools.inbox.reasons import for_elector
 from debvote_tools.poll.announced import address_in
 from debvote_tools.poll.call import CallData
 from debvote_tools.poll.plain_names import without_accents
-from debvote_tools.text.ballots import answers_of, faults_of
+from debvote_tools.text.ballots import faults_of
 from debvote_tools.text.language import marked
 from debvote_tools.text.rendering import one_line, render_letter
 from debvote_tools.text.times import time_in_words
@@ -41,8 +41,8 @@ SUBJECTS = marked(
         "result": "Result: {title}",
     }
 )
-# in place of that of the call
-EXTENSION = marked("Vote ends later: {title}")
+# in place of that of the call: if it said an end, and if not
+EXTENSION, END_SAID = marked("Vote ends later: {title}"), marked("When the vote ends: {title}")
 
 
 # what became of a ballot, as the view `fate` says
@@ -61,6 +61,7 @@ NOT_ALL = marked(
     "These of its answers do not count; others of yours, which were entered after them, count instead: {questions}."
 )
 LEFT_OUT = marked("These of its answers were not entered, since you had later ones: {questions}.")
+LEFT = marked("These of its answers are not entered yet: {questions}.")
 # what became of a letter: whether it came from an address of the elector, and whether nobody looks
 # at it any more
 OF_LETTER = marked(
@@ -80,9 +81,12 @@ OF_LETTER = marked(
         ): "A letter in your name came from another address. The secretary has set it aside.",
     }
 )
-# of one from which only ballots of others were entered
+# of one from which only ballots of others were entered: whether it waits
 OF_OTHERS = marked(
-    "A letter of {time} has a ballot of somebody else, which was entered. No ballot of yours from it was entered."
+    {
+        False: "A letter of {time} has a ballot of somebody else, which was entered. No ballot of yours from it was entered.",
+        True: "A letter of {time} has a ballot of somebody else, which was entered. No ballot of yours from it is entered yet: the secretary has to look at it first.",
+    }
 )
 
 # the same of a ballot that came by the page of the vote: whether by the link of the elector
@@ -115,17 +119,13 @@ class Composer:
     call_data: CallData
     is_over: bool
     electors: Sequence[Elector] = ()
-    # the envelopes of what the secretary typed for a letter
-    typed: Collection[int] = ()
-    # the answers that were left out of letters, as ballots, by the envelopes of the others
-    left_out: Mapping[int, str] = dataclasses.field(default_factory=dict)
-    # the letters that are records of the box
-    records: Collection[int] = ()
 
     def subject(self, kind: str, *, is_extension: bool = False) -> str:
         """The subject of a kind of letters, before the mark that ends it."""
-        said = EXTENSION if is_extension else SUBJECTS[kind]
-        return self.call_data.language.say(said, title=one_line(self.call_data.questions.name))
+        questions, said = self.call_data.questions, SUBJECTS[kind]
+        if is_extension:
+            said = EXTENSION if questions.deadline_time else END_SAID
+        return self.call_data.language.say(said, title=one_line(questions.name))
 
     def call_letter(
         self, elector: Elector, *, is_extension: bool, earlier: Sequence[str] = ()
@@ -156,11 +156,11 @@ class Composer:
 
     def receipt(self, elector: Elector, fates: Sequence[Fate]) -> str:
         """What became of what came from an elector. It has the right line if the last of it was
-        refused, waits or was set aside. What was struck, taken back or late asks nobody to vote again.
+        refused, waits or was set aside. What goes in, was struck, taken back or late asks nobody to vote again.
         """
         decides = (one for one in fates if one.is_own or one.became in (COUNTS, REFUSED))
         last = next(reversed([one.became for one in decides]), COUNTS)
-        has_right_line = not self.is_over and last != COUNTS
+        has_right_line = not self.is_over and last not in (COUNTS, LetterOutcome.GOES_IN)
         return self.text("receipts.txt", elector, fates=fates, has_right_line=has_right_line)
 
     def text(self, template: str, elector: Elector, **values: object) -> str:
@@ -211,13 +211,16 @@ class Composer:
         if isinstance(fate.became, LetterOutcome):
             is_done = fate.became in (LetterOutcome.SET_ASIDE, LetterOutcome.OLDER)
             of_kind = OF_RECORD if fate.letter and fate.letter.read.link else OF_LETTER
-            is_of_others = fate.became is LetterOutcome.ENTERED
-            said = OF_OTHERS if is_of_others else of_kind[fate.is_own, is_done]
+            said = of_kind[fate.is_own, is_done]
+            # what is told of a letter is told to those of whom nothing was entered
+            is_told_whose = fate.is_own or fate.became is LetterOutcome.ENTERED
+            if is_told_whose and fate.letter is not None and fate.letter.standing:
+                said = OF_OTHERS[fate.letter.is_pending]
         else:
             is_final = self.is_over and fate.became == COUNTS
             said = AT_THE_END if is_final else OF_BALLOT[fate.became]
         sentences = [language.say(said, time=time_in_words(fate.time.astimezone(zone), language))]
-        sentences += self.more_of(fate)
+        sentences += self.more_of(fate, name)
         if fate.letter is not None and fate.is_own and fate.letter.reason is not None:
             # not the line itself: it may be another's ballot, or have a code
             near = (
@@ -238,18 +241,23 @@ class Composer:
             sentences += faults(fate.why_refused, name, language)
         return " ".join(sentences)
 
-    def more_of(self, fate: Fate) -> Iterator[str]:
+    def more_of(self, fate: Fate, name: str) -> Iterator[str]:
         """What of a ballot does not count, and how it came."""
-        language, number = self.call_data.language, fate.envelope.number if fate.envelope else 0
-        left_out = answers_of(self.left_out.get(number, ""))
-        for said, labels in ((NOT_ALL, fate.replaced), (LEFT_OUT, left_out)):
+        language, letter, envelope = self.call_data.language, fate.came_by, fate.envelope
+        left, left_out = list[str](), list[str]()
+        if letter is not None and envelope is not None and not envelope.is_struck:
+            left = sorted(label for one, label in letter.left if one == name)
+            others = letter.not_entered - letter.left
+            left_out = sorted(label for one, label in others if one == name)
+        for said, labels in ((NOT_ALL, fate.replaced), (LEFT_OUT, left_out), (LEFT, left)):
             if labels:
                 named = list(map(self.call_data.questions.titled, labels))
                 yield language.say(said, questions=language.joined(named))
-        if fate.envelope is not None and fate.envelope.letter in self.records:
-            yield language.say("It came by the page of the vote.")
-        if number in self.typed:
-            yield language.say("The secretary typed it, by a letter that came.")
+        if letter is not None and envelope is not None:
+            if letter.read.link:
+                yield language.say("It came by the page of the vote.")
+            if any(one.is_typed for one in letter.entered if one.number == envelope.number):
+                yield language.say("The secretary typed it, by a letter that came.")
 
     def quotation_of(self, fate: Fate) -> str:
         """A refused line behind a bar, with which it is no ballot; empty if it may have words."""

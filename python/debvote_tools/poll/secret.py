@@ -10,7 +10,7 @@ from collections.abc import Collection, Iterable, Mapping, Sequence
 from debvote_tools.book.queries import Elector
 from debvote_tools.cli.faults import Fault
 from debvote_tools.files import sha256_of
-from debvote_tools.inbox.lines import CODE_WITHIN
+from debvote_tools.inbox.lines import codes_in
 from debvote_tools.poll.call import PACKAGE, CallData
 from debvote_tools.poll.questions import Questions
 from debvote_tools.poll.sealed import OWN_LENGTH, OWN_SIGNS, new_own_mark, with_roll
@@ -60,7 +60,7 @@ def codes_for_roll(count: int) -> list[str]:
 
 def demand_no_code(name: str, data: bytes, codes: Collection[str]) -> None:
     """Stops if a file for everybody would have a code: the list of codes may be one of the texts."""
-    if codes and not {code.decode() for code in CODE_WITHIN.findall(data)}.isdisjoint(codes):
+    if codes and not codes_in(data.decode("utf-8", "replace")).isdisjoint(codes):
         words = f"{name} would have the code of an elector in it"
         raise Fault(None, words, "check the texts that you gave")
 

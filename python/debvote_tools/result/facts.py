@@ -10,7 +10,6 @@ from typing import Any
 
 from debvote_tools.debvote import Finding, casting_words, standing_in
 from debvote_tools.poll.questions import Questions
-from debvote_tools.text.ballots import ballot_lines
 from debvote_tools.poll.sealed import SealedPoll
 from debvote_tools.result.sheet import Castings, Sheet
 from debvote_tools.result.why import Why
@@ -23,13 +22,11 @@ FOR_SECRETARY = {
     "mostly refused": "more than half of the lines are refused, {refused} of {lines}; debvote explain says why",
     "not closed": "the vote is not closed; close it first",
     "closed early": "the vote was closed on {closed}, before its announced end, {until}",
-    "box not asked": "the box of the web host was not asked since the end: run debvote-election add --box",
-    "letters left": (
-        "these letters arrived in time, and wait: {letters}; set aside what is no ballot (debvote-election held NUMBER --set-aside); if "
-        "one is a ballot, run debvote-election reopen --because TEXT, then debvote-election held NUMBER --enter"
-    ),
+    "box not asked": "the box of the web host was not asked since the end: run {command}",
+    "letters left": "these letters arrived in time, and wait: {letters}; {command}",
     "other casting vote": (
-        "an earlier publication has a casting vote for {option}; only one can be right, so find out which was given"
+        "an earlier publication has a casting vote for {option}; only one can be right, so find out which was given; the earlier one again: "
+        "{command}"
     ),
 }
 
@@ -81,6 +78,8 @@ class Doubt(Told):
     stops: bool = True
     # that of the question that it is about; empty if it is about the whole vote
     label: str = ""
+    # a command that puts it right
+    command: str = ""
 
     def as_data(self) -> dict[str, Any]:
         """As the act of a publication keeps it."""
@@ -88,7 +87,7 @@ class Doubt(Told):
         return {"kind": self.kind, **self.shown(datetime.datetime.isoformat), **question}
 
     def for_secretary(self) -> str:
-        return FOR_SECRETARY[self.kind].format(**self.shown(time_in_words))
+        return FOR_SECRETARY[self.kind].format(command=self.command, **self.shown(time_in_words))
 
 
 def doubts_about(sheet: Sheet, label: str) -> Iterator[Doubt]:
@@ -146,10 +145,10 @@ class Facts:
     acts: Sequence[Act] = ()
     labels_after_end: Sequence[Collection[str]] = ()
     # the lines that were entered after the close: how many came late, without those that a reopen entered
-    # anew; and unless the vote is secret the file of all, with these
+    # anew; and unless the vote is secret all, each with what became of it
     late_number: int = 0
-    late: bytes | None = None
-    # the letter of the last close
+    late: Sequence[tuple[bytes, str]] | None = None
+    # the letter of the last close, unless the vote was opened again: it has the checksum of other ballots
     closed: bytes | None = None
     # by the names on the roll, if they are published
     real_names: Mapping[str, str] = dataclasses.field(default_factory=dict)
@@ -201,10 +200,6 @@ class Facts:
     @property
     def lines_after_end(self) -> int:
         return sum(self.label in labels for labels in self.labels_after_end)
-
-    @property
-    def late_lines(self) -> list[bytes]:
-        return ballot_lines(self.late or b"")
 
     @property
     def casting(self) -> str | None:

@@ -19,8 +19,11 @@ from debvote_tools.cli.faults import Fault, Status, bad_words, stop_at
 from debvote_tools.debvote import Answer, Debvote, findings_in
 from debvote_tools.files import (
     TEMPORARY,
+    folder_beside,
     locked,
     naming,
+    real_place,
+    remove_left,
     sha256_of,
     sync_folder,
     temporary_folder,
@@ -40,6 +43,7 @@ from debvote_tools.result.sheet import (
     sheet_in,
     votes_csv,
 )
+from debvote_tools.text.ballots import ballot_file
 
 
 # programs and guide: what each is, where the package has it, and where a checkout has it
@@ -54,8 +58,7 @@ BESIDE = {
     ),
 }
 
-# how a folder begins that is beside its place; a run holds the lock of its own, so what is not
-# locked is of a run that was killed
+# how a folder begins that is beside its place: what a killed run left there tells what it replaced
 BESIDE_PLACE = f"{TEMPORARY}result-"
 
 
@@ -96,23 +99,7 @@ class NewFolder:
         else:
             self.folder.rename(place)
         sync_folder(place.parent)
-        for left in left_beside(place):
-            with contextlib.suppress(OSError), locked(left, is_directory=True):
-                shutil.rmtree(left, ignore_errors=True)
-
-
-def real_place(target_folder: pathlib.Path) -> pathlib.Path:
-    """Where the folder will be. If the place is a link, the link stays."""
-    return pathlib.Path(os.path.realpath(target_folder))
-
-
-def left_beside(place: pathlib.Path) -> list[pathlib.Path]:
-    """The folders beside a place that runs have made and filled. Another run may take one away."""
-    found = []
-    for left in place.parent.glob(f"{BESIDE_PLACE}*"):
-        with contextlib.suppress(FileNotFoundError):
-            found += [left] if any(left.iterdir()) else []
-    return found
+        remove_left(place, BESIDE_PLACE)
 
 
 def is_free(target_folder: pathlib.Path) -> bool:
@@ -156,8 +143,8 @@ def beside(target_folder: pathlib.Path) -> Iterator[NewFolder]:
     """Makes an empty folder beside its place, and removes it at the end unless it was moved, or the
     book has its act.
     """
-    new = NewFolder(temporary_folder(real_place(target_folder).parent, BESIDE_PLACE))
-    with locked(new.folder, is_directory=True):
+    with folder_beside(target_folder, BESIDE_PLACE) as made:
+        new = NewFolder(made)
         try:
             yield new
         finally:
@@ -356,7 +343,9 @@ def further_files(outcome: Outcome, picture: bytes | None) -> dict[str, bytes]:
         file_names.DATA: result_json(sheet, facts.poll, outcome.version).encode(),
         file_names.TABLE: votes_csv(sheet).encode(),
         file_names.PICTURE: picture,
-        file_names.LATE: facts.late,
+        file_names.LATE: None
+        if facts.late is None
+        else ballot_file(line for line, _ in facts.late),
         file_names.CLOSED: facts.closed,
         file_names.SEAL: f"{facts.seal}\n".encode() if facts.seal else None,
     }

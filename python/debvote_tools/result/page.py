@@ -215,7 +215,13 @@ def ballots_on_page(outcome: Outcome) -> dict[str, Any]:
     if poll.motion:
         have_names, shown = True, [html.escape(name) for name in poll.names]
     in_words_of = ballots_in_words(shown, language, poll.motion)
-    lines, late = ballot_lines(facts.ballots), facts.late_lines
+    lines = ballot_lines(facts.ballots)
+    # by their places in late.txt, which has those that were entered anew, too
+    late = (
+        (at, line, "")
+        for at, (line, became) in enumerate(facts.late or (), start=1)
+        if became == "late"
+    )
     refused = ((one.line, lines[one.line - 1], cause_of(one, language)) for one in outcome.refused)
     return {
         "standing": standing,
@@ -223,7 +229,7 @@ def ballots_on_page(outcome: Outcome) -> dict[str, Any]:
         "ballot_words": {ranks: Markup(in_words_of(ranks)) for ranks in set(standing.values())},
         "are_long": sum(map(len, poll.names)) > LONG_BALLOT,
         "refused": runs_of(refused, language),
-        "late": runs_of(((at, line, "") for at, line in enumerate(late, start=1)), language),
+        "late": runs_of(late, language),
     }
 
 

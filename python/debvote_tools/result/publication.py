@@ -4,13 +4,12 @@ then each compares it with what it asks of debvote.
 """
 
 import dataclasses
-import datetime
 import operator
 from collections.abc import Collection, Iterable, Iterator, Mapping
 from typing import Any, NamedTuple
 
 from debvote_tools.book import queries
-from debvote_tools.book.book import Book, DoneAct, as_text, from_text
+from debvote_tools.book.book import RESTORED, Book, Detail, DoneAct, as_text, from_text
 from debvote_tools.book.election import TEXTS, Election, Fixed, History, fixed_by
 from debvote_tools.cli.console import is_terminal, is_yes, tell_aside
 from debvote_tools.cli.faults import Fault
@@ -18,14 +17,14 @@ from debvote_tools.debvote import casting_words
 from debvote_tools.files import sha256_of
 from debvote_tools.inbox.asked import is_unasked_since_end
 from debvote_tools.inbox.lines import name_in
-from debvote_tools.inbox.stopping import BOX, LETTERS, Pending, what_stops
+from debvote_tools.inbox.stopping import BOX, LETTERS, Pending, letters_cure, what_stops
 from debvote_tools.poll.call import current_call
 from debvote_tools.poll.secret import alias_in, aliased_ballots, sealed_checksum
 from debvote_tools.poll.questions import Questions, place_of
 from debvote_tools.poll.sealed import SealedPoll
 from debvote_tools.result.facts import Act, Doubt, Facts, PublishedWords
 from debvote_tools.result.file_names import BALLOTS
-from debvote_tools.result.sheet import Castings, Sheet, sheet_in
+from debvote_tools.result.sheet import Castings, Sheet, publishing, sheet_in
 from debvote_tools.text.ballots import ballot_file, in_normal_form
 from debvote_tools.text.language import Language, language_of
 from debvote_tools.text.rendering import render_letter
@@ -45,9 +44,8 @@ class Kept(NamedTuple):
     numbers: queries.Numbers
     refused: list[int]
     counting: dict[str, str]
-    # the lines that came late; how many they are without those that were entered anew as in time
-    late: bytes
-    late_number: int
+    # the lines that came late, each with what became of it
+    late: list[tuple[bytes, str]]
 
 
 def kept_of(election: Election, history: History, labels: Iterable[str]) -> dict[str, Kept]:
@@ -81,8 +79,7 @@ def kept_of_question(book: Book, label: str, poll: SealedPoll) -> Kept:
         numbers=queries.Numbers(lines, lines - bad, bad, len(counting)),
         refused=refused,
         counting=counting,
-        late=ballot_file(queries.late_lines(book)),
-        late_number=len(queries.lines(book, queries.LEFT_LATE)),
+        late=queries.late_lines(book),
     )
 
 
@@ -135,12 +132,12 @@ def facts_of(election: Election, words: PublishedWords, pending: Pending) -> dic
         "language": election.language if words.language is None else language_of(words.language),
         "acts": acts_of(book, history, is_secret=public.is_secret),
         "labels_after_end": labels_after_end(book, history),
-        "closed": closing_letter(history, public, election.language) if history.closes else None,
+        "closed": closing_letter(history, public, election.language) if history.is_closed else None,
         "real_names": call.real_names or {},
         "has_codes": call.has_codes_on_roll,
         "at": call.at,
         "questions": public,
-        "doubts": [*doubts_of(history, public, words.castings, pending, stopping)],
+        "doubts": [*doubts_of(election, history, words.castings, pending, stopping)],
     }
     return {
         label: Facts(
@@ -159,7 +156,8 @@ def facts_of_ballots(
     """The facts about the ballots of a question. Stops if debvote does not find them as they are kept."""
     standing = election.debvote.standing(kept.poll.as_bytes(), kept.ballots)
     demand_kept(election, standing, kept.counting)
-    found = {"ballots": kept.public, "late_number": kept.late_number}
+    left_late = sum(became == "late" for _, became in kept.late)
+    found = {"ballots": kept.public, "late_number": left_late}
     if not kept.poll.secret:
         return found | {"late": kept.late}
     return found | {
@@ -170,11 +168,13 @@ def facts_of_ballots(
     }
 
 
-def early_end(history: History) -> datetime.datetime | None:
-    """Until when one should have been able to vote, if the first close came before; after it nobody
-    could.
-    """
-    return history.until if history.was_closed_early else None
+def early_close(history: History) -> Doubt | None:
+    """The doubt about a first close before the announced end; after it nobody could vote."""
+    if not history.was_closed_early:
+        return None
+    closed = history.closes[0].time.astimezone(history.zone)
+    # `close --early` has agreed to it
+    return Doubt("closed early", {"closed": closed, "until": history.until}, stops=False)
 
 
 def closing_letter(history: History, questions: Questions, language: Language) -> bytes:
@@ -183,7 +183,8 @@ def closing_letter(history: History, questions: Questions, language: Language) -
     """
     close, zone = history.closes[-1], history.zone
     values = {"close": close, "time": close.time.astimezone(zone), "questions": questions}
-    values |= {"fixed": fixed_by(close), "early_end": early_end(history), "earlier": None}
+    values |= {"fixed": fixed_by(close), "until": history.until, "earlier": None}
+    values["early"] = early_close(history)
     if earlier := history.closes[:-1]:
         reopened = [act for act in history.since_call("reopen") if act.number < close.number]
         values |= {"earlier": fixed_by(earlier[-1])}
@@ -210,8 +211,8 @@ def shown_by_comparison(election: Election, history: History, label: str, kept: 
 
 
 def doubts_of(
+    election: Election,
     history: History,
-    questions: Questions,
     castings: Castings,
     pending: Pending,
     stopping: Collection[str],
@@ -219,23 +220,27 @@ def doubts_of(
     """The doubts that the book shows before the count; `stopping` is what `what_stops` finds."""
     if not history.is_closed:
         yield Doubt("not closed")
-    if (until := early_end(history)) is not None:
-        closed = history.closes[0].time.astimezone(until.tzinfo)
-        # `close --early` has agreed to it
-        yield Doubt("closed early", {"closed": closed, "until": until}, stops=False)
+    if early := early_close(history):
+        yield early
     if is_unasked_since_end(history):
         # at the end `close --force` has agreed to it
-        yield Doubt(BOX, stops=BOX in stopping)
-    for label, casting in castings.items():
-        names = {one.plain: one.name for one in questions[label].choices}
-        given = (act.detail["casting"].get(label, casting) for act in history.named("publish"))
-        for option in dict.fromkeys(given):
+        yield Doubt(BOX, stops=BOX in stopping, command=election.command("add", "--box"))
+    last = history.last_publication
+    all_castings = {**(last.detail["casting"] if last else {}), **castings}
+    for label, poll in election.questions.items():
+        names, casting = {one.plain: one.name for one in poll.choices}, castings.get(label)
+        # without one: since the last close, after which it was the same tie
+        acts = history.publications if casting is None else history.named("publish")
+        for option in dict.fromkeys(act.detail["casting"].get(label, casting) for act in acts):
             if option != casting:
-                yield Doubt("other casting vote", {"option": names[option]}, label=label)
+                command = publishing(election, {**all_castings, label: option})
+                places = {"option": names[option]}
+                yield Doubt("other casting vote", places, label=label, command=command)
     if numbers := pending.untold:
         waits = {"number": len(numbers), "letters": ", ".join(map(str, numbers))}
         # an earlier publication may have had it
-        yield Doubt(LETTERS, waits, stops=LETTERS in stopping)
+        cure = letters_cure(election, "publish", is_closed=True)
+        yield Doubt(LETTERS, waits, stops=LETTERS in stopping, command=cure)
 
 
 # ---- what was done
@@ -278,7 +283,9 @@ def acts_of_page(act: DoneAct, book: Book, history: History, *, is_secret: bool)
         case "take back":
             yield Act(time, "taken back")
         case "extend" if until:
-            yield Act(time, "extended", until)
+            earlier = [one for one in history.timing if one.number < act.number]
+            done = "extended" if earlier[-1].detail.get("until") else "end said"
+            yield Act(time, done, until)
         case "addresses":
             yield Act(time, "roll changed", {"number": detail["electors"]})
         case "strike":
@@ -291,10 +298,21 @@ def acts_of_page(act: DoneAct, book: Book, history: History, *, is_secret: bool)
             yield Act(time, "reopened", because=reason)
         case "moved":
             noted, there = detail["noted"] and detail["noted"]["act"], detail["there"]["act"]
-            done = "restored" if noted == there else "moved from afar" if noted is None else "moved"
-            yield Act(time, done, {"noted": noted, "there": there}, detail["because"])
+            places = {"noted": noted, "there": there}
+            yield Act(time, how_moved(detail, history), places, detail["because"])
     if detail.get("keyring"):
         yield Act(time, "keyring")
+
+
+def how_moved(detail: Detail, history: History) -> str:
+    """What the pages say of an act `moved`: they tell as restored only what the secretary says is."""
+    if detail["why"] == RESTORED:
+        return "restored"
+    noted, there = detail["noted"], detail["there"]["act"]
+    if noted is None:
+        return "moved from afar"
+    is_other = noted["act"] <= there and history.act(noted["act"]).digest != noted["digest"]
+    return "moved to others" if is_other else "moved"
 
 
 def close_of(act: DoneAct, book: Book, history: History) -> dict[str, Any]:

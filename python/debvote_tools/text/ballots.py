@@ -66,6 +66,12 @@ def answers_of(ballot: str) -> Mapping[str, str]:
     return ranks_by_label(ballot.partition(" ")[2])
 
 
+def answers_in(ballot: str) -> set[tuple[str, str]]:
+    """The name on a ballot with the label of each of its answers."""
+    name, _, _ = ballot.partition(" ")
+    return {(name, label) for label in answers_of(ballot)}
+
+
 def differ(ballot: str, other: str) -> bool:
     """Whether two ballots answer a question in different ways."""
     ranks, others = answers_of(ballot), answers_of(other)

@@ -144,6 +144,12 @@ class Copies(BookTest):
         self.done("desk", given="cleo 1,2,3,4\n", cwd=other)
         shutil.copy(other / "election.db", self.book)
         self.assert_stops("election.db", "is not the one that this computer saw")
+        # nobody says that it was restored, though it may have as many acts
+        self.done("close", *MOVED)
+        self.done("publish")
+        page = self.read("result/index.html").decode()
+        self.assertIn("whose act 4 is not the one that this computer had noted", page)
+        self.assertNotIn("restored from a copy", page)
 
     def test_put_back_while_a_desk_is_open(self) -> None:
         """The desk still has the file that is gone from the folder: what it entered there would be lost."""

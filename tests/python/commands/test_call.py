@@ -43,6 +43,8 @@ class Open(CallTest):
         subprocess.run(["sha256sum", "--quiet", "-c", "SHA256SUMS"], cwd=self.folder / "call", check=True)
         # made again it is the same, and no act
         before, log = {file: file.read_bytes() for file in (self.folder / "call").iterdir()}, self.done("log").output
+        # in the zone of the vote
+        self.assertRegex(log, r"(?m)^3 2026-11-\d\d \d\d:\d\d:\d\d UTC\+01:00 call ")
         self.write("poll.toml", "title = 5\n")
         self.write("members.csv", "nothing\n")
         for file in before:
@@ -76,10 +78,10 @@ class Open(CallTest):
         self.write("poll.toml", elections.POLL.replace("quorum = 1", "quorum = 99"))
         self.write("letter.txt", b"\xff")
         self.write("members.csv", elections.members_of(elections.NAMES[1:]))
-        ended = self.election("call", "--until", "2026-11-01 18:00", "--to", "nobody", "--at", "file:///etc")
+        ended = self.election("call", "--until", "2026-11-01 18:00", "--to", "nobody", "--at", "file:///etc", "--keyring", "nofile")
         self.assertEqual(ended.status, 2)
-        parts = ["is past", "--to: it must be one mail address", "--at: it must be", "since roll read it", "letter.txt:1: ", "quorum: "]
-        self.assertEqual([part in line for part, line in zip(parts, ended.faults.splitlines(), strict=True)], [True] * 6, ended.faults)
+        parts = ["is past", "--to: it must be one mail address", "--at: it must be", "nofile: No such file", "since roll read it", "letter.txt:1: ", "quorum: "]
+        self.assertEqual([part in line for part, line in zip(parts, ended.faults.splitlines(), strict=True)], [True] * 7, ended.faults)
         self.assertFalse((self.folder / "call").exists())
 
 
@@ -97,13 +99,17 @@ class Again(CallTest):
         self.assertEqual(self.read("call/poll.toml"), self.poll)
         for text in (self.texts(), self.read("letters/extension.txt").decode(), self.done("status").output):
             self.assertIn(SECOND, " ".join(text.split()).replace("&nbsp;", " "))
-        self.assertIn("letters/extension.txt", ended.output)
+        made = "Made letters/extension.txt, the letter to all that says so.\n"
+        self.assertIn(made, ended.output)
+        # it goes to each elector once, and to none after the close
+        self.assertRegex(ended.output, r"write to the electors: debvote-election letters call; enter")
+        self.assertNotIn("send", ended.output)
         self.assert_fault(self.election("call", "--until", "2026-12-06 17:00"), 2, "is not later")
         self.set_clock("2026-12-06T17:00:00+01:00")
         self.assert_fault(self.election("close"), 9, SECOND)
         self.assertIn("the announced end of the vote has not come yet", self.done("close", "--early").output)
         self.assert_fault(self.election("call", "--until", "2027-01-01 12:00"), 9, "closed")
-        self.done("call")
+        self.assertNotRegex(self.done("call").output, "send|letters call")
 
     def test_what_is_added_and_what_not(self) -> None:
         for page, other in (("https://club.example/vote/", "moved/"), ("https://club.example/moved/", "vote/")):
@@ -190,10 +196,13 @@ class Letters(CallTest):
     def test_with_marks_alone(self) -> None:
         told = self.done("call", *UNTIL, "--to", "vote@club.example", "--at", "https://club.example/vote/", "--marked").output
         self.assertIn("A letter goes in by itself only with the own mark of its elector.\n", told)
-        said = "Open the link in your letter, or answer that letter: then the subject has your own mark"
-        self.assertIn(said, " ".join(self.texts().split()))
         self.done("call", "--marked", "--until", "2026-12-05 18:00")
         self.assertIs(self.announced("marked"), True)
+        # a letter with the mark of the poll alone would wait
+        for name in ("call/index.html", "call/call.txt", "letters/extension.txt"):
+            text = " ".join(self.read(name).decode().split())
+            self.assertIn("Open the link in your letter, or answer that letter: then the subject has your own mark", text, name)
+            self.assertNotIn("in a letter whose subject ends with", text, name)
         self.done("call", "--take-back")
         self.done("call", *UNTIL, "--to", "vote@club.example")
         self.assertNotIn("your own mark", " ".join(self.texts().split()))
@@ -347,6 +356,8 @@ class Secret(CallTest):
         self.assertEqual(len(codes), 9)
         for text in (ended.output, self.texts(), self.done("status").output, self.done("status", "--json").output, self.done("log").output):
             self.assertFalse(codes & set(re.findall(r"[2-9a-hjkmnp-z]{10}", text)))
+        # nobody knows to whom one would go
+        self.assertNotIn("receipt", self.texts())
         self.assertIsNone(json.loads(self.done("status", "--json").output)["without_ballot"])
         # they lapse with the call
         self.assertIn("then run debvote-election roll\n", self.done("call", "--take-back").output)
@@ -358,6 +369,8 @@ class Secret(CallTest):
         self.done("call", *UNTIL)
         after = set(re.findall(r"\b([2-9a-hjkmnp-z]{10}) _", self.read("private/slips.html").decode()))
         self.assertEqual((len(after), codes & after), (10, set()))
+        # nobody can be written to, and all have the call
+        self.assertIn("electors: send letters/extension.txt to all electors; enter", self.done("call", "--until", "2099-12-04 12:00").output)
         self.assertIn("is void", self.texts())
 
     def published_codes(self) -> set[str]:
@@ -380,8 +393,14 @@ class Secret(CallTest):
         letters = [email.message_from_bytes(file.read_bytes()) for file in (self.folder / "letters" / "call").rglob("*.eml")]
         texts = [letter.get_payload(decode=True).decode() for letter in letters]
         for text in (*texts, self.read("call/index.html").decode()):
-            self.assertIn("each code that was given out with it is void", " ".join(text.split()))
+            self.assertIn("each code that was given out with it is void. Only your new code is valid.", " ".join(text.split()))
         self.assertEqual((len(texts), self.read("private/slips.html").decode().count("An earlier slip is void.")), (10, 10))
+        # where the next vote is open, nobody has a new code
+        self.done("call", "--take-back")
+        self.write("poll.toml", elections.POLL)
+        self.done("call", *UNTIL)
+        self.assertRegex(self.texts(), r"with\s+it\s+is\s+void\.")
+        self.assertNotRegex(self.texts(), r"new\s+code")
 
     def test_not_a_secret_vote(self) -> None:
         self.write("poll.toml", elections.POLL)

@@ -116,7 +116,8 @@ class Meanwhile(LettersTest):
         (self.folder / "letters").unlink()
         self.assertIn("Made letters/closed.txt", self.done("close").output)
         moved = self.election("publish", "--moved", "--because", "a new disk", "--casting", "nobody")
-        self.assert_fault(moved, 2, "; act 6 (moved) was done: ")
+        lines = moved.faults.splitlines()
+        self.assertEqual((moved.status, ["; act 6 (moved) was done: " in line for line in lines]), (2, [True, True]), lines)
 
 
 class Asked(LettersTest):

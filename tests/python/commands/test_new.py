@@ -1,7 +1,9 @@
-"""`new`: the folder, its files and modes, and what stops it."""
+"""`new`: the folder, its files and modes, and what stops it; and what `new`, `export` and `backup` leave if they are killed."""
 
 import os
 import sys
+
+from debvote_tools.files import NEW, whole_folder
 
 from tests.support import elections
 
@@ -61,3 +63,41 @@ class New(elections.ElectionTest):
             self.assert_fault(self.election(*words.split(), cwd=folder), 9, "there is no call for votes yet")
             self.assertEqual(self.contents(), before, words)
         self.assertIn("Call for votes: not made yet", self.done("status", cwd=folder).output)
+
+
+class Whole(elections.ElectionTest):
+    def test_what_a_killed_run_left_beside_its_target_is_taken_away(self) -> None:
+        """By the next run, and never what a run has that goes on."""
+        out = self.scratch / "out"
+        out.mkdir()
+        with whole_folder(out / "lasting") as lasting:
+            (lasting / "some").touch()
+            # one that is empty, and is not locked: of a run that has just begun, and of one that was killed then
+            young, old = (out / f"{NEW}{name}" for name in ("young", "old"))
+            for folder in (young, old):
+                folder.mkdir()
+            os.utime(old, (0, 0))
+            there = [lasting.name, young.name]
+            self.done("backup", out / "whole")
+            there.append("whole")
+            self.assertEqual(sorted(file.name for file in out.iterdir()), sorted(there))
+            for command, call in (("new", "fsync"), ("export", "fsync"), ("backup", "pwrite64")):
+                ended = self.traced("-e", f"inject={call}:signal=KILL:when=2", words=(command, out / command))
+                left = {file.name for file in out.iterdir()}.difference(there)
+                self.assertEqual((ended.status, [name.startswith(".debvote-") for name in left]), (-9, [True]), command)
+                self.done(command, out / command)
+                there.append(command)
+                self.assertEqual(sorted(file.name for file in out.iterdir()), sorted(there))
+            # where only the name of what is whole may not be on the disk yet, nothing else is left
+            there.append("again")
+            self.assertEqual(self.traced("-e", "inject=fsync:signal=KILL:when=1", words=("backup", out / "again")).status, -9)
+            self.assertEqual(sorted(file.name for file in out.iterdir()), sorted(there))
+        self.done("status", "--folder", out / "new")
+        self.assertEqual((out / "backup").stat().st_mode & 0o777, 0o600)
+
+    def test_faults_name_what_was_typed(self) -> None:
+        self.done("close", "--yes")
+        for command in ("export", "backup", "publish"):
+            place = self.scratch / "no" / "such"
+            words = ("--force", "--because", "none") if command == "publish" else ()
+            self.assert_fault(self.election(command, *words, place), 7, f"{place}: No such file or directory; it was not changed")

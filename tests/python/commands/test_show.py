@@ -50,5 +50,11 @@ class Show(CalledTest):
         with self.book.act("addresses") as act:
             for elector in queries.electors(self.book)[:2]:
                 queries.put_electors(act, [queries.Elector(elector.number, elector.name, elector.position, "Kim Kim", ())])
-        self.assert_fault(self.election("show", "kim kim"), 9, "several electors have the real name kim kim; name one of ada, ben")
+        self.assert_fault(self.election("show", "kim kim"), 9, "several electors have the name kim kim; name one of ada, ben")
         self.assertEqual(self.shown()[0], "ada: Kim Kim")
+        # as `add` and a desk: a name on the roll with a capital letter may be the real one of somebody else
+        with self.book.act("addresses") as act:
+            dan = queries.electors(self.book)[3]
+            queries.put_electors(act, [dan._replace(who="Cleo")])
+        self.assert_fault(self.election("show", "Cleo"), 9, "show: several electors have the name Cleo; name one of cleo, dan")
+        self.assertEqual(self.shown("cleo")[0], "cleo: Cleo cleo@club.example")

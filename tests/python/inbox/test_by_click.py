@@ -39,7 +39,7 @@ class CallWithBox(elections.ElectionTest):
             (("--at", "https://club.example/?a=/"), ["--box: the page needs"]),
             (
                 ("--keyring", "x", "--at", "http://club.example/"),
-                ["--box: the page needs", "--box: letters have to be signed"],
+                ["--box: the page needs", "--box: letters have to be signed", "x: No such file"],
             ),
         ):
             with self.subTest(words=words):
@@ -338,6 +338,9 @@ class Clicks(boxes.BoxElectionTest):
             "the clock of the web host was off, so it may be earlier or later than another ballot of ada",
             ended.output,
         )
+        self.assertIn("; may have voted since\n", self.done("held").output)
+        why = "its elector may have voted since, as the clock of the web host was off"
+        self.assert_fault(self.election("held", "3", "--enter", "--yes"), 9, why)
         self.assertEqual(self.standing(), {"ada": "1,2,3,4"})
 
     def test_a_clock_that_was_off_when_it_was_asked_before(self) -> None:

@@ -11,7 +11,7 @@ from debvote_tools.inbox import entering, signature
 from debvote_tools.outbox import letter_folder
 
 from tests.support import elections, letters, pgp
-from tests.support.called import LAKE, LettersTest
+from tests.support.called import HALL, LAKE, LettersTest
 from tests.support.letters import OTHER_RANKS as OTHER, RANKS, TEN, mailbox
 from tests.support.terminal import Terminal
 
@@ -113,6 +113,14 @@ class Adding(LettersTest):
             said,
         )
 
+    def test_ranks_alone_of_an_address_that_becomes_somebody_elses(self) -> None:
+        self.add(letter("ada", RANKS), letter("ben", f"ben {RANKS}"), letter("cleo", "hello"))
+        members = elections.members_of(elections.NAMES)
+        self.write("members.csv", members.replace("ben@", "new@").replace("ada@", "ben2@").replace("cleo@", "ada@"))
+        said = self.told("roll", "--yes")
+        self.assertIn(f"\nletter 1, from Ada <ada@club.example>, 2026-11-23 10:00:00 UTC: the ranks have no name before them\n  line 1: cleo {RANKS}\n", said)
+        self.assertEqual(said.count("letter "), 2)
+
     def test_other_acts_between_question_and_answer(self) -> None:
         desk = Terminal(self, "add", str(self.box(letter("ada", f"ada {RANKS}"), letter("ben", f"ben {RANKS}"))))
         desk.until("Enter 2 ballots?")
@@ -123,6 +131,16 @@ class Adding(LettersTest):
         self.assertIn("the vote is closed: to enter it, reopen", desk.after("y\n", "2 letters wait"))
         desk.end()
         self.assertEqual(self.exported(), (f"ada {OTHER}\n", ""))
+
+    def test_what_nobody_agreed_to_goes_in_next_time_unless_it_is_kept_out(self) -> None:
+        desk = Terminal(self, "add", str(self.box(letter("ada", f"ada {RANKS}"), letter("ben", f"ben {RANKS}"))))
+        desk.until("Enter 2 ballots?")
+        said = desk.after("n\n", "keeps one out.")
+        self.assertIn("2 letters wait.\nThe next add --yes, by cron too, enters these ballots: debvote-election held NUMBER --wait keeps one out.", said)
+        desk.end()
+        self.told("held", 2, "--wait")
+        self.add(letter("cleo", "hello"))
+        self.assertEqual(self.lines(), [f"ada {RANKS}"])
 
     def test_an_older_letter_after_lines(self) -> None:
         """A line that was refused is no later ballot, and one that was struck holds back no letter. A late ballot is a later one."""
@@ -466,9 +484,10 @@ class Held(LettersTest):
 
     def test_two_of_one_time_that_differ_and_one_of_before_the_call(self) -> None:
         self.add(letter("cleo", RANKS), letter("cleo", OTHER, number=2))
-        self.assert_fault(self.election("held", 3, 4, "--enter"), 9, "letters 3 and 4: they have different ballots of cleo, and the same time")
+        same = "another ballot of its elector has the same time; nothing was changed: if this ballot must count, repeat it with --force"
+        self.assert_refused(("held", 3, 4, "--enter"), 9, f"letter 4: {same}")
         self.told("held", 4, "--enter")
-        same = "letter 3: another ballot of its elector with the same time was entered"
+        same = f"letter 3: {same}"
         self.assert_fault(self.election("held", 3, "--enter"), 9, same, "--force")
         self.assert_fault(self.election("held", 3, "--as", "cleo 1,1,1,1"), 9, same)
         self.assertEqual(self.exported()[0], f"cleo {OTHER}\n")
@@ -479,6 +498,18 @@ class Held(LettersTest):
         self.assert_refused(("close",), 9, "these letters arrived in time, and wait: 5;")
         self.told("held", 5, "--set-aside")
         self.assertIn("1 letter that arrived before the call did not go in.", self.told("close"))
+
+    def test_at_no_known_time_beside_another(self) -> None:
+        """Each is put to those of its elector before the next is looked at."""
+        unknown = [letter("fay", f"fay {ranks}", number=number).split(b"\n", 1)[1] for number, ranks in enumerate((RANKS, OTHER))]
+        self.add(letter("fay", f"3 of us:\nfay {RANKS}", number=3), *unknown)
+        said = "its elector may have voted since, as nobody knows when it arrived; nothing was changed: if this ballot must count, repeat it with --force"
+        self.assert_refused(("held", 3, 5, "--enter"), 9, f"letter 5: {said}")
+        self.assert_refused(("held", 5, 4, "--enter"), 9, f"letter 5: {said}")
+        self.told("held", 3, "--enter")
+        self.assert_refused(("held", 4, "--enter"), 9, f"letter 4: {said}")
+        self.told("held", 5, 4, "--enter", "--force")
+        self.assertEqual(self.lines(), [f"fay {RANKS}", f"fay {RANKS}", f"fay {OTHER}"])
 
     def test_what_the_secretary_types(self) -> None:
         """The ballot has the time of the letter, and is tied to it, so nobody is told that the letter waits."""
@@ -533,6 +564,32 @@ class Held(LettersTest):
         self.told("held", 1, "--enter")
         self.assertEqual(self.exported()[0], f"ada {RANKS}\n")
 
+    def test_a_copy_of_one_that_was_typed_or_of_which_one_of_two_was_entered(self) -> None:
+        """What was entered of a letter itself lies not between it and its copy."""
+        came, again = (
+            (letter("fay", f"fay {RANKS}\nor fay {OTHER}", time), letter("gus", f"gus {RANKS}\n\ngus {OTHER}", time)) for time in (TEN, TEN.replace("10:", "12:"))
+        )
+        self.add(*came)
+        self.told("held", 3, "--as", f"fay {OTHER}")
+        self.told("held", 4, "--enter", 3)
+        self.assertIn("0 ballots of letters went in; 2 letters wait; 2 copies passed over.", self.add(*again))
+        # one that has to wait nevertheless does not replace in silence what was typed
+        self.told("held", 5, "--wait")
+        said = "letter 5: its ballot was typed; nothing was changed: type it again with debvote-election held 5 --as LINE; if this line is meant, repeat it with --force"
+        self.assert_refused(("held", 5, "--enter"), 9, said)
+        self.assertEqual(self.lines(), [f"fay {OTHER}", f"gus {OTHER}"])
+
+    def test_a_copy_of_one_that_was_struck_or_taken_back_and_set_aside(self) -> None:
+        fays, guss = f"fay {RANKS}", f"gus {RANKS}"
+        self.add(*(letter(text[:3], text).replace(f" [{elections.ANY_MARK}]".encode(), b"") for text in (fays, guss)))
+        self.told("held", 3, "--enter")
+        self.told("strike", 1, "--because", "not hers", "--yes")
+        self.told("held", 4, "--enter")
+        self.told("undo", "--yes")
+        self.told("held", 3, 4, "--set-aside")
+        said = self.add(*(letter(text[:3], text, TEN.replace("10:", "12:")) for text in (fays, guss)))
+        self.assertIn("0 ballots of letters went in; 2 letters wait; 2 copies passed over.", said)
+
     def test_it_asks_once_at_a_terminal_and_wrong_words(self) -> None:
         self.add(letter("cleo", OTHER))
         desk = Terminal(self, "held", "1", "3", "--enter")
@@ -582,6 +639,10 @@ class InTime(LettersTest):
         self.told("close")
         self.add(self.wordy)
         self.assert_stops_count()
+        # from elsewhere each command that they say names the folder
+        for command in ("count", "publish"):
+            ended = self.election(command, "--folder", self.folder, cwd=self.scratch)
+            self.assert_fault(ended, 9, *(f"debvote-election {its} --folder {self.folder}" for its in ("held", "reopen")))
         self.told("held", 1, "--set-aside")
         self.election("add", self.box(letter("dan", f"dan {OTHER}")))
         self.assert_stops_count(2)
@@ -854,6 +915,20 @@ class Secret(OwnMarks):
 class Family(LettersTest):
     """Ballots of two electors in one letter."""
 
+    def test_it_is_said_who_has_voted_since_and_for_whom_it_waits_on(self) -> None:
+        self.change_roll("ben@", "ada@")
+        later = "Mon, 23 Nov 2026 12:00:00 +0000"
+        self.add(letter("ada", f"ada {RANKS}\nben {OTHER}\ncleo {RANKS}"), letter("ada", f"ada {OTHER}", later, number=2))
+        why = "ballots of several electors: ada, ben, cleo"
+        self.assertIn(f"        {why}; ada has voted since\n", self.told("held"))
+        self.assertIn(f": {HALL}\n  {why}\n2 counted  ben: ", self.told("held", 1, "--enter", 2))
+        for words in (("held", 1), ("held",), ("show", "ada")):
+            self.assertIn("not entered yet: a ballot of ada and cleo", self.told(*words))
+        said = self.told("held", 1, "--enter", 1, "--force")
+        self.assertIn(f": {LAKE}\n  not entered yet: a ballot of ada and cleo; ada has voted since\n", said)
+        self.told("desk", given=f"cleo {OTHER}\nben {OTHER}\n")
+        self.assertIn("not entered yet: a ballot of cleo; cleo has voted since\n", self.told("held"))
+
     def assert_left(self, waiting: int, *lines: str) -> None:
         self.assertEqual((self.numbers()["waiting"], self.lines()), (waiting, list(lines)))
 
@@ -881,6 +956,22 @@ class Family(LettersTest):
         self.told("strike", 5, "--because", "ada asked for it")
         self.assert_left(0)
 
+    def test_what_is_left_is_named_and_entered(self) -> None:
+        """By its lines alone, also after an `undo`."""
+        self.add(letter("ada", f"ada {RANKS}\nben {OTHER}\ncleo {RANKS}"))
+        self.told("held", 1, "--enter", 2)
+        shown = self.told("held", 1)
+        self.assertIn(f"It waits: not entered yet: a ballot of ada and cleo\nline 1: ada {RANKS}\nline 3: cleo {RANKS}\n1 letter waits.", shown)
+        self.assert_refused(("held", 1, "--enter"), 9, "letter 1: it has 2 lines that can be entered")
+        self.told("held", 1, "--enter", "3,1")
+        self.assert_left(0, f"ben {OTHER}", f"cleo {RANKS}", f"ada {RANKS}")
+        self.assertIn("; debvote-election held 1 --enter 3,1 enters these letters again\n", self.told("undo", "--yes"))
+        self.told("held", 1, "--enter", "3")
+        self.told("held", 1, "--enter")
+        self.assertIn("; debvote-election held 1 --enter enters these letters again\n", self.told("undo", "--yes"))
+        self.told("held", 1, "--enter")
+        self.assert_left(0, f"ben {OTHER}", f"cleo {RANKS}", f"ada {RANKS}")
+
 
 class Couple(LettersTest):
     """Two electors who have one address, and say in words how they vote."""
@@ -907,18 +998,20 @@ class Couple(LettersTest):
 
     def test_one_after_the_other(self) -> None:
         """It waits, stops the close and is shown of the other, until each has a ballot of it, or it is set aside."""
-        waits = "\nletter 1 waits on, for a ballot of ben\n1 letter waits.\n"
+        waits = "\nletter 1 waits on; not entered yet: a ballot of ben\n1 letter waits.\n"
         self.assertIn(waits, self.told("held", 1, "--as", self.ada))
         self.assertIn("\n  letter 1, from Ada <ada@club.example>, ", self.told("show", "ben"))
         self.assert_left(1, self.ada)
         self.assert_refused(("close",), 9, "these letters arrived in time, and wait: 1;")
-        said = "letter 1: its ballot of ada was entered; nothing was changed: there is nothing to do"
-        self.assert_refused(("held", 1, "--as", f"ada {OTHER}", "--force"), 9, said)
+        said = "letter 1: its ballot of ada was entered; nothing was changed: "
+        other = f"{said}to enter another one in its place, run debvote-election strike 1 --because TEXT first\n"
+        self.assert_refused(("held", 1, "--as", f"ada {OTHER}", "--force"), 9, other)
+        self.assert_refused(("held", 1, "--as", self.ada), 9, f"{said}for what is left of it see debvote-election held 1\n")
         # with the ballot of the other there is something to do
-        said = said.replace("there is nothing to do", "leave it out\n")
-        self.assert_refused(("held", 1, "--as", self.ada, "--as", self.ben), 9, said)
+        self.assert_refused(("held", 1, "--as", self.ada, "--as", self.ben), 9, f"{said}leave it out\n")
         self.assertNotIn("waits on", self.told("held", 1, "--as", self.ben))
         self.assert_left(0, self.ada, self.ben)
+        self.assert_refused(("held", 1, "--as", self.ada), 9, f"{said}there is nothing to do\n")
         # what is taken back waits, and that of the other stays
         self.told("undo", "--yes")
         self.assert_left(1, self.ada)
@@ -933,13 +1026,23 @@ class Couple(LettersTest):
         self.assertNotIn("waits on", self.told("held", 2, "--enter"))
         self.assertIn("held 2 --enter enters these letters again", self.told("undo", "--yes"))
         self.assertNotIn("--enter", self.told("undo", "--yes"))
-        self.assertIn("letter 2 waits on, for a ballot of ben\n", self.told("held", 2, "--enter"))
+        self.assertIn("letter 2 waits on; not entered yet: a ballot of ben\n", self.told("held", 2, "--enter"))
         self.assert_left(1, self.ada)
         # also for one of another address
         self.add(letter("cleo", f"We are 2: Dan is for the town hall\ncleo {RANKS}", number=3))
         self.told("held", 3, "--as", f"dan {OTHER}", "--force")
         self.told("undo", "--yes")
         self.assertIn("letter 3 waits on, for a ballot of dan\n", self.told("held", 3, "--enter"))
+
+    def test_what_was_typed_for_somebody_else_by_mistake(self) -> None:
+        """Once it is taken back the letter waits for nobody."""
+        self.told("held", 1, "--set-aside")
+        self.add(letter("dan", "I am for the lake", number=2))
+        self.told("held", 2, "--as", self.ada, "--force")
+        self.told("undo", "--yes")
+        self.assertNotIn("waits on", self.told("held", 2, "--as", f"dan {RANKS}"))
+        self.assert_left(0, f"dan {RANKS}")
+        self.told("close")
 
     def test_one_that_went_in_by_itself(self) -> None:
         """Where three have the address it waits again, for the third."""
@@ -952,13 +1055,13 @@ class Couple(LettersTest):
         self.told("undo", "--yes")
         self.write("members.csv", elections.members_of(self.names).replace("ben@", "ada@").replace("cleo@", "ada@"))
         self.told("roll", "--yes")
-        self.assertIn("letter 2 waits on, for a ballot of cleo\n", self.told("held", 2, "--as", self.ben))
+        self.assertIn("letter 2 waits on; not entered yet: a ballot of cleo\n", self.told("held", 2, "--as", self.ben))
         self.assert_left(1, self.ada, self.ben)
         # also of one that was set aside, which then waits again
         self.told("held", 2, "--set-aside")
         self.told("undo", "--yes")
         self.told("held", 2, "--set-aside")
-        self.assertIn("letter 2 waits on, for a ballot of cleo\n1 letter waits.\n", self.told("held", 2, "--as", self.ben))
+        self.assertIn("letter 2 waits on; not entered yet: a ballot of cleo\n1 letter waits.\n", self.told("held", 2, "--as", self.ben))
         # a line that is entered needs no ballots of others
         self.add(letter("ada", f"2 of us:\nada {OTHER}", "Mon, 23 Nov 2026 11:00:00 +0000", number=3))
         self.told("held", 3, "--enter", 2)
@@ -969,7 +1072,7 @@ class Couple(LettersTest):
         self.told("held", 1, "--set-aside")
         box = self.write("box", letters.mailbox(self.of_this_vote(letter("ada", self.ada, number=2))))
         self.assertIn("1 ballot would go in", self.election("add", box).faults)
-        self.assertIn("letter 2 waits on, for a ballot of ben\n", self.told("held", 2, "--as", self.ada))
+        self.assertIn("letter 2 waits on; not entered yet: a ballot of ben\n", self.told("held", 2, "--as", self.ada))
         self.assertIn("0 ballots of letters went in; 1 letter waits.", self.told("add", "--yes", box))
         self.told("strike", 1, "--because", "she rang up")
         self.assertIn("0 ballots of letters went in; 1 letter waits.", self.told("add", "--yes", box))
@@ -980,7 +1083,7 @@ class Couple(LettersTest):
         self.told("held", 1, "--set-aside")
         said = self.add(letter("ada", f"{self.ada}\nben 2 1 4 3", number=2))
         self.assertIn(f"ballots of several electors: ada, ben\n        line 1: {self.ada}\n        line 2: ben 2,1,4,3\n", said)
-        self.assertIn("letter 2 waits on, for a ballot of ben\n", self.told("held", 2, "--enter", 1))
+        self.assertIn("letter 2 waits on; not entered yet: a ballot of ben\n", self.told("held", 2, "--enter", 1))
         self.assertNotIn("waits on", self.told("held", 2, "--enter", 2))
         self.assert_left(0, self.ada, "ben 2,1,4,3")
 
@@ -1001,6 +1104,16 @@ class RealNames(LettersTest):
         self.assertIn("\n1 counted  ada: ", self.told("held", 1, "--as", f"Ada Lovelace {RANKS}"))
         said = f"--as: `Ben Blum {RANKS}` is no ballot of this poll: it has the name of ben and cleo; nothing was changed: "
         self.assert_refused(("held", 2, "--as", f"Ben Blum {RANKS}", "--force"), 9, said)
+
+    def test_a_line_with_the_name_of_two(self) -> None:
+        self.add(letter("dan", f"Ben Blum {RANKS}\n"))
+        self.assertIn(f"\nline 1: ben {RANKS}\nline 1: cleo {RANKS}\n1 letter waits.\n", self.told("held", 1))
+        for lines in ((), (1,)):
+            said = "letter 1: line 1 has the name of ben and cleo; nothing was changed: if you know whose it is, type it with --as LINE"
+            self.assert_refused(("held", 1, "--enter", *lines, "--force"), 9, said)
+        self.assertIn("\nWrote 3 letters: ", self.told("letters", "receipts"))
+        self.told("held", 1, "--as", f"cleo {RANKS}")
+        self.assertEqual((self.lines(), self.told("held").splitlines()[0]), ([f"cleo {RANKS}"], "No letter waits."))
 
 
 class OtherVote(LettersTest):
@@ -1033,3 +1146,25 @@ class OtherVote(LettersTest):
         near = self.mark[:-2] + self.mark[-2:].translate(str.maketrans("0123456789abcdef", "123456789abcdef0"))
         self.add(letter("dan", f"dan {RANKS}").replace(elections.ANY_MARK.encode(), near.encode()))
         self.told("held", 4, "--enter")
+
+    def test_what_may_be_of_this_vote_is_entered_by_force_too(self) -> None:
+        """Of a call that was taken back, whose options may have had another order, and with two marks."""
+        old, other = self.mark, "77d0" * 4
+        self.set_clock("2026-11-20T10:00:00+00:00")
+        self.told("call", "--take-back")
+        self.write("poll.toml", elections.POLL.replace('"At the lake", "In the town hall"', '"In the town hall", "At the lake"'))
+        self.told("call", *self.call_words)
+        self.set_clock(self.now)
+        self.add(*(
+            letter(name, f"{name} {RANKS}").replace(elections.ANY_MARK.encode(), marks.encode())
+            for name, marks in (("ada", old), ("ben", f"{self.mark}] [{old}"), ("cleo", f"{self.mark}] [{other}"))
+        ))  # fmt: skip
+        of_old = (f"it has the mark of a call that was taken back, [{old}]", "look whether its options were the same")
+        of_other = (f"it has the mark of another vote, [{other}]", "add it to that vote")
+        for number, name, (words, cure) in ((1, "ada", of_old), (2, "ben", of_old), (3, "cleo", of_other)):
+            self.assertIn(f"\nIt waits: {words}; {cure}\n", self.told("held", number))
+            said = f"letter {number}: {words}; nothing was changed: {cure}; if this ballot must count, repeat it with --force"
+            for how in (("--enter",), ("--as", f"{name} {OTHER}")):
+                self.assert_refused(("held", number, *how), 9, said)
+        self.told("held", 1, 2, 3, "--enter", "--force")
+        self.assertEqual(self.lines(), [f"{name} {RANKS}" for name in ("ada", "ben", "cleo")])

@@ -129,7 +129,7 @@ class Taken(LettersTest):
     def test_a_letter_with_the_words_of_two_waits_for_both(self) -> None:
         self.add(letter("ada", "ada ja\nben nein\n"), letter("cleo", "cleo 1,2\ndan nein\n"))
         for number, other in ((1, "ben"), (2, "dan")):
-            self.assertIn(f"letter {number} waits on, for a ballot of {other}\n", self.told("held", number, "--enter", 1))
+            self.assertIn(f"letter {number} waits on; not entered yet: a ballot of {other}\n", self.told("held", number, "--enter", 1))
             self.assertNotIn("waits on", self.told("held", number, "--enter", 2))
         self.assertEqual(self.lines(), ["ada 1,2", "ben 2,1", "cleo 1,2", "dan 2,1"])
 

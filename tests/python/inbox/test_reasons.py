@@ -18,7 +18,7 @@ from tests.support.letters import BALLOT, MARK, NAMES, OTHER, at, judged, label,
 VALUES: dict[str, str | int | datetime.datetime] = {
     "length": 7, "limit": 8, "number": 3, "digest": 2, "options": 4, "called": at(9), "first": at(9), "between": at(9), "end": at(9), "close": at(9), "time": at(9), "arrived": at(9), "asked": at(9), "seconds": 180,
     "what": "text", "charset": "x-none", "character": "U+000D", "element": "<s>", "sender": "a@x",
-    "elector": "ada", "listed": "b@x", "electors": "ada, ben", "mark": "0123456789abcdef", "key": "A" * 40,
+    "elector": "ada", "listed": "b@x", "electors": "ada, ben", "mark": "0123456789abcdef", "key": "A" * 40, "rest": "a ballot of ben",
 }  # fmt: skip
 
 
@@ -80,6 +80,8 @@ class Sentences(unittest.TestCase):
         found = {one.partition(": ")[2] for one in (*(row.becomes for row in test_table_of_letters.TABLE), *signed)}
         # these are of letters beside others, of what an act decided, and of a gpgv that hangs
         found |= {"came before", "parted off", "taken back", "put back", "set aside", "struck", "slow signature", "perhaps copy"}
+        # of one of which another ballot was entered (test_letters.py)
+        found |= {"not entered"}
         # of letters about a motion (test_motions.py)
         found |= {"word", "word alone", "another answer"}
         # and of records of the box (test_by_click.py)

@@ -13,6 +13,9 @@ class Reopened(LettersTest):
     def reopen(self, *words: object) -> str:
         return self.told("reopen", *words, *IN_TIME)
 
+    def closing_letter(self) -> str:
+        return " ".join(self.read("letters/closed.txt").decode().split())
+
     def test_late_lines_go_in_by_their_times(self) -> None:
         """In whatever order they are named, and came where the clock was put back. What needed no force is not told as forced: a later line
         that is refused is no ballot.
@@ -42,8 +45,9 @@ class Reopened(LettersTest):
 
     def test_a_letter_before_one_that_is_late_waits(self) -> None:
         """The late one counts for nothing, so the other is not passed over for it."""
-        self.told("close")
+        self.told("call", "--until", "2026-11-25 09:20", "--zone", "UTC")
         self.set_clock("2026-11-25T10:00:00+00:00")
+        self.told("close")
         self.add(letter("ada", OTHER, time="Wed, 25 Nov 2026 09:30:00 +0000"))
         self.assertIn("1 late  ada: ", self.told("held", 1, "--enter"))
         self.reopen("--in-time", 1)
@@ -111,12 +115,12 @@ class Reopened(LettersTest):
         self.assert_fault(self.election("call", "--until", "2026-12-24 12:00"), 9, said)
         self.add_lines(f"cleo {RANKS}", words=("--came-before-close", "yes"))
         self.told("close")
-        letter = " ".join(self.read("letters/closed.txt").decode().split())
+        letter = self.closing_letter()
         self.assertIn("11:00 (UTC), and opened again. The reason, in the secretary's words: (a bag was found) This", letter)
         closes = [detail["questions"][""]["checksum"] for name, detail in self.acts() if name == "close"]
         self.assertEqual([checksum in letter for checksum in closes], [False, True, True])
         self.told("publish")
-        self.assertEqual(self.read("result/index.html").decode().count("lines that came in: 1; "), 2)
+        self.assertEqual(self.read("result/index.html").decode().count("lines in time that came in: 1; "), 2)
 
     def test_a_late_line_is_entered_once(self) -> None:
         """What was entered again came once: the same line in a file is another one."""
@@ -133,9 +137,10 @@ class Reopened(LettersTest):
         self.assertEqual(self.stands("ada"), RANKS)
 
     def test_what_was_entered_anew_and_struck_is_entered_anew_again(self) -> None:
-        """As the fault of `held` says; a line of a file is known all the time, and once."""
-        self.told("close")
+        """As the fault of `held` says, of a letter of after the end and before the close; a line of a file is known all the time, and once."""
+        self.told("call", "--until", "2026-11-25 09:20", "--zone", "UTC")
         self.set_clock("2026-11-25T10:00:00+00:00")
+        self.told("close")
         self.add(letter("ben", f"ben {RANKS}", time="Wed, 25 Nov 2026 09:30:00 +0000"))
         self.told("held", 1, "--enter")
         self.add_lines(BALLOT)
@@ -166,10 +171,22 @@ class Reopened(LettersTest):
         self.told("close")
         self.assertIn("Note: 1 line late; ", self.reopen("--in-time", 1, "--in-time", 3))
         self.assertEqual((self.lines(), self.late_lines()), ([late[0], late[2]], late))
-        # only those that were not entered before are named, also at a terminal, which is not asked
+        # only those that were not entered before are named, also at a terminal, which is asked about the reason
         self.told("close")
-        terminal = Terminal(self, "reopen", *IN_TIME)
-        self.assertRegex(terminal.end()[0], "Note: 1 line late; [^\n]*\n  debvote-election close && debvote-election reopen --in-time 2 --because")
+        before = self.last_act()
+        for answer, status, said in (
+            ("n", 9, "you did not say yes; nothing was changed"),
+            ("y", 0, "Note: 1 line late; [^\n]*\n  debvote-election close && debvote-election reopen --in-time 2 --because"),
+        ):
+            self.assertEqual(self.last_act(), before)
+            terminal = Terminal(self, "reopen", *IN_TIME)
+            self.assertIn("because: it was in time? Everybody will read this reason.", terminal.until("[y/n] "))
+            terminal.type(f"{answer}\n")
+            shown, ended = terminal.end()
+            self.assertRegex(shown, said)
+            self.assertEqual(ended, status)
+        self.told("close")
+        self.assertNotIn("[y/n]", Terminal(self, "reopen", "--yes", *IN_TIME).end()[0])
 
     def test_that_command_before_the_announced_end(self) -> None:
         """It closes early again, which the program does not do unasked."""
@@ -183,9 +200,14 @@ class Reopened(LettersTest):
         for words in line.split(" && "):
             said = self.done(*shlex.split(words)[1:]).output
         self.assertEqual(self.lines(), [BALLOT])
+        end = "end: one should have been able to vote until Monday, 30 November 2026, 18:00 (UTC)."
+        self.assertIn(f"computer. That was before the announced {end}", self.closing_letter())
         self.set_clock("2026-11-30T18:00:00+00:00")
         self.assertIn("then debvote-election close --early\n", said)
         self.told("close")
+        # the first close was early, and not this one
+        first = "The vote was closed on Wednesday, 25 November 2026, 09:00 (UTC), before its announced"
+        self.assertIn(f"30 November 2026, 18:00 (UTC), by the clock of the secretary's computer. {first} {end}", self.closing_letter())
         self.assertIn("Next: debvote-election add FILE, then debvote-election close\n", self.reopen())
 
     def test_undo_of_a_reopen(self) -> None:
@@ -194,6 +216,8 @@ class Reopened(LettersTest):
         self.add_lines(BALLOT, f"ben {RANKS}")
         self.reopen("--in-time", 1, 2)
         self.assertIn("came before; 0 are new", self.add_lines(BALLOT, words=("--came-before-close", "yes")))
+        said = "envelope 1 is late, and was entered anew as in time, which would count on; nothing was changed: strike its new envelope"
+        self.assert_refused(("strike", 1, "--because", "a slip"), 9, said)
         self.told("undo", "--yes")
         self.assertEqual((self.lines(), self.late_lines()), ([], [BALLOT, f"ben {RANKS}"]))
         self.assertIn("came before, and was late (envelope 1)", self.add_lines(BALLOT, words=("--came-before-close", "yes")))
@@ -214,6 +238,22 @@ class Reopened(LettersTest):
         self.reopen()
         self.told("held", 2, "--enter", "--force")
         self.assertEqual((self.lines(), self.late_lines()), ([BALLOT], [BALLOT]))
+
+    def test_a_letter_of_after_the_first_close(self) -> None:
+        """Its late ballot is not one of those that may have come in time, as a line of a file may."""
+        self.told("close")
+        self.set_clock("2026-11-25T10:00:00+00:00")
+        self.add(letter("ada", BALLOT, time="Wed, 25 Nov 2026 09:30:00 +0000"))
+        self.told("held", 1, "--enter")
+        self.add_lines(f"ben {RANKS}")
+        said = "--in-time: envelope 1 is of a letter that arrived after the first close; nothing was changed: leave it out"
+        self.assert_refused(("reopen", "--in-time", 1, 2, *IN_TIME), 9, said)
+        self.assertIn("Note: 1 line late; for those that came before the first close:\n  debvote-election close && debvote-election reopen --in-time 2 --because ", self.reopen())
+        said = "letter 1: its ballot of ada was entered, and is late; nothing was changed: there is nothing to do"
+        self.assert_refused(("held", 1, "--enter"), 9, said)
+        self.told("close")
+        self.reopen("--in-time", 2)
+        self.assertEqual((self.lines(), self.late_lines()), ([f"ben {RANKS}"], [BALLOT, f"ben {RANKS}"]))
 
     def test_a_call_that_was_closed_and_taken_back(self) -> None:
         """A close stays; where an earlier version took the call back, the next one is open until its own close."""

@@ -12,7 +12,7 @@ from debvote_tools.inbox.letter_lines import ReadLetter
 from debvote_tools.inbox.reasons import for_secretary
 from debvote_tools.inbox.rules import LetterCase, LetterOutcome
 
-from tests.support.letters import BALLOT, IN, OTHER, RANKS, alternatives, at, as_kept, circumstances, in_order, judged, letter, lines_in, outcome, outcomes, parsed, read
+from tests.support.letters import BALLOT, IN, OTHER, RANKS, alternatives, at, case_of, circumstances, in_order, judged, letter, lines_in, outcome, outcomes, parsed, read
 
 
 def hour(of_day: int, second: int = 0) -> str:
@@ -223,8 +223,8 @@ class Several(unittest.TestCase):
         self.assertEqual(outcomes(kept, first(), decisions={kept.digest: queries.TAKEN_BACK}), ["copy", "waits: taken back"])
         # a ballot that goes in counts for those after it
         found = judged(first(), letter("ada", "hello", number=2, time=hour(9)))
-        told = [(outcome(one), one.has_voted_since) for one in found]
-        self.assertEqual(told, [("waits: no ballot", True), (f"in: {BALLOT}", False)])
+        told = [(outcome(one), [*one.voted_since]) for one in found]
+        self.assertEqual(told, [("waits: no ballot", ["ada"]), (f"in: {BALLOT}", [])])
 
 
 # ---------------------------------------------------------------- mailboxes in any order
@@ -288,14 +288,14 @@ class World:
                 lines.append(self.desk[minute])
             for _, number in [one for one in (*reads, *last) if one[0] == minute]:
                 there += [data for one, data in known.items() if one.box == number and one.minute <= minute and data not in there]
-                found = judge_all([LetterCase(one, now, as_kept(decisions.get(one.digest))) for one in there], lambda _: in_order({"ada": box}))
+                found = judge_all([case_of(one, now, decisions.get(one.digest)) for one in there], lambda _: in_order({"ada": box}))
                 # it may be that nobody agrees, but in the end
                 for one in found if minute == MINUTES or self.chance.random() < 0.8 else ():
                     if one.outcome is LetterOutcome.GOES_IN and one.time is not None:
                         decisions[one.read.digest] = queries.ENTERED
                         box.append(Ballot(one.time, one.ballots[0].as_entered, True))
                         lines.append(box[-1].line)
-        found = judge_all([LetterCase(one, now, as_kept(decisions.get(one.digest))) for one in there], lambda _: in_order({"ada": box}))
+        found = judge_all([case_of(one, now, decisions.get(one.digest)) for one in there], lambda _: in_order({"ada": box}))
         assert not any(one.outcome is LetterOutcome.GOES_IN for one in found)
         return next(reversed(lines), ""), any(one.outcome is LetterOutcome.WAITS for one in found)
 

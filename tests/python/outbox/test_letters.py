@@ -15,7 +15,7 @@ from debvote_tools.poll.questions import LONGEST_LINE
 
 from tests.support import elections
 from tests.support.called import LAKE
-from tests.support.letters import letter
+from tests.support.letters import letter, mailbox
 from tests.support.outgoing import AT, END, OTHER_RANKS, RANKS, TITLE, OutTest, one_line, parsed
 
 FORM = f"The page of the vote, which writes the line of your ballot for you, and on which the result will be: {AT}"
@@ -147,6 +147,16 @@ class Refused(OutTest):
         self.assertRegex(text, r"Send your ballot as the secretary announces\. .* WHAT DECIDES .* WHAT WILL BE PUBLIC ")
         self.assertEqual(found["ada"]["From"], "vote@other.example")
         self.assertIn(f"{LINE}ada _,_,_,_", self.texts("reminders", "--from", "v@x.example")["ada"])
+        # the first end that is said may be less time
+        for day in (4, 6):
+            self.done("call", "--until", f"2026-12-0{day} 18:00", "--zone", "UTC")
+        message = self.written("call", "--from", "v@x.example")["ada"]
+        self.assertRegex(message["Subject"], rf"^When the vote ends: {TITLE} {MARKS}$")
+        self.assertIn("You can now vote until the time below.", one_line(message))
+        self.done("close", "--early")
+        self.done("publish", "--force", "--because", "nobody has voted")
+        first, second = "The end of the vote was announced: one could vote until Friday, 4", "The time was extended: one could vote until Sunday, 6"
+        self.assertRegex(" ".join(self.read("letters/result.txt").decode().split()), f"{first} .* {second} ")
 
     def test_addresses_of_before_the_call_and_that_of_the_result(self) -> None:
         # of several addresses the first that each server takes
@@ -266,6 +276,10 @@ class Paper(OutTest):
         for kind in (*kinds, "closed", "result"):
             [page] = [file for file in self.files(kind) if file.suffix == ".html"]
             self.assertEqual(begin in page.read_text(), kind not in ("call", "reminders"), kind)
+        # only what comes by e-mail has a subject
+        for file in self.files("result"):
+            text = page.read_text() if file == page else parsed(file.read_bytes()).get_content()
+            self.assertEqual("subject of each true letter" in " ".join(text.split()), file != page, file)
 
 
 class Names(OutTest):
@@ -393,6 +407,11 @@ class ReceiptsAndReminders(OutTest):
         self.assertIn("so it is late and does not count.", late["gus"])
         for text in late.values():
             self.assertNotRegex(text, r"_,_|unless you|You can send")
+        # what was entered anew is told once
+        self.done("reopen", "--in-time", 10, "--because", "it was in time")
+        anew = self.texts("receipts")
+        self.assertEqual((list(anew), anew["fay"].count("It was read as")), (["fay"], 1))
+        self.assertIn("has arrived, and it counts. It was read as (fay", anew["fay"])
 
     def test_a_letter_of_which_one_ballot_is_entered(self) -> None:
         """Its elector is told once of that, and the other elector that the letter waits: Ben, who has the same address, or Dan."""
@@ -405,8 +424,14 @@ class ReceiptsAndReminders(OutTest):
         self.assertEqual(sorted(texts), ["ada", "ben", "ben_2", "cleo", "dan"])
         for name in ("ada", "cleo"):
             self.assertEqual((texts[name].count("has arrived"), "It counts unless you send a later one." in texts[name]), (1, True))
-        self.assertIn("No ballot from it is entered yet", texts["ben"])
+        of_others = "10:00 (UTC) has a ballot of somebody else, which was entered. No ballot of yours from it"
+        self.assertIn(f"{of_others} is entered yet: the secretary has to look at it first.", texts["ben"])
         self.assertIn(ELSEWHERE, texts["dan"])
+        # of one that was set aside, too
+        self.add(letter("ada", f"My vote, and his:\nada {OTHER_RANKS}\nben {RANKS}\n", number=2))
+        self.done("held", 3, "--enter", 2, "--force")
+        self.done("held", 3, "--set-aside")
+        self.assertIn(f"{of_others} was entered.", self.texts("receipts")["ben"])
         shown = {name: "letter 2, from " in self.told("show", name) for name in ("cleo", "dan", "eve")}
         self.assertEqual(shown, {"cleo": True, "dan": True, "eve": False})
 
@@ -539,7 +564,11 @@ class ReceiptsAndReminders(OutTest):
             letter("eve", f"eve {RANKS}\n", sender="x@x.example", time="Mon, 23 Nov 2026 08:00:00 +0000"),
             letter("eve", "I want the lake\n", number=2, time="Mon, 23 Nov 2026 09:00:00 +0000"),
         )
-        texts = self.texts("reminders")
+        # nobody has agreed to this one yet
+        self.write("inbox.mbox", mailbox(letter("ida", f"ida {RANKS}\n")))
+        self.election("add", "inbox.mbox")
+        messages = self.written("reminders")
+        texts = {name: one_line(message) for name, message in messages.items()}
         self.assertEqual(sorted(texts), [name for name in elections.NAMES if name != "ada"])
         for name in ("ben", "hal"):
             self.assertTrue(texts[name].startswith(f"Dear {name.title()}, {NONE} {WHEN} {FORM}#{name}/"), texts[name])
@@ -561,6 +590,12 @@ class ReceiptsAndReminders(OutTest):
         # nor hides it an own letter that waits
         self.assertIn(f"{ELSEWHERE} Your letter of Monday, 23 November 2026, 09:00 (UTC) has arrived.", texts["eve"])
         self.assertIn("You can send a right line now", texts["eve"])
+        # who has voted reads that the ballot has come, and is not entered yet
+        for name, begins in (("ida", "Receipt: "), ("hal", "Not yet voted: ")):
+            self.assertTrue(messages[name]["Subject"].startswith(begins), name)
+        self.assertIn("Your letter of Monday, 23 November 2026, 10:00 (UTC) has arrived. No ballot from it is entered yet: ", texts["ida"])
+        for words in (NONE, "You can send a right line now", "ida _,_,_,_"):
+            self.assertNotIn(words, texts["ida"])
 
     def test_the_end_after_two_extensions_in_reminders_and_receipts(self) -> None:
         for day, words in ((6, "Sunday, 6 December"), (8, "Tuesday, 8 December")):
@@ -679,7 +714,7 @@ class NoBallots(OutTest):
 
 class CloseAndResult(OutTest):
     def test_an_open_vote(self) -> None:
-        self.assert_fault(self.election("letters", "result"), 9, "nothing is published")
+        self.assert_fault(self.election("letters", "result"), 9, "the vote is not closed")
         self.add_lines(f"ada {RANKS}", f"ben {RANKS}")
         self.done("close", "--early")
         self.done("publish")
@@ -704,11 +739,12 @@ class CloseAndResult(OutTest):
         telephone = "A page can't vouch for itself. So on a telephone, which has no such command, ask somebody with a computer to compare it."
         self.assertIn(f"{telephone} The subject of each true letter to you ends with your own mark", texts["ada"])
         self.assertIn("open the index.html that you downloaded and compared, and read that file", texts["ada"])
+        self.assertIn("The program recount.py, which counts anew, is that of the web site until its checksum is compared: run it only if", texts["ada"])
         # each act that the page tells
         self.assertIn("That was before the time until which one could vote.", texts["ada"])
         # none of a vote that is open again; each publication has its letters
         self.done("reopen", "--because", "a bag was forgotten")
-        self.assert_fault(self.election("letters", "result"), 9, "nothing is published")
+        self.assert_fault(self.election("letters", "result"), 9, "the vote is not closed", "run debvote-election close first")
         self.done("desk", "--came-before-close", "yes", given="ada 1,3,4,2\n")
         self.done("close", "--early")
         self.done("publish", "result-2")

@@ -444,6 +444,9 @@ class Sending(SendTest):
         ):
             with self.subTest(words=words):
                 self.assert_fault(self.election("letters", *words), 2, part)
+        faults = self.election("letters", "call", "--server", "x y", "--yes", "--at", "ftp:", "--from", "x").faults.splitlines()
+        parts = ["only with --send", "--at: only with result", "--yes: only with", "the address of a page", "--from: ", "not the name of a server"]
+        self.assertEqual([part in line for part, line in zip(parts, faults, strict=True)], [True] * 6, faults)
         self.assertEqual((self.rows("call"), self.server.taken), ([], []))
 
     def test_a_receipt_that_is_outdated_before_it_is_taken(self) -> None:

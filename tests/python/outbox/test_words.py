@@ -11,12 +11,13 @@ import subprocess
 import tempfile
 import types
 import unittest
+from typing import Any
 
-from debvote_tools.book.queries import Elector, Envelope
+from debvote_tools.book.queries import Elector, EnteredBallot, Envelope
 from debvote_tools.book.outgoing import OutgoingLetter
 from debvote_tools.inbox.letter_lines import Near
 from debvote_tools.inbox.fates import REFUSED, Fate
-from debvote_tools.inbox.reasons import Reason, for_elector
+from debvote_tools.inbox.reasons import Reason, ReasonWithValues, for_elector
 from debvote_tools.inbox.rules import LetterOutcome
 from debvote_tools.outbox.letter_folder import message, rows_to_print
 from debvote_tools.outbox.words import OF_BALLOT, PACKAGE, SUBJECTS, Composer
@@ -44,7 +45,13 @@ LETTER = OutgoingLetter(1, "call", 1, "ada@club.example", "<1@club.example>", TI
 
 def vote(code: str = "en", *, is_over: bool = False, **how: object) -> Composer:
     data = CallData(language_of(code), alone(POLL), {"": 1}, to="vote@club.example", at="https://club.example/vote/")
-    return Composer(dataclasses.replace(data, **how), is_over, typed={2})  # type: ignore[arg-type]
+    return Composer(dataclasses.replace(data, **how), is_over)  # type: ignore[arg-type]
+
+
+def came_letter(reason: ReasonWithValues | None, **how: object) -> Any:
+    """A letter as far as its receipt tells it."""
+    usual: dict[str, object] = {"near": (), "standing": (), "is_pending": True}
+    return types.SimpleNamespace(reason=reason, read=types.SimpleNamespace(link=""), **{**usual, **how})
 
 
 def all_that_came() -> list[Fate]:
@@ -55,15 +62,21 @@ def all_that_came() -> list[Fate]:
         Near(5, "ada 1,2,3", False, None), Near(6, "ada 1,2,3", True, None),
     )  # fmt: skip
 
+    typed = EnteredBallot(2, "ada 1,2,3", is_late=False, is_struck=False, is_taken_back=False, is_typed=True)
+    source = came_letter(None, entered=[typed], left=set(), not_entered=set())
+
     def envelope(number: int, became: str, answer: str | None = None) -> Fate:
         line = b"ada 1,2,3" if answer is None else b"ada 1"
-        return Fate(TIME, became, Envelope(number, number, 1, line, None, 1, "", TIME, False, None, answer))
+        there = Envelope(number, number, 1, line, None, 1, "", TIME, False, None, answer)
+        return Fate(TIME, became, there, came_by=source)
 
     ballots = [envelope(number, became) for number, became in enumerate(OF_BALLOT) if became != REFUSED]
     refused = ["bad rank count: 1 ranks, the poll has 3 options", 'bad shape: column 2: "!"']
-    letter = types.SimpleNamespace(reason=Reason.NO_BALLOT(), near=near, read=types.SimpleNamespace(link=""))
-    outcomes = itertools.product((LetterOutcome.WAITS, LetterOutcome.SET_ASIDE), (True, False))
-    letters = [Fate(TIME, outcome, letter=letter, is_own=is_own) for outcome, is_own in outcomes]  # type: ignore[arg-type]
+    kinds = itertools.product((LetterOutcome.WAITS, LetterOutcome.SET_ASIDE), (True, False), ([], [typed]))
+    letters = []
+    for outcome, is_own, standing in kinds:
+        letter = came_letter(Reason.NO_BALLOT(), near=near, standing=standing, is_pending=outcome is LetterOutcome.WAITS)
+        letters.append(Fate(TIME, outcome, letter=letter, is_own=is_own))
     return [*ballots, *(envelope(9, REFUSED, answer) for answer in refused), *letters]
 
 
@@ -110,7 +123,7 @@ class Texts(unittest.TestCase):
     def test_after_the_end_nobody_is_asked_to_send_anything(self) -> None:
         for code in LANGUAGES:
             for reason in (Reason.TOO_LONG(), Reason.NOT_FIRST(), Reason.NO_BALLOT()):
-                came = WAITS._replace(letter=types.SimpleNamespace(reason=reason, near=(), read=types.SimpleNamespace(link="")))  # type: ignore[arg-type]
+                came = WAITS._replace(letter=came_letter(reason))
                 open_text, over = (" ".join(vote(code, is_over=is_over).receipt(ADA, [came]).split()) for is_over in (False, True))
                 said = " ".join(language_of(code).say(for_elector(reason)).split())
                 self.assertIn(f" {said} ", open_text)
@@ -122,7 +135,7 @@ class Texts(unittest.TestCase):
     def test_a_reason_that_says_nothing_is_not_told(self) -> None:
         """That the secretary has to look at it is said once."""
         texts = [
-            [vote(code).receipt(ADA, [WAITS._replace(letter=types.SimpleNamespace(reason=reason, near=(), read=WAITS.letter.read))])]  # type: ignore[arg-type,union-attr]
+            [vote(code).receipt(ADA, [WAITS._replace(letter=came_letter(reason))])]
             for code in LANGUAGES
             for reason in (None, Reason.WORD(), Reason.ANOTHER_ANSWER(number=2))
         ]
@@ -133,12 +146,14 @@ class Texts(unittest.TestCase):
         """The letter for all, and within it, behind the winner, the own ballot and where the result is."""
         rest = "THE FILES OF THE RESULT\n\nDownload them.\n"
         place = "The result is published at:\n  https://club.example/vote/\n"
-        for letter in ("RESULT\n", f"RESULT\n\n{rest}", f"RESULT\n\n{place}\nDOUBTS\n\n{rest}"):
+        earlier = place.replace("club", "earlier")
+        for letter in ("RESULT\n", f"RESULT\n\n{rest}", f"RESULT\n\n{place}\nDOUBTS\n\n{rest}", f"RESULT\n\n{earlier}\nDOUBTS\n\n{rest}"):
             texts = [now.text("result_to_elector.txt", ADA, letter=letter, answers="2,1,3") for now in (vote(), vote(has_aliases=True))]
-            end = letter.removeprefix("RESULT\n").removeprefix(f"\n{place}")
+            end = letter.removeprefix("RESULT\n").removeprefix(f"\n{place}").removeprefix(f"\n{earlier}")
             for text in texts:
                 self.assertTrue(text.startswith(f"Dear Ada L.,\n\nRESULT\n\n{place}\nYour "), text)
                 self.assertTrue(text.endswith(end), text)
+                self.assertEqual(text.count(place.partition("\n")[0]), 1)
             own = "Your own ballot is (ada 2,1,3), in words: Hall, then Lake, then None. The page shows it at: https://club.example/vote/#ada"
             self.assertIn(own, " ".join(texts[0].split()))
             self.assertNotRegex(texts[1], "#|2,1,3|Hall")
@@ -215,8 +230,9 @@ class CallLetter(unittest.TestCase):
                 begin = first if first in greeting else f"Dear Ada L.,\n\n{first}"
                 self.assertTrue(text.startswith(f"{begin}\n\nMore.\n\n"), text)
         # with --marked it says to answer, or to use the link
-        for text in self.asking(vote(is_marked=True)):
-            self.assertIn("Open the link above, or answer this letter: then the subject has your own mark", " ".join(text.split()))
+        # a receipt of a vote with a box has the link nowhere
+        for text in [*self.asking(vote(is_marked=True)), *self.asking(vote(is_marked=True, has_box=True))]:
+            self.assertIn("Open your own link, or answer this letter: then the subject has your own mark", " ".join(text.split()))
         # one to an earlier address has no own mark
         for text in self.asking(vote(is_marked=True), ADA._replace(mark="")):
             self.assertIn("Open the link in your letter, or answer that letter: then", " ".join(text.split()))

@@ -89,11 +89,13 @@ class Codes(unittest.TestCase):
             self.assertEqual(codes_for_roll(3), ["a2" * 5, "b" * 10, "c" * 10])
         codes = [code for code in codes_for_roll(500) if re.fullmatch("[2-9a-hjkmnp-z]{10}", code)]
         self.assertEqual((len(codes), codes), (500, sorted(codes)))
-        # such a code is kept out of what everybody gets
-        for text in (b"my code is %b.", b"%b 1,2,3", b"\n%b\n", b"a-%b"):
-            with self.assertRaises(Fault):
-                demand_no_code("letter.txt", text % codes[0].encode(), codes)
-        demand_no_code("letter.txt", b"x%bx %b" % (codes[0].encode(), codes[0][:9].encode()), codes)
+        # such a code is kept out of what everybody gets, and one of another kind, also as people type it
+        for code in (codes[0], new_code("ada")):
+            for typed in (code, code.upper(), f"{code[:4]} {code[4:]}", f"{code[:6]}\n{code[6:]}", f"{code[:2]} {code[2:8]}- \n  {code[8:].upper()}"):
+                for text in ("my code is %s.", "%s 1,2,3", "\n%s\n", "a-%s", "ab %s"):
+                    with self.assertRaises(Fault, msg=typed):
+                        demand_no_code("letter.txt", (text % typed).encode(), [*codes, code])
+            demand_no_code("letter.txt", f"x{code}2 {code[:-1]}".encode(), [*codes, code])
 
     def test_no_code_and_no_alias_can_be_taken_for_a_number(self) -> None:
         good = "a" * 32

@@ -85,6 +85,28 @@ class Held(QuestionsTest):
         self.assertIn("4 replaced  ben: B (", self.told(*typed, "--force"))
         self.assertEqual(self.lines(), ["ada A 1,2", "ben A 2,1 B 3,2,1", "ada B 1,2,3", "ben B 1,2,3"])
 
+    def test_lines_of_one_elector_that_answer_different_questions(self) -> None:
+        """Both are entered, in one command or one after the other; what is left waits."""
+        self.add(letter("ada", "ada A 1,2\n\nand for the board\n\nada B 1,2,3\n", time=at(9)))
+        self.assertIn("letter 1 waits on; not entered yet: the answer of ada to B\n", self.told("held", "1", "--enter", "1", "--yes"))
+        self.assertRegex(self.told("held"), r"not entered yet: the answer of ada to B\n +line 5: ada B 1,2,3\n +other words")
+        self.assert_refused(["close", "--early"], 9, "these letters arrived in time, and wait: 1;")
+        said = "letter 1: its ballot of ada was entered; nothing was changed: to enter another one in its place, run debvote-election strike 1 --because TEXT first"
+        self.assert_refused(["held", "1", "--as", "ada A 2,1 B 1,2,3", "--yes"], 9, said)
+        self.assertIn("2 counted  ada: B (", self.told("held", "1", "--enter", "--yes"))
+        for _ in range(2):
+            self.done("undo", "--yes")
+        self.done("held", "1", "--enter", "1,5", "--yes")
+        self.add(letter("ben", "The fee, and Ada\n", number=2, time=at(9)))
+        self.done("held", "2", "--as", "ben A 1,2", "--as", "ben B 1,2,3", "--yes")
+        self.assertEqual((self.numbers()["waiting"], self.lines()), (0, ["ada A 1,2", "ada B 1,2,3", "ben A 1,2", "ben B 1,2,3"]))
+        # of answers to one question that differ one is meant
+        self.add(letter("cleo", "cleo A 1,2\nno:\ncleo A 2,1 C 1,2,3,4\n", number=3, time=at(9)))
+        self.assert_refused(["held", "3", "--enter", "1,3", "--yes"], 9, "letter 3: 2 of these lines are ballots of cleo; nothing was changed: name the one that counts")
+        self.done("held", "3", "--enter", "1", "--yes")
+        self.assertIn("Left out of letter 3: A, since it was entered\n", self.told("held", "3", "--enter", "3", "--yes"))
+        self.assertEqual((self.numbers()["waiting"], self.lines()[4:]), (0, ["cleo A 1,2", "cleo C 1,2,3,4"]))
+
     def test_who_has_voted_since_answered_the_same_question(self) -> None:
         self.add(letter("ada", "A 1,2\n", number=1, time=at(9)), letter("ada", "B 1,2,3\n", number=2, time=at(9)), letter("ada", "ada A 2,1\n", number=3, time=at(11)))
         shown = self.told("held")
@@ -106,6 +128,7 @@ class Held(QuestionsTest):
         self.done("desk", given="ada B 3,2,1\n")
         self.add(letter("ada", "ada A 1,2 B 1,2,3\n", number=1, time=at(9)))
         self.done("reopen", "--because", "x")
+        self.assertIn("\nline 1: ada A 1,2 B 1,2,3\n", self.told("held", "1"))
         self.assert_refused(["held", "1", "--enter", "--yes"], 9, "letter 1: its elector has voted since")
         self.done("held", "1", "--enter", "--force", "--yes")
         self.assertIn("The current ballot: ada A 1,2 B 1,2,3: ", self.told("show", "ada"))
@@ -124,9 +147,10 @@ class Held(QuestionsTest):
         self.assertEqual(self.lines(), ["ada A 2,1", "ada B 1,2,3"])
 
     def test_no_force_is_offered_for_what_was_entered(self) -> None:
-        """Half of a letter was left out, since a later answer is there: the other half is entered, and that is all."""
+        """Half of a letter was left out, since a later answer is there: the other half is shown and entered, and that is all."""
         self.add_lines("ada B 1,2,3")
-        self.add(letter("ada", "ada A 2,1 B 2,1,3\n", number=1, time=at(9)))
+        self.add(letter("ada", "3 of us\nada A 2,1 B 2,1,3\n", number=1, time=at(9)))
+        self.assertIn("\nline 2: ada A 2,1\n", self.told("held", "1"))
         self.done("held", "1", "--enter", "--yes")
         for words in (["--enter"], ["--as", "ada A 2,1 B 1,2,3"]):
             ended = self.election("held", "1", *words, "--yes")
@@ -180,7 +204,7 @@ class TakenAway(QuestionsTest):
         self.assertNotIn("left out", said)
         self.done("held", "2", "--enter", "--yes")
         said = self.told("strike", "1", "--because", "forged", "--yes")
-        self.assertIn("letter 2 has an answer that was left out, `ada B 1,2,3`: debvote-election held 2 --enter\n", said)
+        self.assertIn("\nletter 2, from ada@club.example, 2026-11-23 09:00:00 UTC: not entered yet: the answer of ada to B\n  line 1: ada B 1,2,3\n", said)
         said = self.told("held", "2", "--enter", "--yes")
         self.assertIn("Left out of letter 2: A, since it was entered\n4 counted  ada: B (", said)
         self.assert_refused(["held", "2", "--as", "ada B 1,2,3", "--yes"], 9, "its ballot of ada was entered")
@@ -192,6 +216,32 @@ class TakenAway(QuestionsTest):
         self.assertEqual(said.count("Left out of letter 2: A, since "), 1, said)
         self.assertIn("Left out of letter 2: A, since ada has a later answer\n", said)
 
+    def test_an_answer_that_was_left_out_waits_whatever_became_of_the_others(self) -> None:
+        """It stops the close. One that was struck was entered, and is none that was left out."""
+        for number, name in enumerate(("ada", "ben"), start=1):
+            self.done("desk", given=f"{name} B 3,2,1\n")
+            self.add(letter(name, f"{name} A 1,2 B 1,2,3\n", number=number, time=at(9)))
+            self.done("held", str(number), "--enter", "--yes")
+        self.assertNotIn("letter 1", self.told("strike", "2", "--because", "x", "--yes"))
+        self.assertIn("\n  line 1: ada B 1,2,3\n", self.told("strike", "1", "--because", "x", "--yes"))
+        self.assert_refused(["close", "--early"], 9, "these letters arrived in time, and wait: 1;")
+        self.done("held", "1", "--set-aside")
+        # ben votes on A again, and his desk's ballot is struck
+        self.add(letter("ben", "ben A 2,1\n", number=3, time=at(10)))
+        self.assertIn("\n  line 1: ben B 1,2,3\n", self.told("strike", "3", "--because", "x", "--yes"))
+        self.assertIn("Left out of letter 2: A, since ben has a later answer\n6 counted  ben: B (", self.told("held", "2", "--enter", "--yes"))
+        for number in (4, 5):
+            self.assertNotIn("letter 2", self.told("strike", str(number), "--because", "x", "--yes"))
+        self.assertEqual((self.numbers()["waiting"], self.lines()), (0, ["ben B 1,2,3"]))
+
+    def test_of_a_letter_with_ballots_of_two_the_answer_that_was_left_out_comes_back(self) -> None:
+        """Alone, so that no line has to be named."""
+        self.add(letter("ada", "ada A 1,2 B 1,2,3\nben A 2,1\n", number=1, time=at(9)), letter("ada", "ada B 3,2,1\n", number=2, time=at(11)))
+        self.done("held", "1", "--enter", "1,2", "--yes")
+        self.assertIn("\n  line 1: ada B 1,2,3\n", self.told("strike", "1", "--because", "x", "--yes"))
+        self.done("held", "1", "--enter", "--yes")
+        self.assertEqual((self.numbers()["waiting"], self.lines()), (0, ["ada A 1,2", "ben A 2,1", "ada B 1,2,3"]))
+
     def test_an_answer_that_was_left_out_of_what_was_typed_comes_back(self) -> None:
         """It is to be typed again, as `strike` and `undo` of the later answer say."""
         for number, name in enumerate(("ada", "ben"), start=1):
@@ -201,8 +251,9 @@ class TakenAway(QuestionsTest):
             self.done("undo", "--yes")
             self.done("held", str(number), "--as", f"{name} A 2,1 B 2,1,3", "--yes")
         said = self.told("strike", "1", "--because", "it was not her paper", "--yes")
-        self.assertIn("letter 1 has an answer that was left out, `ada B 2,1,3`: debvote-election held 1 --as 'ada B 2,1,3'\n", said)
+        self.assertIn("\nletter 1, from ada@club.example, 2026-11-23 09:00:00 UTC: not entered yet: the answer of ada to B\n  left out of what was typed: ada B 2,1,3\n", said)
         self.assertEqual(said.count("left out"), 1)
+        self.assert_refused(["held", "1", "--enter", "--yes"], 9, "letter 1: it has 0 lines that can be entered")
         self.done("held", "1", "--as", "ada B 2,1,3", "--yes")
         self.assertIn("The current ballot: ada A 2,1 B 2,1,3: ", self.told("show", "ada"))
         # of a later one that comes and is taken back
@@ -210,12 +261,13 @@ class TakenAway(QuestionsTest):
         self.assertNotIn("left out", self.told("undo", "--yes"))
         self.done("strike", "4", "--because", "x", "--yes")
         self.done("desk", given="ben B 1,2,3\n")
-        self.assertIn("letter 2 has an answer that was left out, `ben B 2,1,3`", self.told("undo", "--yes"))
+        self.assertIn("\n  left out of what was typed: ben B 2,1,3\n", self.told("undo", "--yes"))
 
     def test_what_was_typed_stays_so_when_it_is_entered_anew(self) -> None:
         """Nothing of the letter's own line is entered beside it or in its place."""
-        self.done("close", "--early", "--force", "--because", "x", "--yes")
+        self.done("call", "--until", "2026-11-25 09:20", "--zone", "UTC")
         self.set_clock("2026-11-25T10:00:00+00:00")
+        self.done("close", "--force", "--because", "x", "--yes")
         self.add(letter("ada", "ada A 2,1 B 1,2,3\n\nNo, the other way round, and nothing on the chair.\n", time="Wed, 25 Nov 2026 09:30:00 +0000"))
         self.done("held", "1", "--as", "ada A 1,2", "--yes")
         self.done("reopen", "--in-time", "1", "--because", "a slow server")
@@ -223,7 +275,9 @@ class TakenAway(QuestionsTest):
         self.assert_refused(["held", "1", "--enter", "--yes"], 9, said)
         self.done("letters", "receipts")
         [receipt] = (self.folder / "letters" / "receipts").rglob("ada.eml")
-        self.assertEqual(" ".join(receipt.read_text().split()).count("The secretary typed it"), 2)
+        # of the late envelope nothing is told
+        said = " ".join(receipt.read_text().split())
+        self.assertEqual((said.count("The secretary typed it"), "it is late" in said), (1, False))
         self.assertNotIn("--enter", self.told("undo", "--yes"))
         self.assert_refused(["held", "1", "--enter", "--yes"], 9, "its ballot was typed, and taken back; ")
 
@@ -255,6 +309,9 @@ class Told(QuestionsTest):
         self.assertIn(f"It was read as ada (A 2,1), in words: {NO}.", texts["ada"])
         self.assertIn("It is not a valid ballot of this vote, so it does not count. One of its answers has 2 ranks, and the question has 3 options. |ben |B 1,2", texts["ben"])
 
+    def last_receipt(self) -> str:
+        return " ".join((self.folder / f"letters/receipts/{self.last_act()}/ada.eml").read_text().split())
+
     def test_receipts_say_what_was_left_out_of_a_letter(self) -> None:
         """Until that is entered, too."""
         self.add_lines("ada B 3,2,1")
@@ -263,25 +320,24 @@ class Told(QuestionsTest):
         left_out = "These of its answers were not entered, since you had later ones: B (The chair of the board)."
         self.assertIn(f"{left_out} It was read as ada (A 1,2), in words: {YES}.", self.letters("receipts")["ada"])
         self.done("strike", "1", "--because", "x", "--yes")
+        self.done("letters", "receipts")
+        self.assertIn("These of its answers are not entered yet: B (The chair of the board).", self.last_receipt())
         self.done("held", "1", "--enter", "--yes")
         self.done("letters", "receipts")
-        receipt = " ".join((self.folder / f"letters/receipts/{self.last_act()}/ada.eml").read_text().split())
-        self.assertIn("It was read as ada (B 1,2,3)", receipt)
-        self.assertNotIn("not entered", receipt)
+        self.assertIn("It was read as ada (B 1,2,3)", self.last_receipt())
+        self.assertNotIn("not entered", self.last_receipt())
 
     def test_receipts_say_what_was_left_out_of_a_letter_of_two(self) -> None:
         """To her of whom it is, also if her ballot came late, and is entered anew."""
-        close = ("close", "--early", "--force", "--because", "x", "--yes")
-        self.done(*close)
-        self.set_clock("2026-11-25T10:00:00+00:00")
-        self.done("reopen", "--because", "a slow server")
-        self.add_lines("ada B 3,2,1", words=["--came-before-close", "yes"])
+        self.done("call", "--until", "2026-11-25 09:20", "--zone", "UTC")
+        self.set_clock("2026-11-25T09:40:00+00:00")
+        self.add_lines("ada B 3,2,1")
+        self.done("close", "--force", "--because", "x", "--yes")
         self.add(letter("ada", "as listed, and ben too\n", time="Wed, 25 Nov 2026 09:30:00 +0000"))
         self.done("held", "1", "--as", "ada A 1,2 B 1,2,3", "--as", "ben A 2,1", "--force", "--yes")
-        self.done(*close)
         self.done("reopen", "--in-time", "2", "3", "--because", "a slow server")
         texts = self.letters("receipts")
-        self.assertEqual({name: text.count("These of its answers were not entered") for name, text in texts.items()}, {"ada": 2, "ben": 0})
+        self.assertEqual({name: text.count("These of its answers were not entered") for name, text in texts.items()}, {"ada": 1, "ben": 0})
 
     def test_who_has_answered_one_question_is_not_reminded(self) -> None:
         self.add_lines("ada B 1,2,3", "ben B 1,2", words=["--force"])

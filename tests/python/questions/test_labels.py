@@ -154,11 +154,12 @@ class OneNameOfTwo(QuestionsTest):
         self.assertIn(unclear, self.election("add", given="Max A 1,2\n").faults)
         for words, line in (((), "MAX a: 1,2"), (("--question", "A"), "Max 1,2")):
             self.assertIn(f"desk:1: {unclear}; it was not entered.", self.done("desk", *words, given=f"{line}\n").output)
-        self.add(letter("max", "I told you.\n"), letter("max", "Max A 2,1\n"))
+        # in a letter it is that of whoever has the address alone
+        self.add(letter("max", "I told you.\n"), letter("max", "Max A 2,1\n"), letter("cleo", "Max A 1,1\n"))
         self.assertIn(unclear, self.election("held", "1", "--as", "Max A 1,2", "--force", "--yes").faults)
         self.done("desk", given="max A 1,2\nmax: B 1,2,3\nMaximilian Mayer C 1,2,3,4\n")
         self.done("desk", "--question", "B", given="max 2,1,3\nmax-2 1,2,3\nMaximilian Mayer: 3,2,1\n")
-        self.assertEqual(self.lines(), ["max A 1,2", "max B 1,2,3", "max C 1,2,3,4", "max B 2,1,3", "max-2 B 1,2,3", "max B 3,2,1"])
+        self.assertEqual(self.lines(), ["max-2 A 2,1", "max A 1,2", "max B 1,2,3", "max C 1,2,3,4", "max B 2,1,3", "max-2 B 1,2,3", "max B 3,2,1"])
 
 
 class Words(LabelsTest):

@@ -1,5 +1,6 @@
 """Letters with answers to several questions: what goes in has each answer that stands in it, and no other; random ones, and ones that somebody forged."""
 
+import dataclasses
 import datetime
 import random
 import re
@@ -16,14 +17,14 @@ from debvote_tools.text.motions import Words, words_of
 
 from tests.python.inbox import test_forgeries
 from tests.support import letters
-from tests.support.letters import NAMES, TEN, answer, at, circumstances, in_order, judged_alone, letter, marked, names, outcome, parsed
+from tests.support.letters import NAMES, OTHER_RANKS, RANKS, TEN, answer, at, circumstances, in_order, judged_alone, letter, marked, names, outcome, parsed
 
 WORDS = words_of("en", motion=True)
 IN_WORDS = ("{A} {r}", "{A}: {R}", "{a}) {r}!", "{A} {r}.", "{r}", "I say {r}", "{A} {r} for the reasons that we have told you all", "{A}: {r} please")
 
 # how many options each question has, with the default option
 OPTIONS = {"A": 2, "B": 4, "C": 3}
-REAL = {name: name.capitalize() for name in NAMES} | {"ada": "Ada Lovelace", "ben": "Ben", "cleo": "Ben B", "fay": "Fay Fox", "gus": "Fay Fox B"}
+REAL = {name: name.capitalize() for name in NAMES} | {"ada": "Ada Lovelace", "ben": "Ben", "cleo": "Ben B", "dan": "Eve", "fay": "Fay Fox", "gus": "Fay Fox B"}
 # the letter of the call, as far as it matters
 OURS = {"Your ballot, with a rank in the place of each _; 1 is the best:", "Rules: 1, 2 and 3 are ranks", "A _,_", "B _,_,_,_", "C _,_,_", ""}
 RANK = re.compile("-|[1-9][0-9]?")
@@ -135,6 +136,15 @@ class Written(unittest.TestCase):
             with self.subTest(text=text, name=name):
                 self.assertEqual([outcome(one) for one in judged(letter(name, text))], [wanted])
 
+    def test_a_real_name_that_is_the_name_of_another(self) -> None:
+        for name, text, wanted, offered in (
+            ("dan", "Eve A 1,2", "in: dan A 1,2", ""), ("eve", "Eve A 1,2", "in: eve A 1,2", ""), ("dan", "eve A 1,2", "waits: other sender", ""),
+            ("ada", "Eve\nA 1,2\nB 1,2,3,4", "waits: real name", "dan A 1,2 B 1,2,3,4, eve A 1,2 B 1,2,3,4"), ("ada", "ada A 1,2\n\nEve A 2,1", "waits: another answer", ""),
+        ):  # fmt: skip
+            with self.subTest(text=text, name=name):
+                [case] = judged(letter(name, text))
+                self.assertEqual((outcome(case), ", ".join(line.as_entered for line in case.offered)), (wanted, offered))
+
     def test_a_letter_of_a_family(self) -> None:
         """The ballots with real names can be entered by their numbers, too."""
         [case] = judged(letter("ada", "ada A 1,2\n\nFay Fox A 2,1\n\nFay Fox B B 1,2,3,4\n"))
@@ -145,7 +155,7 @@ class Written(unittest.TestCase):
         """On one of the questions that the letter answers; on any, if it answers none."""
         for text, ballot, wanted in (("A 1,2", "ada A 2,1", True), ("A 1,2", "ada B 1,2,3,4", False), ("when?", "ada B 1,2,3,4", True)):
             [case] = judged(letter("ada", text), ballots={"ada": [Ballot(at(12), ballot)]})
-            self.assertEqual(case.has_voted_since, wanted, (text, ballot))
+            self.assertEqual(bool(case.voted_since), wanted, (text, ballot))
 
     def test_the_lines_of_our_letter(self) -> None:
         filled = "waits: filled in (2: ada A 1,2 C 1,2,3)"
@@ -279,7 +289,8 @@ class Later(unittest.TestCase):
         """What becomes of a letter of 10 o'clock, beside ballots that were entered, each with its hour and whether it came by letter."""
         ballots = {"ada": [Ballot(at(hour), line, is_by_letter) for hour, line, is_by_letter in there]}
         [case] = judged(letter("ada", text), ballots=ballots)
-        return outcome(case), {*case.answered_since}
+        [labels] = case.answered_since.values()
+        return outcome(case), {*labels}
 
     def test_by_question(self) -> None:
         two = "ada A 1,2 B 1,2,3,4"
@@ -297,6 +308,20 @@ class Later(unittest.TestCase):
         ):  # fmt: skip
             with self.subTest(there):
                 self.assertEqual(self.becomes(two, *there), wanted)
+
+    def test_of_many_letters_of_an_elector_each_is_compared_with_few(self) -> None:
+        """Twice as many take about twice as long, also after one by another clock, which may turn others."""
+        texts = {"one": (f"ada {RANKS}", f"ada {OTHER_RANKS}"), "three": ("ada A 1,2", "ada A 2,1 B 1,2,3,4", "ada B 4,3,2,1 C 1,2,3", "ada C 3,2,1")}
+        for questions, read_of in (("one", letters.read), ("three", read)):
+            for behind in (0, -7_200, 7_200):
+                calls = []
+                for number in (200, 400):
+                    times = [f"Mon, 23 Nov 2026 1{minute // 60}:{minute % 60:02}:00 +0000" for minute in range(number)]
+                    given = [letter("ada", texts[questions][one % len(texts[questions])], number=one, time=time) for one, time in enumerate(times)]
+                    first, *others = read_of(*given)
+                    calls.append(letters.calls_while_judged([dataclasses.replace(first, behind=behind), *others]))
+                with self.subTest(questions, behind=behind):
+                    self.assertLess(calls[1], 2.4 * calls[0])
 
     def test_two_letters_of_one_time(self) -> None:
         for texts, wanted in {

@@ -165,8 +165,11 @@ class OpenTest(PublishedTest):
         self.assertIn("as it was published before", self.publish())
         self.assertEqual((self.contents(), self.last_act()), (before, act))
         # a casting vote that was another one is doubtful where it was
-        ended = self.election("publish", "--casting", "B=Mary Somerville", "--casting", "C=Tiles", *CAST)
-        self.assert_fault(ended, 9, "question C: an earlier publication has a casting vote for Slate")
+        again = f"--casting 'B=Mary Somerville' --cast-by '{CAST[1]}' --cast-on {CAST[3]} --casting C=Slate --cast-by"
+        for words in (("B=Mary Somerville",), ("B=Mary Somerville", "--casting", "C=Tiles")):
+            ended = self.election("publish", "--casting", *words, *CAST)
+            self.assert_fault(ended, 9, "question C: an earlier publication has a casting vote for Slate", again)
+        self.assertEqual(self.election("publish", "--language", "fr").faults.count(again), 2)
         self.publish("--casting", "B=Mary Somerville", "--casting", "C=Tiles", *CAST, "--force", "--because", "it was noted wrongly")
         self.assertEqual(self.doubted(), ["C"])
         self.assertIn("Made the folder", self.publish())
@@ -217,10 +220,11 @@ class OpenTest(PublishedTest):
         votes = ("--casting", "C=Tiles", "--casting", "B=Ada Lovelace")
         ida, ben = ("--cast-by", "Ida", "--cast-on", "2026-11-23"), ("--cast-by", "Ben", "--cast-on", "2026-11-24")
         act, how = self.last_act(), "nothing was published: give it once for all, or once for each --casting, in their order"
+        three = self.election("publish", *votes, *ida, *ben, *ida).faults.splitlines()
+        self.assertEqual(three, [f"debvote-election: {one}: 3 are given, and of --casting 2; {how}" for one in ("--cast-by", "--cast-on")])
         for words, said in (
-            ((*votes, *ida, *ben, *ida), f"--cast-by: 3 are given, and of --casting 2; {how}"),
             ((*votes, *ida, *ben[2:], *ben[2:]), f"--cast-on: 3 are given, and of --casting 2; {how}"),
-            ((*votes[:2], *ida, *ben), f"--cast-by: 2 are given, and of --casting 1; {how}"),
+            ((*votes[:2], *ida, *ben[:2]), f"--cast-by: 2 are given, and of --casting 1; {how}"),
             ((*votes, *ida[:2], *ben[:2]), "say it with --cast-by"),
             ((*votes, *ida, "--cast-by", "Ben", "--cast-on", "2999-01-01"), "--cast-on: 2999-01-01 is in the future"),
         ):
@@ -318,7 +322,7 @@ class OpenTest(PublishedTest):
         self.assertEqual(letter.count("struck envelope 5"), 1)
         sums = ", ".join(f"{label} {digest}" for label, (digest, _) in zip(self.polls, second[1:]))
         self.assertEqual(letter.count(f"The vote was closed. Lines in time: A 4, B 2, C 3. Checksum: {sums}."), 1)
-        self.assertIn("lines that came in: A 1, B 0, C 0; lines that were struck: A 0, B 0, C 0.", letter)
+        self.assertIn("lines in time that came in: A 1, B 0, C 0; that were struck: A 0, B 0, C 0.", letter)
         found = re.findall("struck envelope 5|The vote was opened again|The vote was closed", letter)
         self.assertEqual(found, ["struck envelope 5", "The vote was closed", "The vote was opened again", "The vote was closed"])
         for label in self.polls:

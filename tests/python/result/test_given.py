@@ -107,7 +107,9 @@ class GivenTest(publishing.PublishTest):
             "a ballot has a space there, or more of the name: a to z, 0 to 9, . or -)",
             "Zeile 5: ada 3,2,1: (late: the last envelope is 4)",
         ]
-        self.expect("refused in German", self.refused_lines(self.page_of(room, "--language", "de", "result")), wanted)
+        page = self.page_of(room, "--language", "de", "result")
+        self.expect("refused in German", self.refused_lines(page), wanted)
+        self.expect("one has voted, in the singular", " von 4 stimmte ab" in page, True)
 
     def test_commands(self):
         """Each command of the page is typed in the folder; what it answers is what the page says."""

@@ -19,6 +19,7 @@ from debvote_tools.result.folder import NewFolder, beside
 
 from tests.support import elections, expecting, page_parts as pages
 from tests.support.called import CalledTest
+from tests.support.terminal import Terminal
 
 POLL = """title = "Wo wir uns treffen: Größe"
 options = ["72 Euro", "Größe"]
@@ -288,7 +289,8 @@ class OfOpenVotes(OfElections):
         told = ["no elector has a ballot that counts", "more than half of the lines are refused, 1 of 1", "the vote is not closed"]
         self.stops("publish", said=[*told, "--force --because"])
         self.stops("publish", "--force", said=told)
-        self.say("publish", "--force", "--because", "A <test>.\n\nNo more.", "--language", "en")
+        output = self.say("publish", "--force", "--because", "A <test>.\n\nNo more.", "--language", "en")
+        self.expect("no result ends the vote", output.splitlines()[-1], "Next: debvote-election close, then debvote-election publish once more")
         wanted = ["No elector has a ballot that counts: nobody's vote has decided this."]
         wanted += ["More than half of the lines of the ballot file are refused: 1 of 1."]
         self.expect("doubts", self.doubts(), [*wanted, "The vote was not closed when this page was made: more ballots may come in."])
@@ -302,6 +304,11 @@ class OfOpenVotes(OfElections):
         self.replace("--force", "--because", "nothing", "--language", "en")
         self.expect("half of the lines are refused", json.loads(self.files()["result.json"])["refused"], 1)
         self.expect("force where nothing stops", (self.doubts(), "nothing" in self.sections()["Result"].text()), ([], False))
+        self.say("reopen", "--because", "a lost letter")
+        self.replace("--force", "--because", "A <test>.", "--language", "en")
+        said = [" ".join(self.letter().split()), self.sections()["How-to-verify"].text()]
+        found = "closed.txt" in self.files(), ["letter of the close" in text for text in said]
+        self.expect("no close has fixed ballots that may become more", found, (False, [False, False]))
 
     def test_each_act_is_told(self):
         self.say("call")
@@ -335,10 +342,14 @@ class OfOpenVotes(OfElections):
             f"The secretary struck envelope 1: its line does not count.{because} wrong hand",
             f"The vote was closed. Lines in time: 2. Checksum: {checksum}. {early} 2 letters that had arrived in time were left waiting. "
             "1 letter that had arrived after the end did not go in. "
-            f"Since the close before this one, lines that came in: 2; lines that were struck: 1.{because} in a hurry",
+            f"Since the close before this one, lines in time that came in: 2; that were struck: 1.{because} in a hurry",
         ]
         self.expect("on the page", self.what_was_done(), [*called[:3], *told[:-1], called[3], told[-1]])
         self.expect("the late ones stay late", self.files()["late.txt"], b"zoe-mueller 1,2,3\ncleo 1,2,3\n")
+        refused, late = self.sections()["Refused-lines"].text(), "Late, and not counted"
+        found = "none came late." in refused, "do not count" in refused, late in self.say("status"), self.say("export", "copy")[:4]
+        self.expect("of what was entered anew nobody says that it does not count", found, (True, False, False, "Made"))
+        self.expect("it was late", self.read("copy/late.txt"), self.files()["late.txt"])
         self.expect("the times are in one zone", self.sections()["What-was-done"].text().count("(UTC+01:00): "), 11)
         self.say("publish", "--language", "de")
         letters = self.texts_of_messages()
@@ -392,6 +403,9 @@ class OfOpenVotes(OfElections):
             self.write("about", data)
             self.stops("publish", "--about", "about", said=[said], status=2)
         self.stops("publish", "--about", "none", said=["none: No such file or directory"], status=2)
+        wrong = ("--casting", "xx", "--cast-by", '"', "--cast-on", "tomorrow", "--about", "none", "--force", "--because", "\u202e")
+        all_wrong = ["--cast-by: it must be a name", "`tomorrow` is not a day", "U+202E", "none: No such file or directory", "--casting=xx: no option"]
+        self.stops("publish", *wrong, said=all_wrong, status=2)
         for text, said in [("a\u202eb", "the text has the character U+202E"), ("x" * 2001, "the text has 2001 characters; at most 2000 are allowed")]:
             self.stops("publish", "--force", "--because", text, said=[f"--because: {said}"], status=2)
         (self.folder / "about").write_bytes(b"\xef\xbb\xbfOne\r\n\r\n\xd7\x93 <i>two</i>\r\n")
@@ -439,16 +453,20 @@ class OfOpenVotes(OfElections):
         self.expect("on the page", said in self.sections()["Result"].text(), True)
         won = "Winner: Option 1: 72 Euro by casting vote. Option 1: 72 Euro against Option 2: Größe: 1 to 1."
         self.expect("in the letter", [text in self.letter().replace("\n", " ") for text in (said, won)], [True, True])
-        self.stops("publish", "--casting", "Groesse", *cast, said=["an earlier publication has a casting vote for 72 Euro"])
+        earlier = ["an earlier publication has a casting vote for 72 Euro", "publish --casting '72 Euro' --cast-by 'Anna <b>' --cast-on 2026-11-20"]
+        for words in (("--casting", "Groesse", *cast), ("--language", "fr")):
+            self.stops("publish", *words, said=earlier)
         self.reopened_with("cleo 1,2,3\n")
         self.replace("--casting", "72 Euro", *cast, "--language", "en")
         texts = (self.sections()["Result"].text(), self.letter())
         self.expect("one that decides nothing is not told", ["casting vote" in text for text in texts], [False, False])
         self.reopened_with("dan 2,1,3\n")
         self.replace("--casting", "Groesse", *cast, "--force", "--because", "She had meant this", "--language", "en")
-        self.expect("another casting vote", self.doubts(), ["An earlier result of this vote was published with another casting vote, for 72 Euro."])
+        self.expect("another casting vote", self.doubts(), ["An earlier result of this vote was published with a casting vote for 72 Euro."])
         self.expect("the letter says whom it chose", "Winner: Option 2: Größe by casting vote" in self.letter(), True)
         self.expect("and again", "as it was published before" in self.say("publish"), True)
+        self.replace("--force", "--because", "It was none", "--language", "en", status=1)
+        self.expect("one that is left out", self.doubts(), ["An earlier result of this vote was published with a casting vote for Größe."])
 
     @FORKED
     def test_a_publication_that_is_killed_after_its_act(self):
@@ -590,7 +608,8 @@ class OfSecretVotes(OfElections):
         self.say("publish", "--force", "--yes", status=1)
         self.expect("the act keeps what was agreed to", self.acts()[-1].detail["agreed"], [hashlib.sha256(b"of <Ada>").hexdigest()])
         self.say("publish", "--language", "fr", status=1)
-        self.write("about", f"x {queries.electors(self.book)[0].code}\n")
+        code = queries.electors(self.book)[0].code
+        self.write("about", f"x {code[:16]}\n{code[16:].upper()}\n")
         self.stops("publish", "--about", "about", "--yes", said=["index.html would have the code of an elector in it"])
 
     def test_texts_of_options_are_asked_for_before_the_call(self):
@@ -643,6 +662,10 @@ class OfSecretVotes(OfElections):
         self.say("publish", status=1)
         # that of Zoë has the same order, which is published as it was; that of Ada has another one
         self.add("cleo 1,2,3\nzoe-mueller 5,4,6\nada-lovelace 2,1,3\n")
+        terminal = Terminal(self, "reopen", "--because", "Cleo's letter")
+        terminal.until("because: Cleo's letter? Only the log tells this reason. [y/n] ")
+        terminal.type("n\n")
+        self.expect("it is asked", terminal.end()[1], 9)
         self.say("reopen", "--because", "Cleo's letter", "--in-time", "6", "7", "8")
         self.say("close")
         self.stops("publish", "result-2", said=["a comparison with the earlier result shows how these voted: ada-lovelace, cleo"], folder="result-2")

@@ -9,7 +9,7 @@ import sys
 import time
 from unittest import mock
 
-from debvote_tools.result.folder import left_beside
+from debvote_tools.files import left_beside
 
 from tests.support import page_parts, publishing
 
@@ -143,5 +143,6 @@ class RefusedTest(publishing.PublishTest):
         self.expect("those who did not vote", [item.text() for item in sections["Find-your-ballot"].all("li")], [roll[3]])
 
     def test_a_folder_that_another_run_takes_away(self):
-        with mock.patch.object(pathlib.Path, "glob", return_value=[self.scratch / "gone", self.scratch.parent]):
-            self.expect("what is left", left_beside(self.scratch), [self.scratch.parent])
+        self.scratch.joinpath("file").touch()
+        with mock.patch.object(pathlib.Path, "glob", return_value=[self.scratch / "gone", self.scratch / "file", self.scratch.parent]):
+            self.expect("what is left", left_beside(self.scratch, "left"), [self.scratch.parent])

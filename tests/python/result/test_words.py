@@ -39,7 +39,7 @@ class WordsTest(expecting.Expecting):
         places = {"until": time, "before": time, "number": 1, "envelope": 1, "noted": 1, "there": 1}
         told = templates_of("debvote_tools.result", ENGLISH, is_page=False).get_template("told.jinja").module
         kinds = {*told.DONE, "roll changed"}
-        self.expect("how many kinds", len(kinds), 13)
+        self.expect("how many kinds", len(kinds), 15)
         for done in kinds:
             self.expect(done, told.dated(Act(time, done, places))[:38], "Friday, 4 December 2026, 00:00 (UTC): ")
         places = {"lines": 1, "checksum": "c", "early": False, "waiting": 0, "after_end": 0, "came": None, "struck": None}
