@@ -122,6 +122,15 @@ class Sending(SendTest):
         self.assertIn("Not reached by the call: ada (no letter), gus (no letter), hal (no letter)\n", self.told("letters", "receipts"))
         self.send("call")
         self.assertEqual(self.not_reached(), {})
+        # what a server refused of a call that was taken back is no news of the next one
+        self.server.rcpt_answers = {"cleo@club.example": "550 none"}
+        for words in (("--until", "2026-12-09 12:00", "--zone", "UTC"), ("--take-back",), self.call_words):
+            self.done("call", *words)
+            if words[0] == "--until":
+                self.assert_sent("call", status=9)
+                self.assertEqual(self.not_reached(), {"cleo": "refused"})
+        self.told("letters", "call")
+        self.assertEqual(self.not_reached(), {})
 
     def came_back(self, name: str, what: str, sender: str = "mailer-daemon@mail.example", field: str = "") -> None:
         sent = next(taken.data.decode().replace("\r\n", "\n") for taken in self.server.taken if taken.to.startswith(f"{name}@"))
