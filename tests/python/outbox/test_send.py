@@ -19,7 +19,7 @@ from debvote_tools.cli.faults import Fault
 from debvote_tools.outbox import smtp
 
 from tests.support import elections, terminal
-from tests.support.letters import letter
+from tests.support.letters import TEN, letter
 from tests.support.outgoing import OTHER_RANKS, RANKS, MailServer, PlainServer, SendTest, one_line, parsed
 
 ALL = [f"{name}@club.example" for name in elections.NAMES]
@@ -132,7 +132,7 @@ class Sending(SendTest):
         self.told("letters", "call")
         self.assertEqual(self.not_reached(), {})
 
-    def came_back(self, name: str, what: str, sender: str = "mailer-daemon@mail.example", field: str = "") -> None:
+    def came_back(self, name: str, what: str, sender: str = "mailer-daemon@mail.example", field: str = "", time: str = TEN) -> None:
         sent = next(taken.data.decode().replace("\r\n", "\n") for taken in self.server.taken if taken.to.startswith(f"{name}@"))
         message = parsed(sent.encode())
         head, body = sent.partition("\n\n")[0], message.get_content()
@@ -148,7 +148,7 @@ class Sending(SendTest):
         }[what]
         parts = ("text/plain", "I'm sorry to have to inform you that your message could not be delivered."), inner
         text = "".join(f"--b\nContent-Type: {kind}\n\n{part}\n" for kind, part in parts)
-        self.add(letter(name, f"{text}--b--\n", sender=sender, kind=REPORT, number=f"{what}{abs(hash(sent))}", head=field))
+        self.add(letter(name, f"{text}--b--\n", sender=sender, kind=REPORT, number=f"{what}{abs(hash(sent))}", head=field, time=time))
 
     def test_what_is_no_letter_that_came_back(self) -> None:
         """A program answers for somebody who is away, or reports from the elector's own address; a delivery is late, or done; a stranger
@@ -205,7 +205,7 @@ class Sending(SendTest):
         self.add(letter("ada", f"ada {RANKS}\n"))
         self.add_lines(f"ben {RANKS}")
         self.assertEqual(self.not_reached(), {"ben": "came back"})
-        self.came_back("ada", "whole", field="X-Folder: another\n")
+        self.came_back("ada", "whole", field="X-Folder: another\n", time=TEN.replace("10:00", "10:30"))
         self.assertEqual(self.not_reached(), {"ben": "came back"})
         self.came_back("ada", "head")
         self.assertEqual(self.not_reached(), {"ada": "came back", "ben": "came back"})
@@ -229,6 +229,8 @@ class Sending(SendTest):
         self.server.rcpt_answers = {ALL[0]: "550 no"}
         self.assertIn("Not reached by the call: ada (refused: 550 no)\n", self.assert_sent("call", status=9).output)
         self.assertEqual(self.not_reached(), {"ada": "refused"})
+        self.came_back("ada", "head")
+        self.assertEqual(self.not_reached(), {"ada": "came back"})
 
     def test_a_run_that_goes_on_sends_nothing_twice(self) -> None:
         """Nor to those whose letter came back before."""
