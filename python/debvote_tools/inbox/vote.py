@@ -154,7 +154,9 @@ class Vote:
             if labels or len(meant) == 1:
                 text = f"{meant[0] if len(meant) == 1 else name.lower()} {answers}"
         as_read = text.encode("utf-8", "surrogateescape")
-        return as_read if labels else with_small_name(as_read), unclear
+        if labels:
+            return as_read, unclear
+        return line.repaired if as_read == given else with_small_name(as_read), unclear
 
     def with_ranks(self, line: bytes) -> bytes:
         text = self.names.with_ranks(line.decode("utf-8", "surrogateescape"))
