@@ -689,6 +689,13 @@ class Secret(SendTest):
         texts = {taken.to: " ".join(parsed(taken.data).get_content().split()) for taken in self.server.taken}
         for name, is_told in (("ada", True), ("ben", False), ("cleo", True)):
             self.assertEqual(f"It went to another address before: {name}@club.example." in texts[f"{name}@new.example"], is_told, name)
+        # a code of a call that was taken back opens nothing
+        for words in (("call", "--take-back"), ("codes",), ("call", *self.call_words)):
+            self.done(*words)
+        self.server.taken.clear()
+        self.change_roll("@club", "@newest")
+        self.assert_sent("call")
+        self.assertEqual([taken.to for taken in self.server.taken if b"to another address" in taken.data], [])
 
 
 class Encrypted(unittest.TestCase):
