@@ -1028,11 +1028,6 @@ class Couple(LettersTest):
         self.assertNotIn("--enter", self.told("undo", "--yes"))
         self.assertIn("letter 2 waits on; not entered yet: a ballot of ben\n", self.told("held", 2, "--enter"))
         self.assert_left(1, self.ada)
-        # also for one of another address
-        self.add(letter("cleo", f"We are 2: Dan is for the town hall\ncleo {RANKS}", number=3))
-        self.told("held", 3, "--as", f"dan {OTHER}", "--force")
-        self.told("undo", "--yes")
-        self.assertIn("letter 3 waits on, for a ballot of dan\n", self.told("held", 3, "--enter"))
 
     def test_what_was_typed_for_somebody_else_by_mistake(self) -> None:
         """Once it is taken back the letter waits for nobody."""
