@@ -79,6 +79,13 @@ class Adding(LettersTest):
             self.assertEqual(self.exported()[0], "")
         self.assertIn("1 new letter; 0 came before.", self.told("add", "--yes", self.box(inner)))
         self.assertEqual(self.exported()[0], f"ben {RANKS}\n")
+        # also where both come in one command, in any order
+        for name, is_alone_first in (("cleo", False), ("dan", True)):
+            alone = self.of_this_vote(letter(name, f"{name} {RANKS}"))
+            self.write("outer.mbox", mailbox(letter("ada", f"hello {name}").rstrip(b"\n") + b"\n" + mailbox(alone).rstrip(b"\n")))
+            given = ("outer.mbox", self.box(alone))
+            self.told("add", "--yes", *(given[::-1] if is_alone_first else given))
+            self.assertEqual(self.stands(name), RANKS)
 
     def test_a_mailbox_longer_than_any_file_of_lines(self) -> None:
         """Else what is beyond that length would be in no list, and nobody would be told."""
@@ -226,6 +233,20 @@ class Adding(LettersTest):
                 with self.subTest(words, more=more):
                     self.assert_fault(self.election("add", *words, more, "inbox.mbox"), 2, f"{words[0]}: {said}")
                     self.assertEqual(self.contents(), before)
+        # beside letters of a folder each other file is told, and what to do with it
+        others = {"inner.mbox": self.read("inbox.mbox") * 2, "scan.pdf": b"%PDF-1.7", "box.zip": b"PK\x03\x04", ".eml": b"", "box.pst": b"!BDN", "notes.txt": b"hello"}
+        for name, data in others.items():
+            (self.folder / "box" / name).write_bytes(data)
+        told = self.told("add", "--look", "box")
+        for said in (
+            "inner.mbox: it is a mailbox of several letters within the folder, and was passed over; add it by its own name\n",
+            "scan.pdf: it is a PDF, and was passed over; save the letter itself as .eml\n",
+            "box.zip: it is a ZIP, and was passed over; unpack it, and add the folder\n",
+            ".eml: it is a hidden file, whose name begins with a full stop, and was passed over; if it is a letter, rename it\n",
+            "box.pst: it is a mailbox in the format of Outlook (.pst), which this program does not read, and was passed over; fetch the mailbox with ",
+            "notes.txt: it does not look like a letter, and was passed over; if it is a letter, save it as .eml\n",
+        ):
+            self.assertIn(f"box/{said}", told)
 
     def test_letters_of_after_the_first_close(self) -> None:
         self.set_clock("2026-11-24T09:00:00+00:00")
@@ -307,6 +328,7 @@ class ReadOnce(LettersTest):
         lines = f"Ada {RANKS}\nGsu {RANKS}\nben {RANKS}\n"
         for words, given, at_most in (
             (("add", "--look"), lines, 3),
+            (("add", "--look"), f"cleo {RANKS}\nben {RANKS}\n", 1),
             (("add",), lines, 3),
             (("add",), f"cleo {RANKS}\n", 2),
             (("desk",), f"ada {OTHER}\n", 2),

@@ -189,6 +189,10 @@ class Several(unittest.TestCase):
             self.assertEqual(outcomes(data, again, decisions={parsed(data).digest: decision}), [becomes, "copy"])
             # one that arrived before, in a mailbox that is read later
             self.assertEqual(outcomes(letter("ada", "when?", time=hour(9)), data, decisions={parsed(data).digest: decision}), ["copy", becomes])
+        # nor does an earlier copy of a ballot go in that an act set aside or put back
+        kept = parsed(first())
+        for decision, becomes in ((queries.SET_ASIDE, "set aside: set aside"), (queries.PUT_BACK, "waits: put back")):
+            self.assertEqual(outcomes(first(time=hour(9)), kept, decisions={kept.digest: decision}), ["copy", becomes])
         # for another reason it is told
         self.assertEqual(outcomes(data, b"Auto-Submitted: auto-replied\n" + data), ["waits: no ballot", "waits: automatic"])
         # a second delivery after the end that is read first

@@ -44,6 +44,8 @@ class Files(unittest.TestCase):
         for data in (ADA, b"\n\n" + ADA, b"\xef\xbb\xbf" + ADA, b"From ben\n" + ADA):
             found = letters_of_file("x", data)
             self.assertEqual([(raw.where, raw.data, raw.is_parted_off) for raw in read_in(found)], [("x", ADA, False)], data[:10])
+        # a head of one field is enough where the line above has a date
+        self.assert_becomes(LINE + b"X-Note: kept\n\nhello\n\n" + LINE + BEN, IN_BEN, "waits: no arrival")
         # without its first line it is one letter, and all but its first ballot are text of it: it waits
         for start in (b"\n", b"\r\n\r\n", b"\xef\xbb\xbf", b"<?php exit; ?>\n", b"<?php exit; ?>\r\n"):
             self.assert_becomes(start + mailbox(ADA, BEN), IN_ADA, IN_BEN)

@@ -45,6 +45,8 @@ class Call(OutTest):
             self.assertTrue(text.startswith(f"{begin}{OPTIONS} Send your line as an answer to this letter, or to "), text)
             self.assertIn(f"whose subject ends with [{mark}-{own}]", text)
             self.assertIn(f"until the result: {hashlib.sha256(self.read('call/poll.toml')).hexdigest()} Majority ratio 3: ", text)
+            # the rules in full are on the page
+            self.assertNotIn("Rank before it what you would accept", text)
             self.assertLess(message.get_content().index(AT), 300)
             self.assertEqual([other for other in elections.NAMES if f"{other} _" in text], [name])
             # one page
@@ -97,6 +99,8 @@ class Call(OutTest):
         self.done("call", "--until", "2026-12-06 12:00", "--zone", "UTC")
         found = self.written("call")
         texts = {name: one_line(message) for name, message in found.items()}
+        # also in a run after it
+        self.assertEqual(self.texts("call"), texts)
         self.assertRegex(found["ben"]["Subject"], rf"^Vote ends later: {TITLE} {MARKS}$")
         self.assertRegex(found["ada"]["Subject"], rf"^Vote: {TITLE} ")
         self.assertNotIn("You have more time", texts.pop("ada"))

@@ -19,7 +19,7 @@ from debvote_tools.cli.faults import Fault
 from debvote_tools.outbox import smtp
 
 from tests.support import elections, terminal
-from tests.support.letters import letter
+from tests.support.letters import TEN, letter
 from tests.support.outgoing import OTHER_RANKS, RANKS, MailServer, PlainServer, SendTest, one_line, parsed
 
 ALL = [f"{name}@club.example" for name in elections.NAMES]
@@ -122,8 +122,17 @@ class Sending(SendTest):
         self.assertIn("Not reached by the call: ada (no letter), gus (no letter), hal (no letter)\n", self.told("letters", "receipts"))
         self.send("call")
         self.assertEqual(self.not_reached(), {})
+        # what a server refused of a call that was taken back is no news of the next one
+        self.server.rcpt_answers = {"cleo@club.example": "550 none"}
+        for words in (("--until", "2026-12-09 12:00", "--zone", "UTC"), ("--take-back",), self.call_words):
+            self.done("call", *words)
+            if words[0] == "--until":
+                self.assert_sent("call", status=9)
+                self.assertEqual(self.not_reached(), {"cleo": "refused"})
+        self.told("letters", "call")
+        self.assertEqual(self.not_reached(), {})
 
-    def came_back(self, name: str, what: str, sender: str = "mailer-daemon@mail.example", field: str = "") -> None:
+    def came_back(self, name: str, what: str, sender: str = "mailer-daemon@mail.example", field: str = "", time: str = TEN) -> None:
         sent = next(taken.data.decode().replace("\r\n", "\n") for taken in self.server.taken if taken.to.startswith(f"{name}@"))
         message = parsed(sent.encode())
         head, body = sent.partition("\n\n")[0], message.get_content()
@@ -139,7 +148,7 @@ class Sending(SendTest):
         }[what]
         parts = ("text/plain", "I'm sorry to have to inform you that your message could not be delivered."), inner
         text = "".join(f"--b\nContent-Type: {kind}\n\n{part}\n" for kind, part in parts)
-        self.add(letter(name, f"{text}--b--\n", sender=sender, kind=REPORT, number=f"{what}{abs(hash(sent))}", head=field))
+        self.add(letter(name, f"{text}--b--\n", sender=sender, kind=REPORT, number=f"{what}{abs(hash(sent))}", head=field, time=time))
 
     def test_what_is_no_letter_that_came_back(self) -> None:
         """A program answers for somebody who is away, or reports from the elector's own address; a delivery is late, or done; a stranger
@@ -196,7 +205,7 @@ class Sending(SendTest):
         self.add(letter("ada", f"ada {RANKS}\n"))
         self.add_lines(f"ben {RANKS}")
         self.assertEqual(self.not_reached(), {"ben": "came back"})
-        self.came_back("ada", "whole", field="X-Folder: another\n")
+        self.came_back("ada", "whole", field="X-Folder: another\n", time=TEN.replace("10:00", "10:30"))
         self.assertEqual(self.not_reached(), {"ben": "came back"})
         self.came_back("ada", "head")
         self.assertEqual(self.not_reached(), {"ada": "came back", "ben": "came back"})
@@ -220,6 +229,8 @@ class Sending(SendTest):
         self.server.rcpt_answers = {ALL[0]: "550 no"}
         self.assertIn("Not reached by the call: ada (refused: 550 no)\n", self.assert_sent("call", status=9).output)
         self.assertEqual(self.not_reached(), {"ada": "refused"})
+        self.came_back("ada", "head")
+        self.assertEqual(self.not_reached(), {"ada": "came back"})
 
     def test_a_run_that_goes_on_sends_nothing_twice(self) -> None:
         """Nor to those whose letter came back before."""
@@ -606,6 +617,10 @@ class SeveralRuns(SendTest):
         self.write("members.csv", elections.members_of(self.names).replace("gus@club.example", "").replace("ben@club", "ben@new"))
         self.told("roll", "--yes")
         self.assert_sent("reminders", "Sent 8 of 8 letters.")
+        # one that a server refused for good
+        self.server.rcpt_answers = {"ben@new.example": "550 5.1.1 no such user"}
+        for _ in range(2):
+            self.assert_sent("reminders", "Sent 7 of 8 letters.", 9)
 
     def test_two_runs_at_once_send_each_letter_once(self) -> None:
         runs = [self.sending("call") for _ in range(3)]
@@ -649,6 +664,38 @@ class SeveralRuns(SendTest):
         # on a busy machine the last reminders are some seconds younger
         self.set_clock("2026-11-24T11:00:00+00:00")
         self.assertEqual((terminal.Terminal(self, *words).end()[1], len(self.server.taken)), (0, 36))
+        # a run that goes on asks nothing, though somebody has another address since; nor does one that reminds nobody
+        self.set_clock("2026-11-25T12:00:00+00:00")
+        self.server.rcpt_answers = {ALL[1]: "451 later"}
+        self.assertEqual(self.election(*words).status, 9)
+        self.server.rcpt_answers = {}
+        self.change_roll("cleo@club", "cleo@new")
+        self.assertIn("Sent 2 of 2 letters.", self.told(*words))
+        self.add_lines(*(f"{name} {RANKS}" for name in self.names))
+        self.assertEqual(self.told(*words), "There is no letter to send: the server has taken all that are due.\n")
+
+
+class Secret(SendTest):
+    poll = elections.POLL + "secret = true\n"
+
+    def test_a_code_that_a_server_took_at_last_went_to_that_address(self) -> None:
+        """It is told as such to the next one; not one that was refused and never taken."""
+        self.server.rcpt_answers = {ALL[0]: "451 later", ALL[1]: "550 none"}
+        self.assert_sent("call", status=9)
+        self.server.rcpt_answers = {ALL[1]: "550 none"}
+        self.assert_sent("call", status=9)
+        self.change_roll("@club", "@new")
+        self.assert_sent("call")
+        texts = {taken.to: " ".join(parsed(taken.data).get_content().split()) for taken in self.server.taken}
+        for name, is_told in (("ada", True), ("ben", False), ("cleo", True)):
+            self.assertEqual(f"It went to another address before: {name}@club.example." in texts[f"{name}@new.example"], is_told, name)
+        # a code of a call that was taken back opens nothing
+        for words in (("call", "--take-back"), ("codes",), ("call", *self.call_words)):
+            self.done(*words)
+        self.server.taken.clear()
+        self.change_roll("@club", "@newest")
+        self.assert_sent("call")
+        self.assertEqual([taken.to for taken in self.server.taken if b"to another address" in taken.data], [])
 
 
 class Encrypted(unittest.TestCase):

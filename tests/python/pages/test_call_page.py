@@ -204,7 +204,9 @@ class Lines(PageTest):
             self.assertEqual([(result["line"], result["missing"]) for result in found], wanted)
             self.assertEqual((found[2]["body"], found[2]["wide"], self.window.faults), (f"{gap} 2,1,3,-\r\n", 360, []))
             self.assertNotRegex(page, '<textarea|<datalist|<input (?!type="radio")')
-            self.assertRegex(page, rf"In the letter, and not on this page, write your \w+ in the place of <code>{gap}</code>")
+            # in the steps, and at the buttons
+            said = rf"In the letter, and not on this page, write your \w+ in the place of <code>{gap}</code>"
+            self.assertEqual(len(re.findall(said, page)), 2)
 
 
 FEE = dataclasses.replace(POLL, title="Raise the fee", options=("Yes, 72 Euro",), ratios=(1,), default="No")

@@ -184,6 +184,10 @@ class ScriptsTest(publishing.ResultPageTest):
         other = f"No elector of this vote has the alias {alias_of('f' * 32, 'ada')}. Type name and code as they are in your letter or on your slip."
         self.expect("another code", window.find("ada", "f" * 32), [other])
         self.expect("a short code", window.find("ada", "f" * 31), ["A code has 32 digits, 0 to 9 and a to f. Type yours as it was given to you."])
+        # as where the page did not come by https
+        window.ask("Object.defineProperty(crypto, 'subtle', { value: undefined })")
+        said = "This browser makes no alias on a page that did not come by https. Use one of the commands below."
+        self.expect("without means to make an alias", window.find("ada", self.code), [said])
         line = f"{alias} 2,1,-\n"
         for what, before, after, said in [
             ("a line twice", line, line * 2, "replaced"),

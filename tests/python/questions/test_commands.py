@@ -36,7 +36,16 @@ class Desk(QuestionsTest):
         self.assertIn("`cl` was completed to `cleo`\n", desk.after("cl A 1,2\n", ASKED))
         desk.after("n\n", "Ballot: ")
         desk.type("q\n")
-        self.assertEqual(self.lines(), ["ada A 2,1 C 1,2,3,4", "ada A 1,2 B 1,2,3", "ben B 1,2,3", "ben A 1,2,3"])
+        lines = ["ada A 2,1 C 1,2,3,4", "ada A 1,2 B 1,2,3", "ben B 1,2,3", "ben A 1,2,3"]
+        self.assertEqual(self.lines(), lines)
+        # an export has the lines as they came, and of each question its answers beside its poll
+        self.told("export", self.scratch / "out")
+        by_label = {"A": "ada 2,1\nada 1,2\nben 1,2,3\n", "B": "ada 1,2,3\nben 1,2,3\n", "C": "ada 1,2,3,4\n"}
+        files = {f"{label}/ballots.txt": ballots.encode() for label, ballots in by_label.items()}
+        files |= {f"{label}/poll.toml": self.read(f"call/{label}/poll.toml") for label in by_label}
+        files |= {"ballots.txt": "".join(f"{line}\n" for line in lines).encode(), "late.txt": b""}
+        found = {path: path.read_bytes() for path in (self.scratch / "out").rglob("*.t*") if path.parent.name != "came"}
+        self.assertEqual({str(path.relative_to(self.scratch / "out")): data for path, data in found.items()}, files)
 
     def test_of_one_question(self) -> None:
         desk = Terminal(self, "desk", "--question", "b")

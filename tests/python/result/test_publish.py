@@ -69,8 +69,8 @@ class OfElections(CalledTest, expecting.Expecting):
         (self.folder / "texts").mkdir(exist_ok=True)
         self.write(f"texts/{number}.txt", text)
 
-    def reopened_with(self, lines, words=()):
-        self.say("reopen", "--because", "lost letters", "--in-time")
+    def reopened_with(self, lines, words=(), because="lost letters"):
+        self.say("reopen", "--because", because, "--in-time")
         self.add(lines, words=("--came-before-close", "yes"))
         self.say("close", *words)
 
@@ -158,6 +158,7 @@ class OfOpenVotes(OfElections):
         self.expect("late lines", files["late.txt"], b"dan 3,2,1\n")
         label = json.loads(files["result.json"])["options"][1]
         self.expect("names as data", (label["name"], label["label"]), ("Groesse", "Größe"))
+        self.expect("of aliases nothing is said", "To find it without this page" in self.page(), False)
         self.expect("real names", self.items("Who-voted"), ["ada-lovelace Ada <Lovelace>", "cleo Cleo", "zoe-mueller Zoë Müller", "dan Dan"])
         refused = self.items("Refused-lines")
         self.expect("refused and late lines", (len(refused), refused[-1]), (2, "line 1: dan 3,2,1"))
@@ -459,7 +460,11 @@ class OfOpenVotes(OfElections):
         self.replace("--casting", "72 Euro", *cast, "--language", "en")
         texts = (self.sections()["Result"].text(), self.letter())
         self.expect("one that decides nothing is not told", ["casting vote" in text for text in texts], [False, False])
-        self.reopened_with("dan 2,1,3\n")
+        sums = lambda: re.findall("(?m)^  ([0-9a-f]{64})$", self.read("letters/closed.txt").decode())  # noqa: E731
+        before = sums()[1]
+        self.reopened_with("dan 2,1,3\n", because="a bag was forgotten")
+        reasons = [reason in self.read("letters/closed.txt").decode() for reason in ("lost letters", "a bag was forgotten")]
+        self.expect("the letter of the close takes the place of the last one", (sums()[-1], reasons), (before, [False, True]))
         self.replace("--casting", "Groesse", *cast, "--force", "--because", "She had meant this", "--language", "en")
         self.expect("another casting vote", self.doubts(), ["An earlier result of this vote was published with a casting vote for 72 Euro."])
         self.expect("the letter says whom it chose", "Winner: Option 2: Größe by casting vote" in self.letter(), True)
