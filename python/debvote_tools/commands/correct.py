@@ -186,7 +186,7 @@ def what_is_struck(vote: Vote, arguments: StrikeArguments, because: str) -> Chan
     done = [
         kept.number
         for kept in queries.kept_letters(vote.book)
-        if kept.number == envelope.letter and kept.state in (queries.ENTERED, queries.STRUCK)
+        if kept.number == envelope.letter and kept.state == queries.ENTERED
     ]
     return Change(
         "strike",

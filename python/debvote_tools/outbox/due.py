@@ -215,7 +215,7 @@ def call_data_of(
     if not has_reason(because):
         raise fault
     reason = demand_reason(because, "--force")
-    without_box = dataclasses.replace(call, has_box=False, is_without_box=call.has_box)
+    without_box = dataclasses.replace(call, has_box=False, is_without_box=True)
     return without_box, {"because": reason}
 
 
