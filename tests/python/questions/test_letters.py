@@ -2,6 +2,7 @@
 
 import dataclasses
 import datetime
+import os
 import random
 import re
 import time
@@ -394,14 +395,14 @@ def that_go_in(count: int, *, has_words: bool = False, words: Words = {}) -> Ite
 
 
 class Random(unittest.TestCase):
-    COUNT = 20_000
+    COUNT = int(os.environ.get("DEBVOTE_RANDOM_LETTERS", "20000"))
 
     def test_each_answer_goes_in_and_no_other(self) -> None:
         count = 0
         for data, stands, goes in that_go_in(self.COUNT):
             count += 1
             self.assertEqual(goes, stands, data)
-        self.assertGreater(count, self.COUNT / 5)
+        self.assertGreater(count, self.COUNT / 6)
 
     def test_words_among_them(self) -> None:
         """Nothing goes in that would not without motions."""
