@@ -121,6 +121,8 @@ def what_else_changes(book: Book, struck: Sequence[int], letters: Sequence[int])
 def words_to_enter(letters: Sequence[LetterCase], struck: Collection[int]) -> list[str]:
     """What is typed after `held` to enter again what was taken back; empty if no one command does it."""
     numbers, is_one = [str(letter.number) for letter in letters], len(letters) == 1
+    if any(letter.time is None or letter.voted_since for letter in letters):
+        return []
     with contextlib.suppress(Fault):
         for letter in letters:
             named_lines(letter, [THE_ONE], is_one=is_one)

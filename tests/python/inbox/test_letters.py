@@ -282,6 +282,12 @@ class Adding(LettersTest):
         self.overtaken(letter_folder, "letter_files", ("undo", "--yes"), ("letters", "receipts"))
         self.assertNotIn("receipt", self.told("show", "ada"))
 
+    def test_undo_names_no_command_that_would_stop(self) -> None:
+        self.told("desk", given=f"ada {OTHER}\n")
+        self.add(letter("ada", f"ada {RANKS}"))
+        self.told("held", 1, "--enter", "--force")
+        self.assertIn("; debvote-election held lists these letters\n", self.told("undo", "--yes"))
+
     def test_undo_and_strike_of_ballots_of_letters(self) -> None:
         box = (letter("ada", f"ada {RANKS}"), letter("ben", f"ben {RANKS}"), letter("cleo", f"cleo {RANKS}"), letter("dan", "hello"))
         self.add(*box)
