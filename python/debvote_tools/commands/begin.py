@@ -44,11 +44,8 @@ from debvote_tools.files import (
     write_whole,
 )
 from debvote_tools.grouping import several
-from debvote_tools.inbox import letter_words
-from debvote_tools.inbox.judging import letters_now
 from debvote_tools.inbox.lines import Names
 from debvote_tools.inbox.mime import address_key
-from debvote_tools.inbox.vote import Vote
 from debvote_tools.poll.announced import address_in
 from debvote_tools.poll.box import SCRIPT, box_files
 from debvote_tools.poll.call import current_call
@@ -164,10 +161,7 @@ def roll(election: Election, arguments: RollArguments) -> None:
         changed = {
             one: words for one, words in changes.items() if arguments.yes or agreed(one, words)
         }
-        vote = Vote(election)
-        letters_before = letters_now(vote)
         change_addresses(election, history, changed)
-        tell(*letter_words.judged_anew(letters_before, letters_now(vote)))
         after = election.command("status")
         if changed and not history.closes:
             after = f"{election.command('letters', 'call')}, for the new addresses"
@@ -221,7 +215,13 @@ def change_addresses(election: Election, history: History, changed: Mapping[Memb
     if not changed:
         tell("Nothing was changed.")
         return
-    now = []
+    # what judges letters takes a while to be imported
+    from debvote_tools.inbox import letter_words
+    from debvote_tools.inbox.judging import letters_now
+    from debvote_tools.inbox.vote import Vote
+
+    vote, now = Vote(election), []
+    letters_before = letters_now(vote)
     for member, known in ((member, member.known) for member in changed if member.known):
         mark = new_own_mark() if "address" in member.changes else known.mark
         now.append(known._replace(addresses=member.addresses, key=member.key, mark=mark))
@@ -238,6 +238,7 @@ def change_addresses(election: Election, history: History, changed: Mapping[Memb
         write_made(election.path(CALL), {SCRIPT: files[BOX_SCRIPT]}, PUBLIC)
         upload = f"Upload {election.path(CALL) / SCRIPT} again, since these electors have new links"
         tell(f"{upload}; then run {election.command('add', '--box')}.")
+    tell(*letter_words.judged_anew(letters_before, letters_now(vote)))
 
 
 def agreed(member: Member, words: str) -> bool:
