@@ -109,21 +109,26 @@ def came_last(history: History, lines: str) -> str:
     """Which lines there are, when the last ones came, the end and the strikes: who has put back a
     disk sees what is missing.
     """
-    adding = history.named("letters", "add", "enter")
+    undone = {act.detail["act"] for act in history.named("undo")}
     # an asking may bring nothing
+    came = [
+        act
+        for act in history.named("letters", "add", "enter", "desk")
+        if act.number not in undone and act.detail.get("letters") != 0
+    ]
     added, at_desks = (
-        act_time(acts[-1].time) if acts else "never"
-        for acts in (
-            [act for act in adding if act.detail.get("letters") != 0],
-            history.named("desk"),
+        next(
+            (act_time(act.time) for act in reversed(came) if (act.name == "desk") == is_desk),
+            "never",
         )
+        for is_desk in (False, True)
     )
     end = times.time_in_words(history.until) if history.until else "not announced"
     strikes = len(history.since_call("strike"))
-    came = (
+    said = (
         f"Until now {lines} came in time. Added last: {added}. Entered last at a desk: {at_desks}."
     )
-    return f"{came} Strikes: {strikes}. End of the vote: {end}."
+    return f"{said} Strikes: {strikes}. End of the vote: {end}."
 
 
 def what_is_closed(election: Election, arguments: Arguments) -> Closing:

@@ -168,6 +168,10 @@ class Asked(LettersTest):
         self.done("publish")
 
     def test_yes(self) -> None:
+        # what was taken back did not come
+        for words in (("add", "-"), ("desk",)):
+            self.done(*words, given="ada 1,2,3,4\n")
+            self.done("undo", "--yes")
         output, status = Terminal(self, "close", "--yes").end()
         said = "Until now 0 lines came in time. Added last: never. Entered last at a desk: never. Strikes: 0. End of the vote: not announced."
         self.assertEqual((status, said in output, "[y/n]" in output), (0, True, False))
