@@ -1,6 +1,5 @@
 """What the tests of debvote-publish share: a folder for each test, and the programs, which run as a user runs them."""
 
-import concurrent.futures
 import dataclasses
 import os
 import pathlib
@@ -60,12 +59,6 @@ def plain_room(folder, poll=PLAIN_POLL, ballots=PLAIN_BALLOTS):
     (folder / "poll.toml").write_bytes(poll.encode())
     (folder / "ballots").write_bytes(ballots.encode())
     return folder
-
-
-def side_by_side(function, items):
-    """What a function that runs programs returns for each item, as many at once as there are processors."""
-    with concurrent.futures.ThreadPoolExecutor(len(os.sched_getaffinity(0))) as pool:
-        return list(pool.map(function, items))
 
 
 class PublishTest(expecting.Expecting):

@@ -406,18 +406,19 @@ class Random(unittest.TestCase):
 
     def test_words_among_them(self) -> None:
         """Nothing goes in that would not without motions."""
-        found = list(that_go_in(6_000, has_words=True, words=WORDS))
+        count = min(6_000, self.COUNT)
+        found = list(that_go_in(count, has_words=True, words=WORDS))
         for data, stands, goes in found:
             self.assertEqual(goes, stands, data)
-        without = {data for data, _, _ in that_go_in(6_000, has_words=True)}
+        without = {data for data, _, _ in that_go_in(count, has_words=True)}
         self.assertLessEqual({data for data, _, _ in found}, without)
         self.assertLess(len(found), len(without))
-        self.assertGreater(len(found), 1_000)
+        self.assertGreater(len(found), count / 6)
 
     def test_without_the_rule_of_other_answers_some_are_lost(self) -> None:
         left = tuple(rule for rule in rules.RULES if rule is not rules.why_another_answer)
         with mock.patch.object(rules, "RULES", left):
-            self.assertGreater(sum(goes < stands for _, stands, goes in that_go_in(4_000)), 20)
+            self.assertGreater(sum(goes < stands for _, stands, goes in that_go_in(min(4_000, self.COUNT))), 20)
 
 
 # ---------------------------------------------------------------- forged ones
@@ -442,7 +443,7 @@ class Forged(unittest.TestCase):
         return sum(its.startswith("in: ") for its in found)
 
     def test_answers_to_forgeries(self) -> None:
-        texts = [text for _, text in random.Random(1).sample(list(test_forgeries.answers_to_forgeries()), 3_984)]
+        texts = [text for _, text in random.Random(1).sample(list(test_forgeries.answers_to_forgeries()), min(3_984, Random.COUNT))]
         self.assertGreater(self.demand(texts, "own", "known"), 0)
         self.assertEqual(self.demand(texts[:600], "none", "known"), 0)
 

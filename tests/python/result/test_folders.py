@@ -150,10 +150,10 @@ class FoldersTest(looks.LooksTest):
         # an option whose name has the words of a casting vote outside of a tie, and which wins, is told as the winner alone
         room = publishing.plain_room(cls.scratch / "of-words", publishing.PLAIN_POLL.replace('"A"', '"A, casting option 2 is not among them"'))
         words = "words-of-the-sheet", room / "poll.toml", room / "ballots", []
-        published = publishing.side_by_side(cls.publish, [*examples.elections(cls.scratch), words])
+        published = [cls.publish(election) for election in (*examples.elections(cls.scratch), words)]
         cls.castings = {folder: casting for folder, casting in published if folder.exists()}
         cls.note("how many", len(cls.castings) > len(examples.CASES), True)
-        slips = publishing.side_by_side(lambda name: try_slip(cls.note, name, cls.scratch), SLIPS)
+        slips = [try_slip(cls.note, name, cls.scratch) for name in SLIPS]
         large = [publish_large(cls.note, cls.scratch, *size) for size in ((12, 20), (13, 20), (32, 100))]
         return [*cls.castings, *slips, *large, try_names(cls.note, cls.scratch)]
 
