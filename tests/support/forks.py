@@ -24,6 +24,8 @@ from collections.abc import Callable, Iterator, Mapping, Sequence
 
 import debvote_tools
 import jinja2
+import jinja2.bccache
+from debvote_tools.book import chain
 from debvote_tools.text.language import LANGUAGES, language_of
 from debvote_tools.text.rendering import templates_of
 
@@ -45,9 +47,6 @@ def run(words: Sequence[object], tracer: Sequence[object] = (), **how: object) -
     if not is_plain(words, how):
         return subprocess.run([*map(str, tracer), *words], **how)
     module = importlib.import_module(LAUNCHERS[str(words[1])])
-    if str(words[1]).endswith("-election"):
-        # reads the modules of a command once, and not in each child
-        module.parser([str(word) for word in words[2:]])
     with tempfile.TemporaryFile() as given, tempfile.TemporaryFile() as output, tempfile.TemporaryFile() as faults:
         text = how.get("input")
         given.write(text.encode() if isinstance(text, str) else text or b"")
@@ -84,13 +83,32 @@ def attached(child: int, tracer: Sequence[object]) -> Iterator[None]:
         yield
 
 
+class Compiled(jinja2.BytecodeCache):
+    """Templates as they were compiled: for another language or package they are the same."""
+
+    def __init__(self) -> None:
+        self.kept: dict[str, bytes] = {}
+
+    def load_bytecode(self, bucket: jinja2.bccache.Bucket) -> None:
+        if bucket.key in self.kept:
+            bucket.bytecode_from_string(self.kept[bucket.key])
+
+    def dump_bytecode(self, bucket: jinja2.bccache.Bucket) -> None:
+        self.kept[bucket.key] = bucket.bytecode_to_string()
+
+
 def read_ahead() -> None:
-    """Imports all modules, and reads all templates in each language, so that no fork has to: it takes longer than most commands."""
+    """Imports all modules, makes the schema of a book, and reads all templates in each language, so that no fork has to: it takes longer
+    than most commands."""
     for found in pkgutil.walk_packages(debvote_tools.__path__, f"{debvote_tools.__name__}."):
         importlib.import_module(found.name)
+    chain.schema()
+    # a page escapes, and a letter does not
+    compiled = {True: Compiled(), False: Compiled()}
     packages = {file.parent.parent for file in (ROOT / "python" / "debvote_tools").glob("*/templates/*")}
     for package, code, is_page in itertools.product(packages, LANGUAGES, (True, False)):
         templates = templates_of(f"debvote_tools.{package.name}", language_of(code), is_page=is_page)
+        templates.bytecode_cache = compiled[is_page]
         for name in templates.list_templates():
             # one that letters and pages do not share
             with contextlib.suppress(jinja2.TemplateError):
