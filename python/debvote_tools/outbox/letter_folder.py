@@ -38,15 +38,15 @@ def message(due: LettersDue, letter: OutgoingLetter, *, is_draft: bool) -> bytes
     """The bytes of a letter. An answer goes to the address of the call. Mail programs offer to send
     a draft.
     """
-    coding, body = body_of(due.text(letter))
-    subject, mark = due.subject(letter)
+    said, mark = due.said(letter)
+    coding, body = body_of(said.text)
     reply_to = due.composer.call_data.to
     fields = [
         ("From", sender_of(due.sender_name, due.sender)),
         *([("Reply-To", reply_to)] if reply_to not in (None, due.sender) else []),
         ("To", letter.address),
         # on a line of its own it is found in a letter that comes back
-        ("Subject", f"{field('Subject', subject)}{GOES_ON}{mark}"),
+        ("Subject", f"{field('Subject', said.subject)}{GOES_ON}{mark}"),
         ("Date", email.utils.format_datetime(letter.time)),
         ("Message-ID", letter.message_id),
         *([("X-Unsent", "1")] if is_draft else []),
@@ -97,7 +97,8 @@ def letter_files(due: LettersDue, letters: Sequence[OutgoingLetter]) -> dict[str
     for letter in letters:
         elector = due.electors[letter.elector]
         if not letter.address:
-            rows = rows_to_print(due.text(letter))
+            said, _ = due.said(letter)
+            rows = rows_to_print(said.text)
             # others begin with the secretary's own words
             if due.kind in ("receipts", "closed", "result"):
                 rows[0].insert(0, (sender_on_paper(due), "paragraph"))

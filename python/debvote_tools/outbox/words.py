@@ -10,6 +10,7 @@ import datetime
 import functools
 import re
 from collections.abc import Iterator, Sequence
+from typing import NamedTuple
 
 from debvote_tools.book.queries import Elector
 from debvote_tools.inbox.rules import LetterOutcome
@@ -112,6 +113,13 @@ OF_RECORD = marked(
 )
 
 
+class Said(NamedTuple):
+    """What a letter says: its subject, before the mark that ends it, and its text."""
+
+    subject: str
+    text: str
+
+
 @dataclasses.dataclass(frozen=True)
 class Composer:
     """Makes all letters of a run. After the end nobody is invited to vote."""
@@ -129,7 +137,7 @@ class Composer:
 
     def call_letter(
         self, elector: Elector, *, is_extension: bool, earlier: Sequence[str] = ()
-    ) -> str:
+    ) -> Said:
         """The call; or that it ends later, which repeats no code. A code that went to earlier
         addresses is told as such. On paper it has at most two sides: if the texts about the options
         are too long for them, it says where they are.
@@ -145,27 +153,28 @@ class Composer:
             )
             if not is_on_paper(elector) or text.count("\n") <= TWO_SIDES:
                 break
-        return text
+        return Said(self.subject("call", is_extension=is_extension), text)
 
-    def reminder(self, elector: Elector, fates: Sequence[Fate]) -> str:
+    def reminder(self, elector: Elector, fates: Sequence[Fate]) -> Said:
         """A letter to an elector without a ballot that counts. If a line or a letter of theirs has
         come, it says what became of it, and that they can send a right line now.
         """
         has_come = any(one.is_own or one.envelope for one in fates)
-        return self.text("reminders.txt", elector, fates=fates, has_come=has_come)
+        return self.said("reminders", elector, fates=fates, has_come=has_come)
 
-    def receipt(self, elector: Elector, fates: Sequence[Fate]) -> str:
+    def receipt(self, elector: Elector, fates: Sequence[Fate]) -> Said:
         """What became of what came from an elector. It has the right line if the last of it was
         refused, waits or was set aside. What goes in, was struck, taken back or late asks nobody to vote again.
         """
         decides = (one for one in fates if one.is_own or one.became in (COUNTS, REFUSED))
         last = next(reversed([one.became for one in decides]), COUNTS)
         has_right_line = not self.is_over and last not in (COUNTS, LetterOutcome.GOES_IN)
-        return self.text("receipts.txt", elector, fates=fates, has_right_line=has_right_line)
+        return self.said("receipts", elector, fates=fates, has_right_line=has_right_line)
 
-    def text(self, template: str, elector: Elector, **values: object) -> str:
+    def said(self, kind: str, elector: Elector, **values: object) -> Said:
         ways = {"said_of": self.said_of, "quotation_of": self.quotation_of}
-        return self.rendered(PACKAGE, template, elector, **ways, **values)
+        text = self.rendered(PACKAGE, f"{kind}.txt", elector, **ways, **values)
+        return Said(self.subject(kind), text)
 
     def rendered(self, package: str, template: str, elector: Elector, **values: object) -> str:
         call = self.call_data
