@@ -8,10 +8,9 @@ from collections.abc import Callable, Collection, Mapping, Sequence
 from debvote_tools.book import queries, outgoing
 from debvote_tools.book.election import LETTERS, RESULT_LETTER, Election, History
 from debvote_tools.book.queries import Elector
-from debvote_tools.book.outgoing import REFUSED, TAKEN, WRITTEN, About, OutgoingLetter
+from debvote_tools.book.outgoing import TAKEN, WRITTEN, About, OutgoingLetter
 from debvote_tools.cli.arguments import demand_reason, has_reason
 from debvote_tools.cli.faults import Fault, bad_words, stop_at
-from debvote_tools.grouping import grouped
 from debvote_tools.inbox.asked import unasked_fault
 from debvote_tools.inbox.fates import ANEW, COUNTS, NOBODY, Fate, fates_of
 from debvote_tools.inbox.rules import LetterOutcome
@@ -149,13 +148,16 @@ def letters_due(
     is_over = bool(history.closes) or (until is not None and time > until)
     demand_due(election, history, kind, is_over=is_over)
     call_data, forced = call_data_of(election, history, kind, because)
-    on_list, noted_before = queries.electors(book), outgoing.outgoing_letters(book, kind)
-    electors = {elector.number: elector for elector in on_list}
-    composer = Composer(call_data, is_over, on_list)
+    electors = {elector.number: elector for elector in queries.electors(book)}
+    noted_before = outgoing.outgoing_letters(book, kind)
+    composer = Composer(call_data, is_over, electors.values())
     not_reached, _ = unreached_and_printed(election, history)
     back = {elector.number for elector, why, _ in not_reached if why == CAME_BACK}
-    present = [one for one in noted_before if one.elector in back and is_present(one, electors)]
-    returned_ids = {letter.elector: letter.message_id for letter in present}.values()
+    returned_ids = {
+        letter.elector: letter.message_id
+        for letter in noted_before
+        if letter.elector in back and is_present(letter, electors)
+    }.values()
     how = (kind, sender, is_sending, forced, electors, composer, noted_before, returned_ids)
     return of_kinds[kind](Run(election, history, time, *how))
 
@@ -234,11 +236,9 @@ def to_each(run: Run, for_act: int, says: Says) -> LettersDue:
 
 def calls_due(run: Run) -> LettersDue:
     """The call to each elector; after an extension that, to those whom the call has reached."""
-    *earlier, last = (act.number for act in run.history.since_call("call", "extend"))
-    had_call = set[int]()
-    if earlier:
-        not_reached = unreached(run.election, run.history, without=last)
-        had_call = run.electors.keys() - {elector.number for elector, _, _ in not_reached}
+    last = run.history.since_call("call", "extend")[-1].number
+    not_reached = unreached(run.election, run.history, without=last)
+    had_call = run.electors.keys() - {elector.number for elector, _, _ in not_reached}
     went = outgoing.call_addresses(run.election.book, run.election.called(run.history).number)
     return to_each(
         run,
@@ -326,14 +326,18 @@ def new_receipts(
     """The receipts about what no earlier one has told; not to an address to which one that is not
     sent yet says it.
     """
+    # at an address that its elector no longer has a server has to have taken it; a file may have gone
+    # out by a mail program, unless the server is to send it now
+    came_through = (TAKEN,) if run.is_sending else (TAKEN, WRITTEN)
     told_before = {
         (one.elector, key)
         for one in run.noted_before
-        if not failed_elsewhere(run, one)
+        if one.state in came_through or is_present(one, run.electors)
         for key in one.about
     }
     in_earlier = {(one.elector, one.address): set(one.about) for one in earlier}
-    old, found = old_addresses(run), list[OutgoingLetter]()
+    called, found = run.election.called(run.history).number, list[OutgoingLetter]()
+    old = outgoing.old_addresses(run.election.book, called)
     for number, elector in run.electors.items():
         keys = [key for key in to_tell[number] if (number, key) not in told_before]
         found += [
@@ -342,25 +346,6 @@ def new_receipts(
             if keys and not in_earlier.get((number, address), set()).issuperset(keys)
         ]
     return found
-
-
-def old_addresses(run: Run) -> dict[int, list[str]]:
-    """The addresses of electors before a change after the call, if no receipt was written since."""
-    last = {letter.elector: letter.for_act for letter in run.noted_before}
-    called = run.election.called(run.history).number
-    return grouped(
-        (elector, address)
-        for elector, act, addresses in outgoing.old_addresses(run.election.book, called)
-        if act > last.get(elector, 0) and (address := address_in(addresses))
-    )
-
-
-def failed_elsewhere(run: Run, letter: OutgoingLetter) -> bool:
-    """Whether no server has taken it, at an address that its elector no longer has. A file may
-    have gone out by a mail program, unless the server is to send it now.
-    """
-    states = (REFUSED, *([WRITTEN] if run.is_sending else []))
-    return letter.state in states and not is_present(letter, run.electors)
 
 
 def letters_of_close_due(run: Run) -> LettersDue:
