@@ -3,8 +3,7 @@ result. What the book has of the questions `close`, `count` and `publish` read i
 then each compares it with what it asks of debvote.
 """
 
-import dataclasses
-import operator
+import itertools
 from collections.abc import Collection, Iterable, Iterator, Mapping
 from typing import Any, NamedTuple
 
@@ -23,7 +22,6 @@ from debvote_tools.poll.secret import alias_in, aliased_ballots, sealed_checksum
 from debvote_tools.poll.questions import Questions, place_of
 from debvote_tools.poll.sealed import SealedPoll
 from debvote_tools.result.facts import Act, Doubt, Facts, PublishedWords
-from debvote_tools.result.file_names import BALLOTS
 from debvote_tools.result.sheet import Castings, Sheet, publishing, sheet_in
 from debvote_tools.text.ballots import ballot_file, in_normal_form
 from debvote_tools.text.language import Language, language_of
@@ -123,10 +121,12 @@ def counted(election: Election, kept: Kept, casting: str | None) -> Sheet:
 
 # ---- the facts
 def facts_of(election: Election, words: PublishedWords, pending: Pending) -> dict[str, Facts]:
-    """The facts of each question, by its label."""
+    """The facts of each question, by its label. Stops if debvote does not find the ballots as they are
+    kept.
+    """
     history, book = election.history(), election.book
     kept, call = kept_of(election, history, election.questions), current_call(election, history)
-    public, stopping = call.questions, what_stops(election, history, "publish", pending)
+    public = call.questions
     shared: dict[str, Any] = {
         "words": words,
         "language": election.language if words.language is None else language_of(words.language),
@@ -137,35 +137,25 @@ def facts_of(election: Election, words: PublishedWords, pending: Pending) -> dic
         "has_codes": call.has_codes_on_roll,
         "at": call.at,
         "questions": public,
-        "doubts": [*doubts_of(election, history, words.castings, pending, stopping)],
+        "doubts": [*doubts_of(election, history, words.castings, pending)],
     }
-    return {
-        label: Facts(
-            label=label,
-            poll=poll,
-            **facts_of_ballots(election, history, label, kept[label], words),
-            **shared,
+    found = {}
+    for label, its in kept.items():
+        standing = election.debvote.standing(its.poll.as_bytes(), its.ballots)
+        demand_kept(election, standing, its.counting)
+        own: dict[str, Any] = {"late": its.late}
+        if public.is_secret:
+            own = {
+                "codes": frozenset(one.code for one in queries.electors(book) if one.code),
+                "seal": fixed_by(history.closes[-1])[label].seal,
+                "private": counted(election, its, words.castings.get(label)),
+                "compared": shown_by_comparison(election, history, label, its),
+            }
+        late = sum(became == "late" for _, became in its.late)
+        found[label] = Facts(
+            public[label], its.public, label=label, late_number=late, **own, **shared
         )
-        for label, poll in public.items()
-    }
-
-
-def facts_of_ballots(
-    election: Election, history: History, label: str, kept: Kept, words: PublishedWords
-) -> dict[str, Any]:
-    """The facts about the ballots of a question. Stops if debvote does not find them as they are kept."""
-    standing = election.debvote.standing(kept.poll.as_bytes(), kept.ballots)
-    demand_kept(election, standing, kept.counting)
-    left_late = sum(became == "late" for _, became in kept.late)
-    found = {"ballots": kept.public, "late_number": left_late}
-    if not kept.poll.secret:
-        return found | {"late": kept.late}
-    return found | {
-        "codes": frozenset(one.code for one in queries.electors(election.book) if one.code),
-        "seal": fixed_by(history.closes[-1])[label].seal,
-        "private": counted(election, kept, words.castings.get(label)),
-        "compared": shown_by_comparison(election, history, label, kept),
-    }
+    return found
 
 
 def early_close(history: History) -> Doubt | None:
@@ -181,24 +171,26 @@ def closing_letter(history: History, questions: Questions, language: Language) -
     """The letter of the last close, with what it says of the one before; the questions are the public
     ones. In a secret vote the reason for which the vote was opened again stays in the log.
     """
-    close, zone = history.closes[-1], history.zone
-    values = {"close": close, "time": close.time.astimezone(zone), "questions": questions}
-    values |= {"fixed": fixed_by(close), "until": history.until, "earlier": None}
-    values["early"] = early_close(history)
-    if earlier := history.closes[:-1]:
-        reopened = [act for act in history.since_call("reopen") if act.number < close.number]
-        values |= {"earlier": fixed_by(earlier[-1])}
-        values["earlier_time"] = earlier[-1].time.astimezone(zone)
-        values["because"] = None if questions.is_secret else reopened[-1].detail["because"]
-    return render_letter(__package__, "closed.txt", language, **values).encode()
+    reasons = [act.detail["because"] for act in history.since_call("reopen")]
+    return render_letter(
+        __package__,
+        "closed.txt",
+        language,
+        questions=questions,
+        close=history.closes[-1],
+        closes=[(act.time.astimezone(history.zone), fixed_by(act)) for act in history.closes],
+        until=history.until,
+        early=early_close(history),
+        reasons=[] if questions.is_secret else reasons,
+    ).encode()
 
 
 def shown_by_comparison(election: Election, history: History, label: str, kept: Kept) -> list[str]:
     """The electors of a secret vote whose ballots differ from those of the last publication: a
     comparison shows theirs alone.
     """
-    earlier, file = history.named("publish"), place_of(label, BALLOTS)
-    if not earlier or earlier[-1].detail["checksums"][file] == sha256_of(kept.public):
+    earlier = history.named("publish")
+    if not earlier:
         return []
     with election.book.question(label):
         before = queries.what_counted(election.book, earlier[-1].number)
@@ -215,9 +207,9 @@ def doubts_of(
     history: History,
     castings: Castings,
     pending: Pending,
-    stopping: Collection[str],
 ) -> Iterator[Doubt]:
-    """The doubts that the book shows before the count; `stopping` is what `what_stops` finds."""
+    """The doubts that the book shows before the count."""
+    stopping = what_stops(election, history, "publish", pending)
     if not history.is_closed:
         yield Doubt("not closed")
     if early := early_close(history):
@@ -246,15 +238,13 @@ def doubts_of(
 # ---- what was done
 def acts_of(book: Book, history: History, *, is_secret: bool) -> list[Act]:
     """What the pages tell, with its times in the zone in which the end was announced."""
-    in_zone = operator.methodcaller("astimezone", history.zone)
-    found: list[Act] = []
-    for before, act in zip([None, *history.acts], history.acts):
-        if before is not None and act.went_back(before):
+    acts = [act._replace(time=act.time.astimezone(history.zone)) for act in history.acts]
+    found = list[Act]()
+    for before, act in itertools.pairwise(acts):
+        if act.went_back(before):
             found.append(Act(act.time, "clock", {"before": before.time}))
         found += acts_of_page(act, book, history, is_secret=is_secret)
-    return [
-        dataclasses.replace(one, time=in_zone(one.time), places=one.shown(in_zone)) for one in found
-    ]
+    return found
 
 
 def labels_after_end(book: Book, history: History) -> list[Collection[str]]:
@@ -275,7 +265,9 @@ def acts_of_page(act: DoneAct, book: Book, history: History, *, is_secret: bool)
     `strike` and `reopen` stay in the log.
     """
     time, detail = act.time, act.detail
-    until = {"until": from_text(detail["until"])} if detail.get("until") else {}
+    until = dict[str, Any]()
+    if detail.get("until"):
+        until["until"] = from_text(detail["until"]).astimezone(history.zone)
     reason = None if is_secret else detail.get("because")
     match act.name:
         case "call":
@@ -350,8 +342,11 @@ def agreed_texts(history: History, texts: Mapping[str, str], *, is_agreed: bool)
     asks about them once, unless the command line agrees.
     """
     known = {checksum for act in history.acts for checksum in act.detail.get("agreed", ())}
-    sums = {sha256_of(text.encode()): where for where, text in texts.items() if text.strip()}
-    new = {checksum: where for checksum, where in sums.items() if checksum not in known}
+    new = {
+        checksum: where
+        for where, text in texts.items()
+        if text.strip() and (checksum := sha256_of(text.encode())) not in known
+    }
     if new and not is_agreed:
         for where in new.values():
             tell_aside(f"{where}:", *(f"  {line}" for line in texts[where].strip().split("\n")))
