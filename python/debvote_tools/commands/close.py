@@ -111,18 +111,12 @@ def came_last(history: History, lines: str) -> str:
     """
     undone = {act.detail["act"] for act in history.named("undo")}
     # an asking may bring nothing
-    came = [
-        act
+    last = {
+        act.name == "desk": act_time(act.time)
         for act in history.named("letters", "add", "enter", "desk")
         if act.number not in undone and act.detail.get("letters") != 0
-    ]
-    added, at_desks = (
-        next(
-            (act_time(act.time) for act in reversed(came) if (act.name == "desk") == is_desk),
-            "never",
-        )
-        for is_desk in (False, True)
-    )
+    }
+    added, at_desks = (last.get(is_desk, "never") for is_desk in (False, True))
     end = times.time_in_words(history.until) if history.until else "not announced"
     strikes = len(history.since_call("strike"))
     said = (

@@ -81,14 +81,13 @@ def what_next(
             [cast | dict.fromkeys(tied, "NAME")] if more else [cast | {label: one} for one in names]
         )
         chosen = " or ".join(publishing(election, way) for way in ways)
-        then = "now"
         said = f"{ties}; the holder of the casting vote chooses one of them: {chosen}"
     else:
-        then, said = "then", publishing(election, cast)
+        said = publishing(election, cast)
     if history.is_closed:
         return said
     over = f"when the vote is over, run {election.command('close')}"
-    return f"this is not the result yet: {over}{';' if then == 'now' else ','} {then} {said}"
+    return f"this is not the result yet: {over}{'; now' if tied else ', then'} {said}"
 
 
 def names_left(sheet: Sheet) -> list[str]:

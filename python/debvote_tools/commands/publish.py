@@ -136,7 +136,7 @@ def detail_of(words: PublishedWords, filled: folder.Filled) -> Detail:
             label: words.castings[label] for label, one in ended if one.sheet.is_by_casting
         },
         "checksums": {place: its for place, its in checksums if place.endswith(NAMED)},
-        "doubts": [doubt.as_data() for its in filled.doubts.values() for doubt in its],
+        "doubts": [doubt.as_data() for doubt in filled.doubts],
     }
 
 
