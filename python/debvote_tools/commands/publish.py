@@ -1,12 +1,11 @@
 """The command `publish`."""
 
-import contextlib
 import dataclasses
 import datetime
 import itertools
 import os
 import pathlib
-from collections.abc import Collection, Iterator, Mapping
+from collections.abc import Collection, Mapping
 
 from debvote_tools.cli.arguments import Acting, demand_reason, flag, option, positional
 from debvote_tools.text import times
@@ -160,15 +159,20 @@ def put_in_place(
     detail: Detail | None,
 ) -> None:
     """The act, if this is a publication of its own, and the folder in its place."""
-    with alone(election), uninterrupted():
-        if detail is not None:
-            with election.book.act("publish", detail, seen=history.last.number) as act:
-                act.insert("sealed", name=f"{LETTERS}/{RESULT_LETTER}", data=letter)
-        elif election.book.last_number() != history.last.number:
-            raise Overtaken
-        new.is_in_book = True
-        new.take_place(target)
-        write_made(election.path(LETTERS), {RESULT_LETTER: letter}, OWN)
+    try:
+        # no other publication comes between the act and the folder that takes its place
+        with locked(election.folder, is_directory=True), uninterrupted():
+            if detail is not None:
+                with election.book.act("publish", detail, seen=history.last.number) as act:
+                    act.insert("sealed", name=f"{LETTERS}/{RESULT_LETTER}", data=letter)
+            elif election.book.last_number() != history.last.number:
+                raise Overtaken
+            new.is_in_book = True
+            new.take_place(target)
+            write_made(election.path(LETTERS), {RESULT_LETTER: letter}, OWN)
+    except BlockingIOError:
+        words = "another command is publishing this election now"
+        raise Fault(None, words, "run the command again when it is done") from None
 
 
 def tell_published(
@@ -236,17 +240,6 @@ def would_differ(last: DoneAct) -> Fault:
     why = "another version of a program makes it, or more was done since that the page tells"
     cure = "leave it as it is; or publish it once more, with a letter of its own: --force"
     return Fault(None, f"{words}: {why}", cure)
-
-
-@contextlib.contextmanager
-def alone(election: Election) -> Iterator[None]:
-    """Lets no other publication come between the act and the folder that takes its place."""
-    try:
-        with locked(election.folder, is_directory=True):
-            yield
-    except BlockingIOError:
-        words = "another command is publishing this election now"
-        raise Fault(None, words, "run the command again when it is done") from None
 
 
 # ---- words of those who publish
@@ -329,19 +322,15 @@ def agreed_in_secret(
         return []
     # these are the same for each
     words, acts = next((of_one.words, of_one.acts) for of_one in facts)
-    texts = {"--about": words.about, "--because": words.because}
+    texts = publication.texts_of(questions)
+    texts |= {"--about": words.about or "", "--because": words.because or ""}
     texts |= {
         f"--cast-by{label and f' of question {label}'}": by for label, by in words.cast_by.items()
     }
-    texts |= {f"the reason for the act of {act_time(act.time)}": act.because for act in acts}
-    given = {where: text for where, text in texts.items() if text is not None}
-    agreed = publication.agreed_texts(
-        history,
-        publication.texts_of(questions) | given,
-        is_agreed=is_agreed,
-    )
-    compared = [name for of_one in facts for name in of_one.compared]
+    texts |= {f"the reason for the act of {act_time(act.time)}": act.because or "" for act in acts}
+    agreed = publication.agreed_texts(history, texts, is_agreed=is_agreed)
+    compared = dict.fromkeys(name for of_one in facts for name in of_one.compared)
     if compared and not is_agreed:
-        why = f"a comparison with the earlier result shows how these voted: {', '.join(dict.fromkeys(compared))}"
+        why = f"a comparison with the earlier result shows how these voted: {', '.join(compared)}"
         publication.demand_yes(f"Publish it, although {why}?", why)
     return agreed

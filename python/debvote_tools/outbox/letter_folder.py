@@ -41,22 +41,23 @@ def message(due: LettersDue, letter: OutgoingLetter, *, is_draft: bool) -> bytes
     said, mark = due.said(letter)
     coding, body = body_of(said.text)
     reply_to = due.composer.call_data.to
-    fields = [
-        ("From", sender_of(due.sender_name, due.sender)),
-        *([("Reply-To", reply_to)] if reply_to not in (None, due.sender) else []),
-        ("To", letter.address),
+    fields = {
+        "From": sender_of(due.sender_name, due.sender),
+        "Reply-To": reply_to if reply_to != due.sender else None,
+        "To": letter.address,
         # on a line of its own it is found in a letter that comes back
-        ("Subject", f"{field('Subject', said.subject)}{GOES_ON}{mark}"),
-        ("Date", email.utils.format_datetime(letter.time)),
-        ("Message-ID", letter.message_id),
-        *([("X-Unsent", "1")] if is_draft else []),
+        "Subject": f"{field('Subject', said.subject)}{GOES_ON}{mark}",
+        "Date": email.utils.format_datetime(letter.time),
+        "Message-ID": letter.message_id,
+        "X-Unsent": "1" if is_draft else None,
         # no program answers it by itself
-        ("Auto-Submitted", "auto-generated"),
-        ("MIME-Version", "1.0"),
-        ("Content-Type", "text/plain; charset=utf-8"),
-        ("Content-Transfer-Encoding", coding),
-    ]
-    return "".join(f"{name}: {value}\n" for name, value in fields).encode("ascii") + b"\n" + body
+        "Auto-Submitted": "auto-generated",
+        "MIME-Version": "1.0",
+        "Content-Type": "text/plain; charset=utf-8",
+        "Content-Transfer-Encoding": coding,
+    }
+    head = "".join(f"{name}: {value}\n" for name, value in fields.items() if value is not None)
+    return head.encode("ascii") + b"\n" + body
 
 
 # all letters of a run have the same subject, but for the mark, and sender
