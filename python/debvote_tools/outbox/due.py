@@ -350,8 +350,7 @@ def new_receipts(
 
 def letters_of_close_due(run: Run) -> LettersDue:
     """The letter of the close to each elector."""
-    questions, language = run.composer.call_data.questions, run.election.language
-    text = closing_letter(run.history, questions, language).decode()
+    text = closing_letter(run.election, run.history).decode()
     return to_each(
         run,
         run.history.closes[-1].number,

@@ -9,7 +9,7 @@ from typing import Any, NamedTuple
 
 from debvote_tools.book import queries
 from debvote_tools.book.book import RESTORED, Book, Detail, DoneAct, as_text, from_text
-from debvote_tools.book.election import TEXTS, Election, Fixed, History, fixed_by
+from debvote_tools.book.election import TEXTS, Election, History, fixed_by
 from debvote_tools.cli.console import is_terminal, is_yes, tell_aside
 from debvote_tools.cli.faults import Fault
 from debvote_tools.debvote import casting_words
@@ -24,7 +24,7 @@ from debvote_tools.poll.sealed import SealedPoll
 from debvote_tools.result.facts import Act, Doubt, Facts, PublishedWords
 from debvote_tools.result.sheet import Castings, Sheet, publishing, sheet_in
 from debvote_tools.text.ballots import ballot_file, in_normal_form
-from debvote_tools.text.language import Language, language_of
+from debvote_tools.text.language import language_of
 from debvote_tools.text.rendering import render_letter
 
 
@@ -59,7 +59,10 @@ def kept_of(election: Election, history: History, labels: Iterable[str]) -> dict
     if history.is_closed:
         fixed = fixed_by(history.closes[-1])
         for label, its in kept.items():
-            demand_as_closed(fixed[label], its.public)
+            checksum, then = sealed_checksum(fixed[label].seal, its.public), fixed[label].checksum
+            if checksum != then:
+                words = f"the ballots have the checksum {checksum}, and the close recorded {then}"
+                raise Fault(None, words, KEEP)
     return kept
 
 
@@ -94,13 +97,6 @@ def demand_own_lines(book: Book, roll: Collection[str]) -> None:
             raise Fault(book.path, words, KEEP)
 
 
-def demand_as_closed(fixed: Fixed, ballots: bytes) -> None:
-    """Stops if the ballots of a question, as they are published, are not those that the close has fixed."""
-    if (checksum := sealed_checksum(fixed.seal, ballots)) != fixed.checksum:
-        words = f"the ballots have the checksum {checksum}, and the close recorded {fixed.checksum}"
-        raise Fault(None, words, KEEP)
-
-
 def demand_kept(election: Election, said: object, kept: object) -> None:
     """Stops if debvote, asked anew, says another thing of the lines than the book keeps of it."""
     if said != kept:
@@ -132,7 +128,7 @@ def facts_of(election: Election, words: PublishedWords, pending: Pending) -> dic
         "language": election.language if words.language is None else language_of(words.language),
         "acts": acts_of(book, history, is_secret=public.is_secret),
         "labels_after_end": labels_after_end(book, history),
-        "closed": closing_letter(history, public, election.language) if history.is_closed else None,
+        "closed": closing_letter(election, history) if history.is_closed else None,
         "real_names": call.real_names or {},
         "has_codes": call.has_codes_on_roll,
         "at": call.at,
@@ -167,15 +163,16 @@ def early_close(history: History) -> Doubt | None:
     return Doubt("closed early", {"closed": closed, "until": history.until}, stops=False)
 
 
-def closing_letter(history: History, questions: Questions, language: Language) -> bytes:
-    """The letter of the last close, with what it says of the one before; the questions are the public
-    ones. In a secret vote the reason for which the vote was opened again stays in the log.
+def closing_letter(election: Election, history: History) -> bytes:
+    """The letter of the last close, with what it says of the one before. In a secret vote the reason for
+    which the vote was opened again stays in the log.
     """
+    questions = election.sealed().public
     reasons = [act.detail["because"] for act in history.since_call("reopen")]
     return render_letter(
         __package__,
         "closed.txt",
-        language,
+        election.language,
         questions=questions,
         close=history.closes[-1],
         closes=[(act.time.astimezone(history.zone), fixed_by(act)) for act in history.closes],
