@@ -214,12 +214,11 @@ def demand_place(target_folder: pathlib.Path, history: History) -> None:
     folder.demand_outside(target_folder)
     if folder.is_free(place):
         return
-    sums = [act.detail["checksums"][CHECKSUMS] for act in history.publications]
-    was_killed = sums and any(
-        folder.is_publication(beside, sums[-1])
-        for beside in left_beside(place, folder.BESIDE_PLACE)
-    )
-    if any(folder.is_publication(place, sum) for sum in sums[-2 if was_killed else -1 :]):
+    sums = [act.detail["checksums"][CHECKSUMS] for act in history.publications][-2:]
+    left = left_beside(place, folder.BESIDE_PLACE)
+    if not any(folder.is_publication(beside, sum) for sum in sums[-1:] for beside in left):
+        sums = sums[-1:]
+    if any(folder.is_publication(place, sum) for sum in sums):
         return
     named = next(
         one for one in (target_folder, place, pathlib.Path(RESULT)) if one.name not in ("", "..")

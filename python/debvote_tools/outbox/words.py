@@ -172,9 +172,7 @@ class Composer:
         return self.said("receipts", elector, fates=fates, has_right_line=has_right_line)
 
     def said(self, kind: str, elector: Elector, **values: object) -> Said:
-        ways = {"said_of": self.said_of, "quotation_of": self.quotation_of}
-        text = self.rendered(PACKAGE, f"{kind}.txt", elector, **ways, **values)
-        return Said(self.subject(kind), text)
+        return Said(self.subject(kind), self.rendered(PACKAGE, f"{kind}.txt", elector, **values))
 
     def rendered(self, package: str, template: str, elector: Elector, **values: object) -> str:
         call = self.call_data
@@ -185,10 +183,8 @@ class Composer:
             "call": call,
             "elector": elector,
             "greeting": greeting,
-            "has_texts": False,
-            "own_words": "",
-            "kept": "",
-            "is_titled": False,
+            "said_of": self.said_of,
+            "quotation_of": self.quotation_of,
             "is_on_paper": is_on_paper(elector),
             # who has no address may not see the page, either
             "is_whole": call.at is None or is_on_paper(elector),

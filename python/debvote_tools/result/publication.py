@@ -122,10 +122,11 @@ def facts_of(election: Election, words: PublishedWords, pending: Pending) -> dic
     """
     history, book = election.history(), election.book
     kept, call = kept_of(election, history, election.questions), current_call(election, history)
-    public = call.questions
+    public, days = call.questions, [election.called(history), *history.closes[:1]]
     shared: dict[str, Any] = {
         "words": words,
         "language": election.language if words.language is None else language_of(words.language),
+        "days": [act.time.astimezone(history.zone).date() for act in days],
         "acts": acts_of(book, history, is_secret=public.is_secret),
         "labels_after_end": labels_after_end(book, history),
         "closed": closing_letter(election, history) if history.is_closed else None,
