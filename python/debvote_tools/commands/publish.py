@@ -104,11 +104,14 @@ def publish(election: Election, arguments: Arguments) -> int:
     words = given if again is None else PublishedWords(**again.detail["words"])
     pending = pending_letters(election, history) if history.is_closed else Pending()
     facts = publication.facts_of(election, words, pending)
-    is_forced = not has_new_doubt(facts, again) and bool(words.is_forced and words.because)
+    is_forced = bool(given.is_forced and given.because)
     # the folder is whole and counted before the act, and takes its place after the act: so a kill leaves
     # no folder that the book does not know
     with folder.beside(target) as new:
-        filled = folder.filled(new.folder, facts, election.program_folder, is_forced=is_forced)
+        known = again.detail["doubts"] if again else ()
+        filled = folder.filled(
+            new.folder, facts, election.program_folder, is_forced=is_forced, known=known
+        )
         # nobody is asked about a result that cannot be published
         agreed = agreed_in_secret(history, questions, facts.values(), is_agreed=arguments.yes)
         detail = detail_of(words, filled)
@@ -137,17 +140,6 @@ def detail_of(words: PublishedWords, filled: folder.Filled) -> Detail:
         "checksums": {place: its for place, its in checksums if place.endswith(NAMED)},
         "doubts": [doubt.as_data() for doubt in filled.doubts],
     }
-
-
-def has_new_doubt(facts: Mapping[str, Facts], again: DoneAct | None) -> bool:
-    """Whether a result that is made again, with its words of then, has a doubt that stops and is new: the
-    reason of then is not one for what came since.
-    """
-    # these are the same for each
-    doubts = next(iter(facts.values())).doubts
-    return again is not None and any(
-        one.as_data() not in again.detail["doubts"] for one in doubts if one.stops
-    )
 
 
 def put_in_place(

@@ -158,15 +158,18 @@ def filled(
     program_folder: pathlib.Path | None,
     *,
     is_forced: bool,
+    known: Collection[object] = (),
 ) -> Filled:
     """Writes all files of a result into an empty folder, those of each of several questions into one
     with its label, and has each question counted by debvote and by `recount.py`. Stops at doubts that
     are not forced, at a code of an elector, and if the counts differ. `program_folder` is that of the
-    program that runs this: debvote may be beside it.
+    program that runs this: debvote may be beside it. `known` are the doubts that the same result had
+    when it was made first: the reason of then is not one for what came since.
     """
     filling = Filling(folder, given)
     outcomes = {label: filling.counted(label, program_folder) for label in given}
     doubts = doubts_about_all(outcomes.values())
+    is_forced = is_forced or all(one.as_data() in known for one in doubts if one.stops)
     demand_publishable(outcomes, doubts, is_forced=is_forced)
     for (label, one), picture in zip(outcomes.items(), pictures_of(outcomes.values())):
         filling.write(label, further_files(one, picture))
