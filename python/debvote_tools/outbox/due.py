@@ -192,12 +192,12 @@ def call_data_of(
     """What the letters say of the call, and the reason for which they go out although the box was not
     asked, if they do: then they say that the page takes no ballots. Stops if it has to be asked.
     """
-    call, publication = current_call(election, history), history.last_publication
-    if kind == "result" and publication is not None:
+    call = current_call(election, history)
+    if kind == "result":
         if call.at is None:
             why, cure = "the letter must say where the result is published", "give it: --at URL"
             raise bad_words("--at", why, cure)
-        if (code := publication.detail["words"]["language"]) is not None:
+        if (code := history.publications[-1].detail["words"]["language"]) is not None:
             call = dataclasses.replace(call, language=language_of(code))
     fault = unasked_fault(election, history, kind)
     if fault is None:
@@ -391,15 +391,11 @@ def is_told(fate: Fate) -> bool:
     letter = fate.letter
     if letter is None:
         return fate.became != ANEW
-    is_automatic = letter.is_automatic and (fate.is_own or not letter.ballots)
-    told = (
-        LetterOutcome.WAITS,
-        LetterOutcome.GOES_IN,
-        LetterOutcome.SET_ASIDE,
-        LetterOutcome.OLDER,
-    )
-    is_of_others = fate.became is LetterOutcome.ENTERED and fate.names_them
-    return (fate.became in told or is_of_others) and not is_automatic
+    if letter.is_automatic and (fate.is_own or not letter.ballots):
+        return False
+    if fate.became is LetterOutcome.ENTERED:
+        return fate.names_them
+    return fate.became not in (LetterOutcome.COPY, LetterOutcome.OTHER_VOTE)
 
 
 def told_of(items: Sequence[Fate]) -> dict[About, Fate]:

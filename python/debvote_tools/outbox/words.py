@@ -166,8 +166,8 @@ class Composer:
         """What became of what came from an elector. It has the right line if the last of it was
         refused, waits or was set aside. What goes in, was struck, taken back or late asks nobody to vote again.
         """
-        decides = (one for one in fates if one.is_own or one.became in (COUNTS, REFUSED))
-        last = next(reversed([one.became for one in decides]), COUNTS)
+        decide = (one for one in fates if one.is_own or one.became in (COUNTS, REFUSED))
+        *_, last = COUNTS, *(one.became for one in decide)
         has_right_line = not self.is_over and last not in (COUNTS, LetterOutcome.GOES_IN)
         return self.said("receipts", elector, fates=fates, has_right_line=has_right_line)
 

@@ -293,19 +293,18 @@ def demand_publishable(
     cure = (
         'put it right, or publish as it is with --force --because "TEXT" (the result page says so)'
     )
-    faults, notes = list[Fault](), list[str]()
+    faults = list[Fault]()
     for label in dict.fromkeys(("", *outcomes)):
-        about = [doubt for doubt in doubts if doubt.label == label]
-        where = f"question {label}" if label else None
         its = list(never_published(outcomes[label])) if label in outcomes else []
-        reasons = "; ".join(doubt.for_secretary() for doubt in about if doubt.stops)
+        stopping = (doubt for doubt in doubts if doubt.stops and doubt.label == label)
+        reasons = "; ".join(doubt.for_secretary() for doubt in stopping)
         if reasons and not is_forced and not its:
-            its = [Fault(where, reasons, cure)]
+            its = [Fault(f"question {label}" if label else None, reasons, cure)]
         faults += its
-        note = ": ".join(filter(None, ["Note", where]))
-        notes += (f"{note}: {doubt.for_secretary()}; the result page says so" for doubt in about)
     stop_at(faults)
-    tell_aside(*notes)
+    for doubt in doubts:
+        where = f"question {doubt.label}: " if doubt.label else ""
+        tell_aside(f"Note: {where}{doubt.for_secretary()}; the result page says so")
 
 
 def never_published(outcome: Outcome) -> Iterator[Fault]:
