@@ -239,6 +239,6 @@ class Outcome:
         known = (one for one in self.facts.doubts if one.label in ("", label))
         return [*doubts_about(self.facts.private or self.sheet, label), *known]
 
-    def why(self, named: Callable[[SealedPoll], Mapping[int, str]]) -> Why:
-        """Why it ended so; the options are named as parts of a sentence."""
-        return Why(self.sheet, named(self.facts.poll))
+    def why(self, said: Mapping[int, str]) -> Why:
+        """Why it ended so; `said` has the options as parts of a sentence."""
+        return Why(self.sheet, said)

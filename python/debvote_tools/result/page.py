@@ -168,7 +168,7 @@ def page_of(outcome: Outcome, drawing: bytes | None, checksums: Mapping[str, str
         plain_name=PLAIN_NAME,
         sheet=sheet,
         outcome=outcome,
-        why=outcome.why(named_in_html),
+        why=outcome.why(named_in_html(poll)),
         share=share(sheet.voters, sheet.electors, language),
         because=paragraphs_of(facts.words.because or ""),
         explanations=explanations_of(poll),
