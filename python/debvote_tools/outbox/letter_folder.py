@@ -99,11 +99,7 @@ def letter_files(due: LettersDue, letters: Sequence[OutgoingLetter]) -> dict[str
         elector = due.electors[letter.elector]
         if not letter.address:
             said, _ = due.said(letter)
-            rows = rows_to_print(said.text)
-            # others begin with the secretary's own words
-            if due.kind in ("receipts", "closed", "result"):
-                rows[0].insert(0, (sender_on_paper(due), "paragraph"))
-            printed.append((one_line(elector.who) or elector.name, rows))
+            printed.append((one_line(elector.who) or elector.name, rows_to_print(said.text)))
         elif not due.is_sending and due.can_be_sent(letter):
             # no name on a roll has the sign _
             name = (
@@ -112,6 +108,7 @@ def letter_files(due: LettersDue, letters: Sequence[OutgoingLetter]) -> dict[str
             files[f"{name}.eml"] = message(due, letter, is_draft=True)
     if printed:
         call, style = due.composer.call_data, resources(PACKAGE, "letter.css")
+        sender = ", ".join(filter(None, (due.sender_name, call.to or due.sender)))
         files[TO_PRINT] = render_page(
             PACKAGE,
             "print.html",
@@ -120,14 +117,10 @@ def letter_files(due: LettersDue, letters: Sequence[OutgoingLetter]) -> dict[str
             title=call.questions.name,
             is_secret=call.questions.is_secret,
             letters=printed,
+            # letters of other kinds begin with the secretary's own words
+            sender=sender if due.kind in ("receipts", "closed", "result") else "",
         )
     return files
-
-
-def sender_on_paper(due: LettersDue) -> str:
-    call = due.composer.call_data
-    sender = ", ".join(filter(None, (due.sender_name, call.to or due.sender)))
-    return call.language.say("Who sends this letter, and where to answer: {sender}", sender=sender)
 
 
 def rows_to_print(text: str) -> list[list[tuple[str, str]]]:

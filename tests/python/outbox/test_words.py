@@ -276,7 +276,7 @@ class Printed(unittest.TestCase):
         folder = pathlib.Path(self.enterContext(tempfile.TemporaryDirectory()))
         pages = []
         for number, (now, text) in enumerate(printed):
-            how = {"style": resources(PACKAGE, "letter.css"), "title": "Spring", "is_secret": False, "letters": [("Ada", rows_to_print(text))]}
+            how = {"style": resources(PACKAGE, "letter.css"), "title": "Spring", "is_secret": False, "sender": "", "letters": [("Ada", rows_to_print(text))]}
             page = render_page(PACKAGE, "print.html", now.call_data.language, **how).decode()
             self.assertEqual(page.count('<p class="option"><span class="rank"></span>  Op'), len(now.call_data.questions[""].names))
             pages.append(page.replace('<section class="letter"', f'<section id="at{number}" class="letter"'))
@@ -296,7 +296,7 @@ class Printed(unittest.TestCase):
     def test_no_letter_of_a_secret_vote_is_on_the_back_of_another(self) -> None:
         """Whether they are printed on one side of the paper or on both."""
         folder = pathlib.Path(self.enterContext(tempfile.TemporaryDirectory()))
-        how = {"style": resources(PACKAGE, "letter.css"), "title": "Spring", "letters": [(name, [[("Hello", "paragraph")]]) for name in ("Ada", "Ben", "Cleo")]}
+        how = {"style": resources(PACKAGE, "letter.css"), "title": "Spring", "sender": "", "letters": [(name, [[("Hello", "paragraph")]]) for name in ("Ada", "Ben", "Cleo")]}
         for is_secret, sides in ((False, 3), (True, 6)):
             (folder / "page.html").write_bytes(render_page(PACKAGE, "print.html", language_of("en"), is_secret=is_secret, **how))
             words = [BROWSER, "--headless", "--no-sandbox", "--disable-gpu", f"--user-data-dir={folder}/of-browser"]
