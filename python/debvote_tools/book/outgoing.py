@@ -4,7 +4,7 @@ holds.
 
 import datetime
 import json
-from collections.abc import Iterable, Iterator
+from collections.abc import Iterable
 from typing import NamedTuple
 
 from debvote_tools.book.book import Book, NewAct, from_text
@@ -156,18 +156,17 @@ def right_since(book: Book, page: int) -> dict[int, int]:
     return dict(book.rows(f"{MARKED} SELECT * FROM marked", page))
 
 
-# a state of an elector, and the next one, which has other addresses
+# a state of an elector, and the next one, which has other addresses, since the call and the last receipt
 OLD_ADDRESSES = """
-SELECT before.elector, after.act, before.mail FROM elector_state AS before JOIN elector_state AS after USING (elector)
-WHERE after.act > ? AND after.mail <> before.mail AND before.act =
+WITH receipt AS (SELECT elector, max(detail ->> 'for_act') AS act FROM sent WHERE kind = 'receipts' GROUP BY elector)
+SELECT elector, address_in(before.mail) AS address FROM elector_state AS before JOIN elector_state AS after USING (elector)
+LEFT JOIN receipt USING (elector)
+WHERE after.act > max(?, coalesce(receipt.act, 0)) AND after.mail <> before.mail AND address <> '' AND before.act =
   (SELECT max(act) FROM elector_state AS earlier WHERE earlier.elector = after.elector AND earlier.act < after.act)
 ORDER BY after.act
 """
 
 
-def old_addresses(book: Book, since: int) -> Iterator[tuple[int, int, list[str]]]:
-    """The addresses that electors had when an act was done and later: the elector, the act that
-    replaced the addresses, and these.
-    """
-    for elector, act, mail in book.rows(OLD_ADDRESSES, since):
-        yield elector, act, json.loads(mail)
+def old_addresses(book: Book, call: int) -> dict[int, list[str]]:
+    """The addresses of electors before a change after the call, if no receipt was written since."""
+    return grouped(book.rows(OLD_ADDRESSES, call))

@@ -38,13 +38,11 @@ class Arguments(Acting, checks=True):
 def close(election: Election, arguments: Arguments) -> None:
     """Close the vote; lines that are entered later are late, and do not count."""
     election.demand_right_book(arguments)
-    public, is_new = election.sealed().public, not election.history().is_closed
-    if is_new:
+    if is_new := not election.history().is_closed:
         carried_out(election.book, lambda: what_is_closed(election, arguments))
     history = election.history()
     act, path = history.closes[-1], election.path(LETTERS) / CLOSED
-    letter = closing_letter(history, public, election.language)
-    written = write_made(path.parent, {CLOSED: letter}, OWN)
+    written = write_made(path.parent, {CLOSED: closing_letter(election, history)}, OWN)
     fixed = fixed_by(act)
     if is_new:
         tell_closed(act)
@@ -111,18 +109,12 @@ def came_last(history: History, lines: str) -> str:
     """
     undone = {act.detail["act"] for act in history.named("undo")}
     # an asking may bring nothing
-    came = [
-        act
+    last = {
+        act.name == "desk": act_time(act.time)
         for act in history.named("letters", "add", "enter", "desk")
         if act.number not in undone and act.detail.get("letters") != 0
-    ]
-    added, at_desks = (
-        next(
-            (act_time(act.time) for act in reversed(came) if (act.name == "desk") == is_desk),
-            "never",
-        )
-        for is_desk in (False, True)
-    )
+    }
+    added, at_desks = (last.get(is_desk, "never") for is_desk in (False, True))
     end = times.time_in_words(history.until) if history.until else "not announced"
     strikes = len(history.since_call("strike"))
     said = (

@@ -76,19 +76,16 @@ def what_next(
     if tied:
         ties = "; ".join(tie_in_words(label, sheet) for label, sheet in tied.items())
         # what several ties need together has no names
-        [label, *more], names = tied, [name for one in tied.values() for name in names_left(one)]
-        ways = (
-            [cast | dict.fromkeys(tied, "NAME")] if more else [cast | {label: one} for one in names]
-        )
+        names, *others = map(names_left, tied.values())
+        ways = (cast | dict.fromkeys(tied, name) for name in (["NAME"] if others else names))
         chosen = " or ".join(publishing(election, way) for way in ways)
-        then = "now"
         said = f"{ties}; the holder of the casting vote chooses one of them: {chosen}"
     else:
-        then, said = "then", publishing(election, cast)
+        said = publishing(election, cast)
     if history.is_closed:
         return said
     over = f"when the vote is over, run {election.command('close')}"
-    return f"this is not the result yet: {over}{';' if then == 'now' else ','} {then} {said}"
+    return f"this is not the result yet: {over}{'; now' if tied else ', then'} {said}"
 
 
 def names_left(sheet: Sheet) -> list[str]:

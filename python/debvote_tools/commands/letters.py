@@ -62,10 +62,10 @@ def letters(election: Election, arguments: Arguments) -> int:
     """Write letters to the electors, or send them: the call, receipts, reminders, the close, the
     result.
     """
-    named = checked_words(arguments)
+    demand_words(arguments)
     election.demand_right_book(arguments)
     election.called(election.history())
-    server = server_of(election.history(), named, arguments) if arguments.send else None
+    server = server_of(election.history(), arguments) if arguments.send else None
     history = election.history()
     sender = arguments.sender or history.announced("to")
     if sender is None:
@@ -175,9 +175,9 @@ def unreached_words(election: Election) -> Iterator[str]:
 # ---- the words of the command line
 
 
-def checked_words(arguments: Arguments) -> Server | None:
-    """The server that they name. Stops at all that is wrong with them alone."""
-    faults, server = list[Fault](), None
+def demand_words(arguments: Arguments) -> None:
+    """Stops at all that is wrong with them alone."""
+    faults = list[Fault]()
     if not arguments.send and (options := given(arguments, "server", "user", "password_file")):
         cure = "give --send too, or leave this out"
         faults.append(bad_words(", ".join(options), "only with --send", cure))
@@ -192,9 +192,8 @@ def checked_words(arguments: Arguments) -> Server | None:
             demand_mail_address(arguments.sender, "--from")
     with kept_in(faults):
         if arguments.server is not None:
-            server = smtp.server_of(arguments.server)
+            smtp.server_of(arguments.server)
     stop_at(faults)
-    return server
 
 
 def remembered(history: History) -> Detail | None:
@@ -205,10 +204,12 @@ def remembered(history: History) -> Detail | None:
     return acts[-1].detail if acts and acts[-1].name == "letter sent" else None
 
 
-def server_of(history: History, server: Server | None, arguments: Arguments) -> Server:
+def server_of(history: History, arguments: Arguments) -> Server:
     """The server that is named, or that of the last letters, with the password."""
     user = arguments.user
-    if server is None:
+    if arguments.server is not None:
+        server = smtp.server_of(arguments.server)
+    else:
         detail = remembered(history)
         if detail is None:
             raise bad_words("--send", "no server is named", "give --server HOST[:PORT]")
@@ -279,15 +280,12 @@ def send_letters(due: LettersDue, server: Server) -> list[OutgoingLetter]:
     detail: Detail = {"kind": due.kind, "server": str(server)}
     if server.user is not None:
         detail["user"] = server.user
-
-    def note(letter: OutgoingLetter) -> None:
-        with uninterrupted(), due.election.book.act("letter sent", detail) as act:
-            outgoing.note(act, [letter])
-
     messages = ((letter, letter_folder.message(due, letter, is_draft=False)) for letter in letters)
     try:
         show_progress(0, len(letters))
-        for letter in smtp.send_all(messages, due.sender, server, note):
+        for letter in smtp.send_all(messages, due.sender, server):
+            with uninterrupted(), due.election.book.act("letter sent", detail) as act:
+                outgoing.note(act, [letter])
             tried.append(letter)
             show_progress(len(tried), len(letters))
     except Fault as fault:

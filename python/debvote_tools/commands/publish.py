@@ -1,12 +1,11 @@
 """The command `publish`."""
 
-import contextlib
 import dataclasses
 import datetime
 import itertools
 import os
 import pathlib
-from collections.abc import Collection, Iterator, Mapping
+from collections.abc import Collection, Mapping
 
 from debvote_tools.cli.arguments import Acting, demand_reason, flag, option, positional
 from debvote_tools.text import times
@@ -105,11 +104,14 @@ def publish(election: Election, arguments: Arguments) -> int:
     words = given if again is None else PublishedWords(**again.detail["words"])
     pending = pending_letters(election, history) if history.is_closed else Pending()
     facts = publication.facts_of(election, words, pending)
-    is_forced = not has_new_doubt(facts, again) and bool(words.is_forced and words.because)
+    is_forced = bool(given.is_forced and given.because)
     # the folder is whole and counted before the act, and takes its place after the act: so a kill leaves
     # no folder that the book does not know
     with folder.beside(target) as new:
-        filled = folder.filled(new.folder, facts, election.program_folder, is_forced=is_forced)
+        known = again.detail["doubts"] if again else ()
+        filled = folder.filled(
+            new.folder, facts, election.program_folder, is_forced=is_forced, known=known
+        )
         # nobody is asked about a result that cannot be published
         agreed = agreed_in_secret(history, questions, facts.values(), is_agreed=arguments.yes)
         detail = detail_of(words, filled)
@@ -136,19 +138,8 @@ def detail_of(words: PublishedWords, filled: folder.Filled) -> Detail:
             label: words.castings[label] for label, one in ended if one.sheet.is_by_casting
         },
         "checksums": {place: its for place, its in checksums if place.endswith(NAMED)},
-        "doubts": [doubt.as_data() for its in filled.doubts.values() for doubt in its],
+        "doubts": [doubt.as_data() for doubt in filled.doubts],
     }
-
-
-def has_new_doubt(facts: Mapping[str, Facts], again: DoneAct | None) -> bool:
-    """Whether a result that is made again, with its words of then, has a doubt that stops and is new: the
-    reason of then is not one for what came since.
-    """
-    # these are the same for each
-    doubts = next(iter(facts.values())).doubts
-    return again is not None and any(
-        one.as_data() not in again.detail["doubts"] for one in doubts if one.stops
-    )
 
 
 def put_in_place(
@@ -160,15 +151,20 @@ def put_in_place(
     detail: Detail | None,
 ) -> None:
     """The act, if this is a publication of its own, and the folder in its place."""
-    with alone(election), uninterrupted():
-        if detail is not None:
-            with election.book.act("publish", detail, seen=history.last.number) as act:
-                act.insert("sealed", name=f"{LETTERS}/{RESULT_LETTER}", data=letter)
-        elif election.book.last_number() != history.last.number:
-            raise Overtaken
-        new.is_in_book = True
-        new.take_place(target)
-        write_made(election.path(LETTERS), {RESULT_LETTER: letter}, OWN)
+    try:
+        # no other publication comes between the act and the folder that takes its place
+        with locked(election.folder, is_directory=True), uninterrupted():
+            if detail is not None:
+                with election.book.act("publish", detail, seen=history.last.number) as act:
+                    act.insert("sealed", name=f"{LETTERS}/{RESULT_LETTER}", data=letter)
+            elif election.book.last_number() != history.last.number:
+                raise Overtaken
+            new.is_in_book = True
+            new.take_place(target)
+            write_made(election.path(LETTERS), {RESULT_LETTER: letter}, OWN)
+    except BlockingIOError:
+        words = "another command is publishing this election now"
+        raise Fault(None, words, "run the command again when it is done") from None
 
 
 def tell_published(
@@ -210,12 +206,11 @@ def demand_place(target_folder: pathlib.Path, history: History) -> None:
     folder.demand_outside(target_folder)
     if folder.is_free(place):
         return
-    sums = [act.detail["checksums"][CHECKSUMS] for act in history.publications]
-    was_killed = sums and any(
-        folder.is_publication(beside, sums[-1])
-        for beside in left_beside(place, folder.BESIDE_PLACE)
-    )
-    if any(folder.is_publication(place, sum) for sum in sums[-2 if was_killed else -1 :]):
+    sums = [act.detail["checksums"][CHECKSUMS] for act in history.publications][-2:]
+    left = left_beside(place, folder.BESIDE_PLACE)
+    if not any(folder.is_publication(beside, sum) for sum in sums[-1:] for beside in left):
+        sums = sums[-1:]
+    if any(folder.is_publication(place, sum) for sum in sums):
         return
     named = next(
         one for one in (target_folder, place, pathlib.Path(RESULT)) if one.name not in ("", "..")
@@ -236,17 +231,6 @@ def would_differ(last: DoneAct) -> Fault:
     why = "another version of a program makes it, or more was done since that the page tells"
     cure = "leave it as it is; or publish it once more, with a letter of its own: --force"
     return Fault(None, f"{words}: {why}", cure)
-
-
-@contextlib.contextmanager
-def alone(election: Election) -> Iterator[None]:
-    """Lets no other publication come between the act and the folder that takes its place."""
-    try:
-        with locked(election.folder, is_directory=True):
-            yield
-    except BlockingIOError:
-        words = "another command is publishing this election now"
-        raise Fault(None, words, "run the command again when it is done") from None
 
 
 # ---- words of those who publish
@@ -329,19 +313,15 @@ def agreed_in_secret(
         return []
     # these are the same for each
     words, acts = next((of_one.words, of_one.acts) for of_one in facts)
-    texts = {"--about": words.about, "--because": words.because}
+    texts = publication.texts_of(questions)
+    texts |= {"--about": words.about or "", "--because": words.because or ""}
     texts |= {
         f"--cast-by{label and f' of question {label}'}": by for label, by in words.cast_by.items()
     }
-    texts |= {f"the reason for the act of {act_time(act.time)}": act.because for act in acts}
-    given = {where: text for where, text in texts.items() if text is not None}
-    agreed = publication.agreed_texts(
-        history,
-        publication.texts_of(questions) | given,
-        is_agreed=is_agreed,
-    )
-    compared = [name for of_one in facts for name in of_one.compared]
+    texts |= {f"the reason for the act of {act_time(act.time)}": act.because or "" for act in acts}
+    agreed = publication.agreed_texts(history, texts, is_agreed=is_agreed)
+    compared = dict.fromkeys(name for of_one in facts for name in of_one.compared)
     if compared and not is_agreed:
-        why = f"a comparison with the earlier result shows how these voted: {', '.join(dict.fromkeys(compared))}"
+        why = f"a comparison with the earlier result shows how these voted: {', '.join(compared)}"
         publication.demand_yes(f"Publish it, although {why}?", why)
     return agreed

@@ -8,16 +8,15 @@ from collections.abc import Callable, Collection, Mapping, Sequence
 from debvote_tools.book import queries, outgoing
 from debvote_tools.book.election import LETTERS, RESULT_LETTER, Election, History
 from debvote_tools.book.queries import Elector
-from debvote_tools.book.outgoing import REFUSED, TAKEN, WRITTEN, About, OutgoingLetter
+from debvote_tools.book.outgoing import TAKEN, WRITTEN, About, OutgoingLetter
 from debvote_tools.cli.arguments import demand_reason, has_reason
 from debvote_tools.cli.faults import Fault, bad_words, stop_at
-from debvote_tools.grouping import grouped
 from debvote_tools.inbox.asked import unasked_fault
 from debvote_tools.inbox.fates import ANEW, COUNTS, NOBODY, Fate, fates_of
 from debvote_tools.inbox.rules import LetterOutcome
 from debvote_tools.inbox.stopping import pending_letters, what_stops
 from debvote_tools.outbox.reached import CAME_BACK, page_since, unreached_and_printed, unreached
-from debvote_tools.outbox.words import Composer
+from debvote_tools.outbox.words import Composer, Said
 from debvote_tools.poll.announced import address_in
 from debvote_tools.poll.call import CallData, current_call
 from debvote_tools.result.publication import closing_letter
@@ -28,8 +27,8 @@ from debvote_tools.text.times import now
 LASTING = datetime.timedelta(days=1)
 
 
-# what a letter to an elector says
-TextOf = Callable[[Elector, OutgoingLetter], str]
+# says a letter to an elector
+Says = Callable[[Elector, OutgoingLetter], Said]
 
 
 @dataclasses.dataclass(frozen=True)
@@ -92,16 +91,12 @@ class LettersDue(Run):
 
     # the act to which they belong
     for_act: int
-    text_of: TextOf
+    says: Says
     new: Sequence[OutgoingLetter]
     # those that were written before, and go out again with them; and the receipts of earlier runs
     # that have files, or had them
     going_again: Sequence[OutgoingLetter] = ()
     earlier_receipts: Sequence[OutgoingLetter] = ()
-    # those whom the call has reached, to whom the letter of an extension is due
-    had_call: Collection[int] = ()
-    # those whose ballot goes in once the secretary agrees: in place of a reminder they get a receipt
-    in_hand: Collection[int] = ()
     # the numbers of the letters that wait and are in no elector's receipt; and how many wait in
     # all, if they were looked at
     in_no_receipt: Sequence[int] = ()
@@ -119,22 +114,14 @@ class LettersDue(Run):
         times = (one.time for one in self.noted_before if self.time - one.time < LASTING)
         return max(times, default=None)
 
-    def text(self, letter: OutgoingLetter) -> str:
-        return self.text_of(self.elector(letter), letter)
-
-    def subject(self, letter: OutgoingLetter) -> tuple[str, str]:
-        """The subject of a letter, and the mark that ends it."""
-        is_extension, own = letter.elector in self.had_call, self.elector(letter).mark
-        kind = "receipts" if letter.elector in self.in_hand else self.kind
-        subject = self.composer.subject(kind, is_extension=is_extension)
-        return subject, self.composer.call_data.mark_of(own)
-
-    def elector(self, letter: OutgoingLetter) -> Elector:
-        """To whom a letter is written. An address that its elector no longer has learns no own
-        mark.
+    def said(self, letter: OutgoingLetter) -> tuple[Said, str]:
+        """What a letter says, and the mark that ends its subject. An address that its elector no longer
+        has learns no own mark.
         """
         elector = self.electors[letter.elector]
-        return elector if is_present(letter, self.electors) else elector._replace(mark="")
+        if not is_present(letter, self.electors):
+            elector = elector._replace(mark="")
+        return self.says(elector, letter), self.composer.call_data.mark_of(elector.mark)
 
 
 def is_present(letter: OutgoingLetter, electors: Mapping[int, Elector]) -> bool:
@@ -161,13 +148,16 @@ def letters_due(
     is_over = bool(history.closes) or (until is not None and time > until)
     demand_due(election, history, kind, is_over=is_over)
     call_data, forced = call_data_of(election, history, kind, because)
-    on_list, noted_before = queries.electors(book), outgoing.outgoing_letters(book, kind)
-    electors = {elector.number: elector for elector in on_list}
-    composer = Composer(call_data, is_over, on_list)
+    electors = {elector.number: elector for elector in queries.electors(book)}
+    noted_before = outgoing.outgoing_letters(book, kind)
+    composer = Composer(call_data, is_over, electors.values())
     not_reached, _ = unreached_and_printed(election, history)
     back = {elector.number for elector, why, _ in not_reached if why == CAME_BACK}
-    present = [one for one in noted_before if one.elector in back and is_present(one, electors)]
-    returned_ids = {letter.elector: letter.message_id for letter in present}.values()
+    returned_ids = {
+        letter.elector: letter.message_id
+        for letter in noted_before
+        if letter.elector in back and is_present(letter, electors)
+    }.values()
     how = (kind, sender, is_sending, forced, electors, composer, noted_before, returned_ids)
     return of_kinds[kind](Run(election, history, time, *how))
 
@@ -202,12 +192,12 @@ def call_data_of(
     """What the letters say of the call, and the reason for which they go out although the box was not
     asked, if they do: then they say that the page takes no ballots. Stops if it has to be asked.
     """
-    call, publication = current_call(election, history), history.last_publication
-    if kind == "result" and publication is not None:
+    call = current_call(election, history)
+    if kind == "result":
         if call.at is None:
             why, cure = "the letter must say where the result is published", "give it: --at URL"
             raise bad_words("--at", why, cure)
-        if (code := publication.detail["words"]["language"]) is not None:
+        if (code := history.publications[-1].detail["words"]["language"]) is not None:
             call = dataclasses.replace(call, language=language_of(code))
     fault = unasked_fault(election, history, kind)
     if fault is None:
@@ -220,7 +210,7 @@ def call_data_of(
 
 
 # ---- each kind
-def to_each(run: Run, for_act: int, text_of: TextOf, had_call: Collection[int] = ()) -> LettersDue:
+def to_each(run: Run, for_act: int, says: Says) -> LettersDue:
     """One letter to each elector. One to the same address for the same act stays as it is, if it
     was written since its elector has the own mark and the link of now: each is told by a letter.
     """
@@ -234,24 +224,21 @@ def to_each(run: Run, for_act: int, text_of: TextOf, had_call: Collection[int] =
     return LettersDue(
         **vars(run),
         for_act=for_act,
-        text_of=text_of,
+        says=says,
         new=[
             run.letter_to(elector, for_act, place[1])
             for place, elector in places.items()
             if place not in before
         ],
         going_again=[before[place] for place in places if place in before],
-        had_call=had_call,
     )
 
 
 def calls_due(run: Run) -> LettersDue:
     """The call to each elector; after an extension that, to those whom the call has reached."""
-    *earlier, last = (act.number for act in run.history.since_call("call", "extend"))
-    had_call = set[int]()
-    if earlier:
-        not_reached = unreached(run.election, run.history, without=last)
-        had_call = run.electors.keys() - {elector.number for elector, _, _ in not_reached}
+    last = run.history.since_call("call", "extend")[-1].number
+    not_reached = unreached(run.election, run.history, without=last)
+    had_call = run.electors.keys() - {elector.number for elector, _, _ in not_reached}
     went = outgoing.call_addresses(run.election.book, run.election.called(run.history).number)
     return to_each(
         run,
@@ -261,7 +248,6 @@ def calls_due(run: Run) -> LettersDue:
             is_extension=letter.elector in had_call,
             earlier=[one for one in went.get(elector.name, []) if one not in elector.addresses],
         ),
-        had_call,
     )
 
 
@@ -283,28 +269,22 @@ def reminders_due(run: Run) -> LettersDue:
     # whose letter came back is reminded again, but not in the same run
     run = dataclasses.replace(run, electors=silent, returned_ids=())
 
-    in_hand = {
-        number
-        for number, elector in silent.items()
-        if any(one.became is LetterOutcome.GOES_IN for one in fates[elector.name])
-    }
-
-    def text_of(elector: Elector, letter: OutgoingLetter) -> str:
-        told = told_of(fates[elector.name]).values()
-        left = [one for one in told if one.became is not LetterOutcome.SET_ASIDE]
-        say = run.composer.receipt if elector.number in in_hand else run.composer.reminder
-        return say(elector, left)
+    def says(elector: Elector, _: OutgoingLetter) -> Said:
+        came = fates[elector.name]
+        told = [one for one in told_of(came).values() if one.became is not LetterOutcome.SET_ASIDE]
+        goes_in = any(one.became is LetterOutcome.GOES_IN for one in came)
+        return (run.composer.receipt if goes_in else run.composer.reminder)(elector, told)
 
     last = max((letter.for_act for letter in run.noted_before), default=0)
-    due = to_each(run, last, text_of)
+    due = to_each(run, last, says)
     are_unsent = (
         run.can_be_sent(letter) and not letter.is_refused_for_good
         for letter in due.going_again
         if run.time - letter.time < LASTING
     )
     if not (run.is_sending and any(are_unsent)):
-        due = to_each(run, run.next_act, text_of)
-    return dataclasses.replace(due, in_hand=in_hand, letters_pending=letters_pending_in(fates))
+        due = to_each(run, run.next_act, says)
+    return dataclasses.replace(due, letters_pending=letters_pending_in(fates))
 
 
 def receipts_due(run: Run) -> LettersDue:
@@ -325,7 +305,7 @@ def receipts_due(run: Run) -> LettersDue:
     return LettersDue(
         **vars(run),
         for_act=run.next_act,
-        text_of=lambda elector, letter: run.composer.receipt(
+        says=lambda elector, letter: run.composer.receipt(
             elector, beside_what_counts(letter.about, to_tell[elector.number])
         ),
         new=new_receipts(run, to_tell, earlier),
@@ -346,14 +326,18 @@ def new_receipts(
     """The receipts about what no earlier one has told; not to an address to which one that is not
     sent yet says it.
     """
+    # at an address that its elector no longer has a server has to have taken it; a file may have gone
+    # out by a mail program, unless the server is to send it now
+    came_through = (TAKEN,) if run.is_sending else (TAKEN, WRITTEN)
     told_before = {
         (one.elector, key)
         for one in run.noted_before
-        if not failed_elsewhere(run, one)
+        if one.state in came_through or is_present(one, run.electors)
         for key in one.about
     }
     in_earlier = {(one.elector, one.address): set(one.about) for one in earlier}
-    old, found = old_addresses(run), list[OutgoingLetter]()
+    called, found = run.election.called(run.history).number, list[OutgoingLetter]()
+    old = outgoing.old_addresses(run.election.book, called)
     for number, elector in run.electors.items():
         keys = [key for key in to_tell[number] if (number, key) not in told_before]
         found += [
@@ -364,33 +348,13 @@ def new_receipts(
     return found
 
 
-def old_addresses(run: Run) -> dict[int, list[str]]:
-    """The addresses of electors before a change after the call, if no receipt was written since."""
-    last = {letter.elector: letter.for_act for letter in run.noted_before}
-    called = run.election.called(run.history).number
-    return grouped(
-        (elector, address)
-        for elector, act, addresses in outgoing.old_addresses(run.election.book, called)
-        if act > last.get(elector, 0) and (address := address_in(addresses))
-    )
-
-
-def failed_elsewhere(run: Run, letter: OutgoingLetter) -> bool:
-    """Whether no server has taken it, at an address that its elector no longer has. A file may
-    have gone out by a mail program, unless the server is to send it now.
-    """
-    states = (REFUSED, *([WRITTEN] if run.is_sending else []))
-    return letter.state in states and not is_present(letter, run.electors)
-
-
 def letters_of_close_due(run: Run) -> LettersDue:
     """The letter of the close to each elector."""
-    questions, language = run.composer.call_data.questions, run.election.language
-    text = closing_letter(run.history, questions, language).decode()
+    text = closing_letter(run.election, run.history).decode()
     return to_each(
         run,
         run.history.closes[-1].number,
-        lambda elector, _: run.composer.text("closed_to_elector.txt", elector, letter=text),
+        lambda elector, _: run.composer.said("closed", elector, letter=text),
     )
 
 
@@ -403,13 +367,17 @@ def results_due(run: Run) -> LettersDue:
     fates = fates_of(run.election, run.history)
     counting = queries.what_counts(run.election.book)
 
-    def text_of(elector: Elector, _: OutgoingLetter) -> str:
-        told, answers = told_of(fates[elector.name]).values(), counting.get(elector.name)
-        return run.composer.text(
-            "result_to_elector.txt", elector, answers=answers, fates=told, letter=letter
-        )
-
-    return to_each(run, act, text_of)
+    return to_each(
+        run,
+        act,
+        lambda elector, _: run.composer.said(
+            "result",
+            elector,
+            answers=counting.get(elector.name),
+            fates=told_of(fates[elector.name]).values(),
+            letter=letter,
+        ),
+    )
 
 
 # ---- what electors are told
@@ -423,15 +391,11 @@ def is_told(fate: Fate) -> bool:
     letter = fate.letter
     if letter is None:
         return fate.became != ANEW
-    is_automatic = letter.is_automatic and (fate.is_own or not letter.ballots)
-    told = (
-        LetterOutcome.WAITS,
-        LetterOutcome.GOES_IN,
-        LetterOutcome.SET_ASIDE,
-        LetterOutcome.OLDER,
-    )
-    is_of_others = fate.became is LetterOutcome.ENTERED and fate.names_them
-    return (fate.became in told or is_of_others) and not is_automatic
+    if letter.is_automatic and (fate.is_own or not letter.ballots):
+        return False
+    if fate.became is LetterOutcome.ENTERED:
+        return fate.names_them
+    return fate.became not in (LetterOutcome.COPY, LetterOutcome.OTHER_VOTE)
 
 
 def told_of(items: Sequence[Fate]) -> dict[About, Fate]:

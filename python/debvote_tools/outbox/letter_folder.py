@@ -38,25 +38,26 @@ def message(due: LettersDue, letter: OutgoingLetter, *, is_draft: bool) -> bytes
     """The bytes of a letter. An answer goes to the address of the call. Mail programs offer to send
     a draft.
     """
-    coding, body = body_of(due.text(letter))
-    subject, mark = due.subject(letter)
+    said, mark = due.said(letter)
+    coding, body = body_of(said.text)
     reply_to = due.composer.call_data.to
-    fields = [
-        ("From", sender_of(due.sender_name, due.sender)),
-        *([("Reply-To", reply_to)] if reply_to not in (None, due.sender) else []),
-        ("To", letter.address),
+    fields = {
+        "From": sender_of(due.sender_name, due.sender),
+        "Reply-To": reply_to if reply_to != due.sender else None,
+        "To": letter.address,
         # on a line of its own it is found in a letter that comes back
-        ("Subject", f"{field('Subject', subject)}{GOES_ON}{mark}"),
-        ("Date", email.utils.format_datetime(letter.time)),
-        ("Message-ID", letter.message_id),
-        *([("X-Unsent", "1")] if is_draft else []),
+        "Subject": f"{field('Subject', said.subject)}{GOES_ON}{mark}",
+        "Date": email.utils.format_datetime(letter.time),
+        "Message-ID": letter.message_id,
+        "X-Unsent": "1" if is_draft else None,
         # no program answers it by itself
-        ("Auto-Submitted", "auto-generated"),
-        ("MIME-Version", "1.0"),
-        ("Content-Type", "text/plain; charset=utf-8"),
-        ("Content-Transfer-Encoding", coding),
-    ]
-    return "".join(f"{name}: {value}\n" for name, value in fields).encode("ascii") + b"\n" + body
+        "Auto-Submitted": "auto-generated",
+        "MIME-Version": "1.0",
+        "Content-Type": "text/plain; charset=utf-8",
+        "Content-Transfer-Encoding": coding,
+    }
+    head = "".join(f"{name}: {value}\n" for name, value in fields.items() if value is not None)
+    return head.encode("ascii") + b"\n" + body
 
 
 # all letters of a run have the same subject, but for the mark, and sender
@@ -97,11 +98,8 @@ def letter_files(due: LettersDue, letters: Sequence[OutgoingLetter]) -> dict[str
     for letter in letters:
         elector = due.electors[letter.elector]
         if not letter.address:
-            rows = rows_to_print(due.text(letter))
-            # others begin with the secretary's own words
-            if due.kind in ("receipts", "closed", "result"):
-                rows[0].insert(0, (sender_on_paper(due), "paragraph"))
-            printed.append((one_line(elector.who) or elector.name, rows))
+            said, _ = due.said(letter)
+            printed.append((one_line(elector.who) or elector.name, rows_to_print(said.text)))
         elif not due.is_sending and due.can_be_sent(letter):
             # no name on a roll has the sign _
             name = (
@@ -110,6 +108,7 @@ def letter_files(due: LettersDue, letters: Sequence[OutgoingLetter]) -> dict[str
             files[f"{name}.eml"] = message(due, letter, is_draft=True)
     if printed:
         call, style = due.composer.call_data, resources(PACKAGE, "letter.css")
+        sender = ", ".join(filter(None, (due.sender_name, call.to or due.sender)))
         files[TO_PRINT] = render_page(
             PACKAGE,
             "print.html",
@@ -118,14 +117,10 @@ def letter_files(due: LettersDue, letters: Sequence[OutgoingLetter]) -> dict[str
             title=call.questions.name,
             is_secret=call.questions.is_secret,
             letters=printed,
+            # letters of other kinds begin with the secretary's own words
+            sender=sender if due.kind in ("receipts", "closed", "result") else "",
         )
     return files
-
-
-def sender_on_paper(due: LettersDue) -> str:
-    call = due.composer.call_data
-    sender = ", ".join(filter(None, (due.sender_name, call.to or due.sender)))
-    return call.language.say("Who sends this letter, and where to answer: {sender}", sender=sender)
 
 
 def rows_to_print(text: str) -> list[list[tuple[str, str]]]:

@@ -48,7 +48,7 @@ def unreached_and_printed(
     printed; none before `letters call`.
     """
     runs = [act for act in history.since_call("letters out") if act.detail["kind"] == "call"]
-    if history.call is None or history.has_codes_on_roll or not runs:
+    if not runs:
         return [], []
     electors = queries.electors(election.book)
     printed = [one.name for one in electors if not address_in(one.addresses)]

@@ -8,7 +8,7 @@ import ipaddress
 import re
 import smtplib
 import ssl
-from collections.abc import Callable, Iterable, Iterator
+from collections.abc import Iterable, Iterator
 
 from debvote_tools.book.outgoing import REFUSED, TAKEN, OutgoingLetter
 from debvote_tools.cli.faults import Fault, Status
@@ -79,9 +79,10 @@ def send_all(
     letters: Iterable[tuple[OutgoingLetter, bytes]],
     sender: str,
     server: Server,
-    note: Callable[[OutgoingLetter], None],
 ) -> Iterator[OutgoingLetter]:
-    """Sends letters in their order, and yields each once it is noted with what the server said."""
+    """Sends letters in their order, and yields each with what the server said, to be noted before the
+    next one is sent.
+    """
     mailer = Mailer(server, sender)
     with within(WHOLE):
         mailer.connection()
@@ -93,7 +94,6 @@ def send_all(
             except NotNow as why:
                 cure = "run the command again later"
                 raise server.stops(f"it takes no letters now: {why}", cure) from None
-            note(tried)
             yield tried
     finally:
         mailer.close()

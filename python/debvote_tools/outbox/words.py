@@ -9,7 +9,8 @@ import dataclasses
 import datetime
 import functools
 import re
-from collections.abc import Iterator, Sequence
+from collections.abc import Collection, Iterator, Mapping, Sequence, Set
+from typing import NamedTuple
 
 from debvote_tools.book.queries import Elector
 from debvote_tools.inbox.rules import LetterOutcome
@@ -46,7 +47,7 @@ EXTENSION, END_SAID = marked("Vote ends later: {title}"), marked("When the vote 
 
 
 # what became of a ballot, as the view `fate` says
-OF_BALLOT = marked(
+OF_BALLOT: Mapping[str | LetterOutcome, str] = marked(
     {
         COUNTS: "Your ballot of {time} has arrived. It counts unless you send a later one.",
         "replaced": "Your ballot of {time} has arrived. Another ballot of yours, which was entered after it, counts instead.",
@@ -112,13 +113,20 @@ OF_RECORD = marked(
 )
 
 
+class Said(NamedTuple):
+    """What a letter says: its subject, before the mark that ends it, and its text."""
+
+    subject: str
+    text: str
+
+
 @dataclasses.dataclass(frozen=True)
 class Composer:
     """Makes all letters of a run. After the end nobody is invited to vote."""
 
     call_data: CallData
     is_over: bool
-    electors: Sequence[Elector] = ()
+    electors: Collection[Elector] = ()
 
     def subject(self, kind: str, *, is_extension: bool = False) -> str:
         """The subject of a kind of letters, before the mark that ends it."""
@@ -129,7 +137,7 @@ class Composer:
 
     def call_letter(
         self, elector: Elector, *, is_extension: bool, earlier: Sequence[str] = ()
-    ) -> str:
+    ) -> Said:
         """The call; or that it ends later, which repeats no code. A code that went to earlier
         addresses is told as such. On paper it has at most two sides: if the texts about the options
         are too long for them, it says where they are.
@@ -145,27 +153,26 @@ class Composer:
             )
             if not is_on_paper(elector) or text.count("\n") <= TWO_SIDES:
                 break
-        return text
+        return Said(self.subject("call", is_extension=is_extension), text)
 
-    def reminder(self, elector: Elector, fates: Sequence[Fate]) -> str:
+    def reminder(self, elector: Elector, fates: Sequence[Fate]) -> Said:
         """A letter to an elector without a ballot that counts. If a line or a letter of theirs has
         come, it says what became of it, and that they can send a right line now.
         """
         has_come = any(one.is_own or one.envelope for one in fates)
-        return self.text("reminders.txt", elector, fates=fates, has_come=has_come)
+        return self.said("reminders", elector, fates=fates, has_come=has_come)
 
-    def receipt(self, elector: Elector, fates: Sequence[Fate]) -> str:
+    def receipt(self, elector: Elector, fates: Sequence[Fate]) -> Said:
         """What became of what came from an elector. It has the right line if the last of it was
         refused, waits or was set aside. What goes in, was struck, taken back or late asks nobody to vote again.
         """
-        decides = (one for one in fates if one.is_own or one.became in (COUNTS, REFUSED))
-        last = next(reversed([one.became for one in decides]), COUNTS)
+        decide = (one for one in fates if one.is_own or one.became in (COUNTS, REFUSED))
+        *_, last = COUNTS, *(one.became for one in decide)
         has_right_line = not self.is_over and last not in (COUNTS, LetterOutcome.GOES_IN)
-        return self.text("receipts.txt", elector, fates=fates, has_right_line=has_right_line)
+        return self.said("receipts", elector, fates=fates, has_right_line=has_right_line)
 
-    def text(self, template: str, elector: Elector, **values: object) -> str:
-        ways = {"said_of": self.said_of, "quotation_of": self.quotation_of}
-        return self.rendered(PACKAGE, template, elector, **ways, **values)
+    def said(self, kind: str, elector: Elector, **values: object) -> Said:
+        return Said(self.subject(kind), self.rendered(PACKAGE, f"{kind}.txt", elector, **values))
 
     def rendered(self, package: str, template: str, elector: Elector, **values: object) -> str:
         call = self.call_data
@@ -176,10 +183,8 @@ class Composer:
             "call": call,
             "elector": elector,
             "greeting": greeting,
-            "has_texts": False,
-            "own_words": "",
-            "kept": "",
-            "is_titled": False,
+            "said_of": self.said_of,
+            "quotation_of": self.quotation_of,
             "is_on_paper": is_on_paper(elector),
             # who has no address may not see the page, either
             "is_whole": call.at is None or is_on_paper(elector),
@@ -208,20 +213,19 @@ class Composer:
         language, questions = self.call_data.language, self.call_data.questions
         faults = functools.partial(faults_of, is_of_several=questions.is_several)
         zone = self.call_data.until.tzinfo if self.call_data.until else datetime.UTC
-        if isinstance(fate.became, LetterOutcome):
-            is_done = fate.became in (LetterOutcome.SET_ASIDE, LetterOutcome.OLDER)
-            of_kind = OF_RECORD if fate.letter and fate.letter.read.link else OF_LETTER
-            said = of_kind[fate.is_own, is_done]
-            # what is told of a letter is told to those of whom nothing was entered
-            is_told_whose = fate.is_own or fate.became is LetterOutcome.ENTERED
-            if is_told_whose and fate.letter is not None and fate.letter.standing:
-                said = OF_OTHERS[fate.letter.is_pending]
-        else:
+        letter = fate.letter
+        if letter is None:
             is_final = self.is_over and fate.became == COUNTS
             said = AT_THE_END if is_final else OF_BALLOT[fate.became]
+        # what is told of a letter is told to those of whom nothing was entered
+        elif letter.standing and (fate.is_own or fate.became is LetterOutcome.ENTERED):
+            said = OF_OTHERS[letter.is_pending]
+        else:
+            is_done = fate.became in (LetterOutcome.SET_ASIDE, LetterOutcome.OLDER)
+            said = (OF_RECORD if letter.read.link else OF_LETTER)[fate.is_own, is_done]
         sentences = [language.say(said, time=time_in_words(fate.time.astimezone(zone), language))]
         sentences += self.more_of(fate, name)
-        if fate.letter is not None and fate.is_own and fate.letter.reason is not None:
+        if letter is not None and fate.is_own and letter.reason is not None:
             # not the line itself: it may be another's ballot, or have a code
             near = (
                 language.say(
@@ -229,10 +233,10 @@ class Composer:
                     line=line.number,
                     fault=fault,
                 )
-                for line in fate.letter.near
+                for line in letter.near
                 for fault in faults(line.answer, name, language, is_within=line.is_within)
             )
-            if reason := for_elector(fate.letter.reason):
+            if reason := for_elector(letter.reason):
                 told = language.say(reason)
                 # after the end nobody is asked to send it better
                 sentences.append(f"{told.split('. ')[0].rstrip('.')}." if self.is_over else told)
@@ -244,13 +248,12 @@ class Composer:
     def more_of(self, fate: Fate, name: str) -> Iterator[str]:
         """What of a ballot does not count, and how it came."""
         language, letter, envelope = self.call_data.language, fate.came_by, fate.envelope
-        left, left_out = list[str](), list[str]()
+        answers: dict[str, Set[tuple[str, str]]]
+        answers = {NOT_ALL: {(name, label) for label in fate.replaced}}
         if letter is not None and envelope is not None and not envelope.is_struck:
-            left = sorted(label for one, label in letter.left if one == name)
-            others = letter.not_entered - letter.left
-            left_out = sorted(label for one, label in others if one == name)
-        for said, labels in ((NOT_ALL, fate.replaced), (LEFT_OUT, left_out), (LEFT, left)):
-            if labels:
+            answers |= {LEFT_OUT: letter.not_entered - letter.left, LEFT: letter.left}
+        for said, its in answers.items():
+            if labels := sorted(label for one, label in its if one == name):
                 named = list(map(self.call_data.questions.titled, labels))
                 yield language.say(said, questions=language.joined(named))
         if letter is not None and envelope is not None:

@@ -111,7 +111,7 @@ def input_in(file: str, limit: int, kind: str, status: int) -> bytes:
         return read_at_most(file, limit)
     except OSError as error:
         cure = f"give a file with --{kind} that you may read"
-        raise refused(file, f"it can't be read ({error.strerror})", cure, status) from None
+        raise Fault(file, f"it can't be read ({error.strerror})", cure, status) from None
 
 
 def demand_in_order(poll_bytes: bytes, arguments: Arguments, debvote: Debvote) -> None:
@@ -124,7 +124,7 @@ def demand_in_order(poll_bytes: bytes, arguments: Arguments, debvote: Debvote) -
     if answer.status == Status.DONE:
         raise other_format("the sheet of this debvote")
     cure = f"debvote explain --poll {arguments.poll} says what to correct"
-    raise refused(arguments.poll, answer.refusal, cure, answer.status)
+    raise Fault(arguments.poll, answer.refusal, cure, answer.status)
 
 
 def sealed_of(poll_bytes: bytes, file: str) -> SealedPoll:
@@ -135,19 +135,21 @@ def sealed_of(poll_bytes: bytes, file: str) -> SealedPoll:
     try:
         document = tomllib.loads(poll_bytes.decode("utf-8-sig"))
     except (ValueError, RecursionError) as error:
-        raise refused(file, f"it can't be read ({error})", "write the poll as TOML 1.0") from None
+        words, cure = f"it can't be read ({error})", "write the poll as TOML 1.0"
+        raise Fault(file, words, cure, Status.BAD_POLL) from None
     values = {key: document[key] for key in KEYS if key in document}
     strange = [key for key in values if not is_right(key, values[key], len(document["options"]))]
     cure = "give the poll.toml of a call, or take the key out"
     if strange:
-        raise refused(file, f"a sealed poll cannot have such a value of {', '.join(strange)}", cure)
+        words = f"a sealed poll cannot have such a value of {', '.join(strange)}"
+        raise Fault(file, words, cure, Status.BAD_POLL)
     poll = poll_of(values)
     found = [*bad_title(poll.name)] if poll.name != poll.title else []
     for number, name, why in bad_options(poll.names, poll.plain_names):
         if name != poll.plain_names[number - 1]:
             found.append((number, name, why))
     for _, _, why in found[:1]:
-        raise refused(file, f"a shown name can't be published: {why}", cure)
+        raise Fault(file, f"a shown name can't be published: {why}", cure, Status.BAD_POLL)
     return poll
 
 
@@ -163,7 +165,3 @@ def is_right(key: str, value: Any, options: int) -> bool:
         is_list_of_texts = isinstance(value, list) and all(isinstance(text, str) for text in value)
         return is_list_of_texts and len(value) == options + (key == "shown_options")
     return isinstance(value, str) and value != ""
-
-
-def refused(file: str, words: str, cure: str, status: int = Status.BAD_POLL) -> Fault:
-    return Fault(file, words, cure, status)

@@ -140,6 +140,8 @@ class Facts:
     desks: int = 1
     # of two files: the checksum of the file that was given as the poll
     given_checksum: str | None = None
+    # the day of the call that holds, and that of the first close
+    days: Sequence[datetime.date] = ()
     # what was done, about all questions; and of each line that came after the end, and is in time since the
     # vote was not closed, the labels of the questions that it answers
     acts: Sequence[Act] = ()
@@ -177,17 +179,6 @@ class Facts:
     @property
     def has_aliases(self) -> bool:
         return self.poll.secret and not self.has_codes
-
-    @property
-    def days(self) -> list[datetime.date]:
-        """The day of the call that holds, and that of the first close."""
-        days: list[datetime.date] = []
-        for act in self.acts:
-            if act.done in ("called", "called until"):
-                days = [act.time.date()]
-            elif act.done == "closed":
-                days = [*days, act.time.date()][:2]
-        return days
 
     def acts_about(self, labels: Collection[str]) -> list[Act]:
         """What was done, as it is told of some questions."""
@@ -248,6 +239,6 @@ class Outcome:
         known = (one for one in self.facts.doubts if one.label in ("", label))
         return [*doubts_about(self.facts.private or self.sheet, label), *known]
 
-    def why(self, named: Callable[[SealedPoll], Mapping[int, str]]) -> Why:
-        """Why it ended so; the options are named as parts of a sentence."""
-        return Why(self.sheet, named(self.facts.poll))
+    def why(self, said: Mapping[int, str]) -> Why:
+        """Why it ended so; `said` has the options as parts of a sentence."""
+        return Why(self.sheet, said)

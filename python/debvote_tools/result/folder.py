@@ -11,7 +11,7 @@ import pathlib
 import runpy
 import shutil
 import sys
-from collections.abc import Iterator, Mapping, Sequence
+from collections.abc import Collection, Iterable, Iterator, Mapping, Sequence
 from typing import NamedTuple
 
 from debvote_tools.cli.console import tell_aside, tell_aside_as_it_is
@@ -63,13 +63,12 @@ BESIDE_PLACE = f"{TEMPORARY}result-"
 
 
 class Filled(NamedTuple):
-    """A folder that is whole: how each question ended, the doubts about each, and without a label those
-    about the whole vote, the checksums of all files, by their places in it, and the letter of the
-    result.
+    """A folder that is whole: how each question ended, all doubts, the checksums of all files, by their
+    places in it, and the letter of the result.
     """
 
     outcomes: Mapping[str, Outcome]
-    doubts: Mapping[str, Sequence[Doubt]]
+    doubts: Sequence[Doubt]
     checksums: Mapping[str, str]
     letter: bytes
 
@@ -159,15 +158,18 @@ def filled(
     program_folder: pathlib.Path | None,
     *,
     is_forced: bool,
+    known: Collection[object] = (),
 ) -> Filled:
     """Writes all files of a result into an empty folder, those of each of several questions into one
     with its label, and has each question counted by debvote and by `recount.py`. Stops at doubts that
     are not forced, at a code of an elector, and if the counts differ. `program_folder` is that of the
-    program that runs this: debvote may be beside it.
+    program that runs this: debvote may be beside it. `known` are the doubts that the same result had
+    when it was made first: the reason of then is not one for what came since.
     """
     filling = Filling(folder, given)
     outcomes = {label: filling.counted(label, program_folder) for label in given}
-    doubts = doubts_by_question(outcomes)
+    doubts = doubts_about_all(outcomes.values())
+    is_forced = is_forced or all(one.as_data() in known for one in doubts if one.stops)
     demand_publishable(outcomes, doubts, is_forced=is_forced)
     for (label, one), picture in zip(outcomes.items(), pictures_of(outcomes.values())):
         filling.write(label, further_files(one, picture))
@@ -177,8 +179,8 @@ def filled(
     facts = one.facts
     if facts.label and facts.questions is not None:
         filling.write("", files_above(facts.questions, outcomes, filling.checksums))
-        filling.write_page("", front_page_of(facts.questions, outcomes, doubts))
-    letter = letter_of(outcomes, doubts, filling.checksums)
+        filling.write_page("", front_page_of(outcomes))
+    letter = letter_of(outcomes, filling.checksums)
     if facts.is_of_two_files:
         # two files have no other folder for it
         filling.write("", {file_names.LETTER: letter})
@@ -277,33 +279,32 @@ def files_above(
 
 
 # ---- doubts
-def doubts_by_question(outcomes: Mapping[str, Outcome]) -> dict[str, list[Doubt]]:
-    """All doubts, by the labels of the questions; those about the whole vote have none."""
-    found: dict[str, list[Doubt]] = {}
-    for label, one in outcomes.items():
-        found |= {its: [doubt for doubt in one.doubts if doubt.label == its] for its in ("", label)}
-    return found
+def doubts_about_all(outcomes: Iterable[Outcome]) -> list[Doubt]:
+    """All doubts: those about the whole vote, which each question has, and those about each question."""
+    first, *others = (one.doubts for one in outcomes)
+    more = (doubt for its in others for doubt in its if doubt.label)
+    return sorted([*first, *more], key=lambda doubt: doubt.label)
 
 
 def demand_publishable(
-    outcomes: Mapping[str, Outcome], doubts: Mapping[str, Sequence[Doubt]], *, is_forced: bool
+    outcomes: Mapping[str, Outcome], doubts: Collection[Doubt], *, is_forced: bool
 ) -> None:
     """Stops at doubts that are not forced, and at what is never published. Tells the others."""
     cure = (
         'put it right, or publish as it is with --force --because "TEXT" (the result page says so)'
     )
-    faults, notes = list[Fault](), list[str]()
-    for label, about in doubts.items():
-        where = f"question {label}" if label else None
+    faults = list[Fault]()
+    for label in dict.fromkeys(("", *outcomes)):
         its = list(never_published(outcomes[label])) if label in outcomes else []
-        reasons = "; ".join(doubt.for_secretary() for doubt in about if doubt.stops)
+        stopping = (doubt for doubt in doubts if doubt.stops and doubt.label == label)
+        reasons = "; ".join(doubt.for_secretary() for doubt in stopping)
         if reasons and not is_forced and not its:
-            its = [Fault(where, reasons, cure)]
+            its = [Fault(f"question {label}" if label else None, reasons, cure)]
         faults += its
-        note = ": ".join(filter(None, ["Note", where]))
-        notes += (f"{note}: {doubt.for_secretary()}; the result page says so" for doubt in about)
     stop_at(faults)
-    tell_aside(*notes)
+    for doubt in doubts:
+        where = f"question {doubt.label}: " if doubt.label else ""
+        tell_aside(f"Note: {where}{doubt.for_secretary()}; the result page says so")
 
 
 def never_published(outcome: Outcome) -> Iterator[Fault]:
@@ -370,8 +371,10 @@ def demand_same(folder: pathlib.Path, outcome: Outcome) -> None:
     """
     program = runpy.run_path(str(folder / RECOUNT))
     files = ["--poll", str(folder / POLL), "--ballots", str(folder / BALLOTS)]
-    for task, wanted in (("count", outcome.sheet.text), ("standing", outcome.standing_text)):
-        words = outcome.facts.casting_words if task == "count" else []
+    for task, words, wanted in (
+        ("count", outcome.facts.casting_words, outcome.sheet.text),
+        ("standing", list[str](), outcome.standing_text),
+    ):
         try:
             text, _ = program["answer"]([task, *files, *words])
             said = "" if text == wanted else difference(text, wanted)

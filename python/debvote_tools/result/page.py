@@ -16,12 +16,11 @@ from markupsafe import Markup
 from debvote_tools.cli.console import seen, tell_aside
 from debvote_tools.debvote import Finding
 from debvote_tools.poll.plain_names import PLAIN_LETTERS, PUNCTUATION, SPELLINGS
-from debvote_tools.poll.questions import Questions
 from debvote_tools.poll.secret import BY_OPENSSL, BY_PYTHON, sealed_checksum
 from debvote_tools.poll.sealed import SealedPoll
 from debvote_tools.poll.call import explanations_of, numbered_options, paragraphs_of
 from debvote_tools.result import file_names
-from debvote_tools.result.facts import Doubt, Facts, Outcome
+from debvote_tools.result.facts import Facts, Outcome
 from debvote_tools.text.ballots import (
     EQUALLY,
     NOTHING,
@@ -87,11 +86,7 @@ SPACE = "{http://www.w3.org/2000/svg}"
 SHAPES = {SPACE + name for name in ("svg", "g", "polygon", "polyline", "ellipse", "path", "text")}
 
 
-def letter_of(
-    outcomes: Mapping[str, Outcome],
-    doubts: Mapping[str, Sequence[Doubt]],
-    checksums: Mapping[str, str],
-) -> bytes:
+def letter_of(outcomes: Mapping[str, Outcome], checksums: Mapping[str, str]) -> bytes:
     """The letter of the result: what an elector compares with the web site, sent by a way that does
     not lead over it. `checksums` are those of the published files, by their places.
     """
@@ -103,7 +98,6 @@ def letter_of(
         facts=facts,
         outcomes=outcomes,
         named=lambda poll: numbered_options(poll.names, facts.language),
-        doubts=doubts,
         checksums=checksums,
     ).encode()
 
@@ -114,7 +108,7 @@ def named_in_html(poll: SealedPoll) -> dict[int, Markup]:
 
 
 def page_with(
-    template: str, title: str, outcomes: Sequence[Outcome], label: str = "", /, **values: Any
+    template: str, outcomes: Sequence[Outcome], label: str = "", /, **values: Any
 ) -> bytes:
     """A page with one outcome or with all, and the script that finds a ballot in them."""
     facts = outcomes[0].facts
@@ -123,8 +117,6 @@ def page_with(
         __package__,
         template,
         language,
-        head=InHtml(language.code, language.catalog).say("Result: {title}", title=title),
-        title=title,
         days=[date_in_words(day, language) for day in facts.days],
         colon=language.between(COLON),
         facts=facts,
@@ -132,9 +124,6 @@ def page_with(
         label=label,
         # what is said of the whole vote, the page of all questions has
         about=paragraphs_of("" if label else facts.words.about or ""),
-        given_checksum=None
-        if facts.given_checksum == facts.poll.checksum
-        else facts.given_checksum,
         example=next((name for one in outcomes for name in one.standing), ""),
         # with those of a motion, if one is among them
         find_words=find_words(
@@ -145,20 +134,15 @@ def page_with(
     )
 
 
-def front_page_of(
-    questions: Questions, outcomes: Mapping[str, Outcome], doubts: Mapping[str, Sequence[Doubt]]
-) -> bytes:
+def front_page_of(outcomes: Mapping[str, Outcome]) -> bytes:
     """The page above those of several questions."""
     return page_with(
         "front.html",
-        questions.name,
         [*outcomes.values()],
         style=resources(__package__, *STYLES, "front.css"),
         script=resources(__package__, *SCRIPTS),
-        questions=questions,
         outcomes=outcomes,
         named=named_in_html,
-        doubts=doubts,
         are_folded=len(outcomes) > MOST_WHOLE,
     )
 
@@ -175,7 +159,6 @@ def page_of(outcome: Outcome, drawing: bytes | None, checksums: Mapping[str, str
     own_letter = [file_names.LETTER] if facts.is_of_two_files else []
     return page_with(
         "page.html",
-        poll.name,
         [outcome],
         facts.label,
         style=style,
@@ -185,11 +168,10 @@ def page_of(outcome: Outcome, drawing: bytes | None, checksums: Mapping[str, str
         plain_name=PLAIN_NAME,
         sheet=sheet,
         outcome=outcome,
-        why=outcome.why(named_in_html),
+        why=outcome.why(named_in_html(poll)),
         share=share(sheet.voters, sheet.electors, language),
         because=paragraphs_of(facts.words.because or ""),
         explanations=explanations_of(poll),
-        has_picture=drawing is not None,
         picture=picture,
         picture_command=shlex.join(drawing_words(options)),
         by_python=of_question(BY_PYTHON, facts.label),

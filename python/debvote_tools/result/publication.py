@@ -3,14 +3,13 @@ result. What the book has of the questions `close`, `count` and `publish` read i
 then each compares it with what it asks of debvote.
 """
 
-import dataclasses
-import operator
+import itertools
 from collections.abc import Collection, Iterable, Iterator, Mapping
 from typing import Any, NamedTuple
 
 from debvote_tools.book import queries
 from debvote_tools.book.book import RESTORED, Book, Detail, DoneAct, as_text, from_text
-from debvote_tools.book.election import TEXTS, Election, Fixed, History, fixed_by
+from debvote_tools.book.election import TEXTS, Election, History, fixed_by
 from debvote_tools.cli.console import is_terminal, is_yes, tell_aside
 from debvote_tools.cli.faults import Fault
 from debvote_tools.debvote import casting_words
@@ -23,10 +22,9 @@ from debvote_tools.poll.secret import alias_in, aliased_ballots, sealed_checksum
 from debvote_tools.poll.questions import Questions, place_of
 from debvote_tools.poll.sealed import SealedPoll
 from debvote_tools.result.facts import Act, Doubt, Facts, PublishedWords
-from debvote_tools.result.file_names import BALLOTS
 from debvote_tools.result.sheet import Castings, Sheet, publishing, sheet_in
 from debvote_tools.text.ballots import ballot_file, in_normal_form
-from debvote_tools.text.language import Language, language_of
+from debvote_tools.text.language import language_of
 from debvote_tools.text.rendering import render_letter
 
 
@@ -61,7 +59,10 @@ def kept_of(election: Election, history: History, labels: Iterable[str]) -> dict
     if history.is_closed:
         fixed = fixed_by(history.closes[-1])
         for label, its in kept.items():
-            demand_as_closed(fixed[label], its.public)
+            checksum, then = sealed_checksum(fixed[label].seal, its.public), fixed[label].checksum
+            if checksum != then:
+                words = f"the ballots have the checksum {checksum}, and the close recorded {then}"
+                raise Fault(None, words, KEEP)
     return kept
 
 
@@ -96,13 +97,6 @@ def demand_own_lines(book: Book, roll: Collection[str]) -> None:
             raise Fault(book.path, words, KEEP)
 
 
-def demand_as_closed(fixed: Fixed, ballots: bytes) -> None:
-    """Stops if the ballots of a question, as they are published, are not those that the close has fixed."""
-    if (checksum := sealed_checksum(fixed.seal, ballots)) != fixed.checksum:
-        words = f"the ballots have the checksum {checksum}, and the close recorded {fixed.checksum}"
-        raise Fault(None, words, KEEP)
-
-
 def demand_kept(election: Election, said: object, kept: object) -> None:
     """Stops if debvote, asked anew, says another thing of the lines than the book keeps of it."""
     if said != kept:
@@ -123,49 +117,42 @@ def counted(election: Election, kept: Kept, casting: str | None) -> Sheet:
 
 # ---- the facts
 def facts_of(election: Election, words: PublishedWords, pending: Pending) -> dict[str, Facts]:
-    """The facts of each question, by its label."""
+    """The facts of each question, by its label. Stops if debvote does not find the ballots as they are
+    kept.
+    """
     history, book = election.history(), election.book
     kept, call = kept_of(election, history, election.questions), current_call(election, history)
-    public, stopping = call.questions, what_stops(election, history, "publish", pending)
+    public, days = call.questions, [election.called(history), *history.closes[:1]]
     shared: dict[str, Any] = {
         "words": words,
         "language": election.language if words.language is None else language_of(words.language),
+        "days": [act.time.astimezone(history.zone).date() for act in days],
         "acts": acts_of(book, history, is_secret=public.is_secret),
         "labels_after_end": labels_after_end(book, history),
-        "closed": closing_letter(history, public, election.language) if history.is_closed else None,
+        "closed": closing_letter(election, history) if history.is_closed else None,
         "real_names": call.real_names or {},
         "has_codes": call.has_codes_on_roll,
         "at": call.at,
         "questions": public,
-        "doubts": [*doubts_of(election, history, words.castings, pending, stopping)],
+        "doubts": [*doubts_of(election, history, words.castings, pending)],
     }
-    return {
-        label: Facts(
-            label=label,
-            poll=poll,
-            **facts_of_ballots(election, history, label, kept[label], words),
-            **shared,
+    found = {}
+    for label, its in kept.items():
+        standing = election.debvote.standing(its.poll.as_bytes(), its.ballots)
+        demand_kept(election, standing, its.counting)
+        own: dict[str, Any] = {"late": its.late}
+        if public.is_secret:
+            own = {
+                "codes": frozenset(one.code for one in queries.electors(book) if one.code),
+                "seal": fixed_by(history.closes[-1])[label].seal,
+                "private": counted(election, its, words.castings.get(label)),
+                "compared": shown_by_comparison(election, history, label, its),
+            }
+        late = sum(became == "late" for _, became in its.late)
+        found[label] = Facts(
+            public[label], its.public, label=label, late_number=late, **own, **shared
         )
-        for label, poll in public.items()
-    }
-
-
-def facts_of_ballots(
-    election: Election, history: History, label: str, kept: Kept, words: PublishedWords
-) -> dict[str, Any]:
-    """The facts about the ballots of a question. Stops if debvote does not find them as they are kept."""
-    standing = election.debvote.standing(kept.poll.as_bytes(), kept.ballots)
-    demand_kept(election, standing, kept.counting)
-    left_late = sum(became == "late" for _, became in kept.late)
-    found = {"ballots": kept.public, "late_number": left_late}
-    if not kept.poll.secret:
-        return found | {"late": kept.late}
-    return found | {
-        "codes": frozenset(one.code for one in queries.electors(election.book) if one.code),
-        "seal": fixed_by(history.closes[-1])[label].seal,
-        "private": counted(election, kept, words.castings.get(label)),
-        "compared": shown_by_comparison(election, history, label, kept),
-    }
+    return found
 
 
 def early_close(history: History) -> Doubt | None:
@@ -177,28 +164,31 @@ def early_close(history: History) -> Doubt | None:
     return Doubt("closed early", {"closed": closed, "until": history.until}, stops=False)
 
 
-def closing_letter(history: History, questions: Questions, language: Language) -> bytes:
-    """The letter of the last close, with what it says of the one before; the questions are the public
-    ones. In a secret vote the reason for which the vote was opened again stays in the log.
+def closing_letter(election: Election, history: History) -> bytes:
+    """The letter of the last close, with what it says of the one before. In a secret vote the reason for
+    which the vote was opened again stays in the log.
     """
-    close, zone = history.closes[-1], history.zone
-    values = {"close": close, "time": close.time.astimezone(zone), "questions": questions}
-    values |= {"fixed": fixed_by(close), "until": history.until, "earlier": None}
-    values["early"] = early_close(history)
-    if earlier := history.closes[:-1]:
-        reopened = [act for act in history.since_call("reopen") if act.number < close.number]
-        values |= {"earlier": fixed_by(earlier[-1])}
-        values["earlier_time"] = earlier[-1].time.astimezone(zone)
-        values["because"] = None if questions.is_secret else reopened[-1].detail["because"]
-    return render_letter(__package__, "closed.txt", language, **values).encode()
+    questions = election.sealed().public
+    reasons = [act.detail["because"] for act in history.since_call("reopen")]
+    return render_letter(
+        __package__,
+        "closed.txt",
+        election.language,
+        questions=questions,
+        close=history.closes[-1],
+        closes=[(act.time.astimezone(history.zone), fixed_by(act)) for act in history.closes],
+        until=history.until,
+        early=early_close(history),
+        reasons=[] if questions.is_secret else reasons,
+    ).encode()
 
 
 def shown_by_comparison(election: Election, history: History, label: str, kept: Kept) -> list[str]:
     """The electors of a secret vote whose ballots differ from those of the last publication: a
     comparison shows theirs alone.
     """
-    earlier, file = history.named("publish"), place_of(label, BALLOTS)
-    if not earlier or earlier[-1].detail["checksums"][file] == sha256_of(kept.public):
+    earlier = history.named("publish")
+    if not earlier:
         return []
     with election.book.question(label):
         before = queries.what_counted(election.book, earlier[-1].number)
@@ -215,9 +205,9 @@ def doubts_of(
     history: History,
     castings: Castings,
     pending: Pending,
-    stopping: Collection[str],
 ) -> Iterator[Doubt]:
-    """The doubts that the book shows before the count; `stopping` is what `what_stops` finds."""
+    """The doubts that the book shows before the count."""
+    stopping = what_stops(election, history, "publish", pending)
     if not history.is_closed:
         yield Doubt("not closed")
     if early := early_close(history):
@@ -228,7 +218,7 @@ def doubts_of(
     last = history.last_publication
     all_castings = {**(last.detail["casting"] if last else {}), **castings}
     for label, poll in election.questions.items():
-        names, casting = {one.plain: one.name for one in poll.choices}, castings.get(label)
+        names, casting = dict(zip(poll.plain_names, poll.names)), castings.get(label)
         # without one: since the last close, after which it was the same tie
         acts = history.publications if casting is None else history.named("publish")
         for option in dict.fromkeys(act.detail["casting"].get(label, casting) for act in acts):
@@ -246,15 +236,13 @@ def doubts_of(
 # ---- what was done
 def acts_of(book: Book, history: History, *, is_secret: bool) -> list[Act]:
     """What the pages tell, with its times in the zone in which the end was announced."""
-    in_zone = operator.methodcaller("astimezone", history.zone)
-    found: list[Act] = []
-    for before, act in zip([None, *history.acts], history.acts):
-        if before is not None and act.went_back(before):
+    acts = [act._replace(time=act.time.astimezone(history.zone)) for act in history.acts]
+    found = list[Act]()
+    for before, act in itertools.pairwise(acts):
+        if act.went_back(before):
             found.append(Act(act.time, "clock", {"before": before.time}))
         found += acts_of_page(act, book, history, is_secret=is_secret)
-    return [
-        dataclasses.replace(one, time=in_zone(one.time), places=one.shown(in_zone)) for one in found
-    ]
+    return found
 
 
 def labels_after_end(book: Book, history: History) -> list[Collection[str]]:
@@ -275,7 +263,9 @@ def acts_of_page(act: DoneAct, book: Book, history: History, *, is_secret: bool)
     `strike` and `reopen` stay in the log.
     """
     time, detail = act.time, act.detail
-    until = {"until": from_text(detail["until"])} if detail.get("until") else {}
+    until = dict[str, Any]()
+    if detail.get("until"):
+        until["until"] = from_text(detail["until"]).astimezone(history.zone)
     reason = None if is_secret else detail.get("because")
     match act.name:
         case "call":
@@ -350,8 +340,11 @@ def agreed_texts(history: History, texts: Mapping[str, str], *, is_agreed: bool)
     asks about them once, unless the command line agrees.
     """
     known = {checksum for act in history.acts for checksum in act.detail.get("agreed", ())}
-    sums = {sha256_of(text.encode()): where for where, text in texts.items() if text.strip()}
-    new = {checksum: where for checksum, where in sums.items() if checksum not in known}
+    new = {
+        checksum: where
+        for where, text in texts.items()
+        if text.strip() and (checksum := sha256_of(text.encode())) not in known
+    }
     if new and not is_agreed:
         for where in new.values():
             tell_aside(f"{where}:", *(f"  {line}" for line in texts[where].strip().split("\n")))

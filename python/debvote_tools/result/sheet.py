@@ -273,26 +273,19 @@ def named(label: str) -> str:
     return f"question {label}" if label else "it"
 
 
-def with_label(label: str, casting: str) -> str:
-    """A casting vote as --casting names it."""
-    return f"{label}={casting}" if label else casting
-
-
 def publishing(election: Election, castings: Castings) -> str:
     """The command that publishes a result, with the casting votes if there are any. One that was published
     before keeps its holder and its day; those of others the secretary writes.
     """
-    published: dict[tuple[str, str], tuple[str, str]] = {}
-    for act in election.history().named("publish"):
-        by, on = act.detail["words"]["cast_by"], act.detail["words"]["cast_on"]
-        published |= {
-            (label, option): (by[label], on[label])
-            for label, option in act.detail["casting"].items()
-        }
-    words: list[str] = []
+    details = [act.detail for act in election.history().named("publish")]
+    words = list[str]()
     for label, option in castings.items():
-        holder, day = published.get((label, option), ("WHO", "DATE"))
-        words += option_words("--casting", with_label(label, option))
+        said = [("WHO", "DATE")]
+        for its in details:
+            if its["casting"].get(label) == option:
+                said.append((its["words"]["cast_by"][label], its["words"]["cast_on"][label]))
+        holder, day = said[-1]
+        words += option_words("--casting", f"{label and f'{label}='}{option}")
         words += [*option_words("--cast-by", holder), "--cast-on", day]
     return election.command("publish", *words)
 

@@ -2,6 +2,7 @@
 their sentences, each of which is filled by a row of places.
 """
 
+import collections
 from collections.abc import Iterable, Mapping
 from typing import Any
 
@@ -83,17 +84,16 @@ class Why:
         """The winner, then the options that stay in the set for most rounds, and last those that
         were dropped.
         """
-
-        def rank(option: int) -> tuple[bool, bool, int, int]:
-            rounds = sum(option in options for options, _ in self.sheet.rounds)
-            return option != self.sheet.winner, option in self.sheet.dropped, -rounds, option
-
-        return sorted(self.sheet.names, key=rank)
+        rounds = collections.Counter(one for options, _ in self.sheet.rounds for one in options)
+        dropped, winner = self.sheet.dropped, self.sheet.winner
+        return sorted(
+            self.sheet.names, key=lambda one: (one != winner, one in dropped, -rounds[one])
+        )
 
     def beaten(self, option: int) -> list[Row]:
         """The defeats by an option that were not removed, the narrowest first."""
-        pairs = [pair for pair in self.sheet.defeats if pair[0] == option]
-        rows = self.rows(pair for pair in pairs if pair not in self.removed)
+        left = (pair for pair in self.sheet.defeats if pair not in self.removed)
+        rows = self.rows(pair for pair in left if pair[0] == option)
         return sorted(rows, key=lambda row: int(row["over"] - row["under"]))
 
     def set_aside(self, option: int | None = None) -> list[Row]:
@@ -119,18 +119,12 @@ class Why:
         and each further one the option before. It ends in the set of the round in which the option
         is out; of several chains it is that to the winner, or else to the least number.
         """
-        earlier = [removed for options, removed in self.sheet.rounds if option in options]
-        gone = {pair for removed in earlier for pair in removed}
-        within = {*self.sheet.rounds[len(earlier)][0]}
+        rounds = sum(option in options for options, _ in self.sheet.rounds)
+        within = {*self.sheet.rounds[rounds][0]}
+        gone = {pair for pair, number in self.removed.items() if number <= rounds}
+        # backwards, so that an option that defeats several goes on from the least
+        left = sorted({*self.sheet.defeats} - gone, reverse=True)
         chains: dict[int, list[Pair]] = {option: []}
-        last = [option]
         while not (ends := within & chains.keys()):
-            step: dict[int, list[Pair]] = {}
-            for loser in last:
-                for a, b in self.sheet.defeats:
-                    if b == loser and (a, b) not in gone and not (a in chains or a in step):
-                        step[a] = [*chains[loser], (a, b)]
-            chains |= step
-            last = sorted(step)
-        found = chains[self.sheet.winner if self.sheet.winner in ends else min(ends)]
-        return self.rows(found)
+            chains |= {a: [*chains[b], (a, b)] for a, b in left if b in chains and a not in chains}
+        return self.rows(chains[self.sheet.winner if self.sheet.winner in ends else min(ends)])

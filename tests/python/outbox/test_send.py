@@ -747,4 +747,4 @@ class Encrypted(unittest.TestCase):
 def sent_to(server: smtp.Server) -> list[OutgoingLetter]:
     """What becomes of a letter to Ada that is sent to a server."""
     letter = OutgoingLetter(1, "call", 1, ALL[0], "<1@club.example>", datetime.datetime(2026, 11, 23, tzinfo=datetime.UTC), ())
-    return list(smtp.send_all([(letter, b"From: vote@club.example\n\n.\nFrom me\n")], "vote@club.example", server, lambda letter: None))
+    return list(smtp.send_all([(letter, b"From: vote@club.example\n\n.\nFrom me\n")], "vote@club.example", server))

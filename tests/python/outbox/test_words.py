@@ -20,7 +20,7 @@ from debvote_tools.inbox.fates import REFUSED, Fate
 from debvote_tools.inbox.reasons import Reason, ReasonWithValues, for_elector
 from debvote_tools.inbox.rules import LetterOutcome
 from debvote_tools.outbox.letter_folder import message, rows_to_print
-from debvote_tools.outbox.words import OF_BALLOT, PACKAGE, SUBJECTS, Composer
+from debvote_tools.outbox.words import OF_BALLOT, PACKAGE, SUBJECTS, Composer, Said
 from debvote_tools.poll.announced import is_mail_address
 from debvote_tools.poll.call import CallData, call_page
 from debvote_tools.poll.sealed import SealedPoll
@@ -85,11 +85,11 @@ WAITS = next(one for one in all_that_came() if one.became is LetterOutcome.WAITS
 
 def texts(now: Composer) -> list[str]:
     with_code = ADA._replace(code="c0de")
-    calls = (now.call_letter(elector, is_extension=is_extension) for elector, is_extension in ((ADA, False), (ADA._replace(key="A"), False), (ADA, True)))
-    calls = itertools.chain(calls, [now.call_letter(with_code, is_extension=False, earlier=["a@b.example"])])
-    results = (now.text("result_to_elector.txt", ADA, letter="RESULT\n", answers=ranks, fates=all_that_came()) for ranks in ("1,2,3", None))
-    closed = now.text("closed_to_elector.txt", ADA, letter="CLOSED\n")
-    return [*calls, now.reminder(ADA, [WAITS]), now.reminder(ADA, []), now.receipt(ADA, all_that_came()), closed, *results]
+    calls = (now.call_letter(elector, is_extension=is_extension).text for elector, is_extension in ((ADA, False), (ADA._replace(key="A"), False), (ADA, True)))
+    calls = itertools.chain(calls, [now.call_letter(with_code, is_extension=False, earlier=["a@b.example"]).text])
+    results = (now.said("result", ADA, letter="RESULT\n", answers=ranks, fates=all_that_came()).text for ranks in ("1,2,3", None))
+    closed = now.said("closed", ADA, letter="CLOSED\n").text
+    return [*calls, now.reminder(ADA, [WAITS]).text, now.reminder(ADA, []).text, now.receipt(ADA, all_that_came()).text, closed, *results]
 
 
 class Texts(unittest.TestCase):
@@ -111,20 +111,20 @@ class Texts(unittest.TestCase):
                 self.assertTrue(subject.endswith(": Spring"), subject)
 
     def test_a_secret_vote_repeats_no_ranks_and_a_signed_one_asks_for_a_signature(self) -> None:
-        self.assertIn("(ada 1,2,3)", vote().receipt(ADA, all_that_came()))
+        self.assertIn("(ada 1,2,3)", vote().receipt(ADA, all_that_came()).text)
         for key, said in (("A" * 40, "Write and sign two lines"), ("", "has no key of yours: a letter from you waits")):
-            text = " ".join(vote(is_signed=True).reminder(ADA._replace(key=key), []).split())
+            text = " ".join(vote(is_signed=True).reminder(ADA._replace(key=key), []).text.split())
             self.assertIn("has to be signed with OpenPGP", text)
             self.assertIn(said, text)
             self.assertNotIn("send the line alone", text)
             self.assertEqual("Write and sign" in text, bool(key))
-        self.assertNotIn("OpenPGP", vote().reminder(ADA, []))
+        self.assertNotIn("OpenPGP", vote().reminder(ADA, []).text)
 
     def test_after_the_end_nobody_is_asked_to_send_anything(self) -> None:
         for code in LANGUAGES:
             for reason in (Reason.TOO_LONG(), Reason.NOT_FIRST(), Reason.NO_BALLOT()):
                 came = WAITS._replace(letter=came_letter(reason))
-                open_text, over = (" ".join(vote(code, is_over=is_over).receipt(ADA, [came]).split()) for is_over in (False, True))
+                open_text, over = (" ".join(vote(code, is_over=is_over).receipt(ADA, [came]).text.split()) for is_over in (False, True))
                 said = " ".join(language_of(code).say(for_elector(reason)).split())
                 self.assertIn(f" {said} ", open_text)
                 self.assertIn(f" {said.partition('. ')[0].rstrip('.')}. ", over)
@@ -135,7 +135,7 @@ class Texts(unittest.TestCase):
     def test_a_reason_that_says_nothing_is_not_told(self) -> None:
         """That the secretary has to look at it is said once."""
         texts = [
-            [vote(code).receipt(ADA, [WAITS._replace(letter=came_letter(reason))])]
+            [vote(code).receipt(ADA, [WAITS._replace(letter=came_letter(reason))]).text]
             for code in LANGUAGES
             for reason in (None, Reason.WORD(), Reason.ANOTHER_ANSWER(number=2))
         ]
@@ -148,7 +148,7 @@ class Texts(unittest.TestCase):
         place = "The result is published at:\n  https://club.example/vote/\n"
         earlier = place.replace("club", "earlier")
         for letter in ("RESULT\n", f"RESULT\n\n{rest}", f"RESULT\n\n{place}\nDOUBTS\n\n{rest}", f"RESULT\n\n{earlier}\nDOUBTS\n\n{rest}"):
-            texts = [now.text("result_to_elector.txt", ADA, letter=letter, answers="2,1,3") for now in (vote(), vote(has_aliases=True))]
+            texts = [now.said("result", ADA, letter=letter, answers="2,1,3").text for now in (vote(), vote(has_aliases=True))]
             end = letter.removeprefix("RESULT\n").removeprefix(f"\n{place}").removeprefix(f"\n{earlier}")
             for text in texts:
                 self.assertTrue(text.startswith(f"Dear Ada L.,\n\nRESULT\n\n{place}\nYour "), text)
@@ -158,12 +158,12 @@ class Texts(unittest.TestCase):
             self.assertIn(own, " ".join(texts[0].split()))
             self.assertNotRegex(texts[1], "#|2,1,3|Hall")
             self.assertIn("find it with your name, ada, and your code", " ".join(texts[1].split()))
-            self.assertIn("The result has no ballot of yours", vote().text("result_to_elector.txt", ADA, letter=letter, answers=None, fates=()))
+            self.assertIn("The result has no ballot of yours", vote().said("result", ADA, letter=letter, answers=None, fates=()).text)
 
     def test_in_a_secret_vote_no_letter_repeats_what_came(self) -> None:
         elector, now = ADA._replace(code="c0de" * 8), vote(has_aliases=True)
-        result = now.text("result_to_elector.txt", elector, letter="RESULT\n", answers=None, fates=all_that_came())
-        for text in (now.reminder(elector, all_that_came()), now.receipt(elector, all_that_came()), result):
+        result = now.said("result", elector, letter="RESULT\n", answers=None, fates=all_that_came()).text
+        for text in (now.reminder(elector, all_that_came()).text, now.receipt(elector, all_that_came()).text, result):
             self.assertIn("It has 1 rank, and the vote has 3 options.", " ".join(text.split()))
             self.assertNotRegex(text, r"ada \d|\d,\d|\||c0de|in words|Lake, then")
 
@@ -174,8 +174,8 @@ class CallLetter(unittest.TestCase):
     letter = "Dear friends,\n\npaper ballots go to the box in the hall.\nWrite ada 1,2,3 or so.\n  ben 3,2,1\n\nYours, Eve\n"
 
     def asking(self, now: Composer, elector: Elector = ADA) -> list[str]:
-        letters = [now.call_letter(elector, is_extension=False), now.call_letter(elector, is_extension=True)]
-        return [*letters, now.reminder(elector, []), now.receipt(elector, [WAITS])]
+        letters = [now.call_letter(elector, is_extension=False).text, now.call_letter(elector, is_extension=True).text]
+        return [*letters, now.reminder(elector, []).text, now.receipt(elector, [WAITS]).text]
 
     def test_all_have_one_block(self) -> None:
         for code in LANGUAGES:
@@ -199,7 +199,7 @@ class CallLetter(unittest.TestCase):
             self.assertNotRegex(text, r"#|each with its elector's name")
         self.assertNotIn("http", "".join(self.asking(vote(at=None))))
         for code in LANGUAGES:
-            text = vote(code, has_aliases=True).call_letter(ADA._replace(code="c0de" * 8), is_extension=False)
+            text = vote(code, has_aliases=True).call_letter(ADA._replace(code="c0de" * 8), is_extension=False).text
             self.assertIn("  c0dec0de", text)
             self.assertNotRegex(text, "python|sha256")
 
@@ -217,7 +217,7 @@ class CallLetter(unittest.TestCase):
                 self.assertTrue(" ".join(text.split()).endswith(said))
             self.assertNotIn("Dear friends", refusing)
             # a reminder begins so, too, if a letter waits
-            self.assertTrue(now.reminder(ADA, [WAITS]).startswith(begin))
+            self.assertTrue(now.reminder(ADA, [WAITS]).text.startswith(begin))
 
     def test_greeting_mark_and_texts(self) -> None:
         """By the secretary's own words, or by the name where these do not greet."""
@@ -241,12 +241,12 @@ class CallLetter(unittest.TestCase):
         poll = dataclasses.replace(POLL, explanations=("A lake.\nada 1,2,3\n", "", ""))
         for letter in ("", self.letter):
             now = vote(questions=alone(poll), at=None, letter_text=letter)
-            text = dataclasses.replace(now, electors=(ADA,)).call_letter(ADA, is_extension=False)
+            text = dataclasses.replace(now, electors=(ADA,)).call_letter(ADA, is_extension=False).text
             self.assertIn("\n\nOption 1: Lake\n\nA lake.\n|ada 1,2,3\n\nWHAT DECIDES\n", text)
             self.assertEqual(text.count("checked"), 1)
             self.assertEqual("The words at the head of this letter, and the texts" in " ".join(text.split()), bool(letter))
-            self.assertNotIn("A lake", now.call_letter(ADA, is_extension=True))
-        self.assertNotIn("A lake", vote(questions=alone(poll)).call_letter(ADA, is_extension=False))
+            self.assertNotIn("A lake", now.call_letter(ADA, is_extension=True).text)
+        self.assertNotIn("A lake", vote(questions=alone(poll)).call_letter(ADA, is_extension=False).text)
 
     def test_it_says_what_asks_for_more_than_a_plain_majority_as_the_page_does(self) -> None:
         for code in LANGUAGES:
@@ -258,7 +258,7 @@ class CallLetter(unittest.TestCase):
             electors = language.say_number("The roll has {number} elector.", "The roll has {number} electors.", 2)
             for ratios, quorum, is_told in (((1, 3), 1, True), ((1, 1), 0, False)):
                 now = vote(code, questions=alone(dataclasses.replace(POLL, ratios=ratios, quorum=quorum)))
-                text, page = now.call_letter(ADA, is_extension=False), call_page(now.call_data).decode()
+                text, page = now.call_letter(ADA, is_extension=False).text, call_page(now.call_data).decode()
                 said = " ".join(text.split())
                 found = [" ".join(one.split()) in words for one in (ratio, electors) for words in (" ".join(page.split()), said)]
                 self.assertEqual(found, [is_told, is_told, True, is_told], text)
@@ -276,7 +276,7 @@ class Printed(unittest.TestCase):
         folder = pathlib.Path(self.enterContext(tempfile.TemporaryDirectory()))
         pages = []
         for number, (now, text) in enumerate(printed):
-            how = {"style": resources(PACKAGE, "letter.css"), "title": "Spring", "is_secret": False, "letters": [("Ada", rows_to_print(text))]}
+            how = {"style": resources(PACKAGE, "letter.css"), "title": "Spring", "is_secret": False, "sender": "", "letters": [("Ada", rows_to_print(text))]}
             page = render_page(PACKAGE, "print.html", now.call_data.language, **how).decode()
             self.assertEqual(page.count('<p class="option"><span class="rank"></span>  Op'), len(now.call_data.questions[""].names))
             pages.append(page.replace('<section class="letter"', f'<section id="at{number}" class="letter"'))
@@ -296,7 +296,7 @@ class Printed(unittest.TestCase):
     def test_no_letter_of_a_secret_vote_is_on_the_back_of_another(self) -> None:
         """Whether they are printed on one side of the paper or on both."""
         folder = pathlib.Path(self.enterContext(tempfile.TemporaryDirectory()))
-        how = {"style": resources(PACKAGE, "letter.css"), "title": "Spring", "letters": [(name, [[("Hello", "paragraph")]]) for name in ("Ada", "Ben", "Cleo")]}
+        how = {"style": resources(PACKAGE, "letter.css"), "title": "Spring", "sender": "", "letters": [(name, [[("Hello", "paragraph")]]) for name in ("Ada", "Ben", "Cleo")]}
         for is_secret, sides in ((False, 3), (True, 6)):
             (folder / "page.html").write_bytes(render_page(PACKAGE, "print.html", language_of("en"), is_secret=is_secret, **how))
             words = [BROWSER, "--headless", "--no-sandbox", "--disable-gpu", f"--user-data-dir={folder}/of-browser"]
@@ -310,13 +310,13 @@ class Printed(unittest.TestCase):
         poll = dataclasses.replace(POLL, options=names, ratios=(1,) * 11)
         for code in LANGUAGES:
             now = vote(code, questions=alone(poll), at=None, has_aliases=True, letter_text="Paper ballots go into the box in the hall of our house.\n" * 11)
-            text = now.call_letter(GUS._replace(code="c0de" * 8), is_extension=False)
+            text = now.call_letter(GUS._replace(code="c0de" * 8), is_extension=False).text
             self.assertGreater(len(text.splitlines()), 70)
             printed.append((now, text))
             for number, at in ((1, vote().call_data.at), (8, None), (9, vote().call_data.at), (70, vote().call_data.at), (70, None)):
                 poll = dataclasses.replace(POLL, explanations=("A lake, and a meadow with room for forty tents.\n\n" * number, "", ""))
                 now = vote(code, questions=alone(poll), at=at, letter_text="Dear friends,\n\npaper goes into the box in the hall.\n")
-                text, by_mail = (now.call_letter(elector, is_extension=False) for elector in (GUS, ADA))
+                text, by_mail = (now.call_letter(elector, is_extension=False).text for elector in (GUS, ADA))
                 self.assertEqual(text.count("forty tents"), number if number < 70 else 0)
                 self.assertEqual(by_mail.count("forty tents"), 0 if at else number)
                 said = now.call_data.language.say(TOO_LONG if at else TOO_LONG_WITHOUT_PAGE).split()
@@ -332,8 +332,8 @@ class Printed(unittest.TestCase):
         for code, letter in itertools.product(LANGUAGES, ("", "Dear friends,\n\npaper goes into the box in the hall.\n")):
             now = vote(code, has_aliases=True, letter_text=letter)
             elector = GUS._replace(code="c0de" * 8)
-            asking = [now.call_letter(elector, is_extension=is_extension) for is_extension in (False, True)]
-            for text in (*asking, now.reminder(elector, []), now.receipt(elector, [WAITS])):
+            asking = [now.call_letter(elector, is_extension=is_extension).text for is_extension in (False, True)]
+            for text in (*asking, now.reminder(elector, []).text, now.receipt(elector, [WAITS]).text):
                 [read, kept, ballot] = rows_to_print(text)
                 self.assertEqual("c0de" in str(kept), text is asking[0])
                 self.assertNotIn("c0de", str((read, ballot)))
@@ -359,7 +359,7 @@ class Bytes(unittest.TestCase):
     def message(self, text: str, subject: str = "Vote: Fr\u00fchling", sender_name: str = "") -> bytes:
         due = types.SimpleNamespace(sender="vote@club.example", sender_name=sender_name)
         due.composer = types.SimpleNamespace(call_data=types.SimpleNamespace(to=None))
-        due.text, due.subject = lambda letter: text, lambda letter: (subject, "[0123456789abcdef-abcdefghjk]")
+        due.said = lambda letter: (Said(subject, text), "[0123456789abcdef-abcdefghjk]")
         return message(due, LETTER, is_draft=False)  # type: ignore[arg-type]
 
     def test_texts_come_through_as_they_are(self) -> None:
@@ -391,7 +391,7 @@ class Bytes(unittest.TestCase):
             for line in (line for line in data.split(b"\n") if b"=?" in line):
                 self.assertLessEqual((len(line) > 76, max(map(len, line.split())) > 75), (False, False), line)
         elector = ADA._replace(who="Ada\r\nBcc: x@y.example\n\nada 1,2,3\u2028" + "x" * 500)
-        text = vote().text("closed_to_elector.txt", elector, letter="CLOSED\n")
+        text = vote().said("closed", elector, letter="CLOSED\n").text
         self.assertEqual(len(text.split("\n\n")), 2)
         self.assertEqual(one_line(parsed(self.message(text)))[:9], "Dear Ada ")
         right = ("a@b.example", "a.b+c@d-e.example")
