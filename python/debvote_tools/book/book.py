@@ -241,8 +241,7 @@ class Book:
         last act that was known when this one was decided; if others came since, it is `Overtaken`.
         Within the act nobody is asked and no program runs.
         """
-        note = self.note()
-        note.make_ready()
+        self.note().make_ready()
         with self.transaction("BEGIN IMMEDIATE"):
             before = self.last_act()
             if seen not in (None, before.number):
@@ -253,16 +252,13 @@ class Book:
                 raise Fault(self.path, words, f"find out which of both is right, then {AGAIN}")
             if name != MOVED:
                 self.demand_noted()
-            if (broken := chain.break_at(self.connection, before.number)) is not None:
+            if (broken := chain.break_in(self.connection, before.number)) is not None:
                 raise damaged(self.path, broken)
             act = NewAct(self.connection, before.number + 1, times.now(), name, detail or {})
             yield act
             with uninterrupted():
-                digest = self.finish(act, before.digest)
-        # a note that can't be written stays at an earlier act, as after a kill
-        with contextlib.suppress(Fault, OSError):
-            names = self.names + collections.Counter([name])
-            note.put(Note(act.number, digest, names), is_moved=name == MOVED)
+                self.finish(act, before.digest)
+        self.note_seen(is_moved=name == MOVED)
 
     def finish(self, act: NewAct, digest_before: str) -> str:
         """Adds the row of the act, with its digest, and commits."""
@@ -303,12 +299,14 @@ class Book:
     def note(self) -> MachineNote:
         return MachineNote(self.machine, self.path.resolve())
 
-    def note_seen(self) -> None:
-        """Notes the last act of the book that this machine knows: nobody can remove it unnoticed."""
+    def note_seen(self, *, is_moved: bool = False) -> None:
+        """Notes the last act of the book that this machine knows: nobody can remove it unnoticed. A note
+        that can't be written stays at an earlier act, as after a kill.
+        """
         with contextlib.suppress(Fault, OSError):
-            if self.strangeness() is None:
+            if is_moved or self.strangeness() is None:
                 last = self.last_act()
-                self.note().put(Note(last.number, last.digest, self.names))
+                self.note().put(Note(last.number, last.digest, self.names), is_moved=is_moved)
 
     def strangeness(self) -> str | None:
         """Why this is not the book that this machine knows; None if it is."""
