@@ -103,19 +103,16 @@ class Member(NamedTuple):
     @property
     def changes(self) -> dict[str, tuple[str, str]]:
         """What differs from the book, of an elector on the roll: before, and now."""
-        known = self.known
-        if known is None or self.is_new:
+        if self.known is None or self.is_new:
             return {}
-        pairs = {
-            "name": (known.name, self.name),
-            "who": (known.who, self.who),
-            "address": (", ".join(known.addresses), ", ".join(self.addresses)),
-            "key": (known.key, self.key),
-        }
+        before, now = (
+            {"name": one.name, "who": one.who, "address": ", ".join(one.addresses), "key": one.key}
+            for one in (self.known, self)
+        )
         # without the case of letters an address is the same
-        if address_key(pairs["address"][0]) == address_key(pairs["address"][1]):
-            del pairs["address"]
-        return {what: pair for what, pair in pairs.items() if pair[0] != pair[1]}
+        if address_key(before["address"]) == address_key(now["address"]):
+            del before["address"]
+        return {what: (was, now[what]) for what, was in before.items() if was != now[what]}
 
 
 # the line if there is one, what is wrong with it, and the cure
