@@ -67,15 +67,8 @@ ROLL_LIMIT = 10_000
 NAMED_LIMIT = 10
 
 
-class Row(NamedTuple):
-    """A row with as many cells as the head line, or more, and the line where it begins, from 1."""
-
-    line: int
-    cells: list[str]
-
-    @property
-    def is_blank(self) -> bool:
-        return not any(cell.strip() for cell in self.cells)
+# the line where a row begins, from 1, and its cells
+Row = tuple[int, list[str]]
 
 
 class Member(NamedTuple):
@@ -105,9 +98,10 @@ class Member(NamedTuple):
         """What differs from the book, of an elector on the roll: before, and now."""
         if self.known is None or self.is_new:
             return {}
+        people: tuple[Elector | Member, ...] = (self.known, self)
         before, now = (
             {"name": one.name, "who": one.who, "address": ", ".join(one.addresses), "key": one.key}
-            for one in (self.known, self)
+            for one in people
         )
         # without the case of letters an address is the same
         if address_key(before["address"]) == address_key(now["address"]):
@@ -133,9 +127,8 @@ def bad_list(file: object, reason: str, cure: str) -> Fault:
 
 
 def read_table(data: bytes, file: object) -> tuple[list[Row], str]:
-    """The rows of a table, from its head line on, blank ones too; and its delimiter, which is the one
-    that finds most heads in the first line that is not blank. A quotation mark after spaces begins a
-    cell, too.
+    """The rows of a table that are not blank, the head line first; and its delimiter, which is the one
+    that finds most heads in that line. A quotation mark after spaces begins a cell, too.
     """
     text = table_text(data, file)
     head_line = next((line for line in re.split(r"[\r\n]+", text) if line.strip(' \t,;"')), "")
@@ -154,11 +147,9 @@ def read_table(data: bytes, file: object) -> tuple[list[Row], str]:
     line = 1
     try:
         for cells in reader:
-            missing = len(rows[0].cells) - len(cells) if rows else 0
-            row = Row(line, cells + [""] * missing)
+            if any(map(str.strip, cells)):
+                rows.append((line, cells))
             line = reader.line_num + 1
-            if rows or not row.is_blank:
-                rows.append(row)
     except csv.Error as error:
         reason = f"the row that begins here is not a row of cells with a {DELIMITERS[delimiter]} between them ({error})"
         cure = "close each quotation mark, and put nothing between it and the delimiter"
@@ -194,32 +185,31 @@ def members_of(data: bytes, file: object) -> tuple[list[Member], list[Wrong]]:
     """The members as the table has them, and what is wrong with them. Raises `Fault` if it has not
     the right columns.
     """
-    (first, *rows), delimiter = read_table(data, file)
-    heads = [re.sub(r"[\W_]", "", alike(head)) for head in first.cells]
+    ((first_line, names), *rows), delimiter = read_table(data, file)
+    heads = [re.sub(r"[\W_]", "", alike(name)) for name in names]
     columns: dict[str, list[str]] = {}
     for column, choices in HEADS.items():
         free = {*heads}.difference(*columns.values())
         for words in map(str.split, choices.split(", ")):
             if free.issuperset(words):
                 columns.setdefault(column, words)
-    twice = [head for head in itertools.chain(*columns.values()) if heads.count(head) > 1]
     wrong: list[Wrong] = [
-        (first.line, f"the header line has the column `{head}` twice", "rename one of them")
-        for head in twice
+        (first_line, f"the header line has the column `{head}` twice", "rename one of them")
+        for head in itertools.chain(*columns.values())
+        if heads.count(head) > 1
     ]
     if missing := [f"`{column}`" for column in REQUIRED if column not in columns]:
-        has = ", ".join(f"`{shown_text(cell)}`" for cell in first.cells if cell.strip())
+        has = ", ".join(f"`{shown_text(name)}`" for name in names if name.strip())
         reason = f"the header line has no column {' and no column '.join(missing)}; it has {has or 'none'}"
         cure = "put the real names under `who` and the addresses under `mail`; a column `name`, with names on the roll, is optional"
-        wrong.append((first.line, reason, cure))
+        wrong.append((first_line, reason, cure))
     stop_at(faults_of(file, wrong))
     # up to the last column that has a head
     width = max(index for index, head in enumerate(heads, start=1) if head)
     members = []
-    for row in rows:
-        if not row.is_blank:
-            members.append(member_of(row.line, dict(zip(heads, row.cells)), columns))
-            wrong += wrong_row(row, members[-1], width, delimiter)
+    for line, cells in rows:
+        members.append(member_of(line, dict(zip(heads, cells)), columns))
+        wrong += wrong_row(cells, members[-1], width, delimiter)
     if not members:
         cure = "write a line for each member below the header line"
         wrong.append((None, "there is nobody on it", cure))
@@ -235,10 +225,10 @@ def faults_of(file: object, wrong: Iterable[Wrong]) -> list[Fault]:
 def member_of(
     line: int, by_head: Mapping[str, str], columns: Mapping[str, Sequence[str]]
 ) -> Member:
-    """The member of a line, from its cells, each on one line."""
+    """The member of a line, from its cells, each on one line; those that it lacks are empty."""
     cells = {}
     for column, heads in columns.items():
-        text = " ".join(by_head[head] for head in heads)
+        text = " ".join(by_head.get(head, "") for head in heads)
         cells[column] = unicodedata.normalize("NFC", " ".join(text.split()))
     addresses = IN_BRACKETS.findall(cells["mail"]) or BETWEEN_ADDRESSES.split(cells["mail"])
     each_once = dict.fromkeys(
@@ -248,8 +238,8 @@ def member_of(
     return Member(line, cells.get("name", ""), cells["who"], tuple(each_once), key)
 
 
-def wrong_row(row: Row, member: Member, width: int, delimiter: str) -> Iterator[Wrong]:
-    line, first = row.line, next(cell for cell in map(str.strip, row.cells) if cell)
+def wrong_row(cells: Sequence[str], member: Member, width: int, delimiter: str) -> Iterator[Wrong]:
+    line, first = member.line, next(filter(None, map(str.strip, cells)))
     if SUM.fullmatch(first.casefold()) and not any(map(ADDRESS.fullmatch, member.addresses)):
         yield line, f"`{shown_text(first)}` is a sum and no member", "take the line out"
         return
@@ -262,8 +252,8 @@ def wrong_row(row: Row, member: Member, width: int, delimiter: str) -> Iterator[
         if LOST in cell:
             reason = f"`{shown}` has lost a character when it was saved (U+FFFD)"
             yield line, reason, "write the character again"
-    if beyond := [cell.strip() for cell in row.cells[width:] if cell.strip()]:
-        reason = f"`{shown_text(beyond[0])}` is after the last column of the header line"
+    if beyond := next(filter(None, map(str.strip, cells[width:])), None):
+        reason = f"`{shown_text(beyond)}` is after the last column of the header line"
         yield line, reason, "put quotation marks around a cell that contains the delimiter"
     if not member.who and not member.name:
         yield line, "it has no `who`", "write who it is, or take the line out"
@@ -330,19 +320,15 @@ def with_proposals(
     electors: Sequence[Member], known: Sequence[Elector], language: str
 ) -> list[Member]:
     """Proposes a name for each who has none, from `who` or an address."""
-    wholes = {}
-    for elector in electors:
-        texts = [elector.who, *(address.partition("@")[0] for address in elector.addresses)]
-        proposals = filter(None, (elector_name(text, language) for text in texts))
-        if not elector.name and (whole := next(proposals, "")):
-            wholes[elector.line] = whole
+    proposed = []
+    for one in electors:
+        texts = [one.who, *(address.partition("@")[0] for address in one.addresses)]
+        wholes = (elector_name(text, language) for text in texts if not one.name)
+        proposed.append(one._replace(proposal=next(filter(None, wholes), "")))
     taken = [*(one.name for one in electors), *(one.name for one in known)]
-    bases = [whole[:ELECTOR_LIMIT].rstrip("-") for whole in wholes.values()]
-    names = dict(zip(wholes, made_different(bases, taken, ELECTOR_LIMIT, "-")))
-    return [
-        one._replace(name=names.get(one.line, one.name), proposal=wholes.get(one.line, ""))
-        for one in electors
-    ]
+    bases = [one.proposal[:ELECTOR_LIMIT].rstrip("-") for one in proposed if one.proposal]
+    names = iter(made_different(bases, taken, ELECTOR_LIMIT, "-"))
+    return [one._replace(name=next(names)) if one.proposal else one for one in proposed]
 
 
 def wrong_people(rows: Sequence[Member], electors: Sequence[Member]) -> Iterator[Wrong]:
