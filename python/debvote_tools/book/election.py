@@ -183,8 +183,10 @@ class Sealed(NamedTuple):
 class Election:
     """An election in a folder. The book is read anew each time, since others may work on it."""
 
-    def __init__(self, folder: pathlib.Path | None, program_folder: pathlib.Path | None) -> None:
-        self.folder, self.program_folder = folder or pathlib.Path(), program_folder
+    def __init__(
+        self, folder: str | pathlib.Path | None, program_folder: pathlib.Path | None
+    ) -> None:
+        self.folder, self.program_folder = pathlib.Path(folder or ""), program_folder
         self.is_named = folder is not None
 
     def path(self, name: str) -> pathlib.Path:
@@ -243,8 +245,12 @@ class Election:
             raise Fault(self.folder, "the folder is not writable", cure, Status.BAD_OUTPUT)
 
     @property
-    def own_acts(self) -> list[str]:
-        return self.opened.own_acts if "opened" in vars(self) else []
+    def done(self) -> str:
+        """The acts of this run, each as `act 7 (add)`; empty if it has done none."""
+        acts = self.opened.own_acts if "opened" in vars(self) else []
+        if len(acts) > 1:
+            return f"{len(acts)} acts were done, the last is {acts[-1]}"
+        return "".join(f"{act} was done" for act in acts)
 
     def demand_undamaged(self) -> None:
         """Stops if the book, once it is open, is damaged."""
