@@ -414,7 +414,7 @@ def is_locked_for_others(path: pathlib.Path) -> bool:
 # ---- making and opening
 def create(path: pathlib.Path, detail: Detail, final_path: pathlib.Path) -> None:
     """Makes a new book with the act `new`; its folder is moved, so that it lies at `final_path`."""
-    os.close(os.open(path, os.O_RDWR | os.O_CREAT | os.O_EXCL, 0o600))
+    path.touch(0o600, exist_ok=False)
     connection = connected(path, "rw")
     book = Book(path, connection)
     with contextlib.closing(connection):

@@ -11,7 +11,7 @@ from typing import Any, NamedTuple
 
 from debvote_tools.book import queries
 from debvote_tools.cli.console import LINE_ENDS, count_of, shown_text, tell, tell_as_it_is
-from debvote_tools.book.election import LETTER_TEXT, POLLS, TEXTS, Election, History
+from debvote_tools.book.election import LETTER_TEXT, POLLS, TEXTS, Election
 from debvote_tools.cli.faults import Fault, Status, bad_words, kept_in, stop_at
 from debvote_tools.files import POLL_LIMIT, read_text, read_whole
 from debvote_tools.poll.plain_names import bad_options, bad_title, plain_options, plain_title
@@ -284,11 +284,14 @@ def sealed_form(draft: DraftPoll, roll: Sequence[str], language: str, **announce
 
 # ---- asking debvote
 class Checked(NamedTuple):
-    """What a call would seal, and how many votes the quorum of each question is."""
+    """What a call would seal, how many votes the quorum of each question is, and whether it is about a
+    secret vote in which not all electors have codes.
+    """
 
     questions: Questions
     quorums: Mapping[str, int]
     letter_text: str
+    lacks_codes: bool
 
 
 def checked(election: Election, **announced: object) -> Checked:
@@ -296,7 +299,8 @@ def checked(election: Election, **announced: object) -> Checked:
     announced, as `sealed_form` has it.
     """
     faults, title, letter_text, language = list[Fault](), "", "", election.language.code
-    roll = [elector.name for elector in queries.electors(election.book)]
+    electors = queries.electors(election.book)
+    roll = [elector.name for elector in electors]
     drafts = {label: draft_in(election, label) for label in labels_in(election.folder)}
     for draft in drafts.values():
         faults += [*draft.faults, *faults_of_names(draft, roll, language)]
@@ -320,7 +324,9 @@ def checked(election: Election, **announced: object) -> Checked:
         for label, data in polls.items()
     }
     motions = [label for label, draft in drafts.items() if draft.says("motion")]
-    return Checked(read_questions(polls, motions, title), quorums, letter_text)
+    questions = read_questions(polls, motions, title)
+    has_codes = election.history().has_codes_on_roll or all(one.code for one in electors)
+    return Checked(questions, quorums, letter_text, questions.is_secret and not has_codes)
 
 
 def faults_by_debvote(election: Election, file: pathlib.Path, poll_bytes: bytes) -> Iterator[Fault]:
@@ -332,11 +338,6 @@ def faults_by_debvote(election: Election, file: pathlib.Path, poll_bytes: bytes)
     for line in answer.text.splitlines():
         if line.startswith("poll: "):
             yield bad_poll(file, line.removeprefix("poll: "), BY_EDITOR)
-
-
-def lacks_codes(election: Election, history: History, questions: Questions) -> bool:
-    has_all = all(elector.code for elector in queries.electors(election.book))
-    return questions.is_secret and not history.has_codes_on_roll and not has_all
 
 
 def tell_checked(found: Checked) -> None:

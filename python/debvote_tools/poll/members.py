@@ -244,13 +244,12 @@ def wrong_row(cells: Sequence[str], member: Member, width: int, delimiter: str) 
         yield line, f"`{shown_text(first)}` is a sum and no member", "take the line out"
         return
     for cell in (member.who, member.name, member.key, *member.addresses):
-        shown = shown_text(cell)
         if delimiter == "," and ";" in cell:
             cure = "put a comma between the cells of this line too, or take the semicolon out"
-            reason = f"`{shown}` has a semicolon, and the header line has commas between its cells"
+            reason = f"`{shown_text(cell)}` has a semicolon, and the header line has commas between its cells"
             yield line, reason, cure
         if LOST in cell:
-            reason = f"`{shown}` has lost a character when it was saved (U+FFFD)"
+            reason = f"`{shown_text(cell)}` has lost a character when it was saved (U+FFFD)"
             yield line, reason, "write the character again"
     if beyond := next(filter(None, map(str.strip, cells[width:])), None):
         reason = f"`{shown_text(beyond)}` is after the last column of the header line"

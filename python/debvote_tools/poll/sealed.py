@@ -5,6 +5,7 @@
 import dataclasses
 import datetime
 import functools
+import itertools
 import json
 import re
 import secrets
@@ -29,7 +30,7 @@ class Wording(NamedTuple):
     name: str
     plain: str
     ratio: int | None
-    text: str
+    text: str | None
 
 
 @dataclasses.dataclass(frozen=True)
@@ -71,8 +72,7 @@ class SealedPoll:
     @functools.cached_property
     def choices(self) -> list[Wording]:
         """All options, the default last."""
-        texts = self.explanations or [""] * len(self.options)
-        rows = zip(self.names, self.plain_names, (*self.ratios, None), (*texts, ""))
+        rows = itertools.zip_longest(self.names, self.plain_names, self.ratios, self.explanations)
         return [Wording(number, *each) for number, each in enumerate(rows, start=1)]
 
     @property
