@@ -37,7 +37,8 @@ RESTORED = "it was restored, as the secretary says"
 APPLICATION_ID, VERSION = 0x64627674, 5
 PROGRAMS = {3: "debvote-election 2.0.0", 4: "debvote-election 2.1.0"}
 
-# how a database of SQLite begins, and where its head has the version and the application id
+# how a database of SQLite begins, how many bytes say what it is, and where these have the version and
+# the application id
 SQLITE, HEAD = b"SQLite format 3\0", 72
 VERSION_AT, ID_AT = slice(60, 64), slice(68, 72)
 
@@ -374,7 +375,7 @@ class Book:
             # a file that is gone by now was the journal of another command
             with contextlib.suppress(OSError):
                 is_other = file.is_file() and not file.samefile(self.path)
-                if is_other and has_our_id(head_of(file)) and not self.begins_with(file):
+                if is_other and has_our_id(read_at_most(file, HEAD)) and not self.begins_with(file):
                     yield file
 
     def begins_with(self, file: pathlib.Path) -> bool:
@@ -458,7 +459,7 @@ def demand_version(path: pathlib.Path) -> None:
     """Stops at a file that is no book of this version, which is not opened, so that it stays as it
     is.
     """
-    head = head_of(path)
+    head = read_at_most(path, HEAD)
     if not head.startswith(SQLITE):
         raise damaged(path, "it is no database of SQLite")
     if not has_our_id(head):
@@ -527,11 +528,6 @@ def file_at(path: pathlib.Path) -> tuple[int, int] | None:
     except OSError:
         return None
     return found.st_dev, found.st_ino
-
-
-def head_of(file: pathlib.Path) -> bytes:
-    """The first bytes of a file, by which a book is known. Raises OSError."""
-    return read_at_most(file, HEAD - 1)
 
 
 def has_our_id(head: bytes) -> bool:

@@ -19,6 +19,7 @@ from collections.abc import Iterable, Iterator, Sequence
 from typing import Any
 
 from debvote_tools.files import sha256_of
+from debvote_tools.grouping import grouped
 
 # the table of the acts themselves; each row of all others belongs to an act
 ACT = "act"
@@ -37,17 +38,23 @@ ACT_OF, LAST = operator.itemgetter(0), operator.itemgetter(-1)
 Entries = frozenset[tuple[str, str, str, str | None]]
 
 
+# the tables in their order, each with what the line of a row has of each column
+COLUMNS = f"""
+SELECT its.name, CASE
+  WHEN of_it.name = 'line' THEN 'CAST(line AS TEXT)'
+  WHEN of_it.type = 'BLOB' THEN 'sha256(' || of_it.name || ')'
+  ELSE of_it.name
+END FROM sqlite_schema AS its JOIN pragma_table_info(its.name) AS of_it
+WHERE its.type = 'table' AND of_it.name <> iif(its.name = '{ACT}', 'digest', 'act') ORDER BY its.rowid, cid
+"""
+
+
 def write_schema(connection: sqlite3.Connection) -> None:
     for statement in pathlib.Path(__file__).with_name("schema.sql").read_text().split(";\n"):
         connection.execute(statement)
-    for table in tables_of(connection):
+    for table in grouped(connection.execute(COLUMNS)):
         for verb in ("UPDATE", "DELETE"):
             connection.execute(REFUSE.format(table=table, verb=verb))
-
-
-def tables_of(connection: sqlite3.Connection) -> list[str]:
-    words = "SELECT name FROM sqlite_schema WHERE type = 'table' ORDER BY rowid"
-    return [name for name, in connection.execute(words)]
 
 
 def entries_of(connection: sqlite3.Connection) -> Entries:
@@ -59,23 +66,13 @@ def schema() -> tuple[Entries, dict[str, str]]:
     """The schema that `new` writes, and of each table the SQL that makes a row of it a line."""
     with contextlib.closing(sqlite3.connect(":memory:")) as empty:
         write_schema(empty)
-        lines = {}
-        for table in tables_of(empty):
-            columns = empty.execute("SELECT name, type FROM pragma_table_info(?)", (table,))
-            left_out = "digest" if table == ACT else "act"
-            parts = (as_json(name, kind) for name, kind in columns if name != left_out)
-            lines[table] = f"json_array({', '.join(parts)})"
+        columns = grouped(empty.execute(COLUMNS)).items()
+        lines = {table: f"json_array({', '.join(parts)})" for table, parts in columns}
         return entries_of(empty), lines
 
 
 def line_of() -> dict[str, str]:
     return schema()[1]
-
-
-def as_json(column: str, kind: str) -> str:
-    if column == "line":
-        return "CAST(line AS TEXT)"
-    return f"sha256({column})" if kind == "BLOB" else column
 
 
 def other_schema(connection: sqlite3.Connection) -> str | None:
@@ -119,21 +116,16 @@ def digest_over(
 
 def damage(connection: sqlite3.Connection) -> list[str]:
     """What is not as the acts of a book wrote it."""
-    if (order := disorder(connection)) is not None:
+    order = "".join(words for words, in connection.execute("PRAGMA integrity_check(1)"))
+    if order != "ok":
         # in the rows of such a file there may be anything
-        return [f"SQLite says: {order}"]
+        return [f"SQLite says: {' '.join(order.split())}"]
     found = []
     if (lost := connection.execute("PRAGMA foreign_key_check").fetchone()) is not None:
         found.append(f"row {lost[1]} of {lost[0]} names a row of {lost[2]} that is not there")
     if (broken_at := break_in(connection)) is not None:
         found.append(broken_at)
     return found
-
-
-def disorder(connection: sqlite3.Connection) -> str | None:
-    """What SQLite finds wrong with the file; None if nothing is."""
-    words = "".join(words for words, in connection.execute("PRAGMA integrity_check(1)"))
-    return None if words == "ok" else " ".join(words.split())
 
 
 def break_in(connection: sqlite3.Connection, since: int | None = None) -> str | None:
