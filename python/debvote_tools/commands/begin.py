@@ -172,8 +172,8 @@ def read_roll(election: Election, history: History) -> Roll:
     file = election.path(MEMBERS_FILE)
     unread = "the list of members is a CSV file, as a spreadsheet saves it: put it there"
     data = read_whole(file, TABLE_LIMIT, unread, f", {AGAIN}")
-    known, is_called = queries.all_electors(election.book), history.call is not None
-    return roll_of(data, file, known, election.language.code, is_called=is_called)
+    known, language = queries.all_electors(election.book), election.language.code
+    return roll_of(data, file, known, language, is_called=history.call is not None)
 
 
 def demand_read(election: Election, history: History) -> None:

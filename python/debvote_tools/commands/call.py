@@ -246,11 +246,10 @@ def announced(arguments: Arguments, history: History, faults: list[Fault]) -> De
     """What the act keeps of these options. An extension is in the zone of the end before, unless it
     names another.
     """
-    earlier_zone = history.announced("zone")
     said: Detail = {}
     with kept_in(faults):
         if arguments.until is not None:
-            until, zone = parse_until(arguments.until, arguments.zone, earlier_zone)
+            until, zone = parse_until(arguments.until, arguments.zone, history.announced("zone"))
             demand_future(until, times.now())
             said["until"] = until.isoformat()
             if zone is not None:
@@ -267,8 +266,7 @@ def announced(arguments: Arguments, history: History, faults: list[Fault]) -> De
         with kept_in(faults):
             script_address(said.get("at") or history.announced("at"))
     if is_new and arguments.keyring is not None:
-        words = "letters have to be signed, and no click is"
-        faults.append(bad_words("--box", words, LEAVE_OUT))
+        faults.append(bad_words("--box", "letters have to be signed, and no click is", LEAVE_OUT))
     return said
 
 
@@ -302,8 +300,7 @@ def keyring_in(election: Election, file: str | None) -> bytes | None:
     """The keyring, as gpgv reads it. Stops if the key of an elector is not in it."""
     if file is None:
         return None
-    unread = "name the file that gpg --export wrote"
-    data = read_whole(file, KEYRING_LIMIT, unread, may_wait=True)
+    data = read_whole(file, KEYRING_LIMIT, "name the file that gpg --export wrote", may_wait=True)
     keyring, electors = read_keyring(file, data), queries.electors(election.book)
     missing = [one.name for one in electors if one.key and one.key not in keyring.fingerprints]
     if missing:

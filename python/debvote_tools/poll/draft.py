@@ -1,5 +1,6 @@
 """The poll as the secretary writes it, and the sealed poll that it becomes."""
 
+import itertools
 import json
 import math
 import os
@@ -37,8 +38,6 @@ TEXTS_LIMIT, LETTER_LIMIT = 524_288, 4_096
 LONGEST_LINE = 78
 
 TEXT_NAME = re.compile(r"([1-9][0-9]?)\.txt")
-# the poll of one of several questions
-OF_LABEL = re.compile(rf"([{LABELS}])\.toml")
 # a file that an editor leaves beside another
 OF_EDITORS = re.compile(r"\..*|.*~|#.*#")
 
@@ -87,11 +86,8 @@ def bad_poll(file: object, reason: str, cure: str) -> Fault:
 def labels_in(folder: pathlib.Path) -> list[str]:
     """The labels of several questions, by the files of their polls, or that of one, which is empty."""
     place = folder / POLLS
-    if not place.is_dir():
-        return [""]
-    return [
-        found[1] for file in sorted(place.iterdir()) if (found := OF_LABEL.fullmatch(file.name))
-    ]
+    labels = sorted(file.stem for file in place.glob(f"[{LABELS}].toml"))
+    return labels if place.is_dir() else [""]
 
 
 def files_in(folder: pathlib.Path) -> list[pathlib.Path]:
@@ -214,8 +210,7 @@ def faults_of_names(draft: DraftPoll, roll: Sequence[str], language: str) -> Ite
         f"a name on the roll is a word of the motion: {taken}": taken,
     }
     for reason in filter(reasons.get, reasons):
-        cure = "write it in another way, or take out `motion`"
-        yield bad_poll(draft.file, reason, cure)
+        yield bad_poll(draft.file, reason, "write it in another way, or take out `motion`")
 
 
 def faults_of_several(election: Election, drafts: Mapping[str, DraftPoll]) -> Iterator[Fault]:
@@ -225,7 +220,7 @@ def faults_of_several(election: Election, drafts: Mapping[str, DraftPoll]) -> It
         reason = f"it is beside the folder {POLLS}, which has the polls of several questions"
         yield bad_poll(file, reason, "remove one of the two")
     for file in files_in(place):
-        if file.name != TITLE_FILE and not OF_LABEL.fullmatch(file.name):
+        if file.name not in (TITLE_FILE, *(f"{label}.toml" for label in labels)):
             cure = (
                 "name it A.toml, B.toml and so on (there is no I and no O), or move it out of there"
             )
@@ -333,8 +328,7 @@ def faults_by_debvote(election: Election, file: pathlib.Path, poll_bytes: bytes)
     answer = election.debvote.run("explain", "--poll", "/dev/stdin", given=poll_bytes)
     if not answer.text:
         reason = answer.refusal or f"debvote ended with status {answer.status}"
-        cure = f"run {election.command('check')} again"
-        yield Fault(file, reason, cure, answer.status, None)
+        yield Fault(file, reason, f"run {election.command('check')} again", answer.status, None)
     for line in answer.text.splitlines():
         if line.startswith("poll: "):
             yield bad_poll(file, line.removeprefix("poll: "), BY_EDITOR)
@@ -360,14 +354,16 @@ def poll_in_words(label: str, poll: SealedPoll) -> Iterator[str]:
     if poll.name != poll.title:
         yield f"  plain: {poll.title}"
     yield "Options:"
-    for choice in poll.choices:
-        kind = f"majority ratio {choice.ratio}" if choice.ratio else "the default option"
-        yield f"{choice.number:3}  {choice.name} ({kind})"
-        if choice.name != choice.plain:
-            yield f"     plain: {choice.plain}"
-        if choice.text:
-            words = count_of(len(choice.text.split()), "word")
-            yield f"     text: {words} from {TEXTS}/{place_of(label, f'{choice.number}.txt')}"
+    # the default option is the last, and has no ratio and no text
+    options = itertools.zip_longest(poll.names, poll.plain_names, poll.ratios, poll.explanations)
+    for number, (name, plain, ratio, text) in enumerate(options, start=1):
+        kind = f"majority ratio {ratio}" if ratio else "the default option"
+        yield f"{number:3}  {name} ({kind})"
+        if name != plain:
+            yield f"     plain: {plain}"
+        if text:
+            words = count_of(len(text.split()), "word")
+            yield f"     text: {words} from {TEXTS}/{place_of(label, f'{number}.txt')}"
     if poll.motion:
         yield "A motion, yes: {}, no: {}".format(*poll.names)
     if poll.wording == "more_than":

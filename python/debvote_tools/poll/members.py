@@ -6,7 +6,6 @@ import codecs
 import csv
 import io
 import itertools
-import operator
 import re
 import unicodedata
 from collections.abc import Iterable, Iterator, Mapping, Sequence
@@ -280,15 +279,14 @@ def roll_of(
     """
     members, wrong = members_of(data, file)
     electors = with_proposals(with_known(members, known), known, language)
-    numbers = {elector.known.number for elector in electors if elector.known}
-    gone = [one for one in known if one.position is not None and one.number not in numbers]
+    found = {elector.known for elector in electors}
+    gone = [one for one in known if one.position is not None and one not in found]
     wrong += wrong_people(members, electors)
     if electors and is_called:
         wrong += wrong_after_call(electors, gone)
     stop_at(faults_of(file, wrong))
     if is_called:
-        order = {elector.number: index for index, elector in enumerate(known)}
-        electors.sort(key=lambda one: order[one.known.number] if one.known else len(order))
+        electors.sort(key=lambda one: (one.known and one.known.position) or 0)
     return Roll(electors, gone)
 
 
@@ -299,12 +297,11 @@ def with_known(rows: Sequence[Member], known: Sequence[Elector]) -> list[Member]
     found: dict[int, Elector] = {}
     last = [elector for elector in known if elector.position is not None]
     for what, candidates in itertools.product(("name", "who"), (last, known)):
-        form = operator.attrgetter(what)
-        taken = {elector.number for elector in found.values()}
-        rows_by_form = grouped((form(row), row) for row in rows if row.line not in found)
-        free = grouped((form(one), one) for one in candidates if one.number not in taken)
+        left = grouped((getattr(row, what), row) for row in rows if row.line not in found)
+        taken = {*found.values()}
+        free = grouped((getattr(one, what), one) for one in candidates if one not in taken)
         for text, electors in free.items():
-            fitting = rows_by_form.get(text, [])
+            fitting = left.get(text, [])
             if text and len(fitting) == len(electors) == 1:
                 found[fitting[0].line] = electors[0]
     return [
@@ -332,20 +329,19 @@ def with_proposals(
 
 def wrong_people(rows: Sequence[Member], electors: Sequence[Member]) -> Iterator[Wrong]:
     """Names that are missing, or not clearly of one person, and keys that several have."""
-    given = {row.line: row.name for row in rows}
-    by_who = grouped((one.who, one) for one in electors)
-    for who, group in by_who.items():
-        nameless = [elector.line for elector in group if not given[elector.line]]
-        if who and len(group) > 1 and nameless:
+    nameless = {row.line for row in rows if not row.name}
+    owners = {one.who: one for one in reversed(electors)}
+    for group in several((one.who, one) for one in electors).values():
+        if lines := [one.line for one in group if one.line in nameless]:
             reason = f"{lines_in_words(group)} have the same `who`: {shown_text(group[0].who)}"
             cure = (
                 "give each a name of their own under `name`, or take a line out if it is one person"
             )
-            yield nameless[0], reason, cure
+            yield lines[0], reason, cure
     for one in electors:
         known = one.known
         if known is not None and known.name == one.name and known.who not in ("", one.who):
-            for owner in by_who.get(known.who, [])[:1]:
+            if owner := owners.get(known.who):
                 whose = f"{shown_text(owner.who)} (line {owner.line})"
                 yield one.line, f"`{one.name}` is the name of {whose} already", "write another name"
         if not one.name and one.who:

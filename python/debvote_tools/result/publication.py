@@ -228,7 +228,7 @@ def doubts_of(
     last = history.last_publication
     all_castings = {**(last.detail["casting"] if last else {}), **castings}
     for label, poll in election.questions.items():
-        names, casting = {one.plain: one.name for one in poll.choices}, castings.get(label)
+        names, casting = dict(zip(poll.plain_names, poll.names)), castings.get(label)
         # without one: since the last close, after which it was the same tie
         acts = history.publications if casting is None else history.named("publish")
         for option in dict.fromkeys(act.detail["casting"].get(label, casting) for act in acts):
