@@ -50,7 +50,7 @@ from debvote_tools.poll.announced import address_in
 from debvote_tools.poll.box import SCRIPT, box_files
 from debvote_tools.poll.call import current_call
 from debvote_tools.poll.draft import checked, NEW_POLL, tell_checked
-from debvote_tools.poll.members import AGAIN, Member, NEW_MEMBERS, Roll, roll_of
+from debvote_tools.poll.members import AGAIN, label_of, Member, NEW_MEMBERS, Roll, roll_of
 from debvote_tools.poll.plain_names import alike, ELECTOR_LIMIT, similar_names
 from debvote_tools.poll.questions import LABELS, POLL_FILE, TITLE_FILE, Questions
 from debvote_tools.poll.sealed import new_own_mark
@@ -243,7 +243,7 @@ def change_addresses(election: Election, history: History, changed: Mapping[Memb
 
 
 def agreed(member: Member, words: str) -> bool:
-    question = f"{member.label}: {words}. Is that right?"
+    question = f"{label_of(member)}: {words}. Is that right?"
     if not is_terminal():
         raise Fault(None, question, "run it at a terminal, or with --yes")
     return bool(is_yes(question))
@@ -278,7 +278,7 @@ def roll_in_words(roll: Roll, language: Language) -> Iterator[str]:
         if names:
             yield f"{words}: {listed(names, MAX_NAMED)}{after}"
     for gone in roll.gone:
-        yield f"No longer on the list: {gone.name} ({shown_text(gone.who)})"
+        yield f"No longer on the list: {label_of(gone)}"
 
 
 def notes_on(
@@ -295,15 +295,16 @@ def notes_on(
         yield f"Note: several electors have the address {address}", names, is_one
     for names in several((alike(one.who), one.name) for one in electors).values():
         yield "Note: these real names look alike", names, is_one
-    cut = [one.label for one in electors if not one.name.startswith(one.proposal)]
+    cut = [label_of(one) for one in electors if not one.name.startswith(one.proposal)]
     yield f"Note: a name has at most {ELECTOR_LIMIT} characters, so these were cut", cut, ""
     pairs = similar_names(one.name for one in electors)
     yield "Note: these names are easily mistaken for each other", list(map(" and ".join, pairs)), ""
     real_names = {one.name: one.who for one in electors}
     taken = Names(frozenset(real_names), language.code, real_names, 0, {}).real_names_of_others
     words = "Note: these names on the roll are the real name of somebody else"
-    yield words, [one.label for one in electors if one.name in taken], ". Give them other names."
-    couples = [one.label for one in electors if SEVERAL_PEOPLE.search(one.who)]
+    theirs = [label_of(one) for one in electors if one.name in taken]
+    yield words, theirs, ". Give them other names."
+    couples = [label_of(one) for one in electors if SEVERAL_PEOPLE.search(one.who)]
     words = "Note: these look like several people, who have one ballot together"
     yield words, couples, ". Give each a line of their own."
     words = "Without an address (letters in their names wait, letters to them are printed)"
@@ -358,8 +359,7 @@ def names_like_answers(
     like = [one for one in electors if LIKE_LABEL.search(one.who) or len(one.name) == 1]
     if like and questions.is_several:
         note = "Note: these names end in a letter that may be read as the label of a question"
-        labels = [f"{one.name} ({shown_text(one.who)})" for one in like]
-        yield f"{note}: {listed(labels, MAX_NAMED)}"
+        yield f"{note}: {listed(list(map(label_of, like)), MAX_NAMED)}"
 
 
 def next_call(election: Election) -> str:

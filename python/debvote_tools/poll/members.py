@@ -89,10 +89,6 @@ class Member(NamedTuple):
         return self.known is None or self.known.position is None
 
     @property
-    def label(self) -> str:
-        return f"{self.name} ({shown_text(self.who)})" if self.who else self.name
-
-    @property
     def changes(self) -> dict[str, tuple[str, str]]:
         """What differs from the book, of an elector on the roll: before, and now."""
         if self.known is None or self.is_new:
@@ -106,6 +102,10 @@ class Member(NamedTuple):
         if address_key(before["address"]) == address_key(now["address"]):
             del before["address"]
         return {what: (was, now[what]) for what, was in before.items() if was != now[what]}
+
+
+def label_of(one: Member | Elector) -> str:
+    return f"{one.name} ({shown_text(one.who)})" if one.who else one.name
 
 
 # the line if there is one, what is wrong with it, and the cure
@@ -366,12 +366,11 @@ def wrong_after_call(electors: Sequence[Member], gone: Sequence[Elector]) -> Ite
     }
     for words, people in others.items():
         if people:
-            labels = [f"{one.name} ({shown_text(one.who)})" for one in people]
-            yield None, f"{words}: {listed(labels, NAMED_LIMIT)}", cure
+            yield None, f"{words}: {listed(list(map(label_of, people)), NAMED_LIMIT)}", cure
     for elector in electors:
         for what, (before, _) in elector.changes.items():
             if what in ("name", "who"):
-                yield elector.line, f"{elector.label} was {shown_text(before)}", cure
+                yield elector.line, f"{label_of(elector)} was {shown_text(before)}", cure
 
 
 def lines_in_words(electors: Sequence[Member]) -> str:
