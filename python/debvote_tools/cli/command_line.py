@@ -59,7 +59,7 @@ def parser(words: Sequence[str] = ()) -> argparse.ArgumentParser:
 def main(program_folder: pathlib.Path, words: Sequence[str] | None = None) -> int:
     """Runs a command, and returns the exit status. `program_folder` is that of the program."""
     console.prepare(signal.SIGHUP, signal.SIGTERM)
-    if sys.stdout is None:
+    if not console.has_output():
         closed = "standard output is closed; nothing was changed"
         return console.failed(PROGRAM, closed, Status.BAD_OUTPUT)
     # lines and letters have no cycles: to look for some again and again takes a seventh of the time

@@ -51,6 +51,11 @@ def prepare(*ending: signal.Signals) -> None:
         sys.stdout.reconfigure(errors="backslashreplace")
 
 
+def has_output() -> bool:
+    """Whether standard output was open at the start."""
+    return sys.stdout is not None
+
+
 def is_terminal() -> bool:
     """Whether a person is there, who sees the output and can answer."""
     return sys.stdin is not None and sys.stdin.isatty() and shows()
