@@ -86,8 +86,10 @@ def bad_poll(file: object, reason: str, cure: str) -> Fault:
 def labels_in(folder: pathlib.Path) -> list[str]:
     """The labels of several questions, by the files of their polls, or that of one, which is empty."""
     place = folder / POLLS
-    labels = sorted(file.stem for file in place.glob(f"[{LABELS}].toml"))
-    return labels if place.is_dir() else [""]
+    if not place.is_dir():
+        return [""]
+    names = os.listdir(place)
+    return [label for label in LABELS if f"{label}.toml" in names]
 
 
 def files_in(folder: pathlib.Path) -> list[pathlib.Path]:
