@@ -133,16 +133,16 @@ def write_whole(file: pathlib.Path, data: bytes, mode: int) -> None:
     """Writes a file with this mode, whole or not at all: a temporary beside it takes its place.
     Raises OSError, and then the file is as it was.
     """
-    handle, name = tempfile.mkstemp(prefix=TEMPORARY, dir=file.parent)
-    try:
-        with naming(file):
+    with naming(file):
+        handle, name = tempfile.mkstemp(prefix=TEMPORARY, dir=file.parent)
+        try:
             with os.fdopen(handle, "wb") as target:
                 write_through(target, data, mode)
             os.rename(name, file)
-    except BaseException:
-        with contextlib.suppress(OSError):
-            os.unlink(name)
-        raise
+        except BaseException:
+            with contextlib.suppress(OSError):
+                os.unlink(name)
+            raise
     try:
         sync_folder(file.parent)
     except OSError as error:

@@ -37,7 +37,8 @@ RESTORED = "it was restored, as the secretary says"
 APPLICATION_ID, VERSION = 0x64627674, 5
 PROGRAMS = {3: "debvote-election 2.0.0", 4: "debvote-election 2.1.0"}
 
-# how a database of SQLite begins, and where its head has the version and the application id
+# how a database of SQLite begins, how many bytes say what it is, and where these have the version and
+# the application id
 SQLITE, HEAD = b"SQLite format 3\0", 72
 VERSION_AT, ID_AT = slice(60, 64), slice(68, 72)
 
@@ -241,8 +242,7 @@ class Book:
         last act that was known when this one was decided; if others came since, it is `Overtaken`.
         Within the act nobody is asked and no program runs.
         """
-        note = self.note()
-        note.make_ready()
+        self.note().make_ready()
         with self.transaction("BEGIN IMMEDIATE"):
             before = self.last_act()
             if seen not in (None, before.number):
@@ -253,16 +253,13 @@ class Book:
                 raise Fault(self.path, words, f"find out which of both is right, then {AGAIN}")
             if name != MOVED:
                 self.demand_noted()
-            if (broken := chain.break_at(self.connection, before.number)) is not None:
+            if (broken := chain.break_in(self.connection, before.number)) is not None:
                 raise damaged(self.path, broken)
             act = NewAct(self.connection, before.number + 1, times.now(), name, detail or {})
             yield act
             with uninterrupted():
-                digest = self.finish(act, before.digest)
-        # a note that can't be written stays at an earlier act, as after a kill
-        with contextlib.suppress(Fault, OSError):
-            names = self.names + collections.Counter([name])
-            note.put(Note(act.number, digest, names), is_moved=name == MOVED)
+                self.finish(act, before.digest)
+        self.note_seen(is_moved=name == MOVED)
 
     def finish(self, act: NewAct, digest_before: str) -> str:
         """Adds the row of the act, with its digest, and commits."""
@@ -303,12 +300,14 @@ class Book:
     def note(self) -> MachineNote:
         return MachineNote(self.machine, self.path.resolve())
 
-    def note_seen(self) -> None:
-        """Notes the last act of the book that this machine knows: nobody can remove it unnoticed."""
+    def note_seen(self, *, is_moved: bool = False) -> None:
+        """Notes the last act of the book that this machine knows: nobody can remove it unnoticed. A note
+        that can't be written stays at an earlier act, as after a kill.
+        """
         with contextlib.suppress(Fault, OSError):
-            if self.strangeness() is None:
+            if is_moved or self.strangeness() is None:
                 last = self.last_act()
-                self.note().put(Note(last.number, last.digest, self.names))
+                self.note().put(Note(last.number, last.digest, self.names), is_moved=is_moved)
 
     def strangeness(self) -> str | None:
         """Why this is not the book that this machine knows; None if it is."""
@@ -376,7 +375,7 @@ class Book:
             # a file that is gone by now was the journal of another command
             with contextlib.suppress(OSError):
                 is_other = file.is_file() and not file.samefile(self.path)
-                if is_other and has_our_id(head_of(file)) and not self.begins_with(file):
+                if is_other and has_our_id(read_at_most(file, HEAD)) and not self.begins_with(file):
                     yield file
 
     def begins_with(self, file: pathlib.Path) -> bool:
@@ -416,7 +415,7 @@ def is_locked_for_others(path: pathlib.Path) -> bool:
 # ---- making and opening
 def create(path: pathlib.Path, detail: Detail, final_path: pathlib.Path) -> None:
     """Makes a new book with the act `new`; its folder is moved, so that it lies at `final_path`."""
-    os.close(os.open(path, os.O_RDWR | os.O_CREAT | os.O_EXCL, 0o600))
+    path.touch(0o600, exist_ok=False)
     connection = connected(path, "rw")
     book = Book(path, connection)
     with contextlib.closing(connection):
@@ -460,7 +459,7 @@ def demand_version(path: pathlib.Path) -> None:
     """Stops at a file that is no book of this version, which is not opened, so that it stays as it
     is.
     """
-    head = head_of(path)
+    head = read_at_most(path, HEAD)
     if not head.startswith(SQLITE):
         raise damaged(path, "it is no database of SQLite")
     if not has_our_id(head):
@@ -529,11 +528,6 @@ def file_at(path: pathlib.Path) -> tuple[int, int] | None:
     except OSError:
         return None
     return found.st_dev, found.st_ino
-
-
-def head_of(file: pathlib.Path) -> bytes:
-    """The first bytes of a file, by which a book is known. Raises OSError."""
-    return read_at_most(file, HEAD - 1)
 
 
 def has_our_id(head: bytes) -> bool:

@@ -19,6 +19,7 @@ from collections.abc import Iterable, Iterator, Sequence
 from typing import Any
 
 from debvote_tools.files import sha256_of
+from debvote_tools.grouping import grouped
 
 # the table of the acts themselves; each row of all others belongs to an act
 ACT = "act"
@@ -37,17 +38,23 @@ ACT_OF, LAST = operator.itemgetter(0), operator.itemgetter(-1)
 Entries = frozenset[tuple[str, str, str, str | None]]
 
 
+# the tables in their order, each with what the line of a row has of each column
+COLUMNS = f"""
+SELECT its.name, CASE
+  WHEN of_it.name = 'line' THEN 'CAST(line AS TEXT)'
+  WHEN of_it.type = 'BLOB' THEN 'sha256(' || of_it.name || ')'
+  ELSE of_it.name
+END FROM sqlite_schema AS its JOIN pragma_table_info(its.name) AS of_it
+WHERE its.type = 'table' AND of_it.name <> iif(its.name = '{ACT}', 'digest', 'act') ORDER BY its.rowid, cid
+"""
+
+
 def write_schema(connection: sqlite3.Connection) -> None:
     for statement in pathlib.Path(__file__).with_name("schema.sql").read_text().split(";\n"):
         connection.execute(statement)
-    for table in tables_of(connection):
+    for table in grouped(connection.execute(COLUMNS)):
         for verb in ("UPDATE", "DELETE"):
             connection.execute(REFUSE.format(table=table, verb=verb))
-
-
-def tables_of(connection: sqlite3.Connection) -> list[str]:
-    words = "SELECT name FROM sqlite_schema WHERE type = 'table' ORDER BY rowid"
-    return [name for name, in connection.execute(words)]
 
 
 def entries_of(connection: sqlite3.Connection) -> Entries:
@@ -59,23 +66,13 @@ def schema() -> tuple[Entries, dict[str, str]]:
     """The schema that `new` writes, and of each table the SQL that makes a row of it a line."""
     with contextlib.closing(sqlite3.connect(":memory:")) as empty:
         write_schema(empty)
-        lines = {}
-        for table in tables_of(empty):
-            columns = empty.execute("SELECT name, type FROM pragma_table_info(?)", (table,))
-            left_out = "digest" if table == ACT else "act"
-            parts = (as_json(name, kind) for name, kind in columns if name != left_out)
-            lines[table] = f"json_array({', '.join(parts)})"
+        columns = grouped(empty.execute(COLUMNS)).items()
+        lines = {table: f"json_array({', '.join(parts)})" for table, parts in columns}
         return entries_of(empty), lines
 
 
 def line_of() -> dict[str, str]:
     return schema()[1]
-
-
-def as_json(column: str, kind: str) -> str:
-    if column == "line":
-        return "CAST(line AS TEXT)"
-    return f"sha256({column})" if kind == "BLOB" else column
 
 
 def other_schema(connection: sqlite3.Connection) -> str | None:
@@ -91,19 +88,12 @@ def prepare(connection: sqlite3.Connection) -> None:
 
 
 def digest_of(connection: sqlite3.Connection, before: str, act: Sequence[object]) -> str:
-    """The digest of an act (its row without the digest), with the rows that the book has of it. An index
-    says where they begin and end, and the table what they are.
-    """
+    """The digest of an act (its row without the digest), with the rows that the book has of it."""
     row = [sha256_of(one) if isinstance(one, bytes) else one for one in act]
     line = json.dumps(row, ensure_ascii=False, separators=(",", ":"))
-    ends = "(SELECT {end}(rowid) FROM {{table}} WHERE act = ?1)"
-    between = f"rowid BETWEEN {ends.format(end='min')} AND {ends.format(end='max')}"
-    words = (
-        f"SELECT CAST({{line}} AS BLOB) FROM {{table}} WHERE {between} AND +act = ?1 ORDER BY rowid"
-    )
     by_table = (
-        (table, connection.execute(words.format(table=table, line=columns), act[:1]))
-        for table, columns in line_of().items()
+        (table, connection.execute(query_of(table, "act = :act"), {"act": act[0]}))
+        for table in line_of()
         if table != ACT
     )
     return digest_over(before, line.encode(), by_table)
@@ -124,35 +114,12 @@ def digest_over(
     return digest.hexdigest()
 
 
-def break_at(connection: sqlite3.Connection, number: int) -> str | None:
-    """How the chain is broken at its last act, by index: the act is not as its digest and the act
-    before say, or there are rows that the next act would take for its own. None if it is whole.
-    """
-    words = f"SELECT coalesce(max(digest), '{BEGINNING}') FROM {ACT} WHERE act = ?"
-    [(before,)] = connection.execute(words, (number - 1,))
-    [(*act, digest)] = connection.execute(f"SELECT * FROM {ACT} WHERE act = ?", (number,))
-    if digest_of(connection, before, act) != digest:
-        return broken(number)
-    lasts: Iterator[int | None] = (
-        connection.execute(f"SELECT max(act) FROM {table}").fetchone()[0] for table in line_of()
-    )
-    last = max(filter(None, lasts))
-    return without_act(last) if last > number else None
-
-
-def broken(act: int) -> str:
-    return f"act {act} does not match its digest"
-
-
-def without_act(act: int) -> str:
-    return f"it has rows of act {act}, and no such act"
-
-
 def damage(connection: sqlite3.Connection) -> list[str]:
     """What is not as the acts of a book wrote it."""
-    if (order := disorder(connection)) is not None:
+    order = "".join(words for words, in connection.execute("PRAGMA integrity_check(1)"))
+    if order != "ok":
         # in the rows of such a file there may be anything
-        return [f"SQLite says: {order}"]
+        return [f"SQLite says: {' '.join(order.split())}"]
     found = []
     if (lost := connection.execute("PRAGMA foreign_key_check").fetchone()) is not None:
         found.append(f"row {lost[1]} of {lost[0]} names a row of {lost[2]} that is not there")
@@ -161,39 +128,43 @@ def damage(connection: sqlite3.Connection) -> list[str]:
     return found
 
 
-def disorder(connection: sqlite3.Connection) -> str | None:
-    """What SQLite finds wrong with the file; None if nothing is."""
-    words = "".join(words for words, in connection.execute("PRAGMA integrity_check(1)"))
-    return None if words == "ok" else " ".join(words.split())
-
-
-def break_in(connection: sqlite3.Connection) -> str | None:
-    """The first act at which the chain is broken, and how; None if it is whole."""
-    before, tables = BEGINNING, list(line_of())
-    found = heapq.merge(*(acts_in(connection, table) for table in tables), key=ACT_OF)
+def break_in(connection: sqlite3.Connection, since: int | None = None) -> str | None:
+    """The first act, from one on if it is given, at which the chain is broken, and how: it is not as its
+    digest and the act before say, or there are rows of an act that there is not. None if it is whole.
+    """
+    words = f"SELECT coalesce(max(digest), '{BEGINNING}') FROM {ACT} WHERE act = ? - 1"
+    [(before,)] = connection.execute(words, (since,))
+    found = heapq.merge(*(acts_in(connection, table, since) for table in line_of()), key=ACT_OF)
     for act, by_table in itertools.groupby(found, key=ACT_OF):
         _, table, rows = next(by_table)
         if table != ACT:
-            return without_act(act)
+            return f"it has rows of act {act}, and no such act"
         [(line, digest, _)] = rows
         before = digest_over(before, line, ((its, rows) for _, its, rows in by_table))
         if before != digest:
-            return broken(act)
+            return f"act {act} does not match its digest"
     return None
 
 
 def acts_in(
-    connection: sqlite3.Connection, table: str
+    connection: sqlite3.Connection, table: str, since: int | None
 ) -> Iterator[tuple[int, str, Iterator[tuple[Any, ...]]]]:
     """The acts that have rows in a table, each with the table and the rows: line, the digest if the row
     is that of the act, and act.
     """
-    for act, rows in itertools.groupby(connection.execute(query_of_all(table)), key=LAST):
+    words = query_of(table, "" if since is None else "act >= :act")
+    for act, rows in itertools.groupby(connection.execute(words, {"act": since}), key=LAST):
         yield act, table, rows
 
 
-def query_of_all(table: str) -> str:
-    """It reads the table, once, and no index in place of it."""
+def query_of(table: str, acts: str = "") -> str:
+    """The rows of all acts, or of these. It reads the table, and no index in place of it: of some acts
+    the index says which rows they are, and the table has to say the same.
+    """
     line, digest = line_of()[table], "digest" if table == ACT else "NULL"
-    order = "act" if table == ACT else "act, rowid"
-    return f"SELECT CAST({line} AS BLOB), {digest}, act FROM {table} NOT INDEXED ORDER BY {order}"
+    rows = f"{table} NOT INDEXED ORDER BY act, rowid"
+    if acts:
+        found = f"(SELECT act AS its, rowid AS at FROM {table} WHERE {acts})"
+        the_same = f"{table} NOT INDEXED ON act = its AND {table}.rowid = at"
+        rows = f"{found} CROSS JOIN {the_same} ORDER BY its, at"
+    return f"SELECT CAST({line} AS BLOB), {digest}, act FROM {rows}"

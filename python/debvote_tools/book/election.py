@@ -1,6 +1,5 @@
 """An election in its folder: the book, what its acts say of the election as a whole, and debvote."""
 
-import contextlib
 import datetime
 import functools
 import os
@@ -47,8 +46,8 @@ class History(NamedTuple):
 
     def since_call(self, *names: ActName) -> list[DoneAct]:
         """The acts of these names from the call that holds on, with the call; empty before it."""
-        first = len(self.acts) + 1 if self.call is None else self.call.number
-        return [act for act in self.named(*names) if act.number >= first]
+        call = self.call
+        return [act for act in self.named(*names) if call and act.number >= call.number]
 
     def act(self, number: int) -> DoneAct:
         return self.acts[number - 1]
@@ -59,9 +58,9 @@ class History(NamedTuple):
 
     @property
     def call(self) -> DoneAct | None:
-        """The first call that was not taken back."""
-        taken_back = max((act.number for act in self.named("take back")), default=0)
-        return next((act for act in self.named("call") if act.number > taken_back), None)
+        """The call that holds: after one there is no other, unless it was taken back."""
+        acts = self.named("call", "take back")
+        return acts[-1] if acts and acts[-1].name == "call" else None
 
     def announced(self, key: str) -> Any:
         """What the call, or a later act that adds to it, says last of something, as `at`."""
@@ -184,8 +183,10 @@ class Sealed(NamedTuple):
 class Election:
     """An election in a folder. The book is read anew each time, since others may work on it."""
 
-    def __init__(self, folder: pathlib.Path | None, program_folder: pathlib.Path | None) -> None:
-        self.folder, self.program_folder = folder or pathlib.Path(), program_folder
+    def __init__(
+        self, folder: str | pathlib.Path | None, program_folder: pathlib.Path | None
+    ) -> None:
+        self.folder, self.program_folder = pathlib.Path(folder or ""), program_folder
         self.is_named = folder is not None
 
     def path(self, name: str) -> pathlib.Path:
@@ -244,15 +245,17 @@ class Election:
             raise Fault(self.folder, "the folder is not writable", cure, Status.BAD_OUTPUT)
 
     @property
-    def own_acts(self) -> list[str]:
-        return self.opened.own_acts if "opened" in vars(self) else []
+    def done(self) -> str:
+        """The acts of this run, each as `act 7 (add)`; empty if it has done none."""
+        acts = self.opened.own_acts if "opened" in vars(self) else []
+        if len(acts) > 1:
+            return f"{len(acts)} acts were done, the last is {acts[-1]}"
+        return "".join(f"{act} was done" for act in acts)
 
     def demand_undamaged(self) -> None:
-        """Opens the book anew, and stops if it is damaged."""
-        if self.path(NAME).is_file():
-            book = open_book(self.path(NAME))
-            with contextlib.closing(book.connection):
-                book.demand_whole()
+        """Stops if the book, once it is open, is damaged."""
+        if "opened" in vars(self):
+            self.opened.demand_whole()
 
     @functools.cached_property
     def language(self) -> Language:

@@ -27,7 +27,7 @@ LONGEST_REASON = 2_000
 class Options:
     """The values of the options, by their fields. On the class a field has what the parser needs."""
 
-    # what was not done after a fault
+    # what was not done after a fault. What has no annotation is no option
     nothing = "changed"
 
     def __init__(self, **values: Any) -> None:
@@ -35,7 +35,7 @@ class Options:
 
 
 def positional(metavar: str, help: str, **how: Any) -> Any:
-    return {"is_positional": True, "metavar": metavar, "help": help, **how}
+    return option(metavar, help, is_positional=True, **how)
 
 
 def option(metavar: str | None, help: str, **how: Any) -> Any:
@@ -61,11 +61,6 @@ class Acting(Options):
 
     # whether the command needs a folder that is writable, and computes all digests anew
     writes, checks = True, False
-
-    def __init_subclass__(
-        cls, *, writes: bool = True, checks: bool = False, nothing: str = ""
-    ) -> None:
-        cls.writes, cls.checks, cls.nothing = writes, checks, nothing or cls.nothing
 
 
 class Parser(argparse.ArgumentParser):

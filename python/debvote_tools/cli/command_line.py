@@ -11,7 +11,7 @@ from typing import Any
 
 from debvote_tools.book.election import Election
 from debvote_tools.cli import arguments, console
-from debvote_tools.cli.faults import Fault, Status, acts_in_words
+from debvote_tools.cli.faults import Fault, Status
 
 PROGRAM = "debvote-election"
 
@@ -68,8 +68,7 @@ def main(program_folder: pathlib.Path, words: Sequence[str] | None = None) -> in
     words = sys.argv[1:] if words is None else words
     namespace = parser(words).parse_args(words)
     signal.signal(signal.SIGINT, signal.default_int_handler)
-    folder = getattr(namespace, "folder", None)
-    election = Election(None if folder is None else pathlib.Path(folder), program_folder)
+    election = Election(getattr(namespace, "folder", None), program_folder)
     reported = "what the command has reported is done"
     try:
         return run(election, namespace)
@@ -80,15 +79,14 @@ def main(program_folder: pathlib.Path, words: Sequence[str] | None = None) -> in
                 return 128 + signal.SIGPIPE
         for one in (fault, *fault.others):
             console.failed(
-                PROGRAM, one.after(election.own_acts, namespace.arguments.nothing).words, one.status
+                PROGRAM, one.after(election.done, namespace.arguments.nothing).words, one.status
             )
         return fault.status
     except KeyboardInterrupt:
-        done = acts_in_words(election.own_acts) if election.own_acts else reported
-        words_of_it = f"interrupted; {done}, and nothing else"
+        words_of_it = f"interrupted; {election.done or reported}, and nothing else"
         return console.failed(PROGRAM, words_of_it, 128 + signal.SIGINT)
     except OSError as error:
-        done = f"{acts_in_words(election.own_acts)}; " if election.own_acts else ""
+        done = f"{election.done}; " if election.done else ""
         said = f"{error.strerror}; {done}{reported}: see debvote-election status"
         # a file that can't be read or written is named, but for standard input
         if error.filename is not None:

@@ -217,8 +217,7 @@ def listed(names: Sequence[str], most: int) -> str:
 
 def bar(part: int, whole: int, width: int) -> str:
     """How many of all are done; it is full only if all are, and empty only if none is."""
-    full = part * width // whole if part in (0, whole) else max(part * width // whole, 1)
-    full = min(full, width - (part < whole))
+    full = min(max(part * width // whole, part > 0), width - (part < whole))
     return f"[{'#' * full}{'.' * (width - full)}]"
 
 

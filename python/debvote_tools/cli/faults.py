@@ -50,15 +50,14 @@ class Fault(Exception):
     def __str__(self) -> str:
         return self.words
 
-    def after(self, acts: Sequence[str], nothing: str) -> "Fault":
+    def after(self, acts: str, nothing: str) -> "Fault":
         """The same fault, of a run that did these acts before, and otherwise `nothing`."""
         done = self.done or ""
         rest = done.removeprefix(NOTHING_CHANGED)
-        if acts and done.startswith(NOTHING):
-            self.done = acts_in_words(acts)
-            return self.with_done(rest.removeprefix("; "))
         if rest != done:
-            self.done = f"{NOTHING}{nothing}{rest}"
+            self.done = (acts or f"{NOTHING}{nothing}") + rest
+        elif acts and done.startswith(NOTHING):
+            self.done = f"{acts}; {done}"
         return self
 
     def with_done(self, done: str) -> "Fault":
@@ -72,12 +71,6 @@ def bad_words(
 ) -> Fault:
     """The fault of an option, or of what it names."""
     return Fault(option, reason, cure, Status.BAD_WORDS, done)
-
-
-def acts_in_words(acts: Sequence[str]) -> str:
-    """What a run has done, each act as `act 7 (add)`."""
-    many = f"{len(acts)} acts were done, the last is {acts[-1]}"
-    return f"{acts[-1]} was done" if len(acts) == 1 else many
 
 
 def stop_at(faults: Sequence[Fault]) -> None:

@@ -49,8 +49,8 @@ from debvote_tools.inbox.mime import address_key
 from debvote_tools.poll.announced import address_in
 from debvote_tools.poll.box import SCRIPT, box_files
 from debvote_tools.poll.call import current_call
-from debvote_tools.poll.draft import checked, lacks_codes, NEW_POLL, tell_checked
-from debvote_tools.poll.members import AGAIN, Member, NEW_MEMBERS, Roll, roll_of
+from debvote_tools.poll.draft import checked, NEW_POLL, tell_checked
+from debvote_tools.poll.members import AGAIN, label_of, Member, NEW_MEMBERS, Roll, roll_of
 from debvote_tools.poll.plain_names import alike, ELECTOR_LIMIT, similar_names
 from debvote_tools.poll.questions import LABELS, POLL_FILE, TITLE_FILE, Questions
 from debvote_tools.poll.sealed import new_own_mark
@@ -172,8 +172,8 @@ def read_roll(election: Election, history: History) -> Roll:
     file = election.path(MEMBERS_FILE)
     unread = "the list of members is a CSV file, as a spreadsheet saves it: put it there"
     data = read_whole(file, TABLE_LIMIT, unread, f", {AGAIN}")
-    known, is_called = queries.all_electors(election.book), history.call is not None
-    return roll_of(data, file, known, election.language.code, is_called=is_called)
+    known, language = queries.all_electors(election.book), election.language.code
+    return roll_of(data, file, known, language, is_called=history.call is not None)
 
 
 def demand_read(election: Election, history: History) -> None:
@@ -222,9 +222,10 @@ def change_addresses(election: Election, history: History, changed: Mapping[Memb
 
     vote, now = Vote(election), []
     letters_before = letters_now(vote)
-    for member, known in ((member, member.known) for member in changed if member.known):
-        mark = new_own_mark() if "address" in member.changes else known.mark
-        now.append(known._replace(addresses=member.addresses, key=member.key, mark=mark))
+    for member in changed:
+        if known := member.known:
+            mark = new_own_mark() if "address" in member.changes else known.mark
+            now.append(known._replace(addresses=member.addresses, key=member.key, mark=mark))
     book, files = election.book, dict[str, bytes]()
     if history.announced("box") and not history.closes:
         owns = {one.name: one.mark for one in (*queries.electors(book), *now)}
@@ -242,7 +243,7 @@ def change_addresses(election: Election, history: History, changed: Mapping[Memb
 
 
 def agreed(member: Member, words: str) -> bool:
-    question = f"{member.label}: {words}. Is that right?"
+    question = f"{label_of(member)}: {words}. Is that right?"
     if not is_terminal():
         raise Fault(None, question, "run it at a terminal, or with --yes")
     return bool(is_yes(question))
@@ -277,7 +278,7 @@ def roll_in_words(roll: Roll, language: Language) -> Iterator[str]:
         if names:
             yield f"{words}: {listed(names, MAX_NAMED)}{after}"
     for gone in roll.gone:
-        yield f"No longer on the list: {gone.name} ({shown_text(gone.who)})"
+        yield f"No longer on the list: {label_of(gone)}"
 
 
 def notes_on(
@@ -294,23 +295,23 @@ def notes_on(
         yield f"Note: several electors have the address {address}", names, is_one
     for names in several((alike(one.who), one.name) for one in electors).values():
         yield "Note: these real names look alike", names, is_one
-    cut = [one for one in electors if one.proposal and not one.name.startswith(one.proposal)]
-    words = f"Note: a name has at most {ELECTOR_LIMIT} characters, so these were cut"
-    yield words, [one.label for one in cut], ""
+    cut = [label_of(one) for one in electors if not one.name.startswith(one.proposal)]
+    yield f"Note: a name has at most {ELECTOR_LIMIT} characters, so these were cut", cut, ""
     pairs = similar_names(one.name for one in electors)
     yield "Note: these names are easily mistaken for each other", list(map(" and ".join, pairs)), ""
     real_names = {one.name: one.who for one in electors}
     taken = Names(frozenset(real_names), language.code, real_names, 0, {}).real_names_of_others
     words = "Note: these names on the roll are the real name of somebody else"
-    yield words, [one.label for one in electors if one.name in taken], ". Give them other names."
-    couples = [one.label for one in electors if SEVERAL_PEOPLE.search(one.who)]
+    theirs = [label_of(one) for one in electors if one.name in taken]
+    yield words, theirs, ". Give them other names."
+    couples = [label_of(one) for one in electors if SEVERAL_PEOPLE.search(one.who)]
     words = "Note: these look like several people, who have one ballot together"
     yield words, couples, ". Give each a line of their own."
     words = "Without an address (letters in their names wait, letters to them are printed)"
     yield words, [one.name for one in electors if not one.addresses], ""
     words = "Without an address that every mail server takes (letters to them are printed)"
-    unsent = [one for one in electors if one.addresses and not address_in(one.addresses)]
-    yield words, [one.name for one in unsent], ""
+    unsent = [one.name for one in electors if one.addresses and not address_in(one.addresses)]
+    yield words, unsent, ""
 
 
 # ---- check
@@ -340,7 +341,11 @@ def check(election: Election, arguments: Options) -> None:
         tell(f"{label}: {quorum}" if label else quorum)
     if not history.has_codes_on_roll:
         tell(f"Electors: {len(roll)}", wrapped(roll))
-    tell(f"Next: {what_next(election, history, questions)}")
+    after = next_call(election)
+    if found.lacks_codes:
+        why = "since the vote is secret and electors have no codes yet"
+        after = f"{election.command('codes')}, {why}"
+    tell(f"Next: {after}")
 
 
 def names_like_answers(
@@ -354,18 +359,10 @@ def names_like_answers(
     like = [one for one in electors if LIKE_LABEL.search(one.who) or len(one.name) == 1]
     if like and questions.is_several:
         note = "Note: these names end in a letter that may be read as the label of a question"
-        labels = [f"{one.name} ({shown_text(one.who)})" for one in like]
-        yield f"{note}: {listed(labels, MAX_NAMED)}"
+        yield f"{note}: {listed(list(map(label_of, like)), MAX_NAMED)}"
 
 
-def what_next(election: Election, history: History, questions: Questions) -> str:
-    # another call would make the vote longer
-    if history.call is not None:
-        return election.command("status")
-    if lacks_codes(election, history, questions):
-        return (
-            f"{election.command('codes')}, since the vote is secret and electors have no codes yet"
-        )
+def next_call(election: Election) -> str:
     call = election.command("call", "--until", "YYYY-MM-DD HH:MM", "--to", "ADDRESS")
     return f"{call} (the end of the vote, and the address for ballots; both are optional)"
 
@@ -397,14 +394,18 @@ def codes(election: Election, arguments: CodesArguments) -> None:
             raise Fault("--on-roll", WITH_NAMES, "begin anew in another folder")
     history, private = election.history(), election.path(PRIVATE)
     write_slips(election, sealed)
-    when = "after the call, which adds the end of the vote and the address for ballots"
-    tell(f"The slips: {private / SLIPS}. Print them{f' {when}' if history.call is None else ''}.")
+    # another call would make the vote longer
+    when, after = "", election.command("status")
+    if history.call is None:
+        when = " after the call, which adds the end of the vote and the address for ballots"
+        after = next_call(election)
+    tell(f"The slips: {private / SLIPS}. Print them{when}.")
     if history.has_codes_on_roll:
         words = "Destroy the slips that are left over, and their file."
         tell(f"Nobody may keep a list of who gets which code. {words}")
     else:
         tell(f"The table of codes: {private / CODES}. Let nobody else see it.")
-    tell(f"Next: {what_next(election, history, sealed.counted)}")
+    tell(f"Next: {after}")
 
 
 def make_codes(election: Election, arguments: CodesArguments) -> tuple[Questions, int]:

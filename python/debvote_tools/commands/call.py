@@ -16,7 +16,6 @@ from debvote_tools.cli.console import act_time, tell
 from debvote_tools.result.publication import agreed_texts, texts_of
 from debvote_tools.commands.begin import CODES, SLIPS, demand_read, write_slips
 from debvote_tools.book.election import (
-    BOX_KEY,
     CALL,
     KEYRING,
     LETTER_TEXT,
@@ -27,7 +26,7 @@ from debvote_tools.book.election import (
     Sealed,
 )
 from debvote_tools.files import OWN, PUBLIC, read_whole, write_made
-from debvote_tools.poll.draft import checked, lacks_codes, letter_text_in, tell_checked
+from debvote_tools.poll.draft import checked, letter_text_in, tell_checked
 from debvote_tools.poll.announced import (
     demand_future,
     demand_web_address,
@@ -112,7 +111,7 @@ def call_first(election: Election, arguments: Arguments) -> None:
         found = checked(election, deadline=said.get("until"), address=said.get("to"))
         questions = found.questions
         faults += faults_in_secret(arguments) if questions.is_secret else ()
-        if lacks_codes(election, history, questions):
+        if found.lacks_codes:
             cure = f"run {election.command('codes')} first"
             raise Fault(None, "the vote is secret, and electors have no codes", cure)
     stop_at(faults)
@@ -247,11 +246,10 @@ def announced(arguments: Arguments, history: History, faults: list[Fault]) -> De
     """What the act keeps of these options. An extension is in the zone of the end before, unless it
     names another.
     """
-    earlier_zone = history.announced("zone")
     said: Detail = {}
     with kept_in(faults):
         if arguments.until is not None:
-            until, zone = parse_until(arguments.until, arguments.zone, earlier_zone)
+            until, zone = parse_until(arguments.until, arguments.zone, history.announced("zone"))
             demand_future(until, times.now())
             said["until"] = until.isoformat()
             if zone is not None:
@@ -268,8 +266,7 @@ def announced(arguments: Arguments, history: History, faults: list[Fault]) -> De
         with kept_in(faults):
             script_address(said.get("at") or history.announced("at"))
     if is_new and arguments.keyring is not None:
-        words = "letters have to be signed, and no click is"
-        faults.append(bad_words("--box", words, LEAVE_OUT))
+        faults.append(bad_words("--box", "letters have to be signed, and no click is", LEAVE_OUT))
     return said
 
 
@@ -292,8 +289,9 @@ def demand_no_change(
     if arguments.keyring is not None and not history.announced("signed"):
         changed.append("--keyring")
     if changed:
-        is_address = changed == ["--to"]
-        words = "the call has sealed the address" if is_address else "the call was made without it"
+        words = "the call was made without it"
+        if changed == ["--to"]:
+            words = "the call has sealed the address"
         again = f"take the call back and call anew: {election.command('call', '--take-back')}"
         raise Fault(", ".join(changed), words, f"as long as nothing has come, {again}")
 
@@ -302,8 +300,7 @@ def keyring_in(election: Election, file: str | None) -> bytes | None:
     """The keyring, as gpgv reads it. Stops if the key of an elector is not in it."""
     if file is None:
         return None
-    unread = "name the file that gpg --export wrote"
-    data = read_whole(file, KEYRING_LIMIT, unread, may_wait=True)
+    data = read_whole(file, KEYRING_LIMIT, "name the file that gpg --export wrote", may_wait=True)
     keyring, electors = read_keyring(file, data), queries.electors(election.book)
     missing = [one.name for one in electors if one.key and one.key not in keyring.fingerprints]
     if missing:
@@ -360,34 +357,29 @@ def call_in_words(election: Election, data: CallData) -> Iterator[str]:
     unsaid = {"when the vote ends (--until)": data.until, "where ballots go (--to)": data.to}
     if missing := [words for words, value in unsaid.items() if value is None]:
         yield f"The call does not say {' nor '.join(missing)}."
+    put = f"put {folder} on the web site"
     if data.has_box:
-        yield from old_page_in_words(election, data)
-        yield f"To ask for the ballots of the page each hour, by cron: {cron_line(election)}"
+        *notes, put = box_in_words(election, data)
+        yield from notes
     yield f"{sealed} and texts/ of this folder are no longer read; roll still reads addresses and keys."
     if election.history().closes:
         yield f"Next: {election.command('status')}"
         return
     send = election.to_all("call", letter)
     enter = f"{election.command('add', 'FILE')} or {election.command('desk')}"
-    yield f"Next: {put_words(election, data)}, and write to the electors: {send}; enter the ballots that come: {enter}"
+    yield f"Next: {put}, and write to the electors: {send}; enter the ballots that come: {enter}"
 
 
-def put_words(election: Election, data: CallData) -> str:
-    """What is done with the folder: what lies at its address is fetched before somebody deletes it."""
-    folder, ask = election.path(CALL), election.command("add", "--box")
-    if not data.has_box:
-        return f"put {folder} on the web site"
-    first = f"run {ask}, then " if last_box(election.history()).get("at") == data.at else ""
-    return f"{first}upload the files of {folder} to {data.at}, {SCRIPT} too, then run {ask}, which tries whether it works"
-
-
-def old_page_in_words(election: Election, data: CallData) -> Iterator[str]:
-    """What is done with the page of before, to which letters have links, until that of now was asked."""
-    asked_at = last_box(election.history()).get("at", data.at)
-    if asked_at != data.at:
-        file = records_file(queries.sealed(election.book, BOX_KEY))
-        add = election.command("add", "FILE")
-        yield f"Note: the page at {asked_at} still takes ballots, which add --box fetches no more: remove its {SCRIPT}, then fetch its file {file} by FTP, and add it: {add}."
+def box_in_words(election: Election, data: CallData) -> Iterator[str]:
+    """Notes on the page of before, to which letters have links until that of now was asked, and on asking;
+    and last what is done with the folder: what lies at its address is fetched before somebody deletes it.
+    """
+    ask, asked_at = election.command("add", "--box"), last_box(election.history()).get("at")
+    if asked_at not in (None, data.at):
+        yield f"Note: the page at {asked_at} still takes ballots, which add --box fetches no more: remove its {SCRIPT}, then fetch its file {records_file(data.box_key)} by FTP, and add it: {election.command('add', 'FILE')}."
+    yield f"To ask for the ballots of the page each hour, by cron: {cron_line(election)}"
+    first = f"run {ask}, then " if asked_at == data.at else ""
+    yield f"{first}upload the files of {election.path(CALL)} to {data.at}, {SCRIPT} too, then run {ask}, which tries whether it works"
 
 
 def cron_line(election: Election) -> str:

@@ -26,7 +26,9 @@ from debvote_tools.poll.secret import seal_line, sealed_checksum
 ALL = "Is that all? It is if the mailbox was added just now, all paper is entered, and no desk is open."
 
 
-class Arguments(Acting, checks=True):
+class Arguments(Acting):
+    checks = True
+
     early: bool = flag("Close before the end of the vote; the result page says so")
     force: bool = flag(
         "With --because: close although letters wait that arrived in time, or the box of the web host was not asked since the end; the "

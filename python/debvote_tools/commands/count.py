@@ -22,7 +22,9 @@ from debvote_tools.result.sheet import (
 )
 
 
-class Arguments(Acting, writes=False, checks=True, nothing="counted"):
+class Arguments(Acting):
+    writes, checks, nothing = False, True, "counted"
+
     casting: list[str] | None = option(*CASTING, action="append")
     question: str | None = option("LABEL", "Of several questions count this one alone")
     force: bool = flag(

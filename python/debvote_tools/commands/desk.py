@@ -39,7 +39,9 @@ TYPED = re.compile(r"(.+?)\s+([\d-].*)")
 MAX_NAMES = 9
 
 
-class Arguments(entering.Arguments, nothing="entered"):
+class Arguments(entering.Arguments):
+    nothing = "entered"
+
     question: str | None = option(
         "LABEL", "Of several questions the one that is answered: type the ballot without its label"
     )

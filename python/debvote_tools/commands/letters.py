@@ -29,7 +29,9 @@ MOST = 20
 BAR = 40
 
 
-class Arguments(Acting, nothing="written"):
+class Arguments(Acting):
+    nothing = "written"
+
     kind: str = positional(
         "KIND", "call, receipts, reminders, closed or result", choices=list(SUBJECTS)
     )

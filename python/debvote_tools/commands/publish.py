@@ -56,7 +56,9 @@ NAMED = (POLL, BALLOTS, PAGE, CHECKSUMS)
 REFUSED_IN_NAME = '"\u201c\u201d\u201e\u201f\u2033\uff02\u00ab\u00bb'
 
 
-class Arguments(Acting, checks=True, nothing="published"):
+class Arguments(Acting):
+    checks, nothing = True, "published"
+
     casting: list[str] | None = option(*CASTING, action="append")
     cast_by: list[str] | None = option(
         "NAME",

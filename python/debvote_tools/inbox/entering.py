@@ -19,9 +19,10 @@ from debvote_tools.text.times import now, time_in_words
 CAME_BEFORE_CLOSE = "--came-before-close"
 
 
-class Arguments(Acting, nothing="added"):
+class Arguments(Acting):
     """The options of a command that enters lines."""
 
+    nothing = "added"
     came_before_close: str | None = option(
         None,
         "After reopen: whether the ballots came before the first close (default: ask at the terminal)",

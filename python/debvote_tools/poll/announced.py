@@ -116,8 +116,7 @@ def demand_web_address(text: str) -> None:
     """Stops at what is no address by http or https, and at a user, a password or a fragment."""
     try:
         parts = urllib.parse.urlsplit(text if WEB.fullmatch(text) else "")
-        is_web = parts.scheme in ("http", "https")
-        if is_web and parts.port != 0 and HOST.fullmatch(parts.netloc):
+        if parts.scheme in ("http", "https") and parts.port != 0 and HOST.fullmatch(parts.netloc):
             return
     except ValueError:
         pass

@@ -206,12 +206,14 @@ def call_letter(call: CallData, *, is_extension: bool = False) -> str:
 
 
 def call_page(call: CallData) -> bytes:
-    styles, scripts, words = ["ballot.css"], ["ballot.js"], SENTENCES
+    styles, scripts, words = ["ballot.css"], ["ballot.js"], dict(SENTENCES)
     if call.questions.is_several:
-        styles, words = [*styles, "questions.css"], words | OF_SEVERAL
+        styles += ["questions.css"]
+        words |= OF_SEVERAL
     if call.has_box:
-        styles, scripts = [*styles, "box.css"], [*scripts, "box.js"]
-        words = words | box.SENTENCES
+        styles += ["box.css"]
+        scripts += ["box.js"]
+        words |= box.SENTENCES
     return render_page(
         PACKAGE,
         "page.html",

@@ -1,5 +1,6 @@
 """The poll as the secretary writes it, and the sealed poll that it becomes."""
 
+import itertools
 import json
 import math
 import os
@@ -11,7 +12,7 @@ from typing import Any, NamedTuple
 
 from debvote_tools.book import queries
 from debvote_tools.cli.console import LINE_ENDS, count_of, shown_text, tell, tell_as_it_is
-from debvote_tools.book.election import LETTER_TEXT, POLLS, TEXTS, Election, History
+from debvote_tools.book.election import LETTER_TEXT, POLLS, TEXTS, Election
 from debvote_tools.cli.faults import Fault, Status, bad_words, kept_in, stop_at
 from debvote_tools.files import POLL_LIMIT, read_text, read_whole
 from debvote_tools.poll.plain_names import bad_options, bad_title, plain_options, plain_title
@@ -37,8 +38,6 @@ TEXTS_LIMIT, LETTER_LIMIT = 524_288, 4_096
 LONGEST_LINE = 78
 
 TEXT_NAME = re.compile(r"([1-9][0-9]?)\.txt")
-# the poll of one of several questions
-OF_LABEL = re.compile(rf"([{LABELS}])\.toml")
 # a file that an editor leaves beside another
 OF_EDITORS = re.compile(r"\..*|.*~|#.*#")
 
@@ -89,9 +88,8 @@ def labels_in(folder: pathlib.Path) -> list[str]:
     place = folder / POLLS
     if not place.is_dir():
         return [""]
-    return [
-        found[1] for file in sorted(place.iterdir()) if (found := OF_LABEL.fullmatch(file.name))
-    ]
+    names = os.listdir(place)
+    return [label for label in LABELS if f"{label}.toml" in names]
 
 
 def files_in(folder: pathlib.Path) -> list[pathlib.Path]:
@@ -214,8 +212,7 @@ def faults_of_names(draft: DraftPoll, roll: Sequence[str], language: str) -> Ite
         f"a name on the roll is a word of the motion: {taken}": taken,
     }
     for reason in filter(reasons.get, reasons):
-        cure = "write it in another way, or take out `motion`"
-        yield bad_poll(draft.file, reason, cure)
+        yield bad_poll(draft.file, reason, "write it in another way, or take out `motion`")
 
 
 def faults_of_several(election: Election, drafts: Mapping[str, DraftPoll]) -> Iterator[Fault]:
@@ -225,7 +222,7 @@ def faults_of_several(election: Election, drafts: Mapping[str, DraftPoll]) -> It
         reason = f"it is beside the folder {POLLS}, which has the polls of several questions"
         yield bad_poll(file, reason, "remove one of the two")
     for file in files_in(place):
-        if file.name != TITLE_FILE and not OF_LABEL.fullmatch(file.name):
+        if file.name not in (TITLE_FILE, *(f"{label}.toml" for label in labels)):
             cure = (
                 "name it A.toml, B.toml and so on (there is no I and no O), or move it out of there"
             )
@@ -284,11 +281,14 @@ def sealed_form(draft: DraftPoll, roll: Sequence[str], language: str, **announce
 
 # ---- asking debvote
 class Checked(NamedTuple):
-    """What a call would seal, and how many votes the quorum of each question is."""
+    """What a call would seal, how many votes the quorum of each question is, and whether it is about a
+    secret vote in which not all electors have codes.
+    """
 
     questions: Questions
     quorums: Mapping[str, int]
     letter_text: str
+    lacks_codes: bool
 
 
 def checked(election: Election, **announced: object) -> Checked:
@@ -296,7 +296,8 @@ def checked(election: Election, **announced: object) -> Checked:
     announced, as `sealed_form` has it.
     """
     faults, title, letter_text, language = list[Fault](), "", "", election.language.code
-    roll = [elector.name for elector in queries.electors(election.book)]
+    electors = queries.electors(election.book)
+    roll = [elector.name for elector in electors]
     drafts = {label: draft_in(election, label) for label in labels_in(election.folder)}
     for draft in drafts.values():
         faults += [*draft.faults, *faults_of_names(draft, roll, language)]
@@ -320,23 +321,19 @@ def checked(election: Election, **announced: object) -> Checked:
         for label, data in polls.items()
     }
     motions = [label for label, draft in drafts.items() if draft.says("motion")]
-    return Checked(read_questions(polls, motions, title), quorums, letter_text)
+    questions = read_questions(polls, motions, title)
+    has_codes = election.history().has_codes_on_roll or all(one.code for one in electors)
+    return Checked(questions, quorums, letter_text, questions.is_secret and not has_codes)
 
 
 def faults_by_debvote(election: Election, file: pathlib.Path, poll_bytes: bytes) -> Iterator[Fault]:
     answer = election.debvote.run("explain", "--poll", "/dev/stdin", given=poll_bytes)
     if not answer.text:
         reason = answer.refusal or f"debvote ended with status {answer.status}"
-        cure = f"run {election.command('check')} again"
-        yield Fault(file, reason, cure, answer.status, None)
+        yield Fault(file, reason, f"run {election.command('check')} again", answer.status, None)
     for line in answer.text.splitlines():
         if line.startswith("poll: "):
             yield bad_poll(file, line.removeprefix("poll: "), BY_EDITOR)
-
-
-def lacks_codes(election: Election, history: History, questions: Questions) -> bool:
-    has_all = all(elector.code for elector in queries.electors(election.book))
-    return questions.is_secret and not history.has_codes_on_roll and not has_all
 
 
 def tell_checked(found: Checked) -> None:
@@ -359,14 +356,16 @@ def poll_in_words(label: str, poll: SealedPoll) -> Iterator[str]:
     if poll.name != poll.title:
         yield f"  plain: {poll.title}"
     yield "Options:"
-    for choice in poll.choices:
-        kind = f"majority ratio {choice.ratio}" if choice.ratio else "the default option"
-        yield f"{choice.number:3}  {choice.name} ({kind})"
-        if choice.name != choice.plain:
-            yield f"     plain: {choice.plain}"
-        if choice.text:
-            words = count_of(len(choice.text.split()), "word")
-            yield f"     text: {words} from {TEXTS}/{place_of(label, f'{choice.number}.txt')}"
+    # the default option is the last, and has no ratio and no text
+    options = itertools.zip_longest(poll.names, poll.plain_names, poll.ratios, poll.explanations)
+    for number, (name, plain, ratio, text) in enumerate(options, start=1):
+        kind = f"majority ratio {ratio}" if ratio else "the default option"
+        yield f"{number:3}  {name} ({kind})"
+        if name != plain:
+            yield f"     plain: {plain}"
+        if text:
+            words = count_of(len(text.split()), "word")
+            yield f"     text: {words} from {TEXTS}/{place_of(label, f'{number}.txt')}"
     if poll.motion:
         yield "A motion, yes: {}, no: {}".format(*poll.names)
     if poll.wording == "more_than":

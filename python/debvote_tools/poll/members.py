@@ -6,7 +6,6 @@ import codecs
 import csv
 import io
 import itertools
-import operator
 import re
 import unicodedata
 from collections.abc import Iterable, Iterator, Mapping, Sequence
@@ -67,15 +66,8 @@ ROLL_LIMIT = 10_000
 NAMED_LIMIT = 10
 
 
-class Row(NamedTuple):
-    """A row with as many cells as the head line, or more, and the line where it begins, from 1."""
-
-    line: int
-    cells: list[str]
-
-    @property
-    def is_blank(self) -> bool:
-        return not any(cell.strip() for cell in self.cells)
+# the line where a row begins, from 1, and its cells
+Row = tuple[int, list[str]]
 
 
 class Member(NamedTuple):
@@ -97,25 +89,23 @@ class Member(NamedTuple):
         return self.known is None or self.known.position is None
 
     @property
-    def label(self) -> str:
-        return f"{self.name} ({shown_text(self.who)})" if self.who else self.name
-
-    @property
     def changes(self) -> dict[str, tuple[str, str]]:
         """What differs from the book, of an elector on the roll: before, and now."""
-        known = self.known
-        if known is None or self.is_new:
+        if self.known is None or self.is_new:
             return {}
-        pairs = {
-            "name": (known.name, self.name),
-            "who": (known.who, self.who),
-            "address": (", ".join(known.addresses), ", ".join(self.addresses)),
-            "key": (known.key, self.key),
-        }
+        people: tuple[Elector | Member, ...] = (self.known, self)
+        before, now = (
+            {"name": one.name, "who": one.who, "address": ", ".join(one.addresses), "key": one.key}
+            for one in people
+        )
         # without the case of letters an address is the same
-        if address_key(pairs["address"][0]) == address_key(pairs["address"][1]):
-            del pairs["address"]
-        return {what: pair for what, pair in pairs.items() if pair[0] != pair[1]}
+        if address_key(before["address"]) == address_key(now["address"]):
+            del before["address"]
+        return {what: (was, now[what]) for what, was in before.items() if was != now[what]}
+
+
+def label_of(one: Member | Elector) -> str:
+    return f"{one.name} ({shown_text(one.who)})" if one.who else one.name
 
 
 # the line if there is one, what is wrong with it, and the cure
@@ -136,9 +126,8 @@ def bad_list(file: object, reason: str, cure: str) -> Fault:
 
 
 def read_table(data: bytes, file: object) -> tuple[list[Row], str]:
-    """The rows of a table, from its head line on, blank ones too; and its delimiter, which is the one
-    that finds most heads in the first line that is not blank. A quotation mark after spaces begins a
-    cell, too.
+    """The rows of a table that are not blank, the head line first; and its delimiter, which is the one
+    that finds most heads in that line. A quotation mark after spaces begins a cell, too.
     """
     text = table_text(data, file)
     head_line = next((line for line in re.split(r"[\r\n]+", text) if line.strip(' \t,;"')), "")
@@ -157,11 +146,9 @@ def read_table(data: bytes, file: object) -> tuple[list[Row], str]:
     line = 1
     try:
         for cells in reader:
-            missing = len(rows[0].cells) - len(cells) if rows else 0
-            row = Row(line, cells + [""] * missing)
+            if any(map(str.strip, cells)):
+                rows.append((line, cells))
             line = reader.line_num + 1
-            if rows or not row.is_blank:
-                rows.append(row)
     except csv.Error as error:
         reason = f"the row that begins here is not a row of cells with a {DELIMITERS[delimiter]} between them ({error})"
         cure = "close each quotation mark, and put nothing between it and the delimiter"
@@ -197,32 +184,31 @@ def members_of(data: bytes, file: object) -> tuple[list[Member], list[Wrong]]:
     """The members as the table has them, and what is wrong with them. Raises `Fault` if it has not
     the right columns.
     """
-    (first, *rows), delimiter = read_table(data, file)
-    heads = [re.sub(r"[\W_]", "", alike(head)) for head in first.cells]
+    ((first_line, names), *rows), delimiter = read_table(data, file)
+    heads = [re.sub(r"[\W_]", "", alike(name)) for name in names]
     columns: dict[str, list[str]] = {}
     for column, choices in HEADS.items():
         free = {*heads}.difference(*columns.values())
         for words in map(str.split, choices.split(", ")):
             if free.issuperset(words):
                 columns.setdefault(column, words)
-    twice = [head for head in itertools.chain(*columns.values()) if heads.count(head) > 1]
     wrong: list[Wrong] = [
-        (first.line, f"the header line has the column `{head}` twice", "rename one of them")
-        for head in twice
+        (first_line, f"the header line has the column `{head}` twice", "rename one of them")
+        for head in itertools.chain(*columns.values())
+        if heads.count(head) > 1
     ]
     if missing := [f"`{column}`" for column in REQUIRED if column not in columns]:
-        has = ", ".join(f"`{shown_text(cell)}`" for cell in first.cells if cell.strip())
+        has = ", ".join(f"`{shown_text(name)}`" for name in names if name.strip())
         reason = f"the header line has no column {' and no column '.join(missing)}; it has {has or 'none'}"
         cure = "put the real names under `who` and the addresses under `mail`; a column `name`, with names on the roll, is optional"
-        wrong.append((first.line, reason, cure))
+        wrong.append((first_line, reason, cure))
     stop_at(faults_of(file, wrong))
     # up to the last column that has a head
     width = max(index for index, head in enumerate(heads, start=1) if head)
     members = []
-    for row in rows:
-        if not row.is_blank:
-            members.append(member_of(row.line, dict(zip(heads, row.cells)), columns))
-            wrong += wrong_row(row, members[-1], width, delimiter)
+    for line, cells in rows:
+        members.append(member_of(line, dict(zip(heads, cells)), columns))
+        wrong += wrong_row(cells, members[-1], width, delimiter)
     if not members:
         cure = "write a line for each member below the header line"
         wrong.append((None, "there is nobody on it", cure))
@@ -238,10 +224,10 @@ def faults_of(file: object, wrong: Iterable[Wrong]) -> list[Fault]:
 def member_of(
     line: int, by_head: Mapping[str, str], columns: Mapping[str, Sequence[str]]
 ) -> Member:
-    """The member of a line, from its cells, each on one line."""
+    """The member of a line, from its cells, each on one line; those that it lacks are empty."""
     cells = {}
     for column, heads in columns.items():
-        text = " ".join(by_head[head] for head in heads)
+        text = " ".join(by_head.get(head, "") for head in heads)
         cells[column] = unicodedata.normalize("NFC", " ".join(text.split()))
     addresses = IN_BRACKETS.findall(cells["mail"]) or BETWEEN_ADDRESSES.split(cells["mail"])
     each_once = dict.fromkeys(
@@ -251,22 +237,21 @@ def member_of(
     return Member(line, cells.get("name", ""), cells["who"], tuple(each_once), key)
 
 
-def wrong_row(row: Row, member: Member, width: int, delimiter: str) -> Iterator[Wrong]:
-    line, first = row.line, next(cell for cell in map(str.strip, row.cells) if cell)
+def wrong_row(cells: Sequence[str], member: Member, width: int, delimiter: str) -> Iterator[Wrong]:
+    line, first = member.line, next(filter(None, map(str.strip, cells)))
     if SUM.fullmatch(first.casefold()) and not any(map(ADDRESS.fullmatch, member.addresses)):
         yield line, f"`{shown_text(first)}` is a sum and no member", "take the line out"
         return
     for cell in (member.who, member.name, member.key, *member.addresses):
-        shown = shown_text(cell)
         if delimiter == "," and ";" in cell:
             cure = "put a comma between the cells of this line too, or take the semicolon out"
-            reason = f"`{shown}` has a semicolon, and the header line has commas between its cells"
+            reason = f"`{shown_text(cell)}` has a semicolon, and the header line has commas between its cells"
             yield line, reason, cure
         if LOST in cell:
-            reason = f"`{shown}` has lost a character when it was saved (U+FFFD)"
+            reason = f"`{shown_text(cell)}` has lost a character when it was saved (U+FFFD)"
             yield line, reason, "write the character again"
-    if beyond := [cell.strip() for cell in row.cells[width:] if cell.strip()]:
-        reason = f"`{shown_text(beyond[0])}` is after the last column of the header line"
+    if beyond := next(filter(None, map(str.strip, cells[width:])), None):
+        reason = f"`{shown_text(beyond)}` is after the last column of the header line"
         yield line, reason, "put quotation marks around a cell that contains the delimiter"
     if not member.who and not member.name:
         yield line, "it has no `who`", "write who it is, or take the line out"
@@ -294,15 +279,14 @@ def roll_of(
     """
     members, wrong = members_of(data, file)
     electors = with_proposals(with_known(members, known), known, language)
-    numbers = {elector.known.number for elector in electors if elector.known}
-    gone = [one for one in known if one.position is not None and one.number not in numbers]
+    found = {elector.known for elector in electors}
+    gone = [one for one in known if one.position is not None and one not in found]
     wrong += wrong_people(members, electors)
     if electors and is_called:
         wrong += wrong_after_call(electors, gone)
     stop_at(faults_of(file, wrong))
     if is_called:
-        order = {elector.number: index for index, elector in enumerate(known)}
-        electors.sort(key=lambda one: order[one.known.number] if one.known else len(order))
+        electors.sort(key=lambda one: (one.known and one.known.position) or 0)
     return Roll(electors, gone)
 
 
@@ -313,12 +297,11 @@ def with_known(rows: Sequence[Member], known: Sequence[Elector]) -> list[Member]
     found: dict[int, Elector] = {}
     last = [elector for elector in known if elector.position is not None]
     for what, candidates in itertools.product(("name", "who"), (last, known)):
-        form = operator.attrgetter(what)
-        taken = {elector.number for elector in found.values()}
-        rows_by_form = grouped((form(row), row) for row in rows if row.line not in found)
-        free = grouped((form(one), one) for one in candidates if one.number not in taken)
+        left = grouped((getattr(row, what), row) for row in rows if row.line not in found)
+        taken = {*found.values()}
+        free = grouped((getattr(one, what), one) for one in candidates if one not in taken)
         for text, electors in free.items():
-            fitting = rows_by_form.get(text, [])
+            fitting = left.get(text, [])
             if text and len(fitting) == len(electors) == 1:
                 found[fitting[0].line] = electors[0]
     return [
@@ -333,37 +316,32 @@ def with_proposals(
     electors: Sequence[Member], known: Sequence[Elector], language: str
 ) -> list[Member]:
     """Proposes a name for each who has none, from `who` or an address."""
-    wholes = {}
-    for elector in electors:
-        texts = [elector.who, *(address.partition("@")[0] for address in elector.addresses)]
-        proposals = filter(None, (elector_name(text, language) for text in texts))
-        if not elector.name and (whole := next(proposals, "")):
-            wholes[elector.line] = whole
+    proposed = []
+    for one in electors:
+        texts = [one.who, *(address.partition("@")[0] for address in one.addresses)]
+        wholes = (elector_name(text, language) for text in texts if not one.name)
+        proposed.append(one._replace(proposal=next(filter(None, wholes), "")))
     taken = [*(one.name for one in electors), *(one.name for one in known)]
-    bases = [whole[:ELECTOR_LIMIT].rstrip("-") for whole in wholes.values()]
-    names = dict(zip(wholes, made_different(bases, taken, ELECTOR_LIMIT, "-")))
-    return [
-        one._replace(name=names.get(one.line, one.name), proposal=wholes.get(one.line, ""))
-        for one in electors
-    ]
+    bases = [one.proposal[:ELECTOR_LIMIT].rstrip("-") for one in proposed if one.proposal]
+    names = iter(made_different(bases, taken, ELECTOR_LIMIT, "-"))
+    return [one._replace(name=next(names)) if one.proposal else one for one in proposed]
 
 
 def wrong_people(rows: Sequence[Member], electors: Sequence[Member]) -> Iterator[Wrong]:
     """Names that are missing, or not clearly of one person, and keys that several have."""
-    given = {row.line: row.name for row in rows}
-    by_who = grouped((one.who, one) for one in electors)
-    for who, group in by_who.items():
-        nameless = [elector.line for elector in group if not given[elector.line]]
-        if who and len(group) > 1 and nameless:
+    nameless = {row.line for row in rows if not row.name}
+    owners = {one.who: one for one in reversed(electors)}
+    for group in several((one.who, one) for one in electors).values():
+        if lines := [one.line for one in group if one.line in nameless]:
             reason = f"{lines_in_words(group)} have the same `who`: {shown_text(group[0].who)}"
             cure = (
                 "give each a name of their own under `name`, or take a line out if it is one person"
             )
-            yield nameless[0], reason, cure
+            yield lines[0], reason, cure
     for one in electors:
         known = one.known
         if known is not None and known.name == one.name and known.who not in ("", one.who):
-            for owner in by_who.get(known.who, [])[:1]:
+            if owner := owners.get(known.who):
                 whose = f"{shown_text(owner.who)} (line {owner.line})"
                 yield one.line, f"`{one.name}` is the name of {whose} already", "write another name"
         if not one.name and one.who:
@@ -388,12 +366,11 @@ def wrong_after_call(electors: Sequence[Member], gone: Sequence[Elector]) -> Ite
     }
     for words, people in others.items():
         if people:
-            labels = [f"{one.name} ({shown_text(one.who)})" for one in people]
-            yield None, f"{words}: {listed(labels, NAMED_LIMIT)}", cure
+            yield None, f"{words}: {listed(list(map(label_of, people)), NAMED_LIMIT)}", cure
     for elector in electors:
         for what, (before, _) in elector.changes.items():
             if what in ("name", "who"):
-                yield elector.line, f"{elector.label} was {shown_text(before)}", cure
+                yield elector.line, f"{label_of(elector)} was {shown_text(before)}", cure
 
 
 def lines_in_words(electors: Sequence[Member]) -> str:

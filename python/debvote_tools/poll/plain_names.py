@@ -95,14 +95,13 @@ def made_different(
     """A name for each base that looks like no other and like none that is taken. Equal bases all
     get a number: the bare name could be meant for any of them.
     """
-    used = set(map(alike, taken))
-    several = {form for form, count in collections.Counter(map(alike, bases)).items() if count > 1}
+    used, counts = set(map(alike, taken)), collections.Counter(map(alike, bases))
     # next to one who has the bare name already comes the second
-    numbers = {form: itertools.count(2 if form in used else 1) for form in {*map(alike, bases)}}
+    numbers = {form: itertools.count(2 if form in used else 1) for form in counts}
     names = []
     for base in bases:
         name, form = base, alike(base)
-        while alike(name) in used or (name == base and form in several):
+        while alike(name) in used or (name == base and counts[form] > 1):
             end = f"{joint}{next(numbers[form])}"
             name = base[: limit - len(end)].rstrip(" -") + end
         used.add(alike(name))

@@ -64,7 +64,7 @@ class Questions(dict[str, SealedPoll]):
     def line(self, name: str, rank: Callable[[int], str]) -> str:
         """A ballot, or the form of one, with a rank for each option, by its number."""
         answers = {
-            label: ",".join(rank(one.number) for one in poll.choices)
+            label: ",".join(map(rank, range(1, len(poll.names) + 1)))
             for label, poll in self.items()
         }
         return line_of(name, answers)

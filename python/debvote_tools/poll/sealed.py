@@ -9,7 +9,7 @@ import json
 import re
 import secrets
 from collections.abc import Sequence
-from typing import Any, NamedTuple
+from typing import Any
 
 from debvote_tools.cli.faults import Fault, Status
 from debvote_tools.files import sha256_of
@@ -20,16 +20,6 @@ KEYS = (
     "title options ratios default quorum wording roll last_envelope "
     "deadline address secret shown_title shown_options explanations"
 ).split()
-
-
-class Wording(NamedTuple):
-    """An option as the poll has it. The default option has no ratio and no text."""
-
-    number: int
-    name: str
-    plain: str
-    ratio: int | None
-    text: str
 
 
 @dataclasses.dataclass(frozen=True)
@@ -67,13 +57,6 @@ class SealedPoll:
     def names(self) -> tuple[str, ...]:
         """The names that people read, the default last."""
         return self.shown_options or self.plain_names
-
-    @functools.cached_property
-    def choices(self) -> list[Wording]:
-        """All options, the default last."""
-        texts = self.explanations or [""] * len(self.options)
-        rows = zip(self.names, self.plain_names, (*self.ratios, None), (*texts, ""))
-        return [Wording(number, *each) for number, each in enumerate(rows, start=1)]
 
     @property
     def name(self) -> str:

@@ -72,7 +72,7 @@ def main(program_folder: pathlib.Path, given: Sequence[str] | None = None) -> in
             filled = folder.filled(new.folder, {"": facts}, program_folder, is_forced=True)
             new.take_place(target_folder)
     except Fault as fault:
-        return console.failed(PROGRAM, fault.after((), "published").words, fault.status)
+        return console.failed(PROGRAM, fault.after("", "published").words, fault.status)
     except OSError as error:
         words = f"the folder can't be made ({error}): name a place where you can write"
         return console.failed(PROGRAM, words, Status.BAD_OUTPUT)

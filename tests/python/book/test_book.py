@@ -309,7 +309,7 @@ class Rewritten(BookTest):
         # the chain reads no index
         with contextlib.closing(sqlite3.connect(self.book)) as connection:
             chain.prepare(connection)
-            queries_of_all = map(chain.query_of_all, chain.line_of())
+            queries_of_all = map(chain.query_of, chain.line_of())
             plans = [connection.execute(f"EXPLAIN QUERY PLAN {words}").fetchall() for words in queries_of_all]
         self.assertEqual(len(plans), 10)
         for plan in plans:

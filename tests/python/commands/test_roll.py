@@ -68,6 +68,9 @@ class Roll(RollTest):
         self.assertEqual((self.on_roll(), "No longer on the list: zoe (Zoe)" in output), (["chair", "ben"], True))
         gone = "No longer on the list: chair (Anna Meier)\nNo longer on the list: ben (Ben)\n"
         self.assertIn(gone, self.roll("Cleo,c@club.example").output)
+        # of whom no real name is known
+        self.roll("x,,x@club.example", ",Cleo,c@club.example", head="name,who,mail")
+        self.assertIn("No longer on the list: x\n", self.roll("Cleo,c@club.example").output)
 
     def test_all_names_are_printed(self) -> None:
         self.roll(*(f"Elector {number},e{number}@club.example" for number in range(201)))

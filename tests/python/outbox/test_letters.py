@@ -9,6 +9,7 @@ import resource
 import shutil
 import stat
 
+from debvote_tools.files import write_whole
 from debvote_tools.inbox.lines import repaired_line
 from debvote_tools.outbox.letter_folder import in_place
 from debvote_tools.poll.questions import LONGEST_LINE
@@ -640,6 +641,10 @@ class FullDisk(OutTest):
         self.done("close", "--early")
         shutil.rmtree(self.folder / "letters")
         demand_named(self.folder.resolve(), "publish")
+        # nor that file, if it can't be made
+        with self.assertRaises(OSError) as raised:
+            write_whole(self.folder / "gone" / "closed.txt", b"", 0o600)
+        self.assertEqual(raised.exception.filename, str(self.folder / "gone" / "closed.txt"))
 
     def test_it_loses_no_receipt(self) -> None:
         """The calls are those that write into the folder and the book; some come in each run, and the disk is full at each of them."""
