@@ -117,10 +117,9 @@ class ReadLine:
     number: int
     # of several answers the other lines that they are on
     more: tuple[int, ...] = ()
-    # whose ballot: a name on the roll; or those whose name on the roll, or real name, may be meant
+    # whose ballot: a name on the roll; and those who may be meant by its name, as people write it
     elector: str = ""
-    on_roll: tuple[str, ...] = ()
-    real: tuple[str, ...] = ()
+    meant: tuple[str, ...] = ()
     # its ranks, and debvote's answer; None if they are valid
     ranks: str = ""
     answer: str | None = None
@@ -136,11 +135,6 @@ class ReadLine:
     def reads_as_ballot(self) -> bool:
         """Whether it is a ballot by itself, valid or not, if somebody is known by its name."""
         return bool(self.ranks) and self.offered_for is None
-
-    @property
-    def meant(self) -> set[str]:
-        """Those who may be meant by its name, as people write it."""
-        return {*self.on_roll, *self.real}
 
     @property
     def as_ballot(self) -> BallotLine:
@@ -264,11 +258,10 @@ def read_text(number: int, text: str, why: Reason | None, names: Names) -> ReadL
     why it is none by itself.
     """
     name, _, ranks = text.partition(" ")
-    if RANKS_ALONE.fullmatch(ranks) and (elector := names.on_roll(name)):
-        return ReadLine(number, elector=elector, ranks=ranks, offered_for=why)
-    named = names.taken_apart(text)
-    if named is not None and len(unicodedata.normalize("NFKC", named[0])) <= MAX_NAME:
-        return with_electors(ReadLine(number, ranks=named[1], offered_for=why), named[0], names)
+    if not (RANKS_ALONE.fullmatch(ranks) and names.on_roll(name)):
+        name, ranks = names.taken_apart(text) or ("", "")
+    if name and len(unicodedata.normalize("NFKC", name)) <= MAX_NAME:
+        return with_electors(ReadLine(number, ranks=ranks, offered_for=why), name, names)
     if "," in text and RANKS_ALONE.fullmatch(text):
         return ReadLine(number, ranks=text, offered_for=why_alone(why))
     return None
@@ -276,10 +269,8 @@ def read_text(number: int, text: str, why: Reason | None, names: Names) -> ReadL
 
 def with_electors(line: ReadLine, name: str, names: Names) -> ReadLine | None:
     """A line with those who are known by its name, as people write it; None if nobody is."""
-    folds, by_name = sorted(names.folds(name)), names.electors_by_real_name
-    on_roll = tuple(fold for fold in folds if fold in names.roll)
-    real = tuple(elector for fold in folds for elector in by_name.get(fold, ()))
-    return dataclasses.replace(line, on_roll=on_roll, real=real) if on_roll or real else None
+    meant = tuple(names.meant_by(name))
+    return dataclasses.replace(line, elector=names.on_roll(name), meant=meant) if meant else None
 
 
 def why_alone(why: Reason | None) -> Reason:
@@ -331,11 +322,9 @@ def read_written(one: Written, names: Names) -> ReadLine | None:
     number, *more = one.numbers
     why = one.why if one.name else why_alone(one.why)
     read = ReadLine(number, tuple(more), ranks=answers_text(one.answers), offered_for=why)
-    if not one.name or one.may_be_longer:
-        return None if one.name else read
-    if elector := names.on_roll(one.name):
-        return dataclasses.replace(read, elector=elector)
-    return with_electors(read, one.name, names)
+    if not one.name:
+        return read
+    return None if one.may_be_longer else with_electors(read, one.name, names)
 
 
 def read_filled(lines: Sequence[tuple[int, str]], names: Names) -> list[ReadLine]:
