@@ -68,7 +68,7 @@ class DebvoteReader:
         text = subprocess.run(words, input=b"".join(line + b"\n" for line in lines), capture_output=True, check=False).stdout.decode("ascii")
         os.close(handle)
         findings = findings_in(text)
-        assert findings.lines == len(lines), text
+        assert text.splitlines()[-1].startswith(f"{len(lines)} lines: "), text
         found: dict[bytes, str | None] = dict.fromkeys(lines)
         for finding in findings.refused:
             found[lines[finding.line - 1]] = f"{finding.word}: {finding._replace(remark='').hint}"

@@ -5,7 +5,7 @@ import dataclasses
 import itertools
 import operator
 import re
-from collections.abc import Iterable, Iterator, Mapping, Sequence
+from collections.abc import Iterator, Mapping, Sequence
 
 from debvote_tools.cli.arguments import demand_reason, flag, given, has_reason, positional
 from debvote_tools.book import queries
@@ -30,7 +30,7 @@ FORCE = "add it anyway with --force"
 # how many lines are shown that are no ballots, and how many that came before and no longer count
 MAX_REFUSED, MAX_REPEATED = 10, 20
 
-is_ballot = operator.attrgetter("is_ballot")
+is_ballot, AS_ENTERED = operator.attrgetter("is_ballot"), operator.attrgetter("as_entered")
 
 # the heads of a list of members
 MEMBERS_HEADS = {"who", "mail"}
@@ -226,49 +226,42 @@ def compared_with_book(
         return [ComparedLines(**vars(files[0]), new=files[0].lines, repeated=())]
     before = queries.came_in_files(book) if is_known else {}
     counting = queries.counting_envelopes(book) if is_known else {}
-    copies = [list(copies_of(file.lines, before)) for file in files]
-    own = {envelope.number for lines in copies for _, _, envelope in lines if envelope}
+    own = {
+        envelope.number
+        for file in files
+        for line, copies in collections.Counter(map(AS_ENTERED, file.lines)).items()
+        for envelope in before.get(line, ())[:copies]
+    }
     # what counts now; a later line of these files did not come since
     since = {answered: now for answered, now in counting.items() if now[0] not in own}
-    going_in, found = set[bytes](), []
-    for file, lines in zip(files, copies):
-        new = [line for line, nth, _ in lines if nth > copies_before[line.as_entered]]
-        repeated = [
-            (
-                line,
-                None if line.as_entered in going_in else change_since(line, came, since, history),
-            )
-            for line, nth, came in lines
-            if nth <= copies_before[line.as_entered]
-        ]
-        copies_before.update(line.as_entered for line in new)
-        going_in.update(line.as_entered for line in new)
+    found = list[ComparedLines]()
+    for file in files:
+        so_far, new, repeated = collections.Counter[bytes](), [], []
+        for line in file.lines:
+            nth, copies = so_far[line.as_entered], copies_before[line.as_entered]
+            so_far[line.as_entered] += 1
+            if nth >= copies:
+                new.append(line)
+                continue
+            # one of which a copy goes in now, too, counts
+            its = before.get(line.as_entered, ())
+            is_changed = len(its) == copies
+            change = change_since(line, its[nth], since, history) if is_changed else None
+            repeated.append((line, change))
+        copies_before.update(map(AS_ENTERED, new))
         found.append(ComparedLines(**vars(file), new=new, repeated=repeated))
     return found
 
 
-def copies_of(
-    lines: Iterable[CheckedLine], before: Mapping[bytes, Sequence[Envelope]]
-) -> Iterator[tuple[CheckedLine, int, Envelope | None]]:
-    """Each line with its number among its copies, and with its envelope if it came before."""
-    so_far: collections.Counter[bytes] = collections.Counter()
-    for line in lines:
-        so_far[line.as_entered] += 1
-        nth, envelopes = so_far[line.as_entered], before.get(line.as_entered, ())
-        yield line, nth, envelopes[nth - 1] if nth <= len(envelopes) else None
-
-
 def change_since(
     line: CheckedLine,
-    came: Envelope | None,
+    came: Envelope,
     since: Mapping[tuple[int, str], tuple[int, bytes]],
     history: History,
 ) -> str | None:
     """Why a line that came in an envelope no longer counts, by what came `since` and counts, by elector
     and label; None if it does, or the same ballot does.
     """
-    if came is None:
-        return None
     for label, became in came.by_question.items():
         own = part_of(line.as_entered, label)
         number, part = since.get((came.elector or 0, label), (0, own))
