@@ -58,7 +58,7 @@ def add(election: Election, arguments: Arguments) -> None:
     vote = Vote(election)
     if arguments.box and arguments.files:
         raise bad_words("--box", "it takes no file", "add files by a command of their own")
-    letters, files = ({}, []) if arguments.box else read_files(election, arguments.files)
+    letters, files = ([], []) if arguments.box else read_files(election, arguments.files)
     if files:
         take_lines(vote, files, arguments)
         return
@@ -68,8 +68,9 @@ def add(election: Election, arguments: Arguments) -> None:
     # what reads letters takes a while to be imported
     from debvote_tools.inbox.taking import take_letters
 
-    of_box, is_look, is_agreed = arguments.box, arguments.look, arguments.yes
-    take_letters(vote, letters, of_box=of_box, is_look=is_look, is_agreed=is_agreed)
+    take_letters(
+        vote, letters, of_box=arguments.box, is_look=arguments.look, is_agreed=arguments.yes
+    )
 
 
 # ---- lines
@@ -157,10 +158,20 @@ def what_is_added(vote: Vote, files: Sequence[FileLines], arguments: Arguments) 
         nothing = "There is nothing new, and nothing was added."
         shown = [*report_of_files(vote, new, (), ()), nothing]
         return Addition("add", {}, shown=shown, is_nothing=True, vote=vote, files=files, new=new)
+    detail: Detail = {
+        "files": [file.file.kept_name for file in new.files],
+        "lines": len(new.lines),
+        "passed_over": sum(len(file.repeated) for file in new.files),
+    }
     came_before_close = entering.came_before_close(new.history, arguments.came_before_close)
+    if came_before_close is not None:
+        detail["came_before_close"] = came_before_close
+    if vote.is_signed:
+        detail["unsigned"] = True
+        detail["because"] = demand_reason(arguments.because, "--force")
     return Addition(
         "add",
-        detail_of_act(vote, new, arguments, came_before_close),
+        detail,
         vote=vote,
         is_late=new.history.is_late(came_before_close),
         files=files,
@@ -270,22 +281,6 @@ def change_since(
     if came.is_struck or (came.became == "late" and history.is_reopened):
         return f"was {came.became} (envelope {came.number})"
     return None
-
-
-def detail_of_act(
-    vote: Vote, new: NewLines, arguments: Arguments, came_before_close: bool | None
-) -> Detail:
-    detail: Detail = {
-        "files": [file.file.kept_name for file in new.files],
-        "lines": len(new.lines),
-        "passed_over": sum(len(file.repeated) for file in new.files),
-    }
-    if came_before_close is not None:
-        detail["came_before_close"] = came_before_close
-    if vote.is_signed:
-        detail["unsigned"] = True
-        detail["because"] = demand_reason(arguments.because, "--force")
-    return detail
 
 
 def look(vote: Vote, files: Sequence[FileLines], arguments: Arguments) -> None:
