@@ -95,10 +95,11 @@ def more_words(letter: LetterCase) -> list[str]:
 # ---- what waits
 def table(letters: Sequence[LetterCase]) -> Iterator[str]:
     """Letters that wait: a line for each, and below it why."""
+    if not letters:
+        return
     rows = [(arrival_of(letter), sender_of(letter)) for letter in letters]
-    times, senders = (max(map(len, column)) for column in zip(*rows or [("", "")]))
-    if letters:
-        yield f"letter  {'arrived':{times}}  {'from':{senders}}  subject"
+    times, senders = (max(map(len, column)) for column in zip(*rows))
+    yield f"letter  {'arrived':{times}}  {'from':{senders}}  subject"
     for letter, (time, sender) in zip(letters, rows):
         subject = shown_text(letter.read.subject) or "(no subject)"
         yield f"{letter.number or 'new':>6}  {time:{times}}  {sender:{senders}}  {subject}"
