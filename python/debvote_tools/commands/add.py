@@ -358,13 +358,13 @@ def under_other_names(vote: Vote, files: Sequence[FileLines]) -> Iterator[Fault]
 def new_one_above(file: ComparedLines) -> tuple[CheckedLine, CheckedLine] | None:
     """A new ballot, and one of its elector below it that came before, which it would replace."""
     new = {line.original.number for line in file.new} if file.repeated else set()
-    above: dict[tuple[str, str], tuple[str, CheckedLine]] = {}
+    above = dict[tuple[str, str], CheckedLine]()
     for line in filter(is_ballot, file.lines if new else ()):
         for label, ranks in line.answers.items():
-            last, ballot = above.get((line.voter, label), (ranks, line))
+            ballot = above.get((line.voter, label), line)
             if line.original.number in new:
-                above[line.voter, label] = ranks, line
-            elif last != ranks:
+                above[line.voter, label] = line
+            elif ballot.answers[label] != ranks:
                 return ballot, line
     return None
 

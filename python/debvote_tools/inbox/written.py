@@ -77,12 +77,13 @@ def may_answer_question(line: str, names: Names) -> bool:
     """Whether a line may be an answer, or has one, however it is written. Strokes of our letter may be
     in the place of blanks.
     """
-    return any(has_answer(line.replace(GAP, blank), names) for blank in ("", " "))
-
-
-def has_answer(text: str, names: Names) -> bool:
-    is_one = TWO_RANKS.search(text) or labelled(text, names, BEGINS, LABEL_WITHIN, LABEL_AT_THE_END)
-    return bool(is_one) or begins_with_word(text, names) or names.with_ranks(text) != text
+    return any(
+        TWO_RANKS.search(text)
+        or labelled(text, names, BEGINS, LABEL_WITHIN, LABEL_AT_THE_END)
+        or begins_with_word(text, names)
+        or names.with_ranks(text) != text
+        for text in {line.replace(GAP, blank) for blank in ("", " ")}
+    )
 
 
 def begins_with_word(text: str, names: Names) -> bool:
