@@ -43,16 +43,14 @@ class Finding(NamedTuple):
 
 
 class Findings(NamedTuple):
-    """What `explain` says of each refused line, and the numbers of its last line; and whether the
-    lines look like a table. To debvote a line is late after the poll's `last_envelope`, which no
+    """What `explain` says of each refused line, how many electors have a ballot, and whether the lines
+    look like a table. To debvote a line is late after the poll's `last_envelope`, which no
     poll of an election has.
     """
 
     refused: list[Finding]
-    lines: int = 0
-    valid: int = 0
-    voters: int = 0
-    are_table: bool = False
+    voters: int
+    are_table: bool
 
 
 class Debvote:
@@ -129,7 +127,7 @@ FINDING = re.compile(
     r"(?:(\S+ is not on the roll); did you mean (\S+(?: or \S+)*)\?(.*)|(.*))$"
 )
 TOTALS = re.compile(
-    r"(\d+) lines: (\d+) valid, \d+ refused, \d+ of them late; (\d+) of \d+ electors have a ballot"
+    r"\d+ lines: \d+ valid, \d+ refused, \d+ of them late; (\d+) of \d+ electors have a ballot"
     "; refused lines count for nothing"
 )
 TABLE = "the lines look like a table; its columns may stand in another order than the options"
@@ -144,8 +142,7 @@ def findings_in(text: str) -> Findings:
         Finding(int(number), word, unknown or said, tuple(filter(None, near.split(" or "))), remark)
         for number, word, unknown, near, remark, said in FINDING.findall(text)
     ]
-    count, valid, voters = map(int, totals.groups())
-    return Findings(refused, count, valid, voters, TABLE in lines)
+    return Findings(refused, int(totals[1]), TABLE in lines)
 
 
 def standing_in(text: str) -> dict[str, str]:

@@ -15,6 +15,7 @@ from debvote_tools.debvote import findings_in
 from debvote_tools.inbox.judging import Ballot, BallotsByElector, judge_all
 from debvote_tools.inbox.letter import ParsedLetter, parse
 from debvote_tools.inbox.letter_lines import Names, ReadLetter, from_json, to_json, with_lines
+from debvote_tools.inbox.lines import repaired_but_for_name, with_small_name
 from debvote_tools.inbox.mailbox import NotRead, RawLetter
 from debvote_tools.inbox.reasons import ReasonWithValues, for_secretary
 from debvote_tools.inbox.rules import NOT_KEPT, Circumstances, LetterCase, LetterOutcome
@@ -68,11 +69,16 @@ class DebvoteReader:
         text = subprocess.run(words, input=b"".join(line + b"\n" for line in lines), capture_output=True, check=False).stdout.decode("ascii")
         os.close(handle)
         findings = findings_in(text)
-        assert findings.lines == len(lines), text
+        assert text.splitlines()[-1].startswith(f"{len(lines)} lines: "), text
         found: dict[bytes, str | None] = dict.fromkeys(lines)
         for finding in findings.refused:
             found[lines[finding.line - 1]] = f"{finding.word}: {finding._replace(remark='').hint}"
         return found
+
+
+def repaired_line(line: bytes) -> bytes:
+    """A line with the repairs that are allowed."""
+    return with_small_name(repaired_but_for_name(line, LONGEST_LINE))
 
 
 def names(**other: object) -> Names:

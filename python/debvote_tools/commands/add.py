@@ -5,7 +5,7 @@ import dataclasses
 import itertools
 import operator
 import re
-from collections.abc import Iterable, Iterator, Mapping, Sequence
+from collections.abc import Iterator, Mapping, Sequence
 
 from debvote_tools.cli.arguments import demand_reason, flag, given, has_reason, positional
 from debvote_tools.book import queries
@@ -30,7 +30,7 @@ FORCE = "add it anyway with --force"
 # how many lines are shown that are no ballots, and how many that came before and no longer count
 MAX_REFUSED, MAX_REPEATED = 10, 20
 
-is_ballot = operator.attrgetter("is_ballot")
+is_ballot, AS_ENTERED = operator.attrgetter("is_ballot"), operator.attrgetter("as_entered")
 
 # the heads of a list of members
 MEMBERS_HEADS = {"who", "mail"}
@@ -58,7 +58,7 @@ def add(election: Election, arguments: Arguments) -> None:
     vote = Vote(election)
     if arguments.box and arguments.files:
         raise bad_words("--box", "it takes no file", "add files by a command of their own")
-    letters, files = ({}, []) if arguments.box else read_files(election, arguments.files)
+    letters, files = ([], []) if arguments.box else read_files(election, arguments.files)
     if files:
         take_lines(vote, files, arguments)
         return
@@ -68,8 +68,9 @@ def add(election: Election, arguments: Arguments) -> None:
     # what reads letters takes a while to be imported
     from debvote_tools.inbox.taking import take_letters
 
-    of_box, is_look, is_agreed = arguments.box, arguments.look, arguments.yes
-    take_letters(vote, letters, of_box=of_box, is_look=is_look, is_agreed=is_agreed)
+    take_letters(
+        vote, letters, of_box=arguments.box, is_look=arguments.look, is_agreed=arguments.yes
+    )
 
 
 # ---- lines
@@ -157,10 +158,20 @@ def what_is_added(vote: Vote, files: Sequence[FileLines], arguments: Arguments) 
         nothing = "There is nothing new, and nothing was added."
         shown = [*report_of_files(vote, new, (), ()), nothing]
         return Addition("add", {}, shown=shown, is_nothing=True, vote=vote, files=files, new=new)
+    detail: Detail = {
+        "files": [file.file.kept_name for file in new.files],
+        "lines": len(new.lines),
+        "passed_over": sum(len(file.repeated) for file in new.files),
+    }
     came_before_close = entering.came_before_close(new.history, arguments.came_before_close)
+    if came_before_close is not None:
+        detail["came_before_close"] = came_before_close
+    if vote.is_signed:
+        detail["unsigned"] = True
+        detail["because"] = demand_reason(arguments.because, "--force")
     return Addition(
         "add",
-        detail_of_act(vote, new, arguments, came_before_close),
+        detail,
         vote=vote,
         is_late=new.history.is_late(came_before_close),
         files=files,
@@ -226,49 +237,42 @@ def compared_with_book(
         return [ComparedLines(**vars(files[0]), new=files[0].lines, repeated=())]
     before = queries.came_in_files(book) if is_known else {}
     counting = queries.counting_envelopes(book) if is_known else {}
-    copies = [list(copies_of(file.lines, before)) for file in files]
-    own = {envelope.number for lines in copies for _, _, envelope in lines if envelope}
+    own = {
+        envelope.number
+        for file in files
+        for line, copies in collections.Counter(map(AS_ENTERED, file.lines)).items()
+        for envelope in before.get(line, ())[:copies]
+    }
     # what counts now; a later line of these files did not come since
     since = {answered: now for answered, now in counting.items() if now[0] not in own}
-    going_in, found = set[bytes](), []
-    for file, lines in zip(files, copies):
-        new = [line for line, nth, _ in lines if nth > copies_before[line.as_entered]]
-        repeated = [
-            (
-                line,
-                None if line.as_entered in going_in else change_since(line, came, since, history),
-            )
-            for line, nth, came in lines
-            if nth <= copies_before[line.as_entered]
-        ]
-        copies_before.update(line.as_entered for line in new)
-        going_in.update(line.as_entered for line in new)
+    found = list[ComparedLines]()
+    for file in files:
+        so_far, new, repeated = collections.Counter[bytes](), [], []
+        for line in file.lines:
+            nth, copies = so_far[line.as_entered], copies_before[line.as_entered]
+            so_far[line.as_entered] += 1
+            if nth >= copies:
+                new.append(line)
+                continue
+            # one of which a copy goes in now, too, counts
+            its = before.get(line.as_entered, ())
+            is_changed = len(its) == copies
+            change = change_since(line, its[nth], since, history) if is_changed else None
+            repeated.append((line, change))
+        copies_before.update(map(AS_ENTERED, new))
         found.append(ComparedLines(**vars(file), new=new, repeated=repeated))
     return found
 
 
-def copies_of(
-    lines: Iterable[CheckedLine], before: Mapping[bytes, Sequence[Envelope]]
-) -> Iterator[tuple[CheckedLine, int, Envelope | None]]:
-    """Each line with its number among its copies, and with its envelope if it came before."""
-    so_far: collections.Counter[bytes] = collections.Counter()
-    for line in lines:
-        so_far[line.as_entered] += 1
-        nth, envelopes = so_far[line.as_entered], before.get(line.as_entered, ())
-        yield line, nth, envelopes[nth - 1] if nth <= len(envelopes) else None
-
-
 def change_since(
     line: CheckedLine,
-    came: Envelope | None,
+    came: Envelope,
     since: Mapping[tuple[int, str], tuple[int, bytes]],
     history: History,
 ) -> str | None:
     """Why a line that came in an envelope no longer counts, by what came `since` and counts, by elector
     and label; None if it does, or the same ballot does.
     """
-    if came is None:
-        return None
     for label, became in came.by_question.items():
         own = part_of(line.as_entered, label)
         number, part = since.get((came.elector or 0, label), (0, own))
@@ -277,22 +281,6 @@ def change_since(
     if came.is_struck or (came.became == "late" and history.is_reopened):
         return f"was {came.became} (envelope {came.number})"
     return None
-
-
-def detail_of_act(
-    vote: Vote, new: NewLines, arguments: Arguments, came_before_close: bool | None
-) -> Detail:
-    detail: Detail = {
-        "files": [file.file.kept_name for file in new.files],
-        "lines": len(new.lines),
-        "passed_over": sum(len(file.repeated) for file in new.files),
-    }
-    if came_before_close is not None:
-        detail["came_before_close"] = came_before_close
-    if vote.is_signed:
-        detail["unsigned"] = True
-        detail["because"] = demand_reason(arguments.because, "--force")
-    return detail
 
 
 def look(vote: Vote, files: Sequence[FileLines], arguments: Arguments) -> None:
@@ -370,13 +358,13 @@ def under_other_names(vote: Vote, files: Sequence[FileLines]) -> Iterator[Fault]
 def new_one_above(file: ComparedLines) -> tuple[CheckedLine, CheckedLine] | None:
     """A new ballot, and one of its elector below it that came before, which it would replace."""
     new = {line.original.number for line in file.new} if file.repeated else set()
-    above: dict[tuple[str, str], tuple[str, CheckedLine]] = {}
+    above = dict[tuple[str, str], CheckedLine]()
     for line in filter(is_ballot, file.lines if new else ()):
         for label, ranks in line.answers.items():
-            last, ballot = above.get((line.voter, label), (ranks, line))
+            ballot = above.get((line.voter, label), line)
             if line.original.number in new:
-                above[line.voter, label] = ranks, line
-            elif last != ranks:
+                above[line.voter, label] = line
+            elif ballot.answers[label] != ranks:
                 return ballot, line
     return None
 

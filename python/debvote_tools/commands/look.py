@@ -243,7 +243,7 @@ def fate_words(vote: Vote, history: History, fate: Fate) -> Iterator[str]:
         else:
             yield f"{letter_words.who_and_when(letter)}: {letter_words.why(letter)}"
     if envelope is not None:
-        said = vote.answers_in_words(fate.answers) if fate.answers else refused_line(vote, fate)
+        said = vote.answers_in_words(fate.answers) or refused_line(vote, envelope)
         marks = ["late"] if envelope.is_late else []
         marks += [f"{label} replaced" for label in fate.replaced]
         if envelope.struck is not None:
@@ -255,10 +255,9 @@ def fate_words(vote: Vote, history: History, fate: Fate) -> Iterator[str]:
         yield f"envelope {envelope.number}, {act_time(envelope.time)}: {said}{marked}"
 
 
-def refused_line(vote: Vote, fate: Fate) -> str:
-    line = b"" if fate.envelope is None else fate.envelope.line
-    is_code = has_code(line.decode("utf-8", "replace")) and not vote.has_codes
-    return f"{shown_line(line)}: {fate.why_refused}{IS_CODE if is_code else ''}"
+def refused_line(vote: Vote, envelope: Envelope) -> str:
+    is_code = has_code(envelope.line.decode("utf-8", "replace")) and not vote.has_codes
+    return f"{shown_line(envelope.line)}: {envelope.why_refused}{IS_CODE if is_code else ''}"
 
 
 # ---- log, export and backup
@@ -322,11 +321,9 @@ def export(election: Election, arguments: ExportArguments) -> None:
 def exported(book: Book, questions: Questions) -> dict[str, bytes]:
     files = dict[str, bytes]()
     with book.snapshot():
-        for label, poll in questions.items():
-            files[place_of(label, "poll.toml")] = poll.as_bytes()
-            with book.question(label):
-                ballots = ballot_file(queries.lines_to_count(book))
-            files[place_of(label, "ballots.txt")] = ballots
+        for label in queries.each_question_alone(book):
+            files[place_of(label, "poll.toml")] = questions[label].as_bytes()
+            files[place_of(label, "ballots.txt")] = ballot_file(queries.lines_to_count(book))
         files["ballots.txt"] = ballot_file(queries.lines_to_count(book))
         files["late.txt"] = ballot_file(queries.lines(book, queries.LATE))
         # what came has its number before its name, which is no path and has no characters that a
@@ -350,13 +347,10 @@ def backup(election: Election, arguments: BackupArguments) -> None:
 
 def demand_new(election: Election, target: pathlib.Path, what: str) -> None:
     """Stops if there is something, or a folder for others above it."""
-    words, cure, place = "it exists already", f"name a new {what}", target.absolute().resolve()
+    place, nothing = target.absolute().resolve(), "nothing was written"
     for name in (CALL, LETTERS, RESULT, PRIVATE):
         if place.is_relative_to(election.path(name).absolute().resolve()):
             words = f"it would be in the folder {name}, whose files go to others"
-            cure = "name a place outside that folder"
-            break
-    else:
-        if not os.path.lexists(target):
-            return
-    raise bad_words(target, words, cure, "nothing was written")
+            raise bad_words(target, words, "name a place outside that folder", nothing)
+    if os.path.lexists(target):
+        raise bad_words(target, "it exists already", f"name a new {what}", nothing)

@@ -17,6 +17,7 @@ from debvote_tools.book.book import Detail
 from debvote_tools.book.election import BOX_KEY
 from debvote_tools.cli.console import count_of, shown_text
 from debvote_tools.cli.faults import Fault, bad_words
+from debvote_tools.grouping import grouped
 from debvote_tools.inbox.asked import has_list_of_now, last_box
 from debvote_tools.inbox.mailbox import BEGIN, RawLetter
 from debvote_tools.inbox.vote import Vote
@@ -212,9 +213,7 @@ def records_in(vote: Vote, asked: Asked, before: Detail, key: bytes) -> tuple[li
     """The records as letters, and how many there are beside them. Between two askings the clock was
     off by as much as in the one where it was off by more.
     """
-    owns = collections.defaultdict(list)
-    for own, name in queries.own_marks(vote.book).items():
-        owns[name].append(own)
+    owns = grouped((name, own) for own, name in queries.own_marks(vote.book).items())
     behind = max(asked.behind, before.get("behind", 0), key=abs)
     off = behind if abs(behind) > MOST_OFF else 0
     earlier = datetime.datetime.fromisoformat(before["time"]) if before else None
@@ -224,7 +223,8 @@ def records_in(vote: Vote, asked: Asked, before: Detail, key: bytes) -> tuple[li
         if (found := RECORD.fullmatch(part + END)) is None:
             continue
         data, link, name = found[1], found[2].decode(), found[3].decode()
-        whose = link if any(link == third_part(key, name, own) for own in owns[name]) else name
+        links = (third_part(key, name, own) for own in owns.get(name, ()))
+        whose = link if link in links else name
         counts[whose] += 1
         if name in vote.names.roll and counts[whose] <= MOST:
             where = f"box, record {len(letters) + 1}"

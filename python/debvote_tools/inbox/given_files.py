@@ -1,8 +1,7 @@
-"""What `add` is given: files and standard input, each read once and whole, and folders of letters,
-which `taking.py` reads.
-"""
+"""What `add` is given: files and standard input, each read once and whole, and folders of letters."""
 
 import codecs
+import itertools
 import os
 import pathlib
 import re
@@ -14,7 +13,14 @@ from debvote_tools.book.election import Election
 from debvote_tools.cli.console import tell
 from debvote_tools.cli.faults import Fault, bad_words, kept_in, stop_at
 from debvote_tools.files import BALLOTS_LIMIT, PACKED, PDF, kind_of
-from debvote_tools.inbox.mailbox import NotRead, are_letters, kind_not_read
+from debvote_tools.inbox.mailbox import (
+    NotRead,
+    RawLetter,
+    are_letters,
+    kind_not_read,
+    letters_of_file,
+    letters_of_folder,
+)
 from debvote_tools.inbox.entering import bad_ballots
 from debvote_tools.poll.sealed import REQUIRED
 
@@ -53,24 +59,19 @@ def has_letters(file: GivenFile) -> bool:
     return are_letters(file.data) or kind_not_read(file.data) in of_outlook
 
 
-# letters, by their paths; of a folder nothing was read yet, and all that is in it are letters
-GivenLetters = dict[str, GivenFile | pathlib.Path]
-
-
-def read_files(election: Election, paths: Sequence[str]) -> tuple[GivenLetters, list[GivenFile]]:
-    """The letters that these paths name, or the files of lines. Stops at a file that has neither ballots
-    nor letters, and at letters beside files of lines.
+def read_files(election: Election, paths: Sequence[str]) -> tuple[list[RawLetter], list[GivenFile]]:
+    """The letters that these paths name, and what is passed over; or the files of lines. Stops at a file
+    that has neither ballots nor letters, and at letters beside files of lines.
     """
-    letters: GivenLetters = {}
+    letters = dict[str, list[RawLetter]]()
     files = dict[str, GivenFile]()
     faults = list[Fault]()
     for path in paths or [HYPHEN]:
-        if path != HYPHEN and os.path.isdir(path):
-            letters[path] = pathlib.Path(path)
-            continue
         with kept_in(faults):
-            if has_letters(file := read_file(election, path)):
-                letters[path] = file
+            if path != HYPHEN and os.path.isdir(path):
+                letters[path] = read_folder(path)
+            elif has_letters(file := read_file(election, path)):
+                letters[path] = letters_of_file(safe(file.name), file.data)
             else:
                 demand_lines(file)
                 files[path] = file
@@ -80,7 +81,16 @@ def read_files(election: Election, paths: Sequence[str]) -> tuple[GivenLetters, 
         words = "it has letters, and the other files have none"
         cure = "add letters and other files with separate commands"
         raise bad_words(names, words, cure)
-    return letters, [*files.values()]
+    return [*itertools.chain(*letters.values())], [*files.values()]
+
+
+def read_folder(path: str) -> list[RawLetter]:
+    """The letters of a folder: all that is in it are letters."""
+    try:
+        return letters_of_folder(pathlib.Path(path))
+    except OSError as error:
+        cure = "name letters that you may read"
+        raise bad_ballots(path, error.strerror, cure) from None
 
 
 def read_file(election: Election, path: str) -> GivenFile:

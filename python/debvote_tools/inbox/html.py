@@ -134,7 +134,7 @@ class HtmlText:
         # programs show it that do not know `pre`
         self.is_begun, self.flat = False, list[str]()
 
-    def found_other(self, name: str, *, may_be_below: bool) -> None:
+    def found_other(self, name: str, *, may_be_below: bool = False) -> None:
         if not self.first_other:
             self.first_other, self.plain_lines = name, len(self.lines)
         if not may_be_below:
@@ -145,7 +145,7 @@ class HtmlText:
             may_be_below = tag in BELOW and are_plain(given, BELOW_ATTRIBUTES, BELOW_STYLES)
             self.found_other(f"{tag}{given}", may_be_below=may_be_below)
         if tag == "title" and (self.lines or self.parts):
-            self.found_other(tag, may_be_below=False)
+            self.found_other(tag)
         if tag in HOLDING:
             self.holder = tag
         if tag in ("br", "hr"):
@@ -185,7 +185,7 @@ class HtmlText:
     def read_declaration(self, text: str) -> None:
         """Reads a comment, a declaration, or a tag within a title. Some programs show a comment."""
         if not DOCTYPE.fullmatch(text) or self.lines or self.parts:
-            self.found_other(text, may_be_below=False)
+            self.found_other(text)
         self.pieces += re.split(r"(?:[\n\r<>]|!?--|!)+", unescaped(text))
 
     def read_text(self, text: str) -> None:
@@ -197,7 +197,7 @@ class HtmlText:
         if text == "<" or ODD_CHARACTERS.search(shown) or is_turned:
             self.found_other(text, may_be_below=True)
         if self.open and self.open[-1] in TABLE and shown.strip():
-            self.found_other(text, may_be_below=False)
+            self.found_other(text)
         self.pieces += [f"{self.quotation}{line}" for line in shown.splitlines()]
         if self.holder:
             return

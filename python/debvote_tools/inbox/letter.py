@@ -314,16 +314,18 @@ def body_of(letter: Part) -> Body:
     if not first.is_shown or not (first.kind == "text/plain" or is_html_alone):
         first.note_trouble(Reason.NO_PLAIN_TEXT())
     read = [text_of(part, is_first=part is first) for part in texts]
-    text, pieces = read[0] if read else (Body(), [])
+    text = read[0] if read else Body()
     # no program shows text around the parts, but it may be a letter that the mailbox did not
     # separate; so may text below an encoded one
     around = [line for part in parts for line in lines_of(part.around)]
     below = lines_of(first.body_bytes)
     trouble = next(filter(None, (part.trouble for part in parts)), None)
-    if letter.fields and any(map(RECEIVED.match, (*text.lines, *pieces, *around, *below))):
+    if letter.fields and any(
+        map(RECEIVED.match, (*text.lines, *text.other_lines, *around, *below))
+    ):
         trouble = Reason.PARTED_OFF()
-    lines = [line for other, _ in read[1:] for line in other.lines]
-    lines += [line for _, pieces in read for line in pieces] + around
+    lines = [line for other in read[1:] for line in other.lines]
+    lines += [line for one in read for line in one.other_lines] + around
     own = {" ".join(line.split()) for line in text.lines}
     others = dict.fromkeys(" ".join(line.split()) for line in lines)
     other_lines = tuple(line for line in others if line not in own)
@@ -356,7 +358,7 @@ def without_quote_signs(line: str) -> str:
     return line.lstrip("> \t\u00a0")
 
 
-def text_of(part: Part, *, is_first: bool) -> tuple[Body, list[str]]:
+def text_of(part: Part, *, is_first: bool) -> Body:
     """The lines of a part as far as they can be read, and what else in it may be lines."""
     charset = part.parameters.get("charset", "")
     named = charset or "us-ascii"
@@ -375,14 +377,21 @@ def text_of(part: Part, *, is_first: bool) -> tuple[Body, list[str]]:
     # other kinds of text may be shown as HTML, too
     html = read_html("" if part.kind == "text/plain" else text)
     if part.kind == "text/html":
-        return Body(tuple(html.lines), (), True, html.plain_lines, html.first_other), html.pieces
+        return Body(
+            tuple(html.lines),
+            is_html=True,
+            plain_lines=html.plain_lines,
+            first_other=html.first_other,
+            other_lines=tuple(html.pieces),
+        )
     lines = text.rstrip("\r\n").splitlines()
     flow = part.parameters.get("format", "fixed").lower()
     delsp = part.parameters.get("delsp", "no").lower()
     if flow not in ("fixed", "flowed") or delsp not in ("no", "yes"):
         part.note_ambiguous("content-type")
     flowing, whole = joined(lines, deletes_space=delsp == "yes") if flow == "flowed" else ([], [])
-    return Body(tuple(lines), tuple(flowing)), [*whole, *html.lines, *html.pieces]
+    others = (*whole, *html.lines, *html.pieces)
+    return Body(tuple(lines), tuple(flowing), other_lines=others)
 
 
 def joined(lines: Sequence[str], *, deletes_space: bool) -> tuple[list[int], list[str]]:
@@ -390,8 +399,8 @@ def joined(lines: Sequence[str], *, deletes_space: bool) -> tuple[list[int], lis
     same quote depth. Returns the indices of the lines that are joined to others, and the joined
     texts. An empty line that continues another parts no paragraphs.
     """
-    texts: list[tuple[list[int], list[str]]] = []
-    flowing = []
+    # of each text what it has of each line
+    texts, flowing = list[dict[int, str]](), list[int]()
     depth, goes_on = -1, False
     for index, line in enumerate(lines):
         bare = line.lstrip(">")
@@ -403,9 +412,8 @@ def joined(lines: Sequence[str], *, deletes_space: bool) -> tuple[list[int], lis
             flowing.append(index)
             continue
         if not continues:
-            texts.append(([], ["> "] if own_depth else []))
-        texts[-1][0].append(index)
-        texts[-1][1].append(bare[:-1] if deletes_space and goes_on else bare)
-    several = [(indices, words) for indices, words in texts if len(indices) > 1]
-    flowing += [index for indices, _ in several for index in indices]
-    return flowing, ["".join(words) for _, words in several]
+            texts.append({})
+            bare = f"> {bare}" if own_depth else bare
+        texts[-1][index] = bare[:-1] if deletes_space and goes_on else bare
+    several = [text for text in texts if len(text) > 1]
+    return [*flowing, *itertools.chain(*several)], ["".join(text.values()) for text in several]

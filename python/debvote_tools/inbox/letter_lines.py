@@ -117,10 +117,9 @@ class ReadLine:
     number: int
     # of several answers the other lines that they are on
     more: tuple[int, ...] = ()
-    # whose ballot: a name on the roll; or those whose name on the roll, or real name, may be meant
+    # whose ballot: a name on the roll; and those who may be meant by its name, as people write it
     elector: str = ""
-    on_roll: tuple[str, ...] = ()
-    real: tuple[str, ...] = ()
+    meant: tuple[str, ...] = ()
     # its ranks, and debvote's answer; None if they are valid
     ranks: str = ""
     answer: str | None = None
@@ -136,11 +135,6 @@ class ReadLine:
     def reads_as_ballot(self) -> bool:
         """Whether it is a ballot by itself, valid or not, if somebody is known by its name."""
         return bool(self.ranks) and self.offered_for is None
-
-    @property
-    def meant(self) -> set[str]:
-        """Those who may be meant by its name, as people write it."""
-        return {*self.on_roll, *self.real}
 
     @property
     def as_ballot(self) -> BallotLine:
@@ -188,8 +182,8 @@ def with_lines(letters: Sequence[ParsedLetter], names: Names, ask: Ask) -> list[
     """The letters, each with what its lines may be. debvote is asked about all of them together."""
     found, stand_in = [find_lines(letter, names) for letter in letters], min(names.roll)
     lines = (line for letter in found for line in letter.read_lines)
-    texts = dict.fromkeys(text for line in lines for text in texts_of(line, stand_in) if text)
-    answers = dict(ask([*texts])) | {b"": None}
+    texts = [text for line in lines for text in texts_of(line, stand_in) if text]
+    answers = dict(ask(texts)) | {b"": None}
 
     def answered(line: ReadLine) -> ReadLine:
         own, near_text = texts_of(line, stand_in)
@@ -231,8 +225,8 @@ def find_lines(letter: ParsedLetter, names: Names) -> ReadLetter:
         chosen = sorted([*several, *itertools.islice(rest, MAX_OTHERS)])
         quoted = (read_quoted(number, line, names) for number, line in lines if is_quoted(line))
         its = (read_line(number, line, names) for number, line in chosen)
-        found, strays = list(filter(None, its)), ()
-        found += itertools.islice(filter(None, quoted), MAX_NEAR)
+        found = [*filter(None, its), *itertools.islice(filter(None, quoted), MAX_NEAR)]
+        strays = ()
     return ReadLetter(**vars(letter), read_lines=tuple(found), code_lines=code_lines, strays=strays)
 
 
@@ -241,7 +235,7 @@ def read_line(number: int, line: str, names: Names) -> ReadLine | None:
     ranked = names.with_ranks(text)
     ways = {
         None: text,
-        Reason.FILLED_IN: filled_in(text),
+        Reason.FILLED_IN: text.replace(GAP, ""),
         Reason.NO_COMMAS: with_commas(text),
         Reason.WORD: ranked,
     }
@@ -251,7 +245,7 @@ def read_line(number: int, line: str, names: Names) -> ReadLine | None:
         if why is None or way != text
     )
     found = next(filter(None, readings), None)
-    if found is not None and found.elector and found.reads_as_ballot:
+    if found and found.elector and found.reads_as_ballot:
         return found
     near = near_in(number, line, with_small(text), names) if ranked == text else None
     if found is None and near is None:
@@ -264,27 +258,26 @@ def read_text(number: int, text: str, why: Reason | None, names: Names) -> ReadL
     why it is none by itself.
     """
     name, _, ranks = text.partition(" ")
-    if RANKS_ALONE.fullmatch(ranks) and (elector := names.on_roll(name)):
-        return ReadLine(number, elector=elector, ranks=ranks, offered_for=why)
-    named = names.taken_apart(text)
-    if named is not None and len(unicodedata.normalize("NFKC", named[0])) <= MAX_NAME:
-        return with_electors(ReadLine(number, ranks=named[1], offered_for=why), named[0], names)
     if "," in text and RANKS_ALONE.fullmatch(text):
-        return ReadLine(number, ranks=text, offered_for=why_alone(why))
-    return None
+        name, ranks = "", text
+    elif not (RANKS_ALONE.fullmatch(ranks) and names.on_roll(name)):
+        name, ranks = names.taken_apart(text) or ("", "")
+    if not ranks or len(unicodedata.normalize("NFKC", name)) > MAX_NAME:
+        return None
+    return read_written(Written((number,), name, {"": ranks}, why), names)
 
 
-def with_electors(line: ReadLine, name: str, names: Names) -> ReadLine | None:
-    """A line with those who are known by its name, as people write it; None if nobody is."""
-    folds, by_name = sorted(names.folds(name)), names.electors_by_real_name
-    on_roll = tuple(fold for fold in folds if fold in names.roll)
-    real = tuple(elector for fold in folds for elector in by_name.get(fold, ()))
-    return dataclasses.replace(line, on_roll=on_roll, real=real) if on_roll or real else None
-
-
-def why_alone(why: Reason | None) -> Reason:
-    """Why ranks without a name are no ballot, if with one this were the reason."""
-    return Reason.WORD_ALONE if why is Reason.WORD else why or Reason.NO_NAME
+def read_written(one: Written, names: Names) -> ReadLine | None:
+    """What a ballot is as it is written; None if nobody is known by the name, or it may be a longer one
+    without a label.
+    """
+    (number, *more), why = one.numbers, one.why
+    if not one.name:
+        why = Reason.WORD_ALONE if why is Reason.WORD else why or Reason.NO_NAME
+    elector, meant = names.on_roll(one.name), tuple(names.meant_by(one.name))
+    if one.name and (one.may_be_longer or not meant):
+        return None
+    return ReadLine(number, tuple(more), elector, meant, answers_text(one.answers), offered_for=why)
 
 
 # ---- of several questions
@@ -324,20 +317,6 @@ def read_answers(letter: ParsedLetter, names: Names) -> tuple[list[ReadLine], tu
     return read, (*(number for number, _ in strays), *sorted(filled - belonging))
 
 
-def read_written(one: Written, names: Names) -> ReadLine | None:
-    """What a ballot is as it is written; None if nobody is known by the name, or it may be a longer one
-    without a label.
-    """
-    number, *more = one.numbers
-    why = one.why if one.name else why_alone(one.why)
-    read = ReadLine(number, tuple(more), ranks=answers_text(one.answers), offered_for=why)
-    if not one.name or one.may_be_longer:
-        return None if one.name else read
-    if elector := names.on_roll(one.name):
-        return dataclasses.replace(read, elector=elector)
-    return with_electors(read, one.name, names)
-
-
 def read_filled(lines: Sequence[tuple[int, str]], names: Names) -> list[ReadLine]:
     """The ballot of our letter that was filled in where these lines quote it, if nothing in it is in doubt."""
     found = ballots_written(lines, names)
@@ -346,27 +325,22 @@ def read_filled(lines: Sequence[tuple[int, str]], names: Names) -> list[ReadLine
     if in_doubt or len(found) != 1:
         return []
     whole = read_written(found[0]._replace(why=Reason.FILLED_IN), names)
-    return [whole] if whole is not None and whole.elector else []
+    return [whole] if whole and whole.elector else []
 
 
 def read_quoted(number: int, line: str, names: Names) -> ReadLine | None:
     """The line of our letter, as `ada _,_,_,_`, that was filled in where it is quoted."""
-    bare = without_quote_signs(filled_in(line).strip())
+    bare = without_quote_signs(line.replace(GAP, "").strip())
     if re.split(r"[\s:]", bare, maxsplit=1)[0].lower() not in names.roll:
         return None
     found = read_text(number, repaired_text(bare, names), Reason.FILLED_IN, names)
-    return found if found is not None and found.elector else None
+    return found if found and found.elector else None
 
 
 def may_be_ballot(line: str, longest: int) -> bool:
     """Whether a line may be a ballot. Its blanks do not count, since repairs remove them."""
     is_short = len(line) <= longest or len(" ".join(line.split())) <= longest
     return is_short and HAS_RANK.search(line) is not None
-
-
-def filled_in(text: str) -> str:
-    """The line of our letter that was filled in, without the strokes that were left in it."""
-    return text.replace(GAP, "")
 
 
 def with_commas(text: str) -> str:
@@ -399,7 +373,7 @@ def repaired_text(line: str, names: Names) -> str:
     if len(data) > 2 * names.longest_line:
         data = " ".join(line.split()).encode("utf-8", "replace")
     repaired = repaired_but_for_name(data, names.longest_line)
-    return repaired.decode("utf-8", "replace").replace("\n", " ")
+    return repaired.decode("utf-8", "replace")
 
 
 def with_small(text: str) -> str:

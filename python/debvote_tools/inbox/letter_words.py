@@ -95,10 +95,11 @@ def more_words(letter: LetterCase) -> list[str]:
 # ---- what waits
 def table(letters: Sequence[LetterCase]) -> Iterator[str]:
     """Letters that wait: a line for each, and below it why."""
+    if not letters:
+        return
     rows = [(arrival_of(letter), sender_of(letter)) for letter in letters]
-    times, senders = (max(map(len, column)) for column in zip(*rows or [("", "")]))
-    if letters:
-        yield f"letter  {'arrived':{times}}  {'from':{senders}}  subject"
+    times, senders = (max(map(len, column)) for column in zip(*rows))
+    yield f"letter  {'arrived':{times}}  {'from':{senders}}  subject"
     for letter, (time, sender) in zip(letters, rows):
         subject = shown_text(letter.read.subject) or "(no subject)"
         yield f"{letter.number or 'new':>6}  {time:{times}}  {sender:{senders}}  {subject}"
@@ -223,12 +224,10 @@ def quotations(lines: Sequence[str]) -> Iterator[range]:
 
 def above(lines: Sequence[str], first: int) -> int:
     """Where the head of a quotation begins: one line or two, the last of which ends in a colon."""
-    index = first - 1
-    while index >= 0 and not lines[index].strip():
-        index -= 1
+    index = next((at for at in reversed(range(first)) if lines[at].strip()), -1)
     if index < 0 or not lines[index].rstrip().endswith(":"):
         return first
-    return index - (index > 0 and bool(lines[index - 1].strip()) and lines[index - 1][:1].isupper())
+    return index - (index > 0 and lines[index - 1][:1].isupper())
 
 
 def quoted_of_ours(letter: LetterCase) -> set[int]:
@@ -256,8 +255,7 @@ def indices_of_ballots(letter: LetterCase, near: Sequence[Near]) -> set[int]:
 def other_words(letter: LetterCase) -> str:
     """What the sender's own words begin with, without greetings and what a telephone adds."""
     lines, left_out = letter.read.body.lines, quoted_of_ours(letter)
-    for quotation in quotations(lines):
-        left_out.update(quotation if is_quoted(lines[quotation[-1]]) else ())
+    left_out.update(*(one for one in quotations(lines) if is_quoted(lines[one[-1]])))
     left_out |= indices_of_ballots(letter, [near for near in letter.near if not near.is_within])
     names = set(WORD.findall(letter.read.shown_sender.partition("<")[0].casefold()))
 

@@ -49,7 +49,8 @@ TYPED_CODE, TYPED_ON_ROLL = (
     for sign, length in (("[0-9a-f]", 31), (f"[{OWN_SIGNS}]", OWN_LENGTH - 1))
 )
 
-NO_BREAK = "\u00a0\u202f"
+# no-break spaces as blanks
+NO_BREAK = str.maketrans("\u00a0\u202f", "  ")
 DASHES = "\u2010\u2011\u2012\u2013\u2014\u2212"
 # pairs of quotation marks: the one before a line, and the one after it
 QUOTES = (
@@ -59,7 +60,7 @@ QUOTES = (
 
 # whole words between asterisks are bold letters of a mail program
 BOLD = re.compile(r"(?:^|(?<=[ ,;:]))(\*{1,3})(?=[^ *])([^*]*)(?<=[^ *])\1(?=[ ,;:.]|$)")
-COLON = re.compile(r"([A-Za-z0-9.-]+) *: *(?=[\d%s-])" % DASHES)
+COLON = re.compile(r"^([A-Za-z0-9.-]+) *: *(?=[\d%s-])" % DASHES)
 FULL_STOP = re.compile(r"(?<=[\d%s-]) *\.$" % (DASHES + "".join(pair[1] for pair in QUOTES)))
 
 # the label of a question, as people write it before a rank; right before one, it is none if no other
@@ -215,9 +216,8 @@ def lines_in(data: bytes, name: str, longest: int, first: int = 1) -> list[Line]
     at most the `longest` number of bytes.
     """
     lines = []
-    for number, line in enumerate(data.splitlines(keepends=True), start=first):
-        unframed = line.removesuffix(b"\n").removesuffix(b"\r")
-        unframed = unframed.removeprefix(MARK if number == 1 else b"")
+    for number, line in enumerate(data.splitlines(), start=first):
+        unframed = line.removeprefix(MARK if number == 1 else b"")
         named = repaired_but_for_name(unframed, longest)
         lines.append(Line(name, number, unframed, with_small_name(named), named))
     return lines
@@ -238,11 +238,6 @@ def codes_in(text: str) -> set[str]:
     """What looks like a code or an alias in a text, in small letters and without gaps."""
     typed = [*TYPED_CODE.findall(text), *TYPED_ON_ROLL.findall(text)]
     return {re.sub(r"[\s-]", "", one).lower() for one in typed}
-
-
-def repaired_line(line: bytes, longest: int) -> bytes:
-    """A line with the repairs that are allowed."""
-    return with_small_name(repaired_but_for_name(line, longest))
 
 
 def with_small_name(line: bytes) -> bytes:
@@ -277,7 +272,7 @@ def written_answers(
     answers = dict[str, str]()
     for label, rest in zip(parts[::2], parts[1::2]):
         line = f"{label.lower()} {rest.strip()}".encode("utf-8", "replace")
-        ranks = repaired_line(line, longest).decode()[len(label) + 1 :]
+        ranks = repaired_but_for_name(line, longest).decode()[2:]
         if label.upper() in answers or not re.fullmatch(RANKS, ranks):
             return None
         answers[label.upper()] = ranks
@@ -295,8 +290,7 @@ def spaced(line: bytes) -> bytes:
 
 def without_typography(text: str) -> str:
     """A line without what mail programs and word processors put there."""
-    bare = bare_text(text)
-    bare = COLON.sub(r"\1 ", bare, count=1) if COLON.match(bare) else bare
+    bare = COLON.sub(r"\1 ", bare_text(text))
     name, blank, ranks = bare.partition(" ")
     # with both a comma may be that of a decimal
     delimiter = "," if "," in ranks else ";"
@@ -308,7 +302,7 @@ def without_typography(text: str) -> str:
 
 def bare_text(text: str) -> str:
     """A line without no-break spaces, bold letters, and what is around it."""
-    bare = text.translate({ord(character): " " for character in NO_BREAK}).strip(" \t")
+    bare = text.translate(NO_BREAK).strip(" \t")
     # quotation marks may enclose a full stop, or precede it
     for _ in range(2):
         bare = FULL_STOP.sub("", unquoted(BOLD.sub(r"\2", bare)))

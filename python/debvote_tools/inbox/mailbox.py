@@ -81,14 +81,6 @@ class NotRead(enum.Enum):
         "fetch the file again",
     )
 
-    @property
-    def what(self) -> str:
-        return self.value[0]
-
-    @property
-    def cure(self) -> str:
-        return self.value[1]
-
 
 @dataclasses.dataclass(frozen=True)
 class RawLetter:
@@ -212,19 +204,17 @@ def letters_of_folder(folder: pathlib.Path) -> list[RawLetter]:
 
 def letter_of_file(file: pathlib.Path) -> list[RawLetter]:
     """The letter of a file of a folder. A mailbox of several letters is named, and not split."""
-    why = None
     if file.is_dir():
         why = NotRead.FOLDER
     elif file.name.startswith("."):
         why = NotRead.HIDDEN
     elif not file.is_file():
         why = NotRead.NO_LETTER
-    data = b"" if why else file.read_bytes()
-    if why is None and are_letters(data) and len(sections_of(data)) > 1:
-        why = NotRead.MAILBOX
-    if why is not None:
-        return [RawLetter(str(file), why_not_read=why)]
-    return letters_of_file(str(file), data)
+    else:
+        data, why = file.read_bytes(), NotRead.MAILBOX
+        if not are_letters(data) or len(sections_of(data)) == 1:
+            return letters_of_file(str(file), data)
+    return [RawLetter(str(file), why_not_read=why)]
 
 
 # ---- the sections of a file
@@ -259,11 +249,11 @@ def begin_of(data: bytes) -> re.Match[bytes]:
 
 
 def begins_mailbox(start: re.Match[bytes]) -> bool:
-    return start["mbox"] is not None and separates_letters(start["mbox"])
+    return separates_letters(start["mbox"] or b"")
 
 
 def separates_letters(line: bytes) -> bool:
-    return DATED.match(line) is not None or BARE.match(line) is not None
+    return bool(DATED.match(line) or BARE.match(line))
 
 
 def has_others(letter: bytes) -> bool:

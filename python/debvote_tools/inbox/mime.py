@@ -161,9 +161,9 @@ class Part:
         if not boundary:
             self.around = self.body_bytes
             return
-        # without a sign for the begin of a line, since that takes long in a long letter
-        line = rb"--%b([^\n]*)\n?" % re.escape(boundary.encode("utf-8", "surrogateescape"))
-        found_lines = filter(self.begins_line, re.finditer(line, self.body_bytes))
+        # whether it begins a line is asked behind it: asked before, it takes long in a long letter
+        begin = b"--" + re.escape(boundary.encode("utf-8", "surrogateescape"))
+        found_lines = re.finditer(rb"%b(?<![^\n]%b)([^\n]*)\n?" % (begin, begin), self.body_bytes)
         lines = list(itertools.islice(found_lines, MAX_PARTS))
         if len(lines) == MAX_PARTS:
             self.note_trouble(Reason.TOO_MANY_PARTS())
@@ -178,9 +178,6 @@ class Part:
             if what != b"--":
                 part = self.body_bytes[found.end() : end]
                 self.inner.append(part[:-2] if part.endswith(b"\r\n") else part.removesuffix(b"\n"))
-
-    def begins_line(self, found: re.Match[bytes]) -> bool:
-        return found.start() == 0 or self.body_bytes[found.start() - 1 : found.start()] == b"\n"
 
     def walk(self, depth: int = 0) -> Iterator["Part"]:
         """Yields it and all parts in it."""

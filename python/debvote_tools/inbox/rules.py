@@ -194,9 +194,9 @@ class LetterCase:
         # the ballots of an elector who is known, also those that debvote refuses
         self.named = [line for line in ballots if line.elector]
         valid = [line.as_ballot for line in self.named if line.answer is None]
-        # beside these those with the real name of somebody else, as in the letter of a family; if
-        # several have it, it is nobody's
-        real = [line for line in ballots if self.named and line.real and not line.elector]
+        # beside these those with the name of somebody else, as in the letter of a family; if several
+        # have it, it is nobody's
+        real = [line for line in ballots if self.named and line.meant and not line.elector]
         unknown = [line for line in real if line.answer is None]
         self.unclear = [line for line in unknown if len(line.meant) > 1]
         others = [line.ballot_of(*line.meant) for line in unknown if len(line.meant) == 1]
@@ -260,7 +260,7 @@ class LetterCase:
         address; if these differ, of nobody.
         """
         sender, marked = self.sending_elector, self.marked_elector
-        if line.elector or line.meant:
+        if line.meant:
             return line.elector or (sender if sender in line.meant else None)
         if marked is None:
             return sender
@@ -283,9 +283,8 @@ class LetterCase:
         """Whose ballot a line is or may be: if several have the name, of those who have the sender's
         address, if there are some.
         """
-        return (
-            [line.elector] if line.elector else sorted(line.meant & {*self.sharing} or line.meant)
-        )
+        its = [name for name in line.meant if name in self.sharing] or line.meant
+        return [line.elector] if line.elector else sorted(its)
 
     @functools.cached_property
     def likely(self) -> Mapping[BallotLine, Reason]:

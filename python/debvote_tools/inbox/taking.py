@@ -4,7 +4,6 @@ that go in. `held` enters others by a `LetterEntry`. Lines are taken in `command
 
 import dataclasses
 import functools
-import pathlib
 from collections.abc import Collection, Iterable, Iterator, Sequence
 
 from debvote_tools.book import queries
@@ -15,11 +14,11 @@ from debvote_tools.book.queries import NewEnvelope
 from debvote_tools.cli.console import count_of, is_terminal, listed, shown_text, tell
 from debvote_tools.cli.faults import Fault
 from debvote_tools.inbox import letter_words
-from debvote_tools.inbox.given_files import GivenLetters, safe
-from debvote_tools.inbox.entering import Entry, bad_ballots
+from debvote_tools.inbox.given_files import safe
+from debvote_tools.inbox.entering import Entry
 from debvote_tools.inbox.judging import judged
 from debvote_tools.inbox.letter_lines import ReadLetter, read_letters, to_json
-from debvote_tools.inbox.mailbox import RawLetter, letters_of_file, letters_of_folder
+from debvote_tools.inbox.mailbox import RawLetter
 from debvote_tools.inbox.box_records import asked_box
 from debvote_tools.inbox.rules import LetterCase, LetterOutcome
 from debvote_tools.inbox.vote import Vote
@@ -31,7 +30,7 @@ MOST_NAMED = 20
 
 def take_letters(
     vote: Vote,
-    given: GivenLetters,
+    given: Sequence[RawLetter],
     *,
     of_box: bool,
     is_look: bool,
@@ -40,7 +39,7 @@ def take_letters(
     """Keeps new letters, and enters the ballots that go in; or tells what would become of them. Those
     `of_box` are its records: the others that wait stay as they are.
     """
-    came, detail, words = asked_box(vote) if of_box else (split_letters(given), {}, [])
+    came, detail, words = asked_box(vote) if of_box else (given, {}, [])
     raws = [raw for raw in came if raw.why_not_read is None]
     new = new_of(vote, raws)
     read = read_letters(vote, new)
@@ -50,7 +49,8 @@ def take_letters(
         keep(vote, new, read, detail)
     for raw in came:
         if why := raw.why_not_read:
-            tell(f"{shown_text(raw.where)}: {why.what}, and was passed over; {why.cure}")
+            what, cure = why.value
+            tell(f"{shown_text(raw.where)}: {what}, and was passed over; {cure}")
     came_before = f"{count_of(len(new), 'new letter')}; {len(raws) - len(new)} came before."
     plan = functools.partial(what_goes_in, vote, of_box=of_box, is_agreed=is_agreed)
     if is_look:
@@ -64,22 +64,6 @@ def take_letters(
 
 
 # ---- keeping
-def split_letters(given: GivenLetters) -> list[RawLetter]:
-    """The letters of files and folders, each read whole, and what is passed over."""
-    found = list[RawLetter]()
-    for path, one in given.items():
-        try:
-            found += (
-                letters_of_folder(one)
-                if isinstance(one, pathlib.Path)
-                else letters_of_file(safe(one.name), one.data)
-            )
-        except OSError as error:
-            cure = "name letters that you may read"
-            raise bad_ballots(path, error.strerror, cure) from None
-    return found
-
-
 def new_of(vote: Vote, raws: Sequence[RawLetter]) -> list[RawLetter]:
     """The letters that the book does not have, each of them once."""
     kept = queries.kept_digests(vote.book)

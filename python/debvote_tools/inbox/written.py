@@ -15,7 +15,8 @@ from debvote_tools.poll.plain_names import without_accents
 # in characters: the longest name, as people write it
 MAX_NAME = 100
 
-# in place of each rank in the lines of our letters, as `A _,_,_,_`
+# in place of each rank in the lines of our letters, as `A _,_,_,_`; some may be left in one that was
+# filled in
 GAP = "_"
 UNFILLED = re.compile(rf"[\s>]*\w[\s,]*{GAP}[\s,{GAP}]*")
 
@@ -45,7 +46,11 @@ class Written(NamedTuple):
 
     def goes_on(self, other: "Written", names: Names) -> bool:
         """Whether another one belongs to it: it has the same name or none, and answers to others."""
-        is_same = not other.name or is_same_name(self.name, other.name, names)
+        is_same = (
+            not other.name
+            or self.name.lower() == other.name.lower()
+            or not names.folds(self.name).isdisjoint(names.folds(other.name))
+        )
         return is_same and self.answers.keys().isdisjoint(other.answers)
 
     def with_more(self, other: "Written") -> "Written":
@@ -56,10 +61,6 @@ class Written(NamedTuple):
             Reason.WORD if Reason.WORD in (self.why, other.why) else self.why or other.why,
             self.may_be_longer or other.may_be_longer,
         )
-
-
-def is_same_name(name: str, other: str, names: Names) -> bool:
-    return name.lower() == other.lower() or not names.folds(name).isdisjoint(names.folds(other))
 
 
 def labelled(text: str, names: Names, *forms: re.Pattern[str]) -> list[re.Match[str]]:
@@ -76,12 +77,13 @@ def may_answer_question(line: str, names: Names) -> bool:
     """Whether a line may be an answer, or has one, however it is written. Strokes of our letter may be
     in the place of blanks.
     """
-    return any(has_answer(line.replace(GAP, blank), names) for blank in ("", " "))
-
-
-def has_answer(text: str, names: Names) -> bool:
-    is_one = TWO_RANKS.search(text) or labelled(text, names, BEGINS, LABEL_WITHIN, LABEL_AT_THE_END)
-    return bool(is_one) or begins_with_word(text, names) or names.with_ranks(text) != text
+    return any(
+        TWO_RANKS.search(text)
+        or labelled(text, names, BEGINS, LABEL_WITHIN, LABEL_AT_THE_END)
+        or begins_with_word(text, names)
+        or names.with_ranks(text) != text
+        for text in {line.replace(GAP, blank) for blank in ("", " ")}
+    )
 
 
 def begins_with_word(text: str, names: Names) -> bool:

@@ -7,6 +7,7 @@ import itertools
 import re
 from collections.abc import Callable, Collection, Iterable, Iterator, Mapping, Sequence
 
+from debvote_tools.grouping import grouped
 from debvote_tools.text.language import ENGLISH, Language, marked
 from debvote_tools.text.motions import Words, in_words, may_answer, with_ranks
 
@@ -103,7 +104,7 @@ def ballots_in_words(
     """
     if motion:
         return functools.partial(answer_in_words, in_words(names, language))
-    alone, then = [(name,) for name in names], language.between(THEN)
+    then = language.between(THEN)
 
     # many ballots have few groups of options that are equal
     @functools.cache
@@ -113,13 +114,13 @@ def ballots_in_words(
         return language.say(EQUALLY, options=language.joined(group))
 
     def order_in_words(ranks: str) -> str:
-        steps: dict[str, tuple[str, ...]] = {}
-        for rank, name in zip(ranks.split(","), alone):
-            steps[rank] = steps[rank] + name if rank in steps else name
-        unranked = steps.pop(UNRANKED, ())
+        steps = grouped(zip(ranks.split(","), names))
+        unranked = steps.pop(UNRANKED, [])
         if not steps:
             return language.say(NOTHING)
-        said = then.join(step(steps[rank]) for rank in sorted(steps, key=NUMBERS.__getitem__))
+        said = then.join(
+            step(tuple(steps[rank])) for rank in sorted(steps, key=NUMBERS.__getitem__)
+        )
         if not unranked:
             return said
         return language.say(UNRANKED_LAST, ranked=said, unranked=language.joined(unranked))

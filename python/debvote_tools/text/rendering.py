@@ -13,7 +13,6 @@ import pathlib
 import re
 import textwrap
 from collections.abc import Callable
-from typing import Any
 
 import jinja2
 from markupsafe import Markup
@@ -53,8 +52,14 @@ def one_line(text: str) -> str:
 @functools.lru_cache(maxsize=1_000)
 def line(text: str, first: str = "", then: str = "") -> str:
     """A paragraph of a letter without the end of its last line. A long word stays whole."""
-    how: dict[str, Any] = {"break_long_words": False, "break_on_hyphens": False}
-    return textwrap.fill(text, COLUMNS, initial_indent=first, subsequent_indent=then, **how)
+    return textwrap.fill(
+        text,
+        COLUMNS,
+        initial_indent=first,
+        subsequent_indent=then,
+        break_long_words=False,
+        break_on_hyphens=False,
+    )
 
 
 # a paragraph, one of several lines in a row, and a line to be copied

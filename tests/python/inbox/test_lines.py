@@ -3,8 +3,10 @@
 import unittest
 
 from debvote_tools.cli.console import shown_line
-from debvote_tools.inbox.lines import lines_in, name_in, repaired_line
+from debvote_tools.inbox.lines import lines_in, name_in
 from debvote_tools.poll.questions import LONGEST_LINE
+
+from tests.support.letters import repaired_line
 
 
 class Lines(unittest.TestCase):
@@ -24,7 +26,7 @@ class Lines(unittest.TestCase):
             b"ada 1,-,-": ("ada 1,\u2014,\u2212".encode(),),
         }.items():  # fmt: skip
             for came in lines:
-                self.assertEqual(repaired_line(came, LONGEST_LINE), wanted, came)
+                self.assertEqual(repaired_line(came), wanted, came)
 
     def test_what_is_not_changed(self) -> None:
         # a line tabulator, quotation marks within the line, points, a capital that is no rank, letters not in ASCII, half a point, ..
@@ -32,18 +34,18 @@ class Lines(unittest.TestCase):
             b"ada 1,2\x0b", b'"ada" 1,2', b'"ada 1,2', b"ada 1,2..", b"ada 1.,2", b"ada 1*2*3", b"ada *1,2", b"ada 1,X", "Ädä 1,2".encode(), "anna\u2013maria 1,2".encode(),
             "ada 1\u20132".encode(), b"ada 1 2,3", b"A>B>C", b"ada:b", b"ada 1:2", b"\xff 1,2", b"ada 1,2,", b"ada 1,,2", b"ada 1;2,5;3", b"ada 1,5; 2", b"ada;1;2",
         ):  # fmt: skip
-            self.assertEqual(repaired_line(came, LONGEST_LINE), came)
+            self.assertEqual(repaired_line(came), came)
 
     def test_names_of_lines_and_what_takes_no_time(self) -> None:
         for line, name in {b"ada 1,2": b"ada", b"ada-b.9,1": b"ada-b.9", b"ada": b"ada", b" ada 1": b"", b"Ada 1": b"", b"": b""}.items():
             self.assertEqual(name_in(line), name)
         # a line that is right stays
         for came in (b"ada 1,2,3", b"a -", b"0.-z 99,-,1"):
-            self.assertEqual(repaired_line(came, LONGEST_LINE), came)
+            self.assertEqual(repaired_line(came), came)
         # a long line of blanks takes no time
-        self.assertEqual(repaired_line(b" " * 3_000_000, LONGEST_LINE), b"")
-        self.assertEqual(repaired_line(b"a" + b" \t" * 1_000_000 + b"1", LONGEST_LINE), b"a 1")
-        self.assertEqual(len(repaired_line(b", " * 1_000_000, LONGEST_LINE)), 1_000_000)
+        self.assertEqual(repaired_line(b" " * 3_000_000), b"")
+        self.assertEqual(repaired_line(b"a" + b" \t" * 1_000_000 + b"1"), b"a 1")
+        self.assertEqual(len(repaired_line(b", " * 1_000_000)), 1_000_000)
 
     def texts(self, data: bytes, first: int = 1) -> list[tuple[str, bytes]]:
         return [(line.where, line.repaired) for line in lines_in(data, "f", LONGEST_LINE, first)]

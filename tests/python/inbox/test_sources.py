@@ -143,7 +143,7 @@ class Files(unittest.TestCase):
         for data, why in cases.items():
             found = letters_of_file("x", data)
             self.assertEqual((passed_over_in(found), read_in(found)), ([("x", why)], []))
-            self.assertTrue(why.what and why.cure)
+            self.assertTrue(all(why.value))
         # a long letter is named, and the others are read
         long = letter("ada", "x" * MAX_LETTER)
         found = letters_of_file("box", mailbox(long, BEN))

@@ -10,13 +10,11 @@ import shutil
 import stat
 
 from debvote_tools.files import write_whole
-from debvote_tools.inbox.lines import repaired_line
 from debvote_tools.outbox.letter_folder import in_place
-from debvote_tools.poll.questions import LONGEST_LINE
 
 from tests.support import elections
 from tests.support.called import LAKE
-from tests.support.letters import letter, mailbox
+from tests.support.letters import letter, mailbox, repaired_line
 from tests.support.outgoing import AT, END, OTHER_RANKS, RANKS, TITLE, OutTest, one_line, parsed
 
 FORM = f"The page of the vote, which writes the line of your ballot for you, and on which the result will be: {AT}"
@@ -707,7 +705,7 @@ class NoBallots(OutTest):
                 for start in range(len(words)):
                     lines |= {" ".join(words[start : start + count]).encode() for count in (2, 3, 4)}
         self.assertGreater(len(lines), 1000)
-        ballots = [repaired_line(line, LONGEST_LINE) for line in lines]
+        ballots = [repaired_line(line) for line in lines]
         self.write("lines", b"".join(line.replace(b"\n", b" ") + b"\n" for line in ballots if line.strip()))
         steps = ("steps", "--poll", "call/poll.toml", "--ballots", "lines")
         replies = {line.partition(" ")[2] for line in self.debvote(*steps).output.splitlines()}

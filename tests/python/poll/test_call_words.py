@@ -13,15 +13,14 @@ import unittest
 import urllib.parse
 
 from debvote_tools.cli.faults import Fault, Status
-from debvote_tools.inbox.lines import repaired_line
 from debvote_tools.poll.announced import demand_mail_address, demand_web_address
 from debvote_tools.poll.call import CallData, call_files, call_letter
-from debvote_tools.poll.questions import LONGEST_LINE
 from debvote_tools.poll.sealed import read_plain, with_roll
 from debvote_tools.text.language import LANGUAGES, language_of
 
 from tests.support import page_parts
 from tests.support.calls import ADDRESS, CALL, CODES, KINDS, PAGE, POLL, ROLL, SECRET, UNTIL, WITH_CODES, alone
+from tests.support.letters import repaired_line
 
 LATER = UNTIL + datetime.timedelta(days=2)
 FIRST_WORDS, LATER_WORDS = "Friday, 4 December 2026, 18:00 (UTC+01:00)", "Sunday, 6 December 2026, 18:00 (UTC+01:00)"
@@ -234,7 +233,7 @@ class NoBallot(unittest.TestCase):
         words = text.split()
         lines = {" ".join(words[start : start + size]) for size in range(1, 9) for start in range(len(words))}
         # the shortest ballot has two ranks
-        for line in (repaired_line(line.encode(), LONGEST_LINE) for line in lines if "," in line and any(map(str.isdigit, line))):
+        for line in (repaired_line(line.encode()) for line in lines if "," in line and any(map(str.isdigit, line))):
             self.assertNotRegex(line, rb"^[a-z0-9.-]{1,32} (?:-|[1-9][0-9]?)(?:,(?:-|[1-9][0-9]?))+$")
 
     def test_of_calls_and_extensions(self) -> None:
