@@ -12,7 +12,7 @@ from collections.abc import Collection, Mapping, Sequence
 from debvote_tools.book import queries
 from debvote_tools.book.queries import Elector, EnteredBallot
 from debvote_tools.debvote import findings_in
-from debvote_tools.inbox.judging import Ballot, BallotsByElector, judge_all
+from debvote_tools.inbox.judging import Ballot, BallotsByElector, Beside, judge_all
 from debvote_tools.inbox.letter import ParsedLetter, parse
 from debvote_tools.inbox.letter_lines import Names, ReadLetter, from_json, to_json, with_lines
 from debvote_tools.inbox.mailbox import NotRead, RawLetter
@@ -163,7 +163,7 @@ def judged(
 
 def in_order(ballots: Mapping[str, Sequence[Ballot]]) -> BallotsByElector:
     """The ballots of electors, as the book gives them."""
-    return BallotsByElector(list, {name: sorted(its, key=queries.by_time) for name, its in ballots.items()})
+    return BallotsByElector(Beside, {name: Beside(sorted(its, key=queries.by_time)) for name, its in ballots.items()})
 
 
 def case_of(one: ReadLetter, now: Circumstances, state: str | None) -> LetterCase:

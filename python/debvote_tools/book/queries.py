@@ -167,6 +167,10 @@ class Ballot(NamedTuple):
         return (self.time < other.time) != (ours < theirs) and differ(self.line, other.line)
 
     @property
+    def elector(self) -> str:
+        return self.line.partition(" ")[0]
+
+    @property
     def labels(self) -> Set[str]:
         """Those of the questions that it answers."""
         return answers_of(self.line).keys()

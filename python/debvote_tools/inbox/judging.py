@@ -7,12 +7,12 @@ import collections
 import datetime
 import itertools
 import operator
-from collections.abc import Callable, Collection, Iterable, Iterator, Mapping, Sequence, Set
+from collections.abc import Callable, Collection, Iterable, Sequence, Set
 
 from debvote_tools.book import queries
 from debvote_tools.book.election import BOX_KEY, KEYRING, History
-from debvote_tools.book.queries import Ballot, KeptLetter
-from debvote_tools.grouping import grouped
+from debvote_tools.book.queries import Ballot, Envelope, KeptLetter
+from debvote_tools.grouping import grouped, several
 from debvote_tools.inbox.letter import Body
 from debvote_tools.inbox.letter_lines import ReadLetter, from_json, read_letters
 from debvote_tools.inbox.mailbox import RawLetter
@@ -35,11 +35,76 @@ DECIDED = {
 
 # what becomes of a letter, and why it waits or was set aside
 Judgement = tuple[LetterOutcome, ReasonWithValues | None]
-# the ballots of each elector, in the order `queries.by_time`
-BallotsByElector = collections.defaultdict[str, list[Ballot]]
-# those of them that are in time, by elector and label
-InTime = Mapping[str, Mapping[str, Sequence[Ballot]]]
 TIME, IS_BY_LETTER = operator.attrgetter("time"), operator.attrgetter("is_by_letter")
+
+
+class Beside:
+    """The ballots of an elector, beside which letters are judged. Of thousands each letter looks at few."""
+
+    def __init__(self, ballots: Iterable[Ballot] = ()) -> None:
+        # in the order `queries.by_time`: all; by the labels of their answers; and by how far the clock
+        # of each was behind
+        self.every = [*ballots]
+        self.by_label = grouped((label, one) for one in self.every for label in one.labels)
+        self.by_clock = grouped((one.behind, one) for one in self.every)
+
+    def add(self, ballot: Ballot) -> None:
+        by_label = (self.by_label.setdefault(label, []) for label in ballot.labels)
+        for its in (self.every, *by_label, self.by_clock.setdefault(ballot.behind, [])):
+            bisect.insort(its, ballot, key=queries.by_time)
+
+    def labels_of(self, own: Ballot) -> Set[str]:
+        """Those of the questions that a ballot of a letter answers, or of all if it is not known, to which
+        there are answers.
+        """
+        return self.by_label.keys() & (own.labels or self.by_label.keys())
+
+    def later(
+        self, own: Ballot, is_asked_for: Callable[[Ballot], object] = bool
+    ) -> dict[str, Ballot]:
+        """The last ballots that are later than one in a letter, by whichever clock, by the labels of its
+        questions: nothing where its time is not known.
+        """
+        found = dict[str, Ballot]()
+        for label in self.labels_of(own) if own.is_by_letter else ():
+            # of thousands only as many are looked at as are asked for
+            its = itertools.takewhile(
+                lambda one: queries.later([one], own.time), reversed(self.by_label[label])
+            )
+            later = (one for one in its if is_asked_for(one) and not own.may_turn(one))
+            found |= {label: one for one in itertools.islice(later, 1)}
+        return found
+
+    def answered_since(self, own: Ballot) -> Set[str]:
+        """The labels of the answers in a ballot of a letter to which there are later ones. They are left
+        out when it is entered, so none is for a late one, which counts for nothing.
+        """
+        return self.later(own, lambda one: not one.is_late).keys()
+
+    def has_voted_since(self, own: Ballot) -> bool | None:
+        """Whether it is sure that the elector has a later ballot than one in a letter, which answers one of
+        the same questions; None if they have none. Where its time is not known, each may be later.
+        """
+        if self.later(own):
+            return True
+        perhaps = self.turned(own) if own.is_by_letter else self.labels_of(own)
+        return False if perhaps else None
+
+    def turned(self, own: Ballot) -> Ballot | None:
+        """The first one that may stand on the other side of a ballot by the clock of this computer: of each
+        other clock only those may whose times are within the difference.
+        """
+        found = list[Ballot]()
+        for behind, its in self.by_clock.items():
+            by_its_clock = own.time + datetime.timedelta(seconds=own.behind - behind)
+            within = sorted((own.time, by_its_clock))
+            places = range(*(bisect.bisect_right(its, time, key=TIME) for time in within))
+            found += itertools.islice(filter(own.may_turn, map(its.__getitem__, places)), 1)
+        return min(found, key=queries.by_time) if found else None
+
+
+# of each elector
+BallotsByElector = collections.defaultdict[str, Beside]
 
 
 def judged(
@@ -56,7 +121,8 @@ def judged(
     entered = queries.entered_ballots(vote.book, were_decided)
     by_hand = queries.entered_by_hand(vote.book)
     for case in cases:
-        case.entered, case.left_out = entered.get(case.number, ()), by_hand.get(case.number)
+        case.entered, case.is_by_hand = entered.get(case.number, ()), case.number in by_hand
+        case.left_out = by_hand.get(case.number, ())
     cases += (LetterCase(read, circumstances) for read in previewed)
     return judge_all(cases, lambda names: ballots_in(vote, names))
 
@@ -101,18 +167,22 @@ def ballots_in(vote: Vote, names: Collection[str]) -> BallotsByElector:
     """The ballots of some electors that were entered and are not struck, also late ones."""
     numbers = queries.elector_numbers(vote.book, names)
     by_number = {number: name for name, number in numbers.items()}
-    by_elector = BallotsByElector(list)
     clocks = queries.letter_clocks(vote.book)
     there = queries.envelopes_of(vote.book, by_number, queries.VALID_OR_LATE)
-    for envelope in sorted(there, key=queries.by_time):
-        # None of what came by no letter, or at a time that is not known
-        behind, line = clocks.get(envelope.letter or 0), envelope.line.decode("ascii")
-        is_by_letter = behind is not None and not envelope.is_late
-        ballot = Ballot(
-            envelope.time, line, is_by_letter, behind or 0, envelope.number, envelope.is_late
-        )
-        by_elector[by_number[envelope.elector or 0]].append(ballot)
-    return by_elector
+    found = grouped(
+        (by_number[one.elector or 0], ballot_of(one, clocks.get(one.letter or 0)))
+        for one in sorted(there, key=queries.by_time)
+    )
+    return BallotsByElector(Beside, {name: Beside(its) for name, its in found.items()})
+
+
+def ballot_of(envelope: Envelope, behind: int | None) -> Ballot:
+    """A ballot that was entered beside others; None is behind what came by no letter, or at a time that is
+    not known.
+    """
+    time, line, is_late = envelope.time, envelope.line.decode("ascii"), envelope.is_late
+    is_by_letter = behind is not None and not is_late
+    return Ballot(time, line, is_by_letter, behind or 0, envelope.number, is_late)
 
 
 def circumstances_now(vote: Vote, history: History) -> Circumstances:
@@ -158,11 +228,10 @@ def judge_all(
     cases = sorted(cases, key=lambda case: (case.time is None, case.time or case.circumstances.now))
     names = {elector for case in cases for elector in case.electors}
     by_elector = ballots_of(names | {one.elector for case in cases for one in case.entered})
-    in_time = in_time_by_label(by_elector)
     for case in cases:
-        case.left = what_is_left(case, in_time)
-        lines = (line.as_entered for line in (*case.ballots, *case.offered))
-        case.answered_since = {line: answered_since(case, line, in_time) for line in lines}
+        lines = (line.as_entered for line in (*case.ballots, *case.likely))
+        own = [ballot_in(case, line) for line in (*lines, *case.left_out)]
+        case.answered_since = {one.line: by_elector[one.elector].answered_since(one) for one in own}
         case.outcome, case.reason = (
             decided(case) if case.is_decided else (LetterOutcome.WAITS, case.first_broken_rule)
         )
@@ -171,13 +240,12 @@ def judge_all(
     judge_originals(cases, originals, by_elector)
     for group in groups:
         judge_copies(group, originals, by_elector)
-    last = {elector: last_answers(its) for elector, its in by_elector.items()}
     for case in cases:
         if not case.is_decided and case.outcome is LetterOutcome.WAITS and case.other_vote:
             case.outcome, case.reason = LetterOutcome.OTHER_VOTE, Reason.OTHER_MARK(
                 mark=case.other_vote
             )
-        since = ((one, has_voted_since(case, one, last)) for one in case.electors)
+        since = ((one, has_voted_since(case, one, by_elector[one])) for one in case.electors)
         case.voted_since = {one: is_sure for one, is_sure in since if is_sure is not None}
     return cases
 
@@ -199,93 +267,22 @@ def decided(case: LetterCase) -> Judgement:
     return LetterOutcome.WAITS, Reason.NOT_ENTERED(rest=ENGLISH.joined(rest))
 
 
-def what_is_left(case: LetterCase, in_time: InTime) -> Set[tuple[str, str]]:
-    """The answers of a letter that are left when ballots of it were entered by hand: of an elector of whom
-    some were, those to which they have no later one.
-    """
-    if case.left_out is None:
-        return frozenset()
-    having = {one.elector for one in case.standing}
-    ballots = (*(line.as_entered for line in (*case.ballots, *case.likely)), *case.left_out)
-    return case.not_entered.difference(
-        *(
-            {(name, label) for label in answered_since(case, ballot, in_time)}
-            for ballot in ballots
-            if (name := ballot.partition(" ")[0]) in having
-        )
-    )
-
-
-def last_answers(ballots: Iterable[Ballot]) -> dict[str, Ballot]:
-    """The last ballot that answers each question, of ballots in the order `queries.by_time`."""
-    return {label: one for one in ballots for label in one.labels}
-
-
-def in_time_by_label(by_elector: Mapping[str, Sequence[Ballot]]) -> InTime:
-    return {
-        elector: grouped((label, one) for one in its if not one.is_late for label in one.labels)
-        for elector, its in by_elector.items()
-    }
-
-
-def answered_since(case: LetterCase, ballot: str, in_time: InTime) -> set[str]:
-    """The labels of the answers in a ballot of a letter to which its elector has later ones. They are left
-    out when it is entered, so none is for a late one, which counts for nothing.
-    """
-    elector, _, _ = ballot.partition(" ")
-    there = in_time.get(elector, {})
-    return {
-        label
-        for label in answers_of(ballot)
-        if any(surely_later(case, ballot, there.get(label, ())))
-    }
-
-
-def surely_later(case: LetterCase, ballot: str, its_ballots: Sequence[Ballot]) -> Iterator[Ballot]:
-    """Those ballots of an elector that are later than one in a letter, by whichever clock, the last first:
-    none where its time is not known.
-    """
-    if case.time is not None:
-        own = ballot_in(case, ballot)
-        # of thousands only as many are looked at as are asked for
-        for one in itertools.takewhile(
-            lambda one: queries.later([one], own.time), reversed(its_ballots)
-        ):
-            if not own.may_turn(one):
-                yield one
-
-
-def perhaps_later(case: LetterCase, ballot: str, its_ballots: Sequence[Ballot]) -> Sequence[Ballot]:
-    """Those that may be later or earlier than it, as nobody knows: all where its time is not known, else
-    those which a clock that was off could take across it.
-    """
-    if case.time is None:
-        return its_ballots
-    return [*filter(ballot_in(case, ballot).may_turn, its_ballots)]
-
-
 def ballot_in(case: LetterCase, ballot: str) -> Ballot:
     """A ballot of a letter beside others. Where its time is not known it has the one of now, as when it is entered."""
     time = case.time or case.circumstances.now
     return Ballot(time, ballot, case.time is not None, case.read.behind)
 
 
-def has_voted_since(
-    case: LetterCase, elector: str, last: Mapping[str, Mapping[str, Ballot]]
-) -> bool | None:
+def has_voted_since(case: LetterCase, elector: str, its: Beside) -> bool | None:
     """Whether it is sure that an elector of a letter has a later ballot; None if they have none. If answers
     of theirs stand in the letter, it is one that answers one of the same questions. Of a letter of which
     some are left only these are asked about.
     """
-    its = last.get(elector, {})
     lines = [line.as_entered for line in (*case.ballots, *case.offered) if line.elector == elector]
     if case.left and not (lines := [*filter(None, map(case.left_in, lines))]):
         return None
-    labels = {label for ballot in lines for label in answers_of(ballot)} or its.keys()
-    pairs = [(line, [its[label]]) for line in lines or [""] for label in labels & its.keys()]
-    if any(any(surely_later(case, *pair)) for pair in pairs):
-        return True
-    return False if any(perhaps_later(case, *pair) for pair in pairs) else None
+    said = {its.has_voted_since(ballot_in(case, line)) for line in lines or [""]}
+    return True in said or (False if False in said else None)
 
 
 def original_of(group: Sequence[LetterCase]) -> LetterCase | None:
@@ -298,35 +295,6 @@ def original_of(group: Sequence[LetterCase]) -> LetterCase | None:
     return None if is_hidden else original
 
 
-class Beside:
-    """The ballots of an elector beside which letters are judged. Of thousands each letter looks at few."""
-
-    def __init__(self, in_book: Sequence[Ballot], of_letters: Iterable[Ballot]) -> None:
-        self.last = last_answers(in_book)
-        self.last_by_letter = last_answers(filter(IS_BY_LETTER, in_book))
-        # those in the book, and of letters that do not wait, by how far the clock of each was behind
-        self.by_clock = grouped((one.behind, one) for one in in_book)
-        answers = (
-            ((one.time, label), ranks)
-            for one in (*in_book, *of_letters)
-            for label, ranks in answers_of(one.line).items()
-        )
-        # the different answers to a question that have the same time
-        self.at_once = grouped(dict.fromkeys(answers))
-
-    def turned(self, own: Ballot) -> Ballot | None:
-        """The first one that may stand on the other side of a ballot by the clock of this computer: of each
-        other clock only those may whose times are within the difference.
-        """
-        found = list[Ballot]()
-        for behind, its in self.by_clock.items():
-            by_its_clock = own.time + datetime.timedelta(seconds=own.behind - behind)
-            within = sorted((own.time, by_its_clock))
-            places = range(*(bisect.bisect_right(its, time, key=TIME) for time in within))
-            found += itertools.islice(filter(own.may_turn, map(its.__getitem__, places)), 1)
-        return min(found, key=queries.by_time) if found else None
-
-
 def judge_originals(
     cases: Sequence[LetterCase], originals: Collection[LetterCase], by_elector: BallotsByElector
 ) -> None:
@@ -336,20 +304,29 @@ def judge_originals(
     in_order = (case for case in cases if case in originals)
     own = {case: ballot_in(case, case.sole_ballot.as_entered) for case in in_order}
     of_letters = grouped((case.elector, one) for case, one in own.items())
-    beside = {elector: Beside(by_elector[elector], its) for elector, its in of_letters.items()}
+    answers = (
+        ((elector, label, one.time), ranks)
+        for elector, its in of_letters.items()
+        for one in (*by_elector[elector].every, *its)
+        for label, ranks in answers_of(one.line).items()
+    )
+    # those to which several that differ have the same time
+    at_once = several(dict.fromkeys(answers)).keys()
     # copies of these are not known as such, while gpgv does not answer
     unchecked = [case for case in cases if case.is_decided and case.read.is_slow]
     unchecked_ballots = {line.as_entered for case in unchecked for line in case.ballots}
     for case, ballot in own.items():
-        its = beside[case.elector]
-        case.outcome, case.reason = outcome_of_original(case, ballot, its, unchecked_ballots)
+        its = by_elector[case.elector]
+        is_at_once = any((case.elector, label, ballot.time) in at_once for label in ballot.labels)
+        case.outcome, case.reason = outcome_of_original(
+            case, ballot, its, is_at_once, ballot.line in unchecked_ballots
+        )
         if case.outcome is not LetterOutcome.WAITS:
-            bisect.insort(by_elector[case.elector], ballot, key=queries.by_time)
-            bisect.insort(its.by_clock.setdefault(ballot.behind, []), ballot, key=TIME)
+            its.add(ballot)
 
 
 def outcome_of_original(
-    case: LetterCase, own: Ballot, its: Beside, unchecked_ballots: Collection[str]
+    case: LetterCase, own: Ballot, its: Beside, is_at_once: bool, is_unchecked: bool
 ) -> Judgement:
     """What becomes of a letter that breaks no rule, beside the ballots of its elector: they have to be
     older, but for the same one; and the vote may not be closed.
@@ -357,30 +334,19 @@ def outcome_of_original(
     elector, time = case.elector, own.time
     if turned := its.turned(own):
         return LetterOutcome.WAITS, Reason.CLOCKS(elector=elector, time=turned.time)
-    if later := later_answers(own, its.last):
+    if later := its.later(own):
         # this one can count in no case; the time of a line is only when somebody entered it
-        is_older = later_answers(own, its.last_by_letter).keys() == own.labels
-        reason = Reason.LATER_BALLOT(elector=elector, time=max(later.values()))
+        is_older = its.later(own, IS_BY_LETTER).keys() == own.labels
+        reason = Reason.LATER_BALLOT(elector=elector, time=max(map(TIME, later.values())))
         return LetterOutcome.OLDER if is_older else LetterOutcome.WAITS, reason
-    if any(len(its.at_once[time, label]) > 1 for label in own.labels):
+    if is_at_once:
         return LetterOutcome.WAITS, Reason.SAME_TIME(elector=elector, time=time)
-    if own.line in unchecked_ballots:
+    if is_unchecked:
         return LetterOutcome.WAITS, Reason.PERHAPS_COPY()
     if case.circumstances.is_closed:
         # it would become late, and the plainer a ballot is, the less would that be noticed
         return LetterOutcome.WAITS, Reason.CLOSED()
     return LetterOutcome.GOES_IN, None
-
-
-def later_answers(own: Ballot, last: Mapping[str, Ballot]) -> dict[str, datetime.datetime]:
-    """The labels of the answers in a ballot to which the last ones are later, with their times."""
-    there = ((label, last[label]) for label in own.labels & last.keys())
-    return {label: one.time for label, one in there if queries.later([one], own.time)}
-
-
-def answered_by(ballot: str, later: Iterable[Ballot]) -> set[str]:
-    """The labels of the answers in a ballot to which there are later ones, of its elector."""
-    return answers_of(ballot).keys() & {label for one in later for label in one.labels}
 
 
 def judge_copies(
@@ -422,7 +388,7 @@ def outcome_of_copy(
     # not what was typed for it, nor another line of it
     own = {one.number for one in original.entered}
     for line in (*case.ballots, *case.offered):
-        there = by_elector[line.elector]
+        there = by_elector[line.elector].every
         places = (bisect.bisect_left(there, time, key=TIME) for time in (begin, end))
         others = (one for one in there[slice(*places)] if one.number not in own)
         times = (one.time for one in others if differ(one.line, line.as_entered))

@@ -154,7 +154,7 @@ def near_words(letter: LetterCase) -> Iterator[str]:
         left = without(line.as_entered, letter.answered_since[line.as_entered]) or line.as_entered
         if shown := letter.left_in(line.as_entered) if letter.left else left:
             yield f"line {line.number}: {shown}"
-    for typed in filter(None, map(letter.left_in, letter.left_out or ())):
+    for typed in filter(None, map(letter.left_in, letter.left_out)):
         yield f"left out of what was typed: {typed}"
     for near in letter.near:
         within = ", within other words" if near.is_within else ""

@@ -160,13 +160,14 @@ class LetterCase:
     reason: ReasonWithValues | None = None
     # its electors who have a later ballot, or may have: whether it is sure
     voted_since: Mapping[str, bool] = {}
-    # of each ballot of it the labels of the answers to which its elector has later ones
-    answered_since: Mapping[str, Collection[str]] = {}
-    # the ballots of it that were entered; if some were by hand, of what was typed the answers that were
-    # left out, as ballots, else None; and the answers for which it waits on, as in `not_entered`
+    # of each ballot of it, and of those that are left out, the labels of the answers to which its elector has
+    # later ones
+    answered_since: Mapping[str, Set[str]] = {}
+    # the ballots of it that were entered; whether some were by hand; and of what was typed the answers that
+    # were left out, as ballots
     entered: Sequence[EnteredBallot] = ()
-    left_out: Sequence[str] | None = None
-    left: Set[tuple[str, str]] = frozenset()
+    is_by_hand = False
+    left_out: Sequence[str] = ()
 
     def __init__(
         self, letter: ReadLetter, circumstances: Circumstances, kept: KeptLetter = NOT_KEPT
@@ -393,9 +394,23 @@ class LetterCase:
         ]
         is_shared = len(self.sharing) > 1 and any(one.is_typed for one in self.entered)
         others = {*self.sharing} - having - {one.elector for one in lines} if is_shared else ()
-        given = (*(one.answers for one in lines), *map(answers_in, self.left_out or ()))
+        given = (*(one.answers for one in lines), *map(answers_in, self.left_out))
         done = itertools.chain.from_iterable(one.answers for one in self.standing)
         return {(name, "") for name in others}.union(*given).difference(done)
+
+    @functools.cached_property
+    def left(self) -> Set[tuple[str, str]]:
+        """The answers for which it waits on when ballots of it were entered by hand: of an elector of whom
+        some were, those to which they have no later one.
+        """
+        having = {one.elector for one in self.standing}
+        since = (
+            (name, label)
+            for ballot, labels in self.answered_since.items()
+            for name, label in answers_in(ballot)
+            if name in having and label in labels
+        )
+        return self.not_entered.difference(since) if self.is_by_hand else frozenset()
 
     def left_in(self, ballot: str) -> str:
         """A ballot of it with the answers for which it waits on; empty if there are none."""
