@@ -2,13 +2,12 @@
 letters that came.
 """
 
-import bisect
 import collections
 import datetime
 import json
 import sys
 from collections.abc import Callable, Collection, Iterable, Iterator, Mapping, Sequence, Set
-from typing import Final, NamedTuple, TypeVar
+from typing import Final, NamedTuple
 
 from debvote_tools.book.book import Book, NewAct, as_text, from_text
 from debvote_tools.grouping import grouped
@@ -176,29 +175,16 @@ class Ballot(NamedTuple):
         return answers_of(self.line).keys()
 
 
-ABallot = TypeVar("ABallot", Ballot, Envelope)
-
-
 def by_time(ballot: Ballot | Envelope) -> tuple[datetime.datetime, int]:
     """The order in which one ballot is later than another: by their times; of the same time, by their
     envelopes. A letter has the time at which it arrived, or was signed; a line, and a letter of which
     that is not known, has that of the act that entered it.
 
     Which ballot counts the envelopes alone decide (`counting` in `views.sql`). So what is entered may
-    not replace a later ballot unless the secretary says so: all who look for one ask `later`. Of lines
-    that came in one file, the one above is the older one.
+    not replace a later ballot unless the secretary says so: all who look for one compare by this. Of
+    lines that came in one file, the one above is the older one.
     """
     return ballot.time, ballot.number
-
-
-def later(
-    ballots: Sequence[ABallot], time: datetime.datetime | None, number: int = NEXT
-) -> Sequence[ABallot]:
-    """Those ballots of an elector, in the order `by_time`, that are later than a ballot of this time
-    and envelope. Where its time is not known, each may be.
-    """
-    first = 0 if time is None else bisect.bisect_right(ballots, (time, number), key=by_time)
-    return ballots[first:]
 
 
 # ---- envelopes by conditions
@@ -210,6 +196,8 @@ NOT_UNDONE = "act NOT IN (SELECT json_extract(detail, '$.act') FROM act WHERE na
 
 # the late envelopes of which no new one stands that a `reopen` entered as in time
 LEFT_LATE = f"{LATE} AND became = 'late'"
+# the letters from which such envelopes came
+OF_LEFT_LATE = f"letter IN (SELECT letter FROM fate WHERE {LEFT_LATE})"
 
 # those that came in files of lines; a line that was entered anew came once, and is known by its last
 # envelope, though that may be struck
@@ -316,16 +304,6 @@ def elector_numbers(book: Book, names: Collection[str]) -> dict[str, int]:
     return dict(book.rows(words, json.dumps(list(names))))
 
 
-def typed_envelopes(book: Book) -> set[int]:
-    """The envelopes of what the secretary typed for a letter, by `held --as`, also those in which a
-    `reopen` entered it anew.
-    """
-    acts = json.dumps([act.number for act in book.acts() if act.is_typed])
-    typed = "SELECT envelope FROM envelope WHERE act IN (SELECT value FROM json_each(?1))"
-    words = f"{typed} UNION SELECT envelope FROM anew WHERE late IN ({typed})"
-    return {number for number, in book.rows(words, acts)}
-
-
 class EnteredBallot(NamedTuple):
     """A ballot of a letter that was entered, and what became of it. One that an `undo` took back is
     struck, too.
@@ -351,23 +329,12 @@ class EnteredBallot(NamedTuple):
 
 def entered_ballots(book: Book, letters: Sequence[int]) -> dict[int, list[EnteredBallot]]:
     """The ballots of some letters that were entered, in the order of their envelopes, by the letters."""
-    typed = typed_envelopes(book)
     undone = "struck IN (SELECT act FROM act WHERE name = 'undo')"
+    columns = f"envelope, CAST(line AS TEXT), late, struck IS NOT NULL, {undone}, envelope IN typed"
     condition = "letter IN (SELECT value FROM json_each(?))"
-    words = f"SELECT letter, envelope, line, late, struck, {undone} FROM entered WHERE {condition} ORDER BY envelope"
+    words = f"SELECT letter, {columns} FROM entered WHERE {condition} ORDER BY envelope"
     return grouped(
-        (
-            letter,
-            EnteredBallot(
-                number,
-                line.decode("ascii"),
-                is_late=bool(late),
-                is_struck=struck is not None,
-                is_taken_back=bool(is_undone),
-                is_typed=number in typed,
-            ),
-        )
-        for letter, number, line, late, struck, is_undone in book.rows(words, json.dumps(letters))
+        (letter, EnteredBallot(*its)) for letter, *its in book.rows(words, json.dumps(letters))
     )
 
 
@@ -375,17 +342,11 @@ def entered_by_hand(book: Book) -> dict[int, list[str]]:
     """The letters from which `held` entered ballots, though an `undo` took them back; each with the
     answers that were left out of what was typed for it, since their electors had later ones, as ballots.
     """
-    acts = book.acts()
-    undone = {act.detail["act"] for act in acts if act.name == "undo"}
-    entering = [act for act in acts if act.name == "enter"]
-    found: dict[int, list[str]] = {
-        number: [] for act in entering for number in act.detail["letters"]
+    words = f"""SELECT its.value, left_out.value FROM act, json_each(detail, '$.letters') AS its
+LEFT JOIN json_each(detail, '$.left_out."' || its.value || '"') AS left_out ON {NOT_UNDONE} WHERE name = 'enter' ORDER BY act"""
+    return {
+        number: [*filter(None, ballots)] for number, ballots in grouped(book.rows(words)).items()
     }
-    for act in entering:
-        if act.is_typed and act.number not in undone:
-            [number] = act.detail["letters"]
-            found[number] += act.detail.get("left_out", {}).get(str(number), ())
-    return found
 
 
 # ---- lines by act, and those that came in files
@@ -547,9 +508,11 @@ class KeptLetter(NamedTuple):
         return self.state in (NEVER_DECIDED, PUT_BACK, TAKEN_BACK)
 
 
-def kept_letters(book: Book) -> list[KeptLetter]:
-    words = "SELECT letter, act, source, identity, known, state FROM letter_now ORDER BY letter"
-    return [KeptLetter(*row) for row in book.rows(words)]
+def kept_letters(book: Book, condition: str = "1", *values: object) -> list[KeptLetter]:
+    """The letters that meet a condition, in the order in which they came."""
+    columns = "letter, act, source, identity, known, state"
+    words = f"SELECT {columns} FROM letter_now WHERE {condition} ORDER BY letter"
+    return [KeptLetter(*row) for row in book.rows(words, *values)]
 
 
 def kept_digests(book: Book) -> set[tuple[str, bool]]:

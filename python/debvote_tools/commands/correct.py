@@ -14,7 +14,6 @@ from debvote_tools.cli.arguments import Acting, demand_reason, flag, option, pos
 from debvote_tools.cli.console import act_time, count_of, shown_line, tell
 from debvote_tools.cli.faults import Fault, bad_words, stop_at
 from debvote_tools.commands.held import THE_ONE, named_lines
-from debvote_tools.grouping import grouped
 from debvote_tools.inbox import letter_words
 from debvote_tools.inbox.entering import Entry
 from debvote_tools.inbox.fates import ANEW
@@ -100,7 +99,7 @@ def what_is_taken_back(vote: Vote, arguments: UndoArguments) -> TakenBack:
         letters=dict.fromkeys(letters, queries.TAKEN_BACK),
         undone=act,
         is_typed_or_late=act.name == "reopen"
-        or not queries.typed_envelopes(book).isdisjoint(struck),
+        or bool(queries.lines(book, "act = ? AND envelope IN typed", number)),
         ballots=ballots,
         others=others,
     )
@@ -185,11 +184,9 @@ def strike(election: Election, arguments: StrikeArguments) -> None:
 def what_is_struck(vote: Vote, arguments: StrikeArguments, because: str) -> Change:
     envelope = demand_envelope(vote, arguments.number)
     # a letter waits on if it has ballots of others that were not entered
-    done = [
-        kept.number
-        for kept in queries.kept_letters(vote.book)
-        if kept.number == envelope.letter and kept.state == queries.ENTERED
-    ]
+    entered = queries.kept_letters(
+        vote.book, "letter = ? AND state = ?", envelope.letter, queries.ENTERED
+    )
     return Change(
         "strike",
         {"envelope": envelope.number, "because": because},
@@ -197,7 +194,7 @@ def what_is_struck(vote: Vote, arguments: StrikeArguments, because: str) -> Chan
             f"Strike {in_words(envelope, vote)}? This cannot be undone.", arguments.yes
         ),
         struck=[envelope.number],
-        letters=dict.fromkeys(done, queries.STRUCK),
+        letters={letter.number: queries.STRUCK for letter in entered},
     )
 
 
@@ -316,8 +313,7 @@ def perhaps_in_time(vote: Vote) -> list[Envelope]:
     to have arrived after the first close.
     """
     late = queries.envelopes(vote.book, queries.LEFT_LATE)
-    letters = {envelope.letter for envelope in late}
-    kept = [one for one in queries.kept_letters(vote.book) if one.number in letters]
+    kept = queries.kept_letters(vote.book, queries.OF_LEFT_LATE)
     known = judged(vote, vote.election.history(), kept)
     too_late = {letter.number for letter in known if letter.arrived_after_close}
     return [envelope for envelope in late if envelope.letter not in too_late]
@@ -346,17 +342,16 @@ def faults_of_older(vote: Vote, offered: Sequence[Envelope]) -> Iterator[Fault]:
     """A fault for each envelope that would replace a later ballot of its elector."""
     known = [(one.elector, one) for one in offered if one.elector is not None]
     last = {(elector, label): late for elector, late in known for label in late.by_question}
-    there = sorted(queries.envelopes_of(vote.book, dict(known)), key=queries.by_time)
-    valid = grouped(
-        ((one.elector, label), one)
-        for one in there
-        if one.became in ("counts", "replaced")
+    there = queries.envelopes_of(vote.book, dict(known), "became IN ('counts', 'replaced')")
+    newest = {
+        (one.elector, label): one
+        for one in sorted(there, key=queries.by_time)
         for label in one.by_question
-    )
+    }
     pairs = (
-        (late.number, later[-1].number)
+        (late.number, newest[answered].number)
         for answered, late in last.items()
-        if (later := queries.later(valid.get(answered, []), late.time, late.number))
+        if answered in newest and queries.by_time(newest[answered]) > queries.by_time(late)
     )
     cure = "leave it out; or, if it must count, repeat the command with --force"
     for number, replaced in dict.fromkeys(pairs):

@@ -69,7 +69,8 @@ class Beside:
         for label in self.labels_of(own) if own.is_by_letter else ():
             # of thousands only as many are looked at as are asked for
             its = itertools.takewhile(
-                lambda one: queries.later([one], own.time), reversed(self.by_label[label])
+                lambda one: queries.by_time(one) > queries.by_time(own),
+                reversed(self.by_label[label]),
             )
             later = (one for one in its if is_asked_for(one) and not own.may_turn(one))
             found |= {label: one for one in itertools.islice(later, 1)}
