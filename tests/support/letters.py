@@ -158,7 +158,7 @@ def judged(
     of_others = {name: value for name, value in other.items() if name not in ("language", "real_names")}
     now = circumstances(**of_others)
     cases = [case_of(one, now, decisions.get(one.digest)) for one in read(*letters, reader=reader, **of_names)]
-    return judge_all(cases, lambda _: in_order(ballots or {}))
+    return judge_all(cases, in_order(ballots or {}))
 
 
 def in_order(ballots: Mapping[str, Sequence[Ballot]]) -> BallotsByElector:
@@ -177,7 +177,7 @@ def case_of(one: ReadLetter, now: Circumstances, state: str | None) -> LetterCas
 
 
 def judged_alone(one: ReadLetter, now: Circumstances) -> LetterCase:
-    [found] = judge_all([LetterCase(one, now)], lambda _: in_order({}))
+    [found] = judge_all([LetterCase(one, now)], in_order({}))
     return found
 
 
@@ -186,7 +186,7 @@ def calls_while_judged(letters: Sequence[ReadLetter]) -> int:
     cases, events = [LetterCase(one, circumstances()) for one in letters], collections.Counter[str]()
     sys.setprofile(lambda _, event, __: events.update([event]))
     try:
-        found = judge_all(cases, lambda _: in_order({}))
+        found = judge_all(cases, in_order({}))
     finally:
         sys.setprofile(None)
     assert found[0].outcome is LetterOutcome.GOES_IN, outcome(found[0])

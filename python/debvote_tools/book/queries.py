@@ -360,11 +360,14 @@ def last_entering_act(book: Book) -> int | None:
     return number
 
 
-def elector_condition(electors: Collection[int]) -> str:
-    """The condition that an envelope is of one of these electors, who are the last value, as JSON."""
+def of_electors(electors: Collection[int] | None) -> tuple[str, Sequence[str]]:
+    """The condition that an envelope is of one of these electors, or of anybody, with its values."""
+    if electors is None:
+        return "1", ()
     # with the sign SQLite uses no index: to look for the lines of each of many takes longer than to
     # look at all lines
-    return f"{'+' if len(electors) > MOST_LOOKED_FOR else ''}elector IN (SELECT value FROM json_each(?))"
+    sign = "+" if len(electors) > MOST_LOOKED_FOR else ""
+    return f"{sign}elector IN (SELECT value FROM json_each(?))", [json.dumps([*electors])]
 
 
 def names_and_lines(book: Book) -> list[tuple[int, str | None, bytes]]:
@@ -379,19 +382,37 @@ def envelope_states(book: Book, elector: int | None) -> list[tuple[int, int | No
     return book.rows(words, elector)
 
 
-def envelopes_of(book: Book, electors: Collection[int], condition: str = "1") -> list[Envelope]:
-    """The envelopes of some electors that meet a condition."""
-    condition = f"{condition} AND {elector_condition(electors)}"
-    return envelopes(book, condition, json.dumps(list(electors)))
+def envelopes_of(
+    book: Book, electors: Collection[int] | None, condition: str = "1"
+) -> list[Envelope]:
+    """The envelopes of some electors, or all, that meet a condition."""
+    some, values = of_electors(electors)
+    return envelopes(book, f"{condition} AND {some}", *values)
+
+
+def ballots_of(book: Book, names: Collection[str]) -> dict[str, list[Ballot]]:
+    """The ballots of some electors by name, in the order `by_time`: those that were entered and are not
+    struck, also late ones.
+    """
+    # nothing is known of the clock of what came by no letter, or at a time that is not known
+    clocks = "SELECT letter, known ->> 'behind' AS behind FROM letter WHERE known ->> 'arrived' IS NOT NULL"
+    joined = f"entered JOIN elector USING (elector) LEFT JOIN ({clocks}) USING (letter)"
+    columns = "name, time, CAST(line AS TEXT), behind IS NOT NULL AND NOT late, coalesce(behind, 0), envelope, late"
+    some, values = of_electors(elector_numbers(book, names).values())
+    words = (
+        f"SELECT {columns} FROM {joined} WHERE {VALID_OR_LATE} AND {some} ORDER BY time, envelope"
+    )
+    rows = book.rows(words, *values)
+    return grouped((name, Ballot(from_text(time), *its)) for name, time, *its in rows)
 
 
 def what_counts(book: Book, electors: Collection[int] | None = None) -> dict[str, str]:
     """What counts now of each elector who has a valid ballot, or of some: by name the answers, as
     `ranks_by_label` reads them.
     """
-    some = "" if electors is None else f" WHERE elector IN ({', '.join('?' * len(electors))})"
-    words = f"SELECT line FROM counting{some}"
-    return of_all_questions(book, lambda: (line for line, in book.rows(words, *electors or ())))
+    some, values = of_electors(electors)
+    words = f"SELECT line FROM counting WHERE {some}"
+    return of_all_questions(book, lambda: (line for line, in book.rows(words, *values)))
 
 
 def what_counted(
@@ -401,11 +422,9 @@ def what_counted(
     last ballot.
     """
     condition = "answer IS NULL AND act <> ?2 AND late = 0 AND (struck IS NULL OR struck > ?1) AND act <= ?1"
-    values: list[object] = [act, without]
-    if electors is not None:
-        condition += f" AND {elector_condition(electors)}"
-        values.append(json.dumps(list(electors)))
-    return of_all_questions(book, lambda: lines(book, condition, *values))
+    some, values = of_electors(electors)
+    there = f"{condition} AND {some}"
+    return of_all_questions(book, lambda: lines(book, there, act, without, *values))
 
 
 def of_all_questions(book: Book, ballots: Callable[[], Iterable[bytes]]) -> dict[str, str]:
@@ -523,14 +542,6 @@ def kept_digests(book: Book) -> set[tuple[str, bool]]:
     return {(str(digest), bool(is_parted_off)) for digest, is_parted_off in book.rows(words)}
 
 
-def letter_clocks(book: Book) -> dict[int, int]:
-    """Of each letter of which it is known when it arrived: by how many seconds the clock was behind
-    that says so, if it is that of the box.
-    """
-    words = "SELECT letter, json_extract(known, '$.behind') FROM letter WHERE known ->> 'arrived' IS NOT NULL"
-    return dict(book.rows(words))
-
-
 def records_since(book: Book, act: int, at: str | None = None) -> dict[int, str]:
     """The records of the box that came since an act, from this address if one is given: the numbers of
     their letters, and digests.
@@ -561,14 +572,7 @@ def decide(act: NewAct, letter: int, state: str) -> None:
     act.insert("letter_state", letter=letter, state=state)
 
 
-def ids_that_ask(book: Book) -> set[str]:
-    """The Message-IDs of the letters that ask to vote."""
-    words = (
-        "SELECT json_extract(detail, '$.message_id') FROM sent WHERE kind IN ('call', 'reminders')"
-    )
-    return {message_id for message_id, in book.rows(words)} - {""}
-
-
-def our_message_ids(book: Book) -> dict[int, list[str]]:
-    words = "SELECT elector, json_extract(detail, '$.message_id') AS id FROM sent WHERE state = 'written' AND id <> ''"
-    return grouped(book.rows(words))
+def our_message_ids(book: Book) -> list[tuple[int, str, str]]:
+    """The Message-IDs of the letters that were written, each with its elector and its kind."""
+    words = "SELECT elector, json_extract(detail, '$.message_id') AS id, kind FROM sent WHERE state = 'written' AND id <> ''"
+    return book.rows(words)

@@ -137,7 +137,7 @@ def line_of(letter: LetterCase, ballot: EnteredBallot) -> str:
     """The number of the first line of a letter that has the answers of a ballot; empty if none has."""
     has_them = (
         str(line.number)
-        for line in (*letter.ballots, *letter.offered)
+        for line in letter.lines_to_enter
         if ballot.answers <= line.answers and not differ(ballot.line, line.as_entered)
     )
     return next(has_them, "")
@@ -321,19 +321,19 @@ def perhaps_in_time(vote: Vote) -> list[Envelope]:
 
 def chosen(vote: Vote, numbers: Sequence[int]) -> list[Envelope]:
     """The late envelopes that had come in time, as the secretary says, in the order of their times."""
-    book = vote.book
-    late = {envelope.number: envelope for envelope in queries.envelopes(book, queries.LATE)}
+    late = {envelope.number: envelope for envelope in queries.envelopes(vote.book, queries.LATE)}
     if unknown := [str(number) for number in numbers if number not in late]:
         words = f"envelope {', '.join(unknown)} is not one of the late lines"
         cure = "status says how many lines are late, and show NAME which"
         raise bad_words("--in-time", words, cure)
-    left = {envelope.number for envelope in queries.envelopes(book, queries.LEFT_LATE)}
-    if again := [str(number) for number in numbers if number not in left]:
-        words = f"envelope {', '.join(again)} was entered as in time by an earlier reopen"
-        raise Fault("--in-time", words, "leave it out")
-    may_be = {envelope.number for envelope in perhaps_in_time(vote)}
-    if too_late := [str(number) for number in numbers if number not in may_be]:
-        words = f"envelope {', '.join(too_late)} is of a letter that arrived after the first close"
+    in_time = {envelope.number for envelope in perhaps_in_time(vote)}
+    others = [number for number in numbers if number not in in_time]
+    again = [number for number in others if late[number].became == ANEW]
+    why = "is of a letter that arrived after the first close"
+    if again:
+        why = "was entered as in time by an earlier reopen"
+    if others:
+        words = f"envelope {', '.join(map(str, again or others))} {why}"
         raise Fault("--in-time", words, "leave it out")
     return sorted((late[number] for number in set(numbers)), key=queries.by_time)
 

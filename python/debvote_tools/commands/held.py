@@ -75,13 +75,13 @@ def held(election: Election, arguments: Arguments) -> None:
         carried_out(vote.book, lambda: what_is_entered(vote, arguments, typed))
     found = all_letters(vote)
     pending = [letter for letter in found if letter.is_pending]
-    shown = [] if is_act else chosen_letters(found, arguments.numbers)
-    for letter in chosen_letters(found, arguments.numbers) if is_act else ():
-        if letter.reason and letter.reason.reason is Reason.NOT_ENTERED:
+    named = chosen_letters(found, arguments.numbers)
+    for letter in named:
+        if not is_act:
+            tell(*letter_words.whole(letter))
+        elif letter.reason and letter.reason.reason is Reason.NOT_ENTERED:
             tell(f"{name_of(letter)} waits on; {for_secretary(letter.reason)}")
-    for letter in shown:
-        tell(*letter_words.whole(letter))
-    if not (is_act or shown):
+    if not named:
         tell(*letter_words.table(pending))
         if aside := [
             str(letter.number) for letter in found if letter.outcome is LetterOutcome.SET_ASIDE
@@ -92,7 +92,7 @@ def held(election: Election, arguments: Arguments) -> None:
     if not pending:
         tell("No letter waits.", f"Next: {election.command('status')}")
         return
-    waiting = [letter for letter in shown if letter.is_pending]
+    waiting = [letter for letter in named if letter.is_pending and not is_act]
     command = election.command("held", str((waiting or pending)[0].number))
     how = "--enter LINE enters a line of it, --as LINE the ballot that you type, --set-aside sets it aside"
     tell(f"{letter_words.wait_words(len(pending))}.")
@@ -294,10 +294,10 @@ def named_lines(letter: LetterCase, enter: Sequence[str], *, is_one: bool) -> li
     named, or its only one.
     """
     name = name_of(letter)
-    lines = [*dict.fromkeys((*letter.offered, *letter.ballots))]
+    lines = letter.lines_to_enter
     texts = [text.strip() for text in ",".join(enter).split(",")]
     if is_the_one := texts == [THE_ONE]:
-        lines = [line for line in lines if letter.left_in(line.as_entered)] or lines
+        lines = tuple(line for line in lines if letter.left_in(line.as_entered)) or lines
     there = grouped((str(line.number), line) for line in lines)
     if is_the_one:
         demand_one_line(letter, there, is_one=is_one)

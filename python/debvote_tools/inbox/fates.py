@@ -68,7 +68,7 @@ def fates_of(
     names = {
         one.number: one.name for one in (queries.electors(book) if elector is None else [elector])
     }
-    came = queries.envelopes(book) if elector is None else queries.envelopes_of(book, names)
+    came = queries.envelopes_of(book, names if elector else None)
     kept = queries.kept_letters(book)
     kept_at = {letter.number: history.act(letter.act).time for letter in kept}
     letters = {letter.number: letter for letter in judged(Vote(election), history, kept)}

@@ -11,8 +11,9 @@ from collections.abc import Callable, Collection, Iterable, Sequence, Set
 
 from debvote_tools.book import queries
 from debvote_tools.book.election import BOX_KEY, KEYRING, History
-from debvote_tools.book.queries import Ballot, Envelope, KeptLetter
+from debvote_tools.book.queries import Ballot, KeptLetter
 from debvote_tools.grouping import grouped, several
+from debvote_tools.inbox.asked import WITH_LINKS
 from debvote_tools.inbox.letter import Body
 from debvote_tools.inbox.letter_lines import ReadLetter, from_json, read_letters
 from debvote_tools.inbox.mailbox import RawLetter
@@ -125,7 +126,9 @@ def judged(
         case.entered, case.is_by_hand = entered.get(case.number, ()), case.number in by_hand
         case.left_out = by_hand.get(case.number, ())
     cases += (LetterCase(read, circumstances) for read in previewed)
-    return judge_all(cases, lambda names: ballots_in(vote, names))
+    names = {elector for case in cases for elector in case.electors}
+    names.update(one.elector for case in cases for one in case.entered)
+    return judge_all(cases, ballots_in(vote, names))
 
 
 def letters_now(vote: Vote) -> dict[int, LetterCase]:
@@ -166,24 +169,8 @@ def check_again(
 
 def ballots_in(vote: Vote, names: Collection[str]) -> BallotsByElector:
     """The ballots of some electors that were entered and are not struck, also late ones."""
-    numbers = queries.elector_numbers(vote.book, names)
-    by_number = {number: name for name, number in numbers.items()}
-    clocks = queries.letter_clocks(vote.book)
-    there = queries.envelopes_of(vote.book, by_number, queries.VALID_OR_LATE)
-    found = grouped(
-        (by_number[one.elector or 0], ballot_of(one, clocks.get(one.letter or 0)))
-        for one in sorted(there, key=queries.by_time)
-    )
-    return BallotsByElector(Beside, {name: Beside(its) for name, its in found.items()})
-
-
-def ballot_of(envelope: Envelope, behind: int | None) -> Ballot:
-    """A ballot that was entered beside others; None is behind what came by no letter, or at a time that is
-    not known.
-    """
-    time, line, is_late = envelope.time, envelope.line.decode("ascii"), envelope.is_late
-    is_by_letter = behind is not None and not is_late
-    return Ballot(time, line, is_by_letter, behind or 0, envelope.number, is_late)
+    its_by_name = queries.ballots_of(vote.book, names).items()
+    return BallotsByElector(Beside, {name: Beside(its) for name, its in its_by_name})
 
 
 def circumstances_now(vote: Vote, history: History) -> Circumstances:
@@ -191,7 +178,7 @@ def circumstances_now(vote: Vote, history: History) -> Circumstances:
     election, call = vote.election, history.call
     assert call is not None
     public, electors = election.sealed().public, queries.electors(election.book)
-    ids = queries.our_message_ids(election.book)
+    names, ids = {one.number: one.name for one in electors}, queries.our_message_ids(election.book)
     no_answers = {elector.who for elector in electors}
     if vote.names.words or vote.names.labels:
         letter = call_letter(current_call(election, history))
@@ -210,25 +197,21 @@ def circumstances_now(vote: Vote, history: History) -> Circumstances:
         first_close=history.closes[0].time if history.closes else None,
         is_closed=history.is_closed,
         now=times.now(),
-        our_ids={elector.name: ids.get(elector.number, []) for elector in electors},
+        our_ids=grouped((names[elector], one) for elector, one, _ in ids if elector in names),
         box_key=queries.sealed(election.book, BOX_KEY),
         words=vote.names.words,
         no_answers=no_answers,
-        asking_ids=queries.ids_that_ask(election.book),
+        asking_ids={one for _, one, kind in ids if kind in WITH_LINKS},
     )
 
 
 # ---- one letter beside the others
-def judge_all(
-    cases: Iterable[LetterCase], ballots_of: Callable[[Collection[str]], BallotsByElector]
-) -> list[LetterCase]:
+def judge_all(cases: Iterable[LetterCase], by_elector: BallotsByElector) -> list[LetterCase]:
     """Judges letters, and returns them by their times; those without a time come last. What an act
     decided holds; a letter that breaks a rule waits. Of the letters of one identity, mostly one alone,
     the first that breaks none is the original, whose time is its own; the others may be its copies.
     """
     cases = sorted(cases, key=lambda case: (case.time is None, case.time or case.circumstances.now))
-    names = {elector for case in cases for elector in case.electors}
-    by_elector = ballots_of(names | {one.elector for case in cases for one in case.entered})
     for case in cases:
         lines = (line.as_entered for line in (*case.ballots, *case.likely))
         own = [ballot_in(case, line) for line in (*lines, *case.left_out)]
@@ -279,7 +262,7 @@ def has_voted_since(case: LetterCase, elector: str, its: Beside) -> bool | None:
     of theirs stand in the letter, it is one that answers one of the same questions. Of a letter of which
     some are left only these are asked about.
     """
-    lines = [line.as_entered for line in (*case.ballots, *case.offered) if line.elector == elector]
+    lines = [line.as_entered for line in case.lines_to_enter if line.elector == elector]
     if case.left and not (lines := [*filter(None, map(case.left_in, lines))]):
         return None
     said = {its.has_voted_since(ballot_in(case, line)) for line in lines or [""]}
@@ -388,7 +371,7 @@ def outcome_of_copy(
     begin, end = sorted((original.time, case.time))
     # not what was typed for it, nor another line of it
     own = {one.number for one in original.entered}
-    for line in (*case.ballots, *case.offered):
+    for line in case.lines_to_enter:
         there = by_elector[line.elector].every
         places = (bisect.bisect_left(there, time, key=TIME) for time in (begin, end))
         others = (one for one in there[slice(*places)] if one.number not in own)

@@ -197,7 +197,7 @@ class LetterCase:
         valid = [line.as_ballot for line in self.named if line.answer is None]
         # beside these those with the real name of somebody else, as in the letter of a family; if
         # several have it, it is nobody's
-        real = [line for line in ballots if self.named and line.real and not line.elector]
+        real = (line for line in ballots if self.named and line.real and not line.elector)
         unknown = [line for line in real if line.answer is None]
         self.unclear = [line for line in unknown if len(line.meant) > 1]
         others = [line.ballot_of(*line.meant) for line in unknown if len(line.meant) == 1]
@@ -310,6 +310,11 @@ class LetterCase:
         places = {line.numbers for line in found}
         is_all = len(places) == 1 and self.other_answers.issubset(*places)
         return found if is_all or not has_labels else {}
+
+    @property
+    def lines_to_enter(self) -> tuple[BallotLine, ...]:
+        """All lines that can be entered by their numbers."""
+        return (*self.ballots, *self.offered)
 
     @functools.cached_property
     def every_near(self) -> list[Near]:
@@ -469,7 +474,7 @@ class LetterCase:
     @functools.cached_property
     def electors(self) -> tuple[str, ...]:
         """The electors on its ballots, or near to one; else the one who sent it."""
-        named = [line.elector for line in (*self.ballots, *self.offered)]
+        named = [line.elector for line in self.lines_to_enter]
         near = (near.ballot.partition(" ")[0] for near in self.every_near)
         named += [name for name in near if name in self.circumstances.electors]
         return tuple(dict.fromkeys(named or filter(None, [self.sending_elector])))

@@ -5,7 +5,7 @@ that go in. `held` enters others by a `LetterEntry`. Lines are taken in `command
 import dataclasses
 import functools
 import pathlib
-from collections.abc import Collection, Iterable, Iterator, Sequence
+from collections.abc import Iterable, Iterator, Sequence, Set
 
 from debvote_tools.book import queries
 from debvote_tools.book.book import Detail
@@ -91,11 +91,11 @@ def new_of(vote: Vote, raws: Sequence[RawLetter]) -> list[RawLetter]:
     return [raw for digest, raw in chosen.items() if is_not_kept(digest, raw.is_parted_off, kept)]
 
 
-def is_not_kept(digest: str, is_parted_off: bool, kept: Collection[tuple[str, bool]]) -> bool:
+def is_not_kept(digest: str, is_parted_off: bool, kept: Set[tuple[str, bool]]) -> bool:
     """Whether the book lacks a letter. If it has it only as what may be text of another letter, it
     lacks the one that comes on its own.
     """
-    return (digest, False) not in kept and not (is_parted_off and (digest, True) in kept)
+    return kept.isdisjoint([(digest, False), (digest, is_parted_off)])
 
 
 def keep(vote: Vote, raws: Sequence[RawLetter], read: Sequence[ReadLetter], detail: Detail) -> None:
