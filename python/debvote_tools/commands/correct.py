@@ -22,7 +22,7 @@ from debvote_tools.inbox.lines import name_in
 from debvote_tools.inbox.rules import LetterCase
 from debvote_tools.inbox.taking import MOST_NAMED
 from debvote_tools.inbox.vote import envelope_words, standing_words, Vote
-from debvote_tools.text.ballots import differ
+from debvote_tools.text.ballots import answers_in, differ
 from debvote_tools.text.times import now
 
 
@@ -340,13 +340,16 @@ def chosen(vote: Vote, numbers: Sequence[int]) -> list[Envelope]:
 
 def faults_of_older(vote: Vote, offered: Sequence[Envelope]) -> Iterator[Fault]:
     """A fault for each envelope that would replace a later ballot of its elector."""
-    known = [(one.elector, one) for one in offered if one.elector is not None]
-    last = {(elector, label): late for elector, late in known for label in late.by_question}
-    there = queries.envelopes_of(vote.book, dict(known), "became IN ('counts', 'replaced')")
+    # a line that is refused replaces none
+    ballots = [(late, late.line.decode("ascii")) for late in offered if late.why_refused is None]
+    last = {answer: late for late, line in ballots for answer in answers_in(line)}
+    there = queries.ballots_of(vote.book, {name for name, _ in last}).values()
     newest = {
-        (one.elector, label): one
-        for one in sorted(there, key=queries.by_time)
-        for label in one.by_question
+        answer: one
+        for its in there
+        for one in its
+        if not one.is_late
+        for answer in answers_in(one.line)
     }
     pairs = (
         (late.number, newest[answered].number)
