@@ -398,7 +398,7 @@ def why_not_unforced(chosen: Sequence[Chosen], by_elector: BallotsByElector) -> 
                 off = "as the clock of the web host was off"
                 why_unsure = "as nobody knows when it arrived" if letter.time is None else off
                 yield Fault(name, f"its elector may have voted since, {why_unsure}", cure)
-            elif any(one.time == own.time and differ(one.line, own.line) for one in its.every):
+            elif its.has_other_at_once(own):
                 yield Fault(name, "another ballot of its elector has the same time", cure)
         for line in lines:
             by_elector[line.elector].add(ballot_in(letter, line.as_entered))

@@ -7,12 +7,12 @@ import collections
 import datetime
 import itertools
 import operator
-from collections.abc import Callable, Collection, Iterable, Sequence, Set
+from collections.abc import Callable, Collection, Iterable, Mapping, Sequence, Set
 
 from debvote_tools.book import queries
 from debvote_tools.book.election import BOX_KEY, KEYRING, History
 from debvote_tools.book.queries import Ballot, KeptLetter
-from debvote_tools.grouping import grouped, several
+from debvote_tools.grouping import grouped
 from debvote_tools.inbox.asked import WITH_LINKS
 from debvote_tools.inbox.letter import Body
 from debvote_tools.inbox.letter_lines import ReadLetter, from_json, read_letters
@@ -22,7 +22,7 @@ from debvote_tools.inbox.rules import Circumstances, LetterCase, LetterOutcome
 from debvote_tools.inbox.vote import Vote
 from debvote_tools.poll.call import SUBJECT, call_letter, current_call
 from debvote_tools.text import times
-from debvote_tools.text.ballots import answers_of, differ
+from debvote_tools.text.ballots import differ
 from debvote_tools.text.language import ENGLISH
 
 # what an act decided holds, whatever the rules say, unless part of what was entered is left
@@ -92,6 +92,16 @@ class Beside:
         perhaps = self.turned(own) if own.is_by_letter else self.labels_of(own)
         return False if perhaps else None
 
+    def between(self, begin: datetime.datetime, end: datetime.datetime) -> list[Ballot]:
+        """Those from a time until before another one."""
+        places = (bisect.bisect_left(self.every, time, key=TIME) for time in (begin, end))
+        return self.every[slice(*places)]
+
+    def has_other_at_once(self, own: Ballot) -> bool:
+        """Whether another answer to a question has the same time as one in a ballot of a letter."""
+        at_once = self.between(own.time, own.time + datetime.timedelta(seconds=1))
+        return any(differ(one.line, own.line) for one in at_once)
+
     def turned(self, own: Ballot) -> Ballot | None:
         """The first one that may stand on the other side of a ballot by the clock of this computer: of each
         other clock only those may whose times are within the difference.
@@ -119,8 +129,7 @@ def judged(
         return []
     found, circumstances = read_kept(vote, kept), circumstances_now(vote, history)
     cases = [LetterCase(read, circumstances, letter) for read, letter in zip(found, kept)]
-    were_decided = [case.number for case in cases if case.is_decided]
-    entered = queries.entered_ballots(vote.book, were_decided)
+    entered = queries.entered_ballots(vote.book, [letter.number for letter in kept])
     by_hand = queries.entered_by_hand(vote.book)
     for case in cases:
         case.entered, case.is_by_hand = entered.get(case.number, ()), case.number in by_hand
@@ -143,28 +152,28 @@ def read_kept(vote: Vote, kept: Sequence[KeptLetter]) -> list[ReadLetter]:
     present keyring, or gpgv was too slow: of an unsettled letter; and, if such a one is signed, of
     those that were settled without a good signature, since only then a copy is known as one.
     """
-    found = [from_json(letter.read_json) for letter in kept]
-    unsettled = [index for index, one in enumerate(kept) if one.is_unsettled]
-    check_again(vote, kept, found, unsettled)
-    if any(found[index].signature for index in unsettled):
-        unsigned = {index for index, letter in enumerate(found) if letter.signature is None}
-        check_again(vote, kept, found, sorted(unsigned.difference(unsettled)))
-    return found
+    found = {one.number: from_json(one.read_json) for one in kept}
+    unsettled = [one for one in kept if one.is_unsettled]
+    found |= checked_again(vote, unsettled, found)
+    if any(found[one.number].signature for one in unsettled):
+        settled = (one for one in kept if not one.is_unsettled)
+        unsigned = [one for one in settled if found[one.number].signature is None]
+        found |= checked_again(vote, unsigned, found)
+    return [*found.values()]
 
 
-def check_again(
-    vote: Vote, kept: Sequence[KeptLetter], found: list[ReadLetter], which: Sequence[int]
-) -> None:
-    """Reads those letters again of which a signature may be good now."""
+def checked_again(
+    vote: Vote, which: Iterable[KeptLetter], found: Mapping[int, ReadLetter]
+) -> dict[int, ReadLetter]:
+    """Those letters of which a signature may be good now, read again, by number."""
     sealed, raws = queries.last_act_that_sealed(vote.book, KEYRING), dict[int, RawLetter]()
-    for index in which:
-        one, letter = kept[index], found[index]
+    for one in which:
+        letter = found[one.number]
         if letter.is_slow or (one.act < sealed and not letter.is_never_signed):
             # no record of the box: a vote with signatures has none
             data = queries.source_of(vote.book, one.source)
-            raws[index] = RawLetter(letter.where, data, letter.is_parted_off)
-    for index, read in zip(raws, read_letters(vote, [*raws.values()])):
-        found[index] = read
+            raws[one.number] = RawLetter(letter.where, data, letter.is_parted_off)
+    return dict(zip(raws, read_letters(vote, [*raws.values()])))
 
 
 def ballots_in(vote: Vote, names: Collection[str]) -> BallotsByElector:
@@ -285,35 +294,28 @@ def judge_originals(
     """Judges the letters that break no rule, by their times, and puts the ballots of those that do
     not wait to the others of their electors.
     """
-    in_order = (case for case in cases if case in originals)
-    own = {case: ballot_in(case, case.sole_ballot.as_entered) for case in in_order}
-    of_letters = grouped((case.elector, one) for case, one in own.items())
-    answers = (
-        ((elector, label, one.time), ranks)
-        for elector, its in of_letters.items()
-        for one in (*by_elector[elector].every, *its)
-        for label, ranks in answers_of(one.line).items()
-    )
-    # those to which several that differ have the same time
-    at_once = several(dict.fromkeys(answers)).keys()
+    in_order = [case for case in cases if case in originals]
+    of_letters = BallotsByElector(Beside)
+    for case in in_order:
+        of_letters[case.elector].add(ballot_in(case, case.sole_ballot.as_entered))
     # copies of these are not known as such, while gpgv does not answer
     unchecked = [case for case in cases if case.is_decided and case.read.is_slow]
     unchecked_ballots = {line.as_entered for case in unchecked for line in case.ballots}
-    for case, ballot in own.items():
-        its = by_elector[case.elector]
-        is_at_once = any((case.elector, label, ballot.time) in at_once for label in ballot.labels)
+    for case in in_order:
+        own = ballot_in(case, case.sole_ballot.as_entered)
+        its, others = by_elector[case.elector], of_letters[case.elector]
         case.outcome, case.reason = outcome_of_original(
-            case, ballot, its, is_at_once, ballot.line in unchecked_ballots
+            case, own, its, others, own.line in unchecked_ballots
         )
         if case.outcome is not LetterOutcome.WAITS:
-            its.add(ballot)
+            its.add(own)
 
 
 def outcome_of_original(
-    case: LetterCase, own: Ballot, its: Beside, is_at_once: bool, is_unchecked: bool
+    case: LetterCase, own: Ballot, its: Beside, others: Beside, is_unchecked: bool
 ) -> Judgement:
-    """What becomes of a letter that breaks no rule, beside the ballots of its elector: they have to be
-    older, but for the same one; and the vote may not be closed.
+    """What becomes of a letter that breaks no rule, beside the ballots of its elector and those of other
+    letters that break none: they have to be older, but for the same one; and the vote may not be closed.
     """
     elector, time = case.elector, own.time
     if turned := its.turned(own):
@@ -323,7 +325,7 @@ def outcome_of_original(
         is_older = its.later(own, IS_BY_LETTER).keys() == own.labels
         reason = Reason.LATER_BALLOT(elector=elector, time=max(map(TIME, later.values())))
         return LetterOutcome.OLDER if is_older else LetterOutcome.WAITS, reason
-    if is_at_once:
+    if its.has_other_at_once(own) or others.has_other_at_once(own):
         return LetterOutcome.WAITS, Reason.SAME_TIME(elector=elector, time=time)
     if is_unchecked:
         return LetterOutcome.WAITS, Reason.PERHAPS_COPY()
@@ -372,9 +374,8 @@ def outcome_of_copy(
     # not what was typed for it, nor another line of it
     own = {one.number for one in original.entered}
     for line in case.lines_to_enter:
-        there = by_elector[line.elector].every
-        places = (bisect.bisect_left(there, time, key=TIME) for time in (begin, end))
-        others = (one for one in there[slice(*places)] if one.number not in own)
+        there = by_elector[line.elector].between(begin, end)
+        others = (one for one in there if one.number not in own)
         times = (one.time for one in others if differ(one.line, line.as_entered))
         if between := next(times, None):
             reason = Reason.CAME_BEFORE(

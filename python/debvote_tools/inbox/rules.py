@@ -174,7 +174,7 @@ class LetterCase:
     ) -> None:
         self.read, self.circumstances, self.state = letter, circumstances, kept.state
         # in the book
-        self.number, self.source = kept.number, kept.source
+        self.number, self.act, self.source = kept.number, kept.act, kept.source
         # the lines with what looks like a code or an alias, if they are told
         self.code_lines = letter.code_lines if circumstances.tells_codes else ()
         # the electors who may have sent it, and the one whose own mark the subject has. A subject with
@@ -511,12 +511,12 @@ def why_not_in_time(case: LetterCase) -> ReasonWithValues | None:
         return Reason.NO_ARRIVAL()
     if case.arrived_before_call:
         return Reason.BEFORE_THE_CALL(called=circumstances.called)
-    end, close = circumstances.end, circumstances.first_close
-    if end is not None and case.arrived_after(end):
+    (first, last), end, close = case.arrivals, circumstances.end, circumstances.first_close
+    if end is not None and first > end:
         return Reason.AFTER_THE_END(end=end)
-    if close is not None and case.arrived_after(close):
+    if close is not None and first > close:
         return Reason.AFTER_THE_CLOSE(close=close)
-    if any(last > end for last in case.arrivals[1:] for end in circumstances.ends):
+    if any(last > one for one in circumstances.ends):
         return Reason.CLOCK_AT_THE_END(seconds=abs(case.read.behind))
     if asked is not None and arrived < asked:
         return Reason.NOT_THERE_BEFORE(asked=asked)
