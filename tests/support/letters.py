@@ -12,7 +12,7 @@ from collections.abc import Collection, Mapping, Sequence
 from debvote_tools.book import queries
 from debvote_tools.book.queries import Elector, EnteredBallot
 from debvote_tools.debvote import findings_in
-from debvote_tools.inbox.judging import Ballot, BallotsByElector, judge_all
+from debvote_tools.inbox.judging import Ballot, BallotsByElector, Beside, judge_all
 from debvote_tools.inbox.letter import ParsedLetter, parse
 from debvote_tools.inbox.letter_lines import Names, ReadLetter, from_json, to_json, with_lines
 from debvote_tools.inbox.lines import repaired_but_for_name, with_small_name
@@ -164,12 +164,12 @@ def judged(
     of_others = {name: value for name, value in other.items() if name not in ("language", "real_names")}
     now = circumstances(**of_others)
     cases = [case_of(one, now, decisions.get(one.digest)) for one in read(*letters, reader=reader, **of_names)]
-    return judge_all(cases, lambda _: in_order(ballots or {}))
+    return judge_all(cases, in_order(ballots or {}))
 
 
 def in_order(ballots: Mapping[str, Sequence[Ballot]]) -> BallotsByElector:
     """The ballots of electors, as the book gives them."""
-    return BallotsByElector(list, {name: sorted(its, key=queries.by_time) for name, its in ballots.items()})
+    return BallotsByElector(Beside, {name: Beside(sorted(its, key=queries.by_time)) for name, its in ballots.items()})
 
 
 def case_of(one: ReadLetter, now: Circumstances, state: str | None) -> LetterCase:
@@ -183,7 +183,7 @@ def case_of(one: ReadLetter, now: Circumstances, state: str | None) -> LetterCas
 
 
 def judged_alone(one: ReadLetter, now: Circumstances) -> LetterCase:
-    [found] = judge_all([LetterCase(one, now)], lambda _: in_order({}))
+    [found] = judge_all([LetterCase(one, now)], in_order({}))
     return found
 
 
@@ -192,7 +192,7 @@ def calls_while_judged(letters: Sequence[ReadLetter]) -> int:
     cases, events = [LetterCase(one, circumstances()) for one in letters], collections.Counter[str]()
     sys.setprofile(lambda _, event, __: events.update([event]))
     try:
-        found = judge_all(cases, lambda _: in_order({}))
+        found = judge_all(cases, in_order({}))
     finally:
         sys.setprofile(None)
     assert found[0].outcome is LetterOutcome.GOES_IN, outcome(found[0])

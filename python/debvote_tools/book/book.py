@@ -114,11 +114,6 @@ class DoneAct(NamedTuple):
         found: Detail = json.loads(self.detail_as_json)
         return found
 
-    @property
-    def is_typed(self) -> bool:
-        """Whether it entered what the secretary typed for a letter, by `held --as`."""
-        return self.name == "enter" and not self.detail.get("lines")
-
     def went_back(self, before: "DoneAct") -> bool:
         """Whether the clock went back since the act before."""
         return (before.time - self.time).total_seconds() > SECONDS_BACK

@@ -2,13 +2,12 @@
 letters that came.
 """
 
-import bisect
 import collections
 import datetime
 import json
 import sys
 from collections.abc import Callable, Collection, Iterable, Iterator, Mapping, Sequence, Set
-from typing import Final, NamedTuple, TypeVar
+from typing import Final, NamedTuple
 
 from debvote_tools.book.book import Book, NewAct, as_text, from_text
 from debvote_tools.grouping import grouped
@@ -167,12 +166,13 @@ class Ballot(NamedTuple):
         return (self.time < other.time) != (ours < theirs) and differ(self.line, other.line)
 
     @property
+    def elector(self) -> str:
+        return self.line.partition(" ")[0]
+
+    @property
     def labels(self) -> Set[str]:
         """Those of the questions that it answers."""
         return answers_of(self.line).keys()
-
-
-ABallot = TypeVar("ABallot", Ballot, Envelope)
 
 
 def by_time(ballot: Ballot | Envelope) -> tuple[datetime.datetime, int]:
@@ -181,20 +181,10 @@ def by_time(ballot: Ballot | Envelope) -> tuple[datetime.datetime, int]:
     that is not known, has that of the act that entered it.
 
     Which ballot counts the envelopes alone decide (`counting` in `views.sql`). So what is entered may
-    not replace a later ballot unless the secretary says so: all who look for one ask `later`. Of lines
-    that came in one file, the one above is the older one.
+    not replace a later ballot unless the secretary says so: all who look for one compare by this. Of
+    lines that came in one file, the one above is the older one.
     """
     return ballot.time, ballot.number
-
-
-def later(
-    ballots: Sequence[ABallot], time: datetime.datetime | None, number: int = NEXT
-) -> Sequence[ABallot]:
-    """Those ballots of an elector, in the order `by_time`, that are later than a ballot of this time
-    and envelope. Where its time is not known, each may be.
-    """
-    first = 0 if time is None else bisect.bisect_right(ballots, (time, number), key=by_time)
-    return ballots[first:]
 
 
 # ---- envelopes by conditions
@@ -206,6 +196,8 @@ NOT_UNDONE = "act NOT IN (SELECT json_extract(detail, '$.act') FROM act WHERE na
 
 # the late envelopes of which no new one stands that a `reopen` entered as in time
 LEFT_LATE = f"{LATE} AND became = 'late'"
+# the letters from which such envelopes came
+OF_LEFT_LATE = f"letter IN (SELECT letter FROM fate WHERE {LEFT_LATE})"
 
 # those that came in files of lines; a line that was entered anew came once, and is known by its last
 # envelope, though that may be struck
@@ -312,16 +304,6 @@ def elector_numbers(book: Book, names: Collection[str]) -> dict[str, int]:
     return dict(book.rows(words, json.dumps(list(names))))
 
 
-def typed_envelopes(book: Book) -> set[int]:
-    """The envelopes of what the secretary typed for a letter, by `held --as`, also those in which a
-    `reopen` entered it anew.
-    """
-    acts = json.dumps([act.number for act in book.acts() if act.is_typed])
-    typed = "SELECT envelope FROM envelope WHERE act IN (SELECT value FROM json_each(?1))"
-    words = f"{typed} UNION SELECT envelope FROM anew WHERE late IN ({typed})"
-    return {number for number, in book.rows(words, acts)}
-
-
 class EnteredBallot(NamedTuple):
     """A ballot of a letter that was entered, and what became of it. One that an `undo` took back is
     struck, too.
@@ -347,23 +329,12 @@ class EnteredBallot(NamedTuple):
 
 def entered_ballots(book: Book, letters: Sequence[int]) -> dict[int, list[EnteredBallot]]:
     """The ballots of some letters that were entered, in the order of their envelopes, by the letters."""
-    typed = typed_envelopes(book)
     undone = "struck IN (SELECT act FROM act WHERE name = 'undo')"
+    columns = f"envelope, CAST(line AS TEXT), late, struck IS NOT NULL, {undone}, envelope IN typed"
     condition = "letter IN (SELECT value FROM json_each(?))"
-    words = f"SELECT letter, envelope, line, late, struck, {undone} FROM entered WHERE {condition} ORDER BY envelope"
+    words = f"SELECT letter, {columns} FROM entered WHERE {condition} ORDER BY envelope"
     return grouped(
-        (
-            letter,
-            EnteredBallot(
-                number,
-                line.decode("ascii"),
-                is_late=bool(late),
-                is_struck=struck is not None,
-                is_taken_back=bool(is_undone),
-                is_typed=number in typed,
-            ),
-        )
-        for letter, number, line, late, struck, is_undone in book.rows(words, json.dumps(letters))
+        (letter, EnteredBallot(*its)) for letter, *its in book.rows(words, json.dumps(letters))
     )
 
 
@@ -371,17 +342,11 @@ def entered_by_hand(book: Book) -> dict[int, list[str]]:
     """The letters from which `held` entered ballots, though an `undo` took them back; each with the
     answers that were left out of what was typed for it, since their electors had later ones, as ballots.
     """
-    acts = book.acts()
-    undone = {act.detail["act"] for act in acts if act.name == "undo"}
-    entering = [act for act in acts if act.name == "enter"]
-    found: dict[int, list[str]] = {
-        number: [] for act in entering for number in act.detail["letters"]
+    words = f"""SELECT its.value, left_out.value FROM act, json_each(detail, '$.letters') AS its
+LEFT JOIN json_each(detail, '$.left_out."' || its.value || '"') AS left_out ON {NOT_UNDONE} WHERE name = 'enter' ORDER BY act"""
+    return {
+        number: [*filter(None, ballots)] for number, ballots in grouped(book.rows(words)).items()
     }
-    for act in entering:
-        if act.is_typed and act.number not in undone:
-            [number] = act.detail["letters"]
-            found[number] += act.detail.get("left_out", {}).get(str(number), ())
-    return found
 
 
 # ---- lines by act, and those that came in files
@@ -395,11 +360,14 @@ def last_entering_act(book: Book) -> int | None:
     return number
 
 
-def elector_condition(electors: Collection[int]) -> str:
-    """The condition that an envelope is of one of these electors, who are the last value, as JSON."""
+def of_electors(electors: Collection[int] | None) -> tuple[str, Sequence[str]]:
+    """The condition that an envelope is of one of these electors, or of anybody, with its values."""
+    if electors is None:
+        return "1", ()
     # with the sign SQLite uses no index: to look for the lines of each of many takes longer than to
     # look at all lines
-    return f"{'+' if len(electors) > MOST_LOOKED_FOR else ''}elector IN (SELECT value FROM json_each(?))"
+    sign = "+" if len(electors) > MOST_LOOKED_FOR else ""
+    return f"{sign}elector IN (SELECT value FROM json_each(?))", [json.dumps([*electors])]
 
 
 def names_and_lines(book: Book) -> list[tuple[int, str | None, bytes]]:
@@ -414,19 +382,37 @@ def envelope_states(book: Book, elector: int | None) -> list[tuple[int, int | No
     return book.rows(words, elector)
 
 
-def envelopes_of(book: Book, electors: Collection[int], condition: str = "1") -> list[Envelope]:
-    """The envelopes of some electors that meet a condition."""
-    condition = f"{condition} AND {elector_condition(electors)}"
-    return envelopes(book, condition, json.dumps(list(electors)))
+def envelopes_of(
+    book: Book, electors: Collection[int] | None, condition: str = "1"
+) -> list[Envelope]:
+    """The envelopes of some electors, or all, that meet a condition."""
+    some, values = of_electors(electors)
+    return envelopes(book, f"{condition} AND {some}", *values)
+
+
+def ballots_of(book: Book, names: Collection[str]) -> dict[str, list[Ballot]]:
+    """The ballots of some electors by name, in the order `by_time`: those that were entered and are not
+    struck, also late ones.
+    """
+    # nothing is known of the clock of what came by no letter, or at a time that is not known
+    clocks = "SELECT letter, known ->> 'behind' AS behind FROM letter WHERE known ->> 'arrived' IS NOT NULL"
+    joined = f"entered JOIN elector USING (elector) LEFT JOIN ({clocks}) USING (letter)"
+    columns = "name, time, CAST(line AS TEXT), behind IS NOT NULL AND NOT late, coalesce(behind, 0), envelope, late"
+    some, values = of_electors(elector_numbers(book, names).values())
+    words = (
+        f"SELECT {columns} FROM {joined} WHERE {VALID_OR_LATE} AND {some} ORDER BY time, envelope"
+    )
+    rows = book.rows(words, *values)
+    return grouped((name, Ballot(from_text(time), *its)) for name, time, *its in rows)
 
 
 def what_counts(book: Book, electors: Collection[int] | None = None) -> dict[str, str]:
     """What counts now of each elector who has a valid ballot, or of some: by name the answers, as
     `ranks_by_label` reads them.
     """
-    some = "" if electors is None else f" WHERE elector IN ({', '.join('?' * len(electors))})"
-    words = f"SELECT line FROM counting{some}"
-    return of_all_questions(book, lambda: (line for line, in book.rows(words, *electors or ())))
+    some, values = of_electors(electors)
+    words = f"SELECT line FROM counting WHERE {some}"
+    return of_all_questions(book, lambda: (line for line, in book.rows(words, *values)))
 
 
 def what_counted(
@@ -436,11 +422,9 @@ def what_counted(
     last ballot.
     """
     condition = "answer IS NULL AND act <> ?2 AND late = 0 AND (struck IS NULL OR struck > ?1) AND act <= ?1"
-    values: list[object] = [act, without]
-    if electors is not None:
-        condition += f" AND {elector_condition(electors)}"
-        values.append(json.dumps(list(electors)))
-    return of_all_questions(book, lambda: lines(book, condition, *values))
+    some, values = of_electors(electors)
+    there = f"{condition} AND {some}"
+    return of_all_questions(book, lambda: lines(book, there, act, without, *values))
 
 
 def of_all_questions(book: Book, ballots: Callable[[], Iterable[bytes]]) -> dict[str, str]:
@@ -543,9 +527,11 @@ class KeptLetter(NamedTuple):
         return self.state in (NEVER_DECIDED, PUT_BACK, TAKEN_BACK)
 
 
-def kept_letters(book: Book) -> list[KeptLetter]:
-    words = "SELECT letter, act, source, identity, known, state FROM letter_now ORDER BY letter"
-    return [KeptLetter(*row) for row in book.rows(words)]
+def kept_letters(book: Book, condition: str = "1", *values: object) -> list[KeptLetter]:
+    """The letters that meet a condition, in the order in which they came."""
+    columns = "letter, act, source, identity, known, state"
+    words = f"SELECT {columns} FROM letter_now WHERE {condition} ORDER BY letter"
+    return [KeptLetter(*row) for row in book.rows(words, *values)]
 
 
 def kept_digests(book: Book) -> set[tuple[str, bool]]:
@@ -554,14 +540,6 @@ def kept_digests(book: Book) -> set[tuple[str, bool]]:
         "SELECT json_extract(known, '$.digest'), json_extract(known, '$.is_parted_off') FROM letter"
     )
     return {(str(digest), bool(is_parted_off)) for digest, is_parted_off in book.rows(words)}
-
-
-def letter_clocks(book: Book) -> dict[int, int]:
-    """Of each letter of which it is known when it arrived: by how many seconds the clock was behind
-    that says so, if it is that of the box.
-    """
-    words = "SELECT letter, json_extract(known, '$.behind') FROM letter WHERE known ->> 'arrived' IS NOT NULL"
-    return dict(book.rows(words))
 
 
 def records_since(book: Book, act: int, at: str | None = None) -> dict[int, str]:
@@ -594,14 +572,7 @@ def decide(act: NewAct, letter: int, state: str) -> None:
     act.insert("letter_state", letter=letter, state=state)
 
 
-def ids_that_ask(book: Book) -> set[str]:
-    """The Message-IDs of the letters that ask to vote."""
-    words = (
-        "SELECT json_extract(detail, '$.message_id') FROM sent WHERE kind IN ('call', 'reminders')"
-    )
-    return {message_id for message_id, in book.rows(words)} - {""}
-
-
-def our_message_ids(book: Book) -> dict[int, list[str]]:
-    words = "SELECT elector, json_extract(detail, '$.message_id') AS id FROM sent WHERE state = 'written' AND id <> ''"
-    return grouped(book.rows(words))
+def our_message_ids(book: Book) -> list[tuple[int, str, str]]:
+    """The Message-IDs of the letters that were written, each with its elector and its kind."""
+    words = "SELECT elector, json_extract(detail, '$.message_id') AS id, kind FROM sent WHERE state = 'written' AND id <> ''"
+    return book.rows(words)

@@ -1,6 +1,6 @@
 -- What became of each envelope: the one place that says which ballot counts now; `what_counted` in `queries.py` says which counted
 -- at an earlier act, and `by_time` which of two ballots is the later one. Each connection makes these views for itself, over `entered`
--- and `ballot` as it sees them; of the four here the book has none.
+-- and `ballot` as it sees them; of those here the book has none.
 
 -- The valid ballots, in time and not struck; and of each elector the one that counts: of these the one with the greatest number.
 CREATE TEMP VIEW valid AS SELECT * FROM ballot WHERE answer IS NULL;
@@ -28,3 +28,10 @@ CREATE TEMP VIEW anew AS
     SELECT act, envelope, row_number() OVER (PARTITION BY act ORDER BY envelope) AS place
     FROM envelope WHERE act IN (SELECT act FROM act WHERE name = 'reopen')
   ) USING (act, place);
+
+-- The envelopes of what the secretary typed for a letter, by `held --as`, also those in which a `reopen` entered it anew.
+CREATE TEMP VIEW typed AS
+  WITH by_hand AS (
+    SELECT envelope FROM envelope WHERE act IN (SELECT act FROM act WHERE name = 'enter' AND detail ->> '$.lines[0]' IS NULL)
+  )
+  SELECT envelope FROM by_hand UNION SELECT envelope FROM anew WHERE late IN by_hand;

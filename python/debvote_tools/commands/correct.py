@@ -14,7 +14,6 @@ from debvote_tools.cli.arguments import Acting, demand_reason, flag, option, pos
 from debvote_tools.cli.console import act_time, count_of, shown_line, tell
 from debvote_tools.cli.faults import Fault, bad_words, stop_at
 from debvote_tools.commands.held import THE_ONE, named_lines
-from debvote_tools.grouping import grouped
 from debvote_tools.inbox import letter_words
 from debvote_tools.inbox.entering import Entry
 from debvote_tools.inbox.fates import ANEW
@@ -23,7 +22,7 @@ from debvote_tools.inbox.lines import name_in
 from debvote_tools.inbox.rules import LetterCase
 from debvote_tools.inbox.taking import MOST_NAMED
 from debvote_tools.inbox.vote import envelope_words, standing_words, Vote
-from debvote_tools.text.ballots import differ
+from debvote_tools.text.ballots import answers_in, differ
 from debvote_tools.text.times import now
 
 
@@ -100,7 +99,7 @@ def what_is_taken_back(vote: Vote, arguments: UndoArguments) -> TakenBack:
         letters=dict.fromkeys(letters, queries.TAKEN_BACK),
         undone=act,
         is_typed_or_late=act.name == "reopen"
-        or not queries.typed_envelopes(book).isdisjoint(struck),
+        or bool(queries.lines(book, "act = ? AND envelope IN typed", number)),
         ballots=ballots,
         others=others,
     )
@@ -138,7 +137,7 @@ def line_of(letter: LetterCase, ballot: EnteredBallot) -> str:
     """The number of the first line of a letter that has the answers of a ballot; empty if none has."""
     has_them = (
         str(line.number)
-        for line in (*letter.ballots, *letter.offered)
+        for line in letter.lines_to_enter
         if ballot.answers <= line.answers and not differ(ballot.line, line.as_entered)
     )
     return next(has_them, "")
@@ -185,11 +184,9 @@ def strike(election: Election, arguments: StrikeArguments) -> None:
 def what_is_struck(vote: Vote, arguments: StrikeArguments, because: str) -> Change:
     envelope = demand_envelope(vote, arguments.number)
     # a letter waits on if it has ballots of others that were not entered
-    done = [
-        kept.number
-        for kept in queries.kept_letters(vote.book)
-        if kept.number == envelope.letter and kept.state == queries.ENTERED
-    ]
+    entered = queries.kept_letters(
+        vote.book, "letter = ? AND state = ?", envelope.letter, queries.ENTERED
+    )
     return Change(
         "strike",
         {"envelope": envelope.number, "because": because},
@@ -197,7 +194,7 @@ def what_is_struck(vote: Vote, arguments: StrikeArguments, because: str) -> Chan
             f"Strike {in_words(envelope, vote)}? This cannot be undone.", arguments.yes
         ),
         struck=[envelope.number],
-        letters=dict.fromkeys(done, queries.STRUCK),
+        letters={letter.number: queries.STRUCK for letter in entered},
     )
 
 
@@ -316,8 +313,7 @@ def perhaps_in_time(vote: Vote) -> list[Envelope]:
     to have arrived after the first close.
     """
     late = queries.envelopes(vote.book, queries.LEFT_LATE)
-    letters = {envelope.letter for envelope in late}
-    kept = [one for one in queries.kept_letters(vote.book) if one.number in letters]
+    kept = queries.kept_letters(vote.book, queries.OF_LEFT_LATE)
     known = judged(vote, vote.election.history(), kept)
     too_late = {letter.number for letter in known if letter.arrived_after_close}
     return [envelope for envelope in late if envelope.letter not in too_late]
@@ -325,38 +321,40 @@ def perhaps_in_time(vote: Vote) -> list[Envelope]:
 
 def chosen(vote: Vote, numbers: Sequence[int]) -> list[Envelope]:
     """The late envelopes that had come in time, as the secretary says, in the order of their times."""
-    book = vote.book
-    late = {envelope.number: envelope for envelope in queries.envelopes(book, queries.LATE)}
+    late = {envelope.number: envelope for envelope in queries.envelopes(vote.book, queries.LATE)}
     if unknown := [str(number) for number in numbers if number not in late]:
         words = f"envelope {', '.join(unknown)} is not one of the late lines"
         cure = "status says how many lines are late, and show NAME which"
         raise bad_words("--in-time", words, cure)
-    left = {envelope.number for envelope in queries.envelopes(book, queries.LEFT_LATE)}
-    if again := [str(number) for number in numbers if number not in left]:
-        words = f"envelope {', '.join(again)} was entered as in time by an earlier reopen"
-        raise Fault("--in-time", words, "leave it out")
-    may_be = {envelope.number for envelope in perhaps_in_time(vote)}
-    if too_late := [str(number) for number in numbers if number not in may_be]:
-        words = f"envelope {', '.join(too_late)} is of a letter that arrived after the first close"
+    in_time = {envelope.number for envelope in perhaps_in_time(vote)}
+    others = [number for number in numbers if number not in in_time]
+    again = [number for number in others if late[number].became == ANEW]
+    why = "is of a letter that arrived after the first close"
+    if again:
+        why = "was entered as in time by an earlier reopen"
+    if others:
+        words = f"envelope {', '.join(map(str, again or others))} {why}"
         raise Fault("--in-time", words, "leave it out")
     return sorted((late[number] for number in set(numbers)), key=queries.by_time)
 
 
 def faults_of_older(vote: Vote, offered: Sequence[Envelope]) -> Iterator[Fault]:
     """A fault for each envelope that would replace a later ballot of its elector."""
-    known = [(one.elector, one) for one in offered if one.elector is not None]
-    last = {(elector, label): late for elector, late in known for label in late.by_question}
-    there = sorted(queries.envelopes_of(vote.book, dict(known)), key=queries.by_time)
-    valid = grouped(
-        ((one.elector, label), one)
-        for one in there
-        if one.became in ("counts", "replaced")
-        for label in one.by_question
-    )
+    # a line that is refused replaces none
+    ballots = [(late, late.line.decode("ascii")) for late in offered if late.why_refused is None]
+    last = {answer: late for late, line in ballots for answer in answers_in(line)}
+    there = queries.ballots_of(vote.book, {name for name, _ in last}).values()
+    newest = {
+        answer: one
+        for its in there
+        for one in its
+        if not one.is_late
+        for answer in answers_in(one.line)
+    }
     pairs = (
-        (late.number, later[-1].number)
+        (late.number, newest[answered].number)
         for answered, late in last.items()
-        if (later := queries.later(valid.get(answered, []), late.time, late.number))
+        if answered in newest and queries.by_time(newest[answered]) > queries.by_time(late)
     )
     cure = "leave it out; or, if it must count, repeat the command with --force"
     for number, replaced in dict.fromkeys(pairs):

@@ -1,9 +1,8 @@
 """The command `held`."""
 
-import bisect
 import collections
 import itertools
-from collections.abc import Iterator, Mapping, Sequence
+from collections.abc import Iterator, Mapping, Sequence, Set
 from typing import NamedTuple
 
 from debvote_tools.cli.arguments import Acting, flag, given, option, positional
@@ -19,15 +18,10 @@ from debvote_tools.inbox import letter_words
 from debvote_tools.inbox.letter_words import name_of, who_and_when, why
 from debvote_tools.inbox.judging import (
     BallotsByElector,
-    InTime,
-    answered_by,
-    answered_since,
+    Beside,
     ballot_in,
     ballots_in,
-    in_time_by_label,
     judged,
-    perhaps_later,
-    surely_later,
 )
 from debvote_tools.inbox.reasons import Reason, for_secretary
 from debvote_tools.inbox.letter_lines import BallotLine
@@ -81,13 +75,13 @@ def held(election: Election, arguments: Arguments) -> None:
         carried_out(vote.book, lambda: what_is_entered(vote, arguments, typed))
     found = all_letters(vote)
     pending = [letter for letter in found if letter.is_pending]
-    shown = [] if is_act else chosen_letters(found, arguments.numbers)
-    for letter in chosen_letters(found, arguments.numbers) if is_act else ():
-        if letter.reason and letter.reason.reason is Reason.NOT_ENTERED:
+    named = chosen_letters(found, arguments.numbers)
+    for letter in named:
+        if not is_act:
+            tell(*letter_words.whole(letter))
+        elif letter.reason and letter.reason.reason is Reason.NOT_ENTERED:
             tell(f"{name_of(letter)} waits on; {for_secretary(letter.reason)}")
-    for letter in shown:
-        tell(*letter_words.whole(letter))
-    if not (is_act or shown):
+    if not named:
         tell(*letter_words.table(pending))
         if aside := [
             str(letter.number) for letter in found if letter.outcome is LetterOutcome.SET_ASIDE
@@ -98,7 +92,7 @@ def held(election: Election, arguments: Arguments) -> None:
     if not pending:
         tell("No letter waits.", f"Next: {election.command('status')}")
         return
-    waiting = [letter for letter in shown if letter.is_pending]
+    waiting = [letter for letter in named if letter.is_pending and not is_act]
     command = election.command("held", str((waiting or pending)[0].number))
     how = "--enter LINE enters a line of it, --as LINE the ballot that you type, --set-aside sets it aside"
     tell(f"{letter_words.wait_words(len(pending))}.")
@@ -169,11 +163,12 @@ class Chosen(NamedTuple):
         entered, answers = self.entered, (one for line in self.lines for one in line.answers)
         return [*dict.fromkeys(entered[one] for one in answers if one in entered)]
 
-    def left_of(self, line: BallotLine, in_time: InTime) -> tuple[str, set[str], set[str]]:
+    def left_of(self, line: BallotLine, its: Beside) -> tuple[str, Set[str], Set[str]]:
         """A ballot without the answers to which its elector has later ones, and without those that were
         entered; and the labels of both. What is typed is not entered yet if it says something else.
         """
-        entered, later = self.entered, answered_since(self.letter, line.as_entered, in_time)
+        own = ballot_in(self.letter, line.as_entered)
+        entered, later = self.entered, its.answered_since(own)
         done = {
             label
             for name, label in line.answers & entered.keys()
@@ -196,7 +191,7 @@ def what_is_entered(vote: Vote, arguments: Arguments, typed: Sequence[BallotLine
             chosen.append(Chosen(letter, lines))
     electors = {line.elector for one in chosen for line in one.lines}
     there = ballots_in(vote, electors)
-    chosen, said = without_answered(chosen, in_time_by_label(there))
+    chosen, said = without_answered(chosen, there)
     faults += why_not_now(vote, history, chosen)
     if not arguments.force:
         # of what was entered nothing more is said: no --force enters it again
@@ -239,13 +234,15 @@ def entry_of(
     )
 
 
-def without_answered(chosen: Sequence[Chosen], in_time: InTime) -> tuple[list[Chosen], list[str]]:
+def without_answered(
+    chosen: Sequence[Chosen], by_elector: BallotsByElector
+) -> tuple[list[Chosen], list[str]]:
     """The ballots without the answers that are left out, unless none is left; and what is said of these."""
     found, said = list[Chosen](), list[str]()
     for one in chosen:
         kept, left_out = list[BallotLine](), list[str]()
         for line in one.lines:
-            left, later, done = one.left_of(line, in_time)
+            left, later, done = one.left_of(line, by_elector[line.elector])
             kept.append(BallotLine(line.numbers, left or line.as_entered))
             whys = {f"{line.elector} has a later answer": later, "it was entered": done}
             said += (
@@ -297,10 +294,10 @@ def named_lines(letter: LetterCase, enter: Sequence[str], *, is_one: bool) -> li
     named, or its only one.
     """
     name = name_of(letter)
-    lines = [*dict.fromkeys((*letter.offered, *letter.ballots))]
+    lines = letter.lines_to_enter
     texts = [text.strip() for text in ",".join(enter).split(",")]
     if is_the_one := texts == [THE_ONE]:
-        lines = [line for line in lines if letter.left_in(line.as_entered)] or lines
+        lines = tuple(line for line in lines if letter.left_in(line.as_entered)) or lines
     there = grouped((str(line.number), line) for line in lines)
     if is_the_one:
         demand_one_line(letter, there, is_one=is_one)
@@ -391,23 +388,20 @@ def why_not_unforced(chosen: Sequence[Chosen], by_elector: BallotsByElector) -> 
             yield Fault(name, words, f"{advice}; {cure}")
         tied = {*letter.electors, *letter.sharing, letter.marked_elector}
         for line in lines:
-            there = by_elector[line.elector]
+            own, its = ballot_in(letter, line.as_entered), by_elector[line.elector]
             if not line.number and line.elector not in tied:
                 words = f"neither its sender nor a line of {name} is of {line.elector}"
                 yield Fault("--as", words, f"check the name; {cure}")
-            if answered_by(line.as_entered, surely_later(letter, line.as_entered, there)):
+            if has_voted := its.has_voted_since(own):
                 yield Fault(name, "its elector has voted since", cure)
-            elif answered_by(line.as_entered, perhaps_later(letter, line.as_entered, there)):
+            elif has_voted is not None:
                 off = "as the clock of the web host was off"
                 why_unsure = "as nobody knows when it arrived" if letter.time is None else off
                 yield Fault(name, f"its elector may have voted since, {why_unsure}", cure)
-            elif any(
-                one.time == letter.time and differ(one.line, line.as_entered) for one in there
-            ):
+            elif its.has_other_at_once(own):
                 yield Fault(name, "another ballot of its elector has the same time", cure)
         for line in lines:
-            ballot = ballot_in(letter, line.as_entered)
-            bisect.insort(by_elector[line.elector], ballot, key=queries.by_time)
+            by_elector[line.elector].add(ballot_in(letter, line.as_entered))
 
 
 def why_typed_again(

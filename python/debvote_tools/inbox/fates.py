@@ -68,10 +68,9 @@ def fates_of(
     names = {
         one.number: one.name for one in (queries.electors(book) if elector is None else [elector])
     }
-    came = queries.envelopes(book) if elector is None else queries.envelopes_of(book, names)
-    kept = queries.kept_letters(book)
-    kept_at = {letter.number: history.act(letter.act).time for letter in kept}
-    letters = {letter.number: letter for letter in judged(Vote(election), history, kept)}
+    came = queries.envelopes_of(book, names if elector else None)
+    found = judged(Vote(election), history, queries.kept_letters(book))
+    letters = {letter.number: letter for letter in found}
     fates = [
         (
             names.get(one.elector or 0, NOBODY),
@@ -79,11 +78,11 @@ def fates_of(
         )
         for one in came
     ]
-    for letter in letters.values():
-        time = letter.read.arrived or kept_at[letter.number]
+    for letter in found:
+        time = letter.read.arrived or history.act(letter.act).time
         senders = letter.sharing if elector or len(letter.sharing) == 1 else ()
         for name in dict.fromkeys((*letter.electors, *senders)) or [NOBODY]:
             is_own, names_them = name in letter.sharing, name in letter.electors
             fates.append((name, Fate(time, letter.outcome, None, letter, is_own, names_them)))
-    found = grouped(sorted(fates, key=lambda one: one[1].time))
-    return {name: found.get(name, []) for name in (*names.values(), NOBODY)}
+    by_name = grouped(sorted(fates, key=lambda one: one[1].time))
+    return {name: by_name.get(name, []) for name in (*names.values(), NOBODY)}

@@ -7,12 +7,13 @@ import collections
 import datetime
 import itertools
 import operator
-from collections.abc import Callable, Collection, Iterable, Iterator, Mapping, Sequence, Set
+from collections.abc import Callable, Collection, Iterable, Mapping, Sequence, Set
 
 from debvote_tools.book import queries
 from debvote_tools.book.election import BOX_KEY, KEYRING, History
 from debvote_tools.book.queries import Ballot, KeptLetter
 from debvote_tools.grouping import grouped
+from debvote_tools.inbox.asked import WITH_LINKS
 from debvote_tools.inbox.letter import Body
 from debvote_tools.inbox.letter_lines import ReadLetter, from_json, read_letters
 from debvote_tools.inbox.mailbox import RawLetter
@@ -21,7 +22,7 @@ from debvote_tools.inbox.rules import Circumstances, LetterCase, LetterOutcome
 from debvote_tools.inbox.vote import Vote
 from debvote_tools.poll.call import SUBJECT, call_letter, current_call
 from debvote_tools.text import times
-from debvote_tools.text.ballots import answers_of, differ
+from debvote_tools.text.ballots import differ
 from debvote_tools.text.language import ENGLISH
 
 # what an act decided holds, whatever the rules say, unless part of what was entered is left
@@ -35,11 +36,87 @@ DECIDED = {
 
 # what becomes of a letter, and why it waits or was set aside
 Judgement = tuple[LetterOutcome, ReasonWithValues | None]
-# the ballots of each elector, in the order `queries.by_time`
-BallotsByElector = collections.defaultdict[str, list[Ballot]]
-# those of them that are in time, by elector and label
-InTime = Mapping[str, Mapping[str, Sequence[Ballot]]]
 TIME, IS_BY_LETTER = operator.attrgetter("time"), operator.attrgetter("is_by_letter")
+
+
+class Beside:
+    """The ballots of an elector, beside which letters are judged. Of thousands each letter looks at few."""
+
+    def __init__(self, ballots: Iterable[Ballot] = ()) -> None:
+        # in the order `queries.by_time`: all; by the labels of their answers; and by how far the clock
+        # of each was behind
+        self.every = [*ballots]
+        self.by_label = grouped((label, one) for one in self.every for label in one.labels)
+        self.by_clock = grouped((one.behind, one) for one in self.every)
+
+    def add(self, ballot: Ballot) -> None:
+        by_label = (self.by_label.setdefault(label, []) for label in ballot.labels)
+        for its in (self.every, *by_label, self.by_clock.setdefault(ballot.behind, [])):
+            bisect.insort(its, ballot, key=queries.by_time)
+
+    def labels_of(self, own: Ballot) -> Set[str]:
+        """Those of the questions that a ballot of a letter answers, or of all if it is not known, to which
+        there are answers.
+        """
+        return self.by_label.keys() & (own.labels or self.by_label.keys())
+
+    def later(
+        self, own: Ballot, is_asked_for: Callable[[Ballot], object] = bool
+    ) -> dict[str, Ballot]:
+        """The last ballots that are later than one in a letter, by whichever clock, by the labels of its
+        questions: nothing where its time is not known.
+        """
+        found = dict[str, Ballot]()
+        for label in self.labels_of(own) if own.is_by_letter else ():
+            # of thousands only as many are looked at as are asked for
+            its = itertools.takewhile(
+                lambda one: queries.by_time(one) > queries.by_time(own),
+                reversed(self.by_label[label]),
+            )
+            later = (one for one in its if is_asked_for(one) and not own.may_turn(one))
+            found |= {label: one for one in itertools.islice(later, 1)}
+        return found
+
+    def answered_since(self, own: Ballot) -> Set[str]:
+        """The labels of the answers in a ballot of a letter to which there are later ones. They are left
+        out when it is entered, so none is for a late one, which counts for nothing.
+        """
+        return self.later(own, lambda one: not one.is_late).keys()
+
+    def has_voted_since(self, own: Ballot) -> bool | None:
+        """Whether it is sure that the elector has a later ballot than one in a letter, which answers one of
+        the same questions; None if they have none. Where its time is not known, each may be later.
+        """
+        if self.later(own):
+            return True
+        perhaps = self.turned(own) if own.is_by_letter else self.labels_of(own)
+        return False if perhaps else None
+
+    def between(self, begin: datetime.datetime, end: datetime.datetime) -> list[Ballot]:
+        """Those from a time until before another one."""
+        places = (bisect.bisect_left(self.every, time, key=TIME) for time in (begin, end))
+        return self.every[slice(*places)]
+
+    def has_other_at_once(self, own: Ballot) -> bool:
+        """Whether another answer to a question has the same time as one in a ballot of a letter."""
+        at_once = self.between(own.time, own.time + datetime.timedelta(seconds=1))
+        return any(differ(one.line, own.line) for one in at_once)
+
+    def turned(self, own: Ballot) -> Ballot | None:
+        """The first one that may stand on the other side of a ballot by the clock of this computer: of each
+        other clock only those may whose times are within the difference.
+        """
+        found = list[Ballot]()
+        for behind, its in self.by_clock.items():
+            by_its_clock = own.time + datetime.timedelta(seconds=own.behind - behind)
+            within = sorted((own.time, by_its_clock))
+            places = range(*(bisect.bisect_right(its, time, key=TIME) for time in within))
+            found += itertools.islice(filter(own.may_turn, map(its.__getitem__, places)), 1)
+        return min(found, key=queries.by_time) if found else None
+
+
+# of each elector
+BallotsByElector = collections.defaultdict[str, Beside]
 
 
 def judged(
@@ -52,13 +129,15 @@ def judged(
         return []
     found, circumstances = read_kept(vote, kept), circumstances_now(vote, history)
     cases = [LetterCase(read, circumstances, letter) for read, letter in zip(found, kept)]
-    were_decided = [case.number for case in cases if case.is_decided]
-    entered = queries.entered_ballots(vote.book, were_decided)
+    entered = queries.entered_ballots(vote.book, [letter.number for letter in kept])
     by_hand = queries.entered_by_hand(vote.book)
     for case in cases:
-        case.entered, case.left_out = entered.get(case.number, ()), by_hand.get(case.number)
+        case.entered, case.is_by_hand = entered.get(case.number, ()), case.number in by_hand
+        case.left_out = by_hand.get(case.number, ())
     cases += (LetterCase(read, circumstances) for read in previewed)
-    return judge_all(cases, lambda names: ballots_in(vote, names))
+    names = {elector for case in cases for elector in case.electors}
+    names.update(one.elector for case in cases for one in case.entered)
+    return judge_all(cases, ballots_in(vote, names))
 
 
 def letters_now(vote: Vote) -> dict[int, LetterCase]:
@@ -73,46 +152,34 @@ def read_kept(vote: Vote, kept: Sequence[KeptLetter]) -> list[ReadLetter]:
     present keyring, or gpgv was too slow: of an unsettled letter; and, if such a one is signed, of
     those that were settled without a good signature, since only then a copy is known as one.
     """
-    found = [from_json(letter.read_json) for letter in kept]
-    unsettled = [index for index, one in enumerate(kept) if one.is_unsettled]
-    check_again(vote, kept, found, unsettled)
-    if any(found[index].signature for index in unsettled):
-        unsigned = {index for index, letter in enumerate(found) if letter.signature is None}
-        check_again(vote, kept, found, sorted(unsigned.difference(unsettled)))
-    return found
+    found = {one.number: from_json(one.read_json) for one in kept}
+    unsettled = [one for one in kept if one.is_unsettled]
+    found |= checked_again(vote, unsettled, found)
+    if any(found[one.number].signature for one in unsettled):
+        settled = (one for one in kept if not one.is_unsettled)
+        unsigned = [one for one in settled if found[one.number].signature is None]
+        found |= checked_again(vote, unsigned, found)
+    return [*found.values()]
 
 
-def check_again(
-    vote: Vote, kept: Sequence[KeptLetter], found: list[ReadLetter], which: Sequence[int]
-) -> None:
-    """Reads those letters again of which a signature may be good now."""
+def checked_again(
+    vote: Vote, which: Iterable[KeptLetter], found: Mapping[int, ReadLetter]
+) -> dict[int, ReadLetter]:
+    """Those letters of which a signature may be good now, read again, by number."""
     sealed, raws = queries.last_act_that_sealed(vote.book, KEYRING), dict[int, RawLetter]()
-    for index in which:
-        one, letter = kept[index], found[index]
+    for one in which:
+        letter = found[one.number]
         if letter.is_slow or (one.act < sealed and not letter.is_never_signed):
             # no record of the box: a vote with signatures has none
             data = queries.source_of(vote.book, one.source)
-            raws[index] = RawLetter(letter.where, data, letter.is_parted_off)
-    for index, read in zip(raws, read_letters(vote, [*raws.values()])):
-        found[index] = read
+            raws[one.number] = RawLetter(letter.where, data, letter.is_parted_off)
+    return dict(zip(raws, read_letters(vote, [*raws.values()])))
 
 
 def ballots_in(vote: Vote, names: Collection[str]) -> BallotsByElector:
     """The ballots of some electors that were entered and are not struck, also late ones."""
-    numbers = queries.elector_numbers(vote.book, names)
-    by_number = {number: name for name, number in numbers.items()}
-    by_elector = BallotsByElector(list)
-    clocks = queries.letter_clocks(vote.book)
-    there = queries.envelopes_of(vote.book, by_number, queries.VALID_OR_LATE)
-    for envelope in sorted(there, key=queries.by_time):
-        # None of what came by no letter, or at a time that is not known
-        behind, line = clocks.get(envelope.letter or 0), envelope.line.decode("ascii")
-        is_by_letter = behind is not None and not envelope.is_late
-        ballot = Ballot(
-            envelope.time, line, is_by_letter, behind or 0, envelope.number, envelope.is_late
-        )
-        by_elector[by_number[envelope.elector or 0]].append(ballot)
-    return by_elector
+    its_by_name = queries.ballots_of(vote.book, names).items()
+    return BallotsByElector(Beside, {name: Beside(its) for name, its in its_by_name})
 
 
 def circumstances_now(vote: Vote, history: History) -> Circumstances:
@@ -120,7 +187,7 @@ def circumstances_now(vote: Vote, history: History) -> Circumstances:
     election, call = vote.election, history.call
     assert call is not None
     public, electors = election.sealed().public, queries.electors(election.book)
-    ids = queries.our_message_ids(election.book)
+    names, ids = {one.number: one.name for one in electors}, queries.our_message_ids(election.book)
     no_answers = {elector.who for elector in electors}
     if vote.names.words or vote.names.labels:
         letter = call_letter(current_call(election, history))
@@ -139,30 +206,25 @@ def circumstances_now(vote: Vote, history: History) -> Circumstances:
         first_close=history.closes[0].time if history.closes else None,
         is_closed=history.is_closed,
         now=times.now(),
-        our_ids={elector.name: ids.get(elector.number, []) for elector in electors},
+        our_ids=grouped((names[elector], one) for elector, one, _ in ids if elector in names),
         box_key=queries.sealed(election.book, BOX_KEY),
         words=vote.names.words,
         no_answers=no_answers,
-        asking_ids=queries.ids_that_ask(election.book),
+        asking_ids={one for _, one, kind in ids if kind in WITH_LINKS},
     )
 
 
 # ---- one letter beside the others
-def judge_all(
-    cases: Iterable[LetterCase], ballots_of: Callable[[Collection[str]], BallotsByElector]
-) -> list[LetterCase]:
+def judge_all(cases: Iterable[LetterCase], by_elector: BallotsByElector) -> list[LetterCase]:
     """Judges letters, and returns them by their times; those without a time come last. What an act
     decided holds; a letter that breaks a rule waits. Of the letters of one identity, mostly one alone,
     the first that breaks none is the original, whose time is its own; the others may be its copies.
     """
     cases = sorted(cases, key=lambda case: (case.time is None, case.time or case.circumstances.now))
-    names = {elector for case in cases for elector in case.electors}
-    by_elector = ballots_of(names | {one.elector for case in cases for one in case.entered})
-    in_time = in_time_by_label(by_elector)
     for case in cases:
-        case.left = what_is_left(case, in_time)
-        lines = (line.as_entered for line in (*case.ballots, *case.offered))
-        case.answered_since = {line: answered_since(case, line, in_time) for line in lines}
+        lines = (line.as_entered for line in (*case.ballots, *case.likely))
+        own = [ballot_in(case, line) for line in (*lines, *case.left_out)]
+        case.answered_since = {one.line: by_elector[one.elector].answered_since(one) for one in own}
         case.outcome, case.reason = (
             decided(case) if case.is_decided else (LetterOutcome.WAITS, case.first_broken_rule)
         )
@@ -171,13 +233,12 @@ def judge_all(
     judge_originals(cases, originals, by_elector)
     for group in groups:
         judge_copies(group, originals, by_elector)
-    last = {elector: last_answers(its) for elector, its in by_elector.items()}
     for case in cases:
         if not case.is_decided and case.outcome is LetterOutcome.WAITS and case.other_vote:
             case.outcome, case.reason = LetterOutcome.OTHER_VOTE, Reason.OTHER_MARK(
                 mark=case.other_vote
             )
-        since = ((one, has_voted_since(case, one, last)) for one in case.electors)
+        since = ((one, has_voted_since(case, one, by_elector[one])) for one in case.electors)
         case.voted_since = {one: is_sure for one, is_sure in since if is_sure is not None}
     return cases
 
@@ -199,93 +260,22 @@ def decided(case: LetterCase) -> Judgement:
     return LetterOutcome.WAITS, Reason.NOT_ENTERED(rest=ENGLISH.joined(rest))
 
 
-def what_is_left(case: LetterCase, in_time: InTime) -> Set[tuple[str, str]]:
-    """The answers of a letter that are left when ballots of it were entered by hand: of an elector of whom
-    some were, those to which they have no later one.
-    """
-    if case.left_out is None:
-        return frozenset()
-    having = {one.elector for one in case.standing}
-    ballots = (*(line.as_entered for line in (*case.ballots, *case.likely)), *case.left_out)
-    return case.not_entered.difference(
-        *(
-            {(name, label) for label in answered_since(case, ballot, in_time)}
-            for ballot in ballots
-            if (name := ballot.partition(" ")[0]) in having
-        )
-    )
-
-
-def last_answers(ballots: Iterable[Ballot]) -> dict[str, Ballot]:
-    """The last ballot that answers each question, of ballots in the order `queries.by_time`."""
-    return {label: one for one in ballots for label in one.labels}
-
-
-def in_time_by_label(by_elector: Mapping[str, Sequence[Ballot]]) -> InTime:
-    return {
-        elector: grouped((label, one) for one in its if not one.is_late for label in one.labels)
-        for elector, its in by_elector.items()
-    }
-
-
-def answered_since(case: LetterCase, ballot: str, in_time: InTime) -> set[str]:
-    """The labels of the answers in a ballot of a letter to which its elector has later ones. They are left
-    out when it is entered, so none is for a late one, which counts for nothing.
-    """
-    elector, _, _ = ballot.partition(" ")
-    there = in_time.get(elector, {})
-    return {
-        label
-        for label in answers_of(ballot)
-        if any(surely_later(case, ballot, there.get(label, ())))
-    }
-
-
-def surely_later(case: LetterCase, ballot: str, its_ballots: Sequence[Ballot]) -> Iterator[Ballot]:
-    """Those ballots of an elector that are later than one in a letter, by whichever clock, the last first:
-    none where its time is not known.
-    """
-    if case.time is not None:
-        own = ballot_in(case, ballot)
-        # of thousands only as many are looked at as are asked for
-        for one in itertools.takewhile(
-            lambda one: queries.later([one], own.time), reversed(its_ballots)
-        ):
-            if not own.may_turn(one):
-                yield one
-
-
-def perhaps_later(case: LetterCase, ballot: str, its_ballots: Sequence[Ballot]) -> Sequence[Ballot]:
-    """Those that may be later or earlier than it, as nobody knows: all where its time is not known, else
-    those which a clock that was off could take across it.
-    """
-    if case.time is None:
-        return its_ballots
-    return [*filter(ballot_in(case, ballot).may_turn, its_ballots)]
-
-
 def ballot_in(case: LetterCase, ballot: str) -> Ballot:
     """A ballot of a letter beside others. Where its time is not known it has the one of now, as when it is entered."""
     time = case.time or case.circumstances.now
     return Ballot(time, ballot, case.time is not None, case.read.behind)
 
 
-def has_voted_since(
-    case: LetterCase, elector: str, last: Mapping[str, Mapping[str, Ballot]]
-) -> bool | None:
+def has_voted_since(case: LetterCase, elector: str, its: Beside) -> bool | None:
     """Whether it is sure that an elector of a letter has a later ballot; None if they have none. If answers
     of theirs stand in the letter, it is one that answers one of the same questions. Of a letter of which
     some are left only these are asked about.
     """
-    its = last.get(elector, {})
-    lines = [line.as_entered for line in (*case.ballots, *case.offered) if line.elector == elector]
+    lines = [line.as_entered for line in case.lines_to_enter if line.elector == elector]
     if case.left and not (lines := [*filter(None, map(case.left_in, lines))]):
         return None
-    labels = {label for ballot in lines for label in answers_of(ballot)} or its.keys()
-    pairs = [(line, [its[label]]) for line in lines or [""] for label in labels & its.keys()]
-    if any(any(surely_later(case, *pair)) for pair in pairs):
-        return True
-    return False if any(perhaps_later(case, *pair) for pair in pairs) else None
+    said = {its.has_voted_since(ballot_in(case, line)) for line in lines or [""]}
+    return True in said or (False if False in said else None)
 
 
 def original_of(group: Sequence[LetterCase]) -> LetterCase | None:
@@ -298,89 +288,51 @@ def original_of(group: Sequence[LetterCase]) -> LetterCase | None:
     return None if is_hidden else original
 
 
-class Beside:
-    """The ballots of an elector beside which letters are judged. Of thousands each letter looks at few."""
-
-    def __init__(self, in_book: Sequence[Ballot], of_letters: Iterable[Ballot]) -> None:
-        self.last = last_answers(in_book)
-        self.last_by_letter = last_answers(filter(IS_BY_LETTER, in_book))
-        # those in the book, and of letters that do not wait, by how far the clock of each was behind
-        self.by_clock = grouped((one.behind, one) for one in in_book)
-        answers = (
-            ((one.time, label), ranks)
-            for one in (*in_book, *of_letters)
-            for label, ranks in answers_of(one.line).items()
-        )
-        # the different answers to a question that have the same time
-        self.at_once = grouped(dict.fromkeys(answers))
-
-    def turned(self, own: Ballot) -> Ballot | None:
-        """The first one that may stand on the other side of a ballot by the clock of this computer: of each
-        other clock only those may whose times are within the difference.
-        """
-        found = list[Ballot]()
-        for behind, its in self.by_clock.items():
-            by_its_clock = own.time + datetime.timedelta(seconds=own.behind - behind)
-            within = sorted((own.time, by_its_clock))
-            places = range(*(bisect.bisect_right(its, time, key=TIME) for time in within))
-            found += itertools.islice(filter(own.may_turn, map(its.__getitem__, places)), 1)
-        return min(found, key=queries.by_time) if found else None
-
-
 def judge_originals(
     cases: Sequence[LetterCase], originals: Collection[LetterCase], by_elector: BallotsByElector
 ) -> None:
     """Judges the letters that break no rule, by their times, and puts the ballots of those that do
     not wait to the others of their electors.
     """
-    in_order = (case for case in cases if case in originals)
-    own = {case: ballot_in(case, case.sole_ballot.as_entered) for case in in_order}
-    of_letters = grouped((case.elector, one) for case, one in own.items())
-    beside = {elector: Beside(by_elector[elector], its) for elector, its in of_letters.items()}
+    in_order = [case for case in cases if case in originals]
+    of_letters = BallotsByElector(Beside)
+    for case in in_order:
+        of_letters[case.elector].add(ballot_in(case, case.sole_ballot.as_entered))
     # copies of these are not known as such, while gpgv does not answer
     unchecked = [case for case in cases if case.is_decided and case.read.is_slow]
     unchecked_ballots = {line.as_entered for case in unchecked for line in case.ballots}
-    for case, ballot in own.items():
-        its = beside[case.elector]
-        case.outcome, case.reason = outcome_of_original(case, ballot, its, unchecked_ballots)
+    for case in in_order:
+        own = ballot_in(case, case.sole_ballot.as_entered)
+        its, others = by_elector[case.elector], of_letters[case.elector]
+        case.outcome, case.reason = outcome_of_original(
+            case, own, its, others, own.line in unchecked_ballots
+        )
         if case.outcome is not LetterOutcome.WAITS:
-            bisect.insort(by_elector[case.elector], ballot, key=queries.by_time)
-            bisect.insort(its.by_clock.setdefault(ballot.behind, []), ballot, key=TIME)
+            its.add(own)
 
 
 def outcome_of_original(
-    case: LetterCase, own: Ballot, its: Beside, unchecked_ballots: Collection[str]
+    case: LetterCase, own: Ballot, its: Beside, others: Beside, is_unchecked: bool
 ) -> Judgement:
-    """What becomes of a letter that breaks no rule, beside the ballots of its elector: they have to be
-    older, but for the same one; and the vote may not be closed.
+    """What becomes of a letter that breaks no rule, beside the ballots of its elector and those of other
+    letters that break none: they have to be older, but for the same one; and the vote may not be closed.
     """
     elector, time = case.elector, own.time
     if turned := its.turned(own):
         return LetterOutcome.WAITS, Reason.CLOCKS(elector=elector, time=turned.time)
-    if later := later_answers(own, its.last):
+    if later := its.later(own):
         # this one can count in no case; the time of a line is only when somebody entered it
-        is_older = later_answers(own, its.last_by_letter).keys() == own.labels
-        reason = Reason.LATER_BALLOT(elector=elector, time=max(later.values()))
+        is_older = its.later(own, IS_BY_LETTER).keys() == own.labels
+        reason = Reason.LATER_BALLOT(elector=elector, time=max(map(TIME, later.values())))
         return LetterOutcome.OLDER if is_older else LetterOutcome.WAITS, reason
-    if any(len(its.at_once[time, label]) > 1 for label in own.labels):
+    if its.has_other_at_once(own) or others.has_other_at_once(own):
         return LetterOutcome.WAITS, Reason.SAME_TIME(elector=elector, time=time)
-    if own.line in unchecked_ballots:
+    if is_unchecked:
         return LetterOutcome.WAITS, Reason.PERHAPS_COPY()
     if case.circumstances.is_closed:
         # it would become late, and the plainer a ballot is, the less would that be noticed
         return LetterOutcome.WAITS, Reason.CLOSED()
     return LetterOutcome.GOES_IN, None
-
-
-def later_answers(own: Ballot, last: Mapping[str, Ballot]) -> dict[str, datetime.datetime]:
-    """The labels of the answers in a ballot to which the last ones are later, with their times."""
-    there = ((label, last[label]) for label in own.labels & last.keys())
-    return {label: one.time for label, one in there if queries.later([one], own.time)}
-
-
-def answered_by(ballot: str, later: Iterable[Ballot]) -> set[str]:
-    """The labels of the answers in a ballot to which there are later ones, of its elector."""
-    return answers_of(ballot).keys() & {label for one in later for label in one.labels}
 
 
 def judge_copies(
@@ -421,10 +373,9 @@ def outcome_of_copy(
     begin, end = sorted((original.time, case.time))
     # not what was typed for it, nor another line of it
     own = {one.number for one in original.entered}
-    for line in (*case.ballots, *case.offered):
-        there = by_elector[line.elector]
-        places = (bisect.bisect_left(there, time, key=TIME) for time in (begin, end))
-        others = (one for one in there[slice(*places)] if one.number not in own)
+    for line in case.lines_to_enter:
+        there = by_elector[line.elector].between(begin, end)
+        others = (one for one in there if one.number not in own)
         times = (one.time for one in others if differ(one.line, line.as_entered))
         if between := next(times, None):
             reason = Reason.CAME_BEFORE(

@@ -151,11 +151,11 @@ def why(letter: LetterCase, elector: str = "") -> str:
 
 
 def near_words(letter: LetterCase) -> Iterator[str]:
-    for line in (*letter.ballots, *letter.offered):
+    for line in letter.lines_to_enter:
         left = without(line.as_entered, letter.answered_since[line.as_entered]) or line.as_entered
         if shown := letter.left_in(line.as_entered) if letter.left else left:
             yield f"line {line.number}: {shown}"
-    for typed in filter(None, map(letter.left_in, letter.left_out or ())):
+    for typed in filter(None, map(letter.left_in, letter.left_out)):
         yield f"left out of what was typed: {typed}"
     for near in letter.near:
         within = ", within other words" if near.is_within else ""
@@ -248,7 +248,7 @@ def quoted_of_ours(letter: LetterCase) -> set[int]:
 
 def indices_of_ballots(letter: LetterCase, near: Sequence[Near]) -> set[int]:
     """The indices of the lines that can be entered, and of those near to a ballot."""
-    numbers = {one for line in (*letter.ballots, *letter.offered) for one in line.numbers}
+    numbers = {one for line in letter.lines_to_enter for one in line.numbers}
     return {number - 1 for number in (*numbers, *(one.number for one in near))}
 
 

@@ -160,20 +160,21 @@ class LetterCase:
     reason: ReasonWithValues | None = None
     # its electors who have a later ballot, or may have: whether it is sure
     voted_since: Mapping[str, bool] = {}
-    # of each ballot of it the labels of the answers to which its elector has later ones
-    answered_since: Mapping[str, Collection[str]] = {}
-    # the ballots of it that were entered; if some were by hand, of what was typed the answers that were
-    # left out, as ballots, else None; and the answers for which it waits on, as in `not_entered`
+    # of each ballot of it, and of those that are left out, the labels of the answers to which its elector has
+    # later ones
+    answered_since: Mapping[str, Set[str]] = {}
+    # the ballots of it that were entered; whether some were by hand; and of what was typed the answers that
+    # were left out, as ballots
     entered: Sequence[EnteredBallot] = ()
-    left_out: Sequence[str] | None = None
-    left: Set[tuple[str, str]] = frozenset()
+    is_by_hand = False
+    left_out: Sequence[str] = ()
 
     def __init__(
         self, letter: ReadLetter, circumstances: Circumstances, kept: KeptLetter = NOT_KEPT
     ) -> None:
         self.read, self.circumstances, self.state = letter, circumstances, kept.state
         # in the book
-        self.number, self.source = kept.number, kept.source
+        self.number, self.act, self.source = kept.number, kept.act, kept.source
         # the lines with what looks like a code or an alias, if they are told
         self.code_lines = letter.code_lines if circumstances.tells_codes else ()
         # the electors who may have sent it, and the one whose own mark the subject has. A subject with
@@ -196,7 +197,7 @@ class LetterCase:
         valid = [line.as_ballot for line in self.named if line.answer is None]
         # beside these those with the name of somebody else, as in the letter of a family; if several
         # have it, it is nobody's
-        real = [line for line in ballots if self.named and line.meant and not line.elector]
+        real = (line for line in ballots if self.named and line.meant and not line.elector)
         unknown = [line for line in real if line.answer is None]
         self.unclear = [line for line in unknown if len(line.meant) > 1]
         others = [line.ballot_of(*line.meant) for line in unknown if len(line.meant) == 1]
@@ -309,6 +310,11 @@ class LetterCase:
         is_all = len(places) == 1 and self.other_answers.issubset(*places)
         return found if is_all or not has_labels else {}
 
+    @property
+    def lines_to_enter(self) -> tuple[BallotLine, ...]:
+        """All lines that can be entered by their numbers."""
+        return (*self.ballots, *self.offered)
+
     @functools.cached_property
     def every_near(self) -> list[Near]:
         """What is near to a ballot; beside ballots that is what debvote refuses."""
@@ -392,9 +398,23 @@ class LetterCase:
         ]
         is_shared = len(self.sharing) > 1 and any(one.is_typed for one in self.entered)
         others = {*self.sharing} - having - {one.elector for one in lines} if is_shared else ()
-        given = (*(one.answers for one in lines), *map(answers_in, self.left_out or ()))
+        given = (*(one.answers for one in lines), *map(answers_in, self.left_out))
         done = itertools.chain.from_iterable(one.answers for one in self.standing)
         return {(name, "") for name in others}.union(*given).difference(done)
+
+    @functools.cached_property
+    def left(self) -> Set[tuple[str, str]]:
+        """The answers for which it waits on when ballots of it were entered by hand: of an elector of whom
+        some were, those to which they have no later one.
+        """
+        having = {one.elector for one in self.standing}
+        since = (
+            (name, label)
+            for ballot, labels in self.answered_since.items()
+            for name, label in answers_in(ballot)
+            if name in having and label in labels
+        )
+        return self.not_entered.difference(since) if self.is_by_hand else frozenset()
 
     def left_in(self, ballot: str) -> str:
         """A ballot of it with the answers for which it waits on; empty if there are none."""
@@ -453,7 +473,7 @@ class LetterCase:
     @functools.cached_property
     def electors(self) -> tuple[str, ...]:
         """The electors on its ballots, or near to one; else the one who sent it."""
-        named = [line.elector for line in (*self.ballots, *self.offered)]
+        named = [line.elector for line in self.lines_to_enter]
         near = (near.ballot.partition(" ")[0] for near in self.every_near)
         named += [name for name in near if name in self.circumstances.electors]
         return tuple(dict.fromkeys(named or filter(None, [self.sending_elector])))
@@ -490,12 +510,12 @@ def why_not_in_time(case: LetterCase) -> ReasonWithValues | None:
         return Reason.NO_ARRIVAL()
     if case.arrived_before_call:
         return Reason.BEFORE_THE_CALL(called=circumstances.called)
-    end, close = circumstances.end, circumstances.first_close
-    if end is not None and case.arrived_after(end):
+    (first, last), end, close = case.arrivals, circumstances.end, circumstances.first_close
+    if end is not None and first > end:
         return Reason.AFTER_THE_END(end=end)
-    if close is not None and case.arrived_after(close):
+    if close is not None and first > close:
         return Reason.AFTER_THE_CLOSE(close=close)
-    if any(last > end for last in case.arrivals[1:] for end in circumstances.ends):
+    if any(last > one for one in circumstances.ends):
         return Reason.CLOCK_AT_THE_END(seconds=abs(case.read.behind))
     if asked is not None and arrived < asked:
         return Reason.NOT_THERE_BEFORE(asked=asked)

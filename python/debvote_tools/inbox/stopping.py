@@ -77,8 +77,8 @@ def letters_cure(election: Election, step: str, *, is_closed: bool) -> str:
 def pending_letters(election: Election, history: History) -> Pending:
     # where letters have to be signed, what was signed says which are copies, which the book may not
     # have known when they came
-    which = queries.kept_letters if history.announced("signed") else queries.may_wait
-    if not (kept := which(election.book)):
+    book, is_signed = election.book, history.announced("signed")
+    if not (kept := queries.kept_letters(book) if is_signed else queries.may_wait(book)):
         return Pending()
     from debvote_tools.inbox.judging import judged
     from debvote_tools.inbox.rules import LetterOutcome

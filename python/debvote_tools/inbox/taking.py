@@ -4,12 +4,11 @@ that go in. `held` enters others by a `LetterEntry`. Lines are taken in `command
 
 import dataclasses
 import functools
-from collections.abc import Collection, Iterable, Iterator, Sequence
+from collections.abc import Iterable, Iterator, Sequence, Set
 
 from debvote_tools.book import queries
 from debvote_tools.book.book import Detail
 from debvote_tools.book.change import carried_out
-from debvote_tools.book.election import Election, History
 from debvote_tools.book.queries import NewEnvelope
 from debvote_tools.cli.console import count_of, is_terminal, listed, shown_text, tell
 from debvote_tools.cli.faults import Fault
@@ -56,11 +55,11 @@ def take_letters(
     if is_look:
         would = plan(read)
         tell_letters(vote, would.found)
-        said = (one.replace("went in", "would go in") for one in would.end)
-        tell(came_before, *said, "Nothing was changed.")
+        said = would.end.replace("went in", "would go in")
+        tell(came_before, said, "Nothing was changed.")
         return
     tell(came_before)
-    tell_next(vote.election, carried_out(vote.book, plan))
+    tell_next(carried_out(vote.book, plan))
 
 
 # ---- keeping
@@ -75,11 +74,11 @@ def new_of(vote: Vote, raws: Sequence[RawLetter]) -> list[RawLetter]:
     return [raw for digest, raw in chosen.items() if is_not_kept(digest, raw.is_parted_off, kept)]
 
 
-def is_not_kept(digest: str, is_parted_off: bool, kept: Collection[tuple[str, bool]]) -> bool:
+def is_not_kept(digest: str, is_parted_off: bool, kept: Set[tuple[str, bool]]) -> bool:
     """Whether the book lacks a letter. If it has it only as what may be text of another letter, it
     lacks the one that comes on its own.
     """
-    return (digest, False) not in kept and not (is_parted_off and (digest, True) in kept)
+    return kept.isdisjoint([(digest, False), (digest, is_parted_off)])
 
 
 def keep(vote: Vote, raws: Sequence[RawLetter], read: Sequence[ReadLetter], detail: Detail) -> None:
@@ -103,16 +102,16 @@ def keep(vote: Vote, raws: Sequence[RawLetter], read: Sequence[ReadLetter], deta
 @dataclasses.dataclass(frozen=True, kw_only=True)
 class LetterEntry(Entry):
     """An act that enters ballots of letters, and decides of the letters that are done. Prints the
-    reply to each ballot in words, and then `end`.
+    reply to each ballot in words, and then `end`, if it has one.
     """
 
-    end: Sequence[str] = dataclasses.field(default=(), compare=False)
+    end: str = dataclasses.field(default="", compare=False)
 
     def words(self, numbers: range, replies: Sequence[str]) -> Iterator[str]:
         for number, reply, envelope in zip(numbers, replies, self.envelopes):
             ballot = envelope.line.decode("ascii")
             yield f"{number} {reply}  {self.vote.ballot_in_words(ballot)}"
-        yield from self.end
+        yield from filter(None, [self.end])
 
 
 def envelope_of(letter: LetterCase, ballot: str) -> NewEnvelope:
@@ -127,13 +126,12 @@ def going_in(found: Iterable[LetterCase]) -> list[LetterCase]:
 class GoingIn(LetterEntry):
     """Letters go in by themselves, once that is agreed to."""
 
-    history: History = dataclasses.field(compare=False)
     found: list[LetterCase] = dataclasses.field(compare=False)
 
     def show(self) -> None:
         tell_letters(self.vote, self.found)
         if self.is_nothing:
-            tell(*self.end)
+            tell(self.end)
         elif self.question and not is_terminal():
             ballots = count_of(len(self.letters), "ballot")
             cure, done = (
@@ -154,8 +152,7 @@ class GoingIn(LetterEntry):
 def what_goes_in(
     vote: Vote, previewed: Sequence[ReadLetter] = (), *, of_box: bool, is_agreed: bool
 ) -> GoingIn:
-    history = vote.history()
-    every = judged(vote, history, queries.kept_letters(vote.book), previewed)
+    every = judged(vote, vote.history(), queries.kept_letters(vote.book), previewed)
     found = [letter for letter in every if letter.read.link or not of_box]
     new = going_in(found)
     return GoingIn(
@@ -169,18 +166,18 @@ def what_goes_in(
         envelopes=[envelope_of(letter, letter.sole_ballot.as_entered) for letter in new],
         # what is late breaks a rule, and does not go in
         is_late=False,
-        end=[letter_words.went_in_words(every, len(new))],
-        history=history,
+        end=letter_words.went_in_words(every, len(new)),
         found=found,
     )
 
 
-def tell_next(election: Election, change: GoingIn) -> None:
+def tell_next(change: GoingIn) -> None:
+    election = change.vote.election
     undo = f"; {election.command('undo')} takes back what was entered last"
     waiting = f"{election.command('held')}, which lists the letters that wait"
     is_waiting = any(letter.outcome is LetterOutcome.WAITS for letter in change.found)
     following = waiting if is_waiting else election.command("status")
-    tell(f"Next: {following}{'' if change.history.is_closed else undo}")
+    tell(f"Next: {following}{'' if election.history().is_closed else undo}")
 
 
 def tell_letters(vote: Vote, found: Sequence[LetterCase]) -> None:

@@ -231,7 +231,7 @@ class Vote:
         """What debvote says of each line, such as `bad rank count: ..`; None for a valid ballot. What
         it remarks on other lines is left out.
         """
-        refused = self.refusals(list(dict.fromkeys(lines)))
+        refused = self.refusals(lines)
         return {line: next(map(said_of, refused[line].values()), None) for line in lines}
 
     def refusals(self, lines: Sequence[bytes]) -> Mapping[bytes, Mapping[str, Finding]]:

@@ -1110,6 +1110,19 @@ class Clocks(unittest.TestCase):
                 [wanted],
             )
 
+    def test_which_ballots_are_surely_later(self) -> None:
+        """What the list of held says has one rule with its --enter: each ballot is looked at, not the last alone."""
+        for there, is_sure in (
+            ([Ballot(at(12), "ada 1,2,3,4")], True),
+            ([Ballot(at(13), "ada 1,2,3,4", True, -14_400)], False),
+            ([Ballot(at(12), "ada 1,2,3,4"), Ballot(at(13), "ada 1,2,3,4", True, -14_400)], True),
+            ([Ballot(at(9, 58), "ada 1,2,3,4", True, 300), Ballot(at(9, 59), "ada 1,2,3,4")], False),
+        ):
+            # it waits, since another address sent it
+            given = letter("ada", "ada 4,3,2,1", sender="x@y.example")
+            [case] = judged(given, ballots={"ada": there}, is_marked=False)
+            self.assertEqual(case.voted_since, {"ada": is_sure}, there)
+
     def test_what_an_asking_before_should_have_brought_waits(self) -> None:
         for minutes, wanted in ((0, "in: ada 1,2,3,4"), (1, "waits: not there before")):
             one = dataclasses.replace(

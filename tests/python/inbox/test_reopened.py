@@ -71,6 +71,18 @@ class Reopened(LettersTest):
         self.assertEqual(self.stands("ada"), RANKS)
         self.assertEqual(self.acts()[-1][1], {"because": "it was in time", "in_time": [1], "force": True})
 
+    def test_a_late_line_that_is_refused_replaces_none(self) -> None:
+        self.told("close")
+        self.add_lines("ada 1,2,3")
+        self.reopen()
+        self.set_clock("2026-11-25T10:00:00+00:00")
+        self.add_lines(OTHER, words=("--came-before-close", "yes"))
+        self.told("close")
+        before = self.told("show", "ada").splitlines()[-1]
+        self.reopen("--in-time", 1)
+        self.assertEqual(self.acts()[-1][1], {"because": "it was in time", "in_time": [1]})
+        self.assertEqual(self.told("show", "ada").splitlines()[-1], before)
+
     def test_a_newer_late_line_after_an_older_one(self) -> None:
         """What was entered anew keeps its time, so that a later one goes in without force."""
         self.told("close")

@@ -288,14 +288,14 @@ class World:
                 lines.append(self.desk[minute])
             for _, number in [one for one in (*reads, *last) if one[0] == minute]:
                 there += [data for one, data in known.items() if one.box == number and one.minute <= minute and data not in there]
-                found = judge_all([case_of(one, now, decisions.get(one.digest)) for one in there], lambda _: in_order({"ada": box}))
+                found = judge_all([case_of(one, now, decisions.get(one.digest)) for one in there], in_order({"ada": box}))
                 # it may be that nobody agrees, but in the end
                 for one in found if minute == MINUTES or self.chance.random() < 0.8 else ():
                     if one.outcome is LetterOutcome.GOES_IN and one.time is not None:
                         decisions[one.read.digest] = queries.ENTERED
                         box.append(Ballot(one.time, one.ballots[0].as_entered, True))
                         lines.append(box[-1].line)
-        found = judge_all([case_of(one, now, decisions.get(one.digest)) for one in there], lambda _: in_order({"ada": box}))
+        found = judge_all([case_of(one, now, decisions.get(one.digest)) for one in there], in_order({"ada": box}))
         assert not any(one.outcome is LetterOutcome.GOES_IN for one in found)
         return next(reversed(lines), ""), any(one.outcome is LetterOutcome.WAITS for one in found)
 

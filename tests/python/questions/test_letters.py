@@ -57,7 +57,7 @@ def read(*given: bytes, words: Words = {}) -> list[ReadLetter]:
 
 def judged(*given: bytes, ballots: Mapping[str, Sequence[Ballot]] | None = None, words: Words = {}) -> list[LetterCase]:
     known = circumstances(no_answers=OURS, words=words)
-    return judge_all([LetterCase(one, known) for one in read(*given, words=words)], lambda _: in_order(ballots or {}))
+    return judge_all([LetterCase(one, known) for one in read(*given, words=words)], in_order(ballots or {}))
 
 
 def becomes(text: str, how: object = letter, words: Words = {}) -> str:
