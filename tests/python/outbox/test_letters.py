@@ -1,6 +1,7 @@
 """`letters`: what goes to the electors as files, to whom, and that nothing of it reads as a ballot."""
 
 import contextlib
+import datetime
 import functools
 import hashlib
 import pathlib
@@ -8,8 +9,10 @@ import re
 import resource
 import shutil
 import stat
+from unittest import mock
 
 from debvote_tools.inbox.lines import repaired_line
+from debvote_tools.outbox import due
 from debvote_tools.outbox.letter_folder import in_place
 from debvote_tools.poll.questions import LONGEST_LINE
 
@@ -111,7 +114,9 @@ class Call(OutTest):
             self.assertIn(f"{LINE}{name} _,_,_,_", text)
         self.done("call", "--until", "2026-12-08 12:00", "--zone", "UTC")
         self.assertIn("Vote until: Tuesday, 8 December 2026, 12:00 (UTC)", self.texts("call")["ben"])
-        # after the end nobody is invited
+        # in the second of the end it can still be written, and after it nobody is invited
+        with mock.patch.object(due, "now", lambda: datetime.datetime(2026, 12, 8, 12, tzinfo=datetime.UTC)):
+            self.assertEqual(len(self.texts("call")), 9)
         self.set_clock("2026-12-08T12:00:01+00:00")
         before = self.rows("call")
         for words in ("status", "close"):

@@ -131,6 +131,9 @@ class Sending(SendTest):
                 self.assertEqual(self.not_reached(), {"cleo": "refused"})
         self.told("letters", "call")
         self.assertEqual(self.not_reached(), {})
+        # nor is one that comes back now
+        self.came_back("ida", "id")
+        self.assertEqual(self.not_reached(), {})
 
     def came_back(self, name: str, what: str, sender: str = "mailer-daemon@mail.example", field: str = "", time: str = TEN) -> None:
         sent = next(taken.data.decode().replace("\r\n", "\n") for taken in self.server.taken if taken.to.startswith(f"{name}@"))
@@ -154,6 +157,7 @@ class Sending(SendTest):
         """A program answers for somebody who is away, or reports from the elector's own address; a delivery is late, or done; a stranger
         has no own mark; a person answers.
         """
+        self.change_roll("ada@club.example", "ada@club.example Ada@Home.example")
         self.assert_sent("call")
         self.came_back("ada", "nothing")
         self.came_back("ben", "text", sender="ben@club.example")
@@ -164,7 +168,7 @@ class Sending(SendTest):
         self.assert_none_is_due("call")
         servers = "mailer-daemon@mail.example"
         for number, (action, sender, wanted) in enumerate(
-            (("delayed", servers, {}), ("delivered", servers, {}), ("failed", ALL[0], {}), ("failed", servers, {"ada": "came back"}))
+            (("delayed", servers, {}), ("delivered", servers, {}), ("failed", ALL[0], {}), ("failed", "ada@home.example", {}), ("failed", servers, {"ada": "came back"}))
         ):
             report = f"--b\nContent-Type: message/delivery-status\n\nReporting-MTA: dns; x\n\nAction: {action}\n"
             text = f"{report}--b\nContent-Type: text/rfc822-headers\n\nSubject: {subject}\n--b--\n"
@@ -287,13 +291,18 @@ class Sending(SendTest):
             self.add_lines(f"ada {OTHER_RANKS}")
 
     def test_no_other_answer_than_that_it_was_taken_is_one(self) -> None:
-        """After the letter, and not before it; what is no answer of a mail server is none. Nobody else would learn that it is lost."""
+        """After the letter, and not before it; what is no answer of a mail server is none. Nobody else would learn that it is lost.
+
+        All but 4 as its first digit is for good.
+        """
         self.server.stop()
         refused = {"letter": "354 go on"}, {"letter": "yes"}, {"letter": "-99 x"}, {"data": "250 OK"}, {"data": "200 OK"}, {"to": "354 x"}, {"letter": "600 x"}
         others = ("200 OK", TAKEN), ("250-OK\r\n250 yes", TAKEN), ("299 OK", TAKEN), ("400 x", REFUSED), ("599 x", REFUSED)
         for answers, state in (*((one, REFUSED) for one in refused), *(({"letter": answer}, state) for answer, state in others)):
             with PlainServer(answers) as server:
-                self.assertEqual([letter.state for letter in sent_to(smtp.Server("127.0.0.1", server.port, False))], [state], answers)
+                [letter] = sent_to(smtp.Server("127.0.0.1", server.port, False))
+                is_for_good = state == REFUSED and answers != {"letter": "400 x"}
+                self.assertEqual((letter.state, letter.is_refused_for_good), (state, is_for_good), answers)
 
     def test_a_receipt_that_was_refused_goes_to_a_new_address(self) -> None:
         """One that was refused for now, as servers answer of a domain that has no mail server, goes to the old address, too."""

@@ -468,6 +468,7 @@ class OfOpenVotes(OfElections):
         self.replace("--casting", "Groesse", *cast, "--force", "--because", "She had meant this", "--language", "en")
         self.expect("another casting vote", self.doubts(), ["An earlier result of this vote was published with a casting vote for 72 Euro."])
         self.expect("the letter says whom it chose", "Winner: Option 2: Größe by casting vote" in self.letter(), True)
+        self.expect("since the second close", self.what_was_done()[-1].endswith("lines in time that came in: 1; that were struck: 0."), True)
         self.expect("and again", "as it was published before" in self.say("publish"), True)
         self.replace("--force", "--because", "It was none", "--language", "en", status=1)
         self.expect("one that is left out", self.doubts(), ["An earlier result of this vote was published with a casting vote for Größe."])
