@@ -51,6 +51,7 @@ class Sending(SendTest):
         self.assertEqual(self.rows("call")[-1], ("ida", "taken"))
         self.assert_none_is_due("call")
         self.assertEqual(len(self.server.taken), 9)
+        self.assertEqual(list((self.folder / "letters").glob("*/*")), [])
 
     def test_refused_for_good_or_for_now(self) -> None:
         """Who was refused is named by each later run, of whatever letters, and by `status`, until a letter is taken."""
@@ -117,7 +118,8 @@ class Sending(SendTest):
         # who has no address any more gets it printed, too
         self.change_roll("hal@club.example", "")
         self.assertEqual((self.not_reached(), self.numbers()["printed"]), ({"gus": "no letter"}, ["hal"]))
-        self.change_roll("ada@club", "ada@new")
+        self.write("members.csv", elections.members_of(self.names).replace("ada@club", "ada@new").replace("ida@club.example", ""))
+        self.told("roll", "--yes")
         self.assertEqual(self.not_reached(), dict.fromkeys(("ada", "gus", "hal"), "no letter"))
         self.assertIn("Not reached by the call: ada (no letter), gus (no letter), hal (no letter)\n", self.told("letters", "receipts"))
         self.send("call")
@@ -129,10 +131,16 @@ class Sending(SendTest):
             if words[0] == "--until":
                 self.assert_sent("call", status=9)
                 self.assertEqual(self.not_reached(), {"cleo": "refused"})
+                # who got the call printed is told that there is more time
+                self.assertIn("You have more time to vote.", self.files("call")[0].read_text())
+            if words[0] == "--take-back":
+                # who leaves the list is not named
+                self.write("members.csv", elections.members_of([name for name in self.names if name != "dan"]))
+                self.told("roll", "--yes")
         self.told("letters", "call")
         self.assertEqual(self.not_reached(), {})
         # nor is one that comes back now
-        self.came_back("ida", "id")
+        self.came_back("eve", "id")
         self.assertEqual(self.not_reached(), {})
 
     def came_back(self, name: str, what: str, sender: str = "mailer-daemon@mail.example", field: str = "", time: str = TEN) -> None:

@@ -394,6 +394,7 @@ class Bytes(unittest.TestCase):
         text = vote().text("closed_to_elector.txt", elector, letter="CLOSED\n")
         self.assertEqual(len(text.split("\n\n")), 2)
         self.assertEqual(one_line(parsed(self.message(text)))[:9], "Dear Ada ")
+        self.assertLess(len(text), 250)
         right = ("a@b.example", "a.b+c@d-e.example")
         wrong = ("", "a", "a@b\nBcc: c@d", "a@b, c@d", "<a@b>", "a b@c.example", "\u00e4@b.example", "a@b@c", "-a@b", "a@b.example\n")
         self.assertEqual([text for text in (*right, *wrong) if is_mail_address(text)], list(right))
