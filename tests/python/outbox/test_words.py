@@ -219,11 +219,16 @@ class CallLetter(unittest.TestCase):
             # a reminder begins so, too, if a letter waits
             self.assertTrue(now.reminder(ADA, [WAITS]).startswith(begin))
 
+    def test_a_name_is_one_on_the_roll_or_the_end_of_it_or_of_a_real_name(self) -> None:
+        now = dataclasses.replace(vote(), electors=(ADA._replace(name="ada-ley", who="Ad\u00e8le B. Lovelace"),))
+        words = ("ada-ley", "LEY", "lovelace", "Ada", "Ad\u00e8le", "B.")
+        self.assertEqual([now.is_name(word) for word in words], [True, True, True, False, False, False])
+
     def test_greeting_mark_and_texts(self) -> None:
         """By the secretary's own words, or by the name where these do not greet."""
         greeting = (
             "Dear all", "Hello members!", "Liebe Mitglieder,", "Sehr geehrte Damen und Herren,", "Chers membres,", "Bonjour \u00e0 tous",
-            "Estimados socios:", "\u00a1Hola a todos!", "Mitglieder des TSV,",
+            "Estimados socios:", "\u00a1Hola a todos!", "Mitglieder des TSV,", "Friends of the lake!",
         )  # fmt: skip
         for first in (*greeting, "Paper goes into the box.", "Das Wichtige steht unten."):
             for text in self.asking(vote(letter_text=f"{first}\n\nMore.\n"))[:3]:
@@ -417,7 +422,7 @@ class Bytes(unittest.TestCase):
 
     def test_lines_that_read_as_ballots_get_a_bar_and_others_stay(self) -> None:
         for line in (
-            "ada 1,2,3", "  Ada: 1, 2, 3.", "\u201cada 1,-,3\u201d", "*ada* 1;2;3", "ada *1,2,3*", "ada:1,2,3", "ben-2 1,2,\u2013", "ada\u00a01 , 2 , 3", "ada -,\u2013,1", "ada 1,2,3 ,4",
+            "ada 1,2,3", "  Ada: 1, 2, 3.", "\u201cada 1,-,3\u201d", "*ada* 1;2;3", "ada *1,2,3*", "ada:1,2,3", "ben-2 1,2,\u2013", "ada\u00a01 , 2 , 3", "ada -,\u2013,1", "ada 1,2,3 ,4", "***ada*** 1,2,3",
             # ranks alone, which are offered as the ballot of whoever sends them back
             "1,2,3", "  1; 2 ;3.", "*1*,-,3", "1 2 3", "\u201c1,\u2013,3\u201d",
         ):  # fmt: skip
@@ -427,8 +432,9 @@ class Bytes(unittest.TestCase):
         self.assertEqual(self.guarded("  paper: ada 1,2,3 or so"), "  |paper:\n  |ada 1,2,3 or so")
         self.assertEqual(self.guarded("Zo\u00eb Maier 1,2,3"), "|Zo\u00eb\n|Maier 1,2,3")
         self.assertEqual(self.guarded("ada 1,2,3 ben-2 3,2,1"), "|ada 1,2,3\n|ben-2 3,2,1")
+        self.assertEqual(self.guarded("| ada 1,2,3"), "|ada 1,2,3")
         # others stay
-        for line in ("ada 1,2", "ada _,_,_", "(ada 1,2,3)", "ada, ben, cleo", "3 of 4, 5 of 6, 7 of 8", "Euro 1,2,3", "ada 100,2,3", "1,2", "-- ", "(1,2,3)"):
+        for line in ("ada 1,2", "ada _,_,_", "(ada 1,2,3)", "ada, ben, cleo", "3 of 4, 5 of 6, 7 of 8", "Euro 1,2,3", "ada 100,2,3", "ada 1,2,300", "1,2", "-- ", "(1,2,3)"):
             self.assertEqual(self.guarded(line), line)
 
     def test_lines_that_are_answers_to_a_motion_get_a_bar(self) -> None:

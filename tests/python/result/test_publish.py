@@ -362,6 +362,10 @@ class OfOpenVotes(OfElections):
     def test_what_comes_after_the_end(self):
         """Lines and ballots of a desk are told that came after the end; not those that were struck, nor letters, which wait."""
         letter = "Received: by mx; Mon, 1 Mar 2027 12:30:00 +0000\nFrom: cleo@x.example\n\ncleo 3,2,1\n"
+        # the vote is not of the day of a call that was taken back
+        self.set_clock("2027-02-20T10:00:00+00:00")
+        self.say("call")
+        self.say("call", "--take-back")
         for day, hour in (("02-26", 11), ("02-27", 12)):
             self.set_clock(f"2027-{day}T10:00:00+00:00")
             self.say("call", "--until", f"2027-03-01 {hour}:00", "--zone", "UTC")
