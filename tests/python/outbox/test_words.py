@@ -23,6 +23,7 @@ from debvote_tools.outbox.letter_folder import message, rows_to_print
 from debvote_tools.outbox.words import OF_BALLOT, PACKAGE, SUBJECTS, Composer
 from debvote_tools.poll.announced import is_mail_address
 from debvote_tools.poll.call import CallData, call_page
+from debvote_tools.poll.questions import Questions
 from debvote_tools.poll.sealed import SealedPoll
 from debvote_tools.text.ballots import faults_of, without_ballots
 from debvote_tools.text.motions import Words, words_of
@@ -223,6 +224,23 @@ class CallLetter(unittest.TestCase):
         now = dataclasses.replace(vote(), electors=(ADA._replace(name="ada-ley", who="Ad\u00e8le B. Lovelace"),))
         words = ("ada-ley", "LEY", "lovelace", "Ada", "Ad\u00e8le", "B.")
         self.assertEqual([now.is_name(word) for word in words], [True, True, True, False, False, False])
+
+    def test_what_one_letter_says_and_another_does_not(self) -> None:
+        of_box = vote(has_box=True)
+        letters = [" ".join(of_box.call_letter(one, is_extension=False).split()) for one in (ADA, ADA._replace(mark=""), GUS)]
+        # without an own mark the link is nobody's, and only the page is where a ballot is sent
+        self.assertEqual(["Open the link, choose, and press Vote" in text for text in letters[:2]], [True, False])
+        seen = "Whoever keeps this web site sees each ballot when it is sent here."
+        self.assertEqual([seen in text for text in (*letters, call_page(of_box.call_data).decode())], [False, False, False, True])
+        # the texts are in the call on paper, and not in what follows it; a word is an answer to a motion alone
+        poll = dataclasses.replace(POLL, explanations=("A lake.", "", ""))
+        motion = SealedPoll("Fee", ("Yes",), (1,), "No", 0, ("ada", "ben"), motion=True)
+        now = vote(questions=Questions({"A": poll, "B": motion}, "Meeting"), quorum_votes={"A": 1, "B": 0})
+        call, extension = (" ".join(now.call_letter(GUS, is_extension=is_extension).split()) for is_extension in (False, True))
+        self.assertEqual([text.count("A lake.") for text in (call, extension)], [1, 0])
+        whose = "The texts about the options are those of whoever sends this letter."
+        self.assertEqual([whose in text for text in (call, extension)], [True, False])
+        self.assertEqual(call.count("(or in place of the ranks one word: "), 1)
 
     def test_greeting_mark_and_texts(self) -> None:
         """By the secretary's own words, or by the name where these do not greet."""

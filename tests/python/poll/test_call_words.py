@@ -184,6 +184,8 @@ class Files(unittest.TestCase):
         self.assertIn("that of the result, which is the same one, byte for byte", page_of(SECRET))
         self.assertIn("CODE _,_,_,_ ", page_of(WITH_CODES))
         self.assertNotIn("your name", page_of(WITH_CODES).lower())
+        # nobody knows to whom a receipt would go
+        self.assertEqual(["Each ballot gets a receipt" in page_of(data) for data in (SECRET, WITH_CODES)], [True, False])
         self.assertNotIn('href="poll.toml"', call_files(WITH_CODES)["index.html"].decode())
 
 
