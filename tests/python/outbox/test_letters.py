@@ -1,6 +1,7 @@
 """`letters`: what goes to the electors as files, to whom, and that nothing of it reads as a ballot."""
 
 import contextlib
+import datetime
 import functools
 import hashlib
 import pathlib
@@ -8,8 +9,10 @@ import re
 import resource
 import shutil
 import stat
+from unittest import mock
 
-from debvote_tools.files import write_whole
+from debvote_tools.files import TEMPORARY, write_whole
+from debvote_tools.outbox import due
 from debvote_tools.outbox.letter_folder import in_place
 
 from tests.support import elections
@@ -110,7 +113,9 @@ class Call(OutTest):
             self.assertIn(f"{LINE}{name} _,_,_,_", text)
         self.done("call", "--until", "2026-12-08 12:00", "--zone", "UTC")
         self.assertIn("Vote until: Tuesday, 8 December 2026, 12:00 (UTC)", self.texts("call")["ben"])
-        # after the end nobody is invited
+        # in the second of the end it can still be written, and after it nobody is invited
+        with mock.patch.object(due, "now", lambda: datetime.datetime(2026, 12, 8, 12, tzinfo=datetime.UTC)):
+            self.assertEqual(len(self.texts("call")), 9)
         self.set_clock("2026-12-08T12:00:01+00:00")
         before = self.rows("call")
         for words in ("status", "close"):
@@ -270,7 +275,7 @@ class Paper(OutTest):
         self.done("close", "--early")
         self.done("publish", "--force", "--because", "few")
         for kind in ("closed", "result"):
-            self.done("letters", kind)
+            self.done("letters", kind, "--from", "eve@club.example")
         begin = "<h2><bdi>Eve</bdi></h2>\n<p>Who sends this letter, and where to answer: T\u00fcV &amp; S\u00f6hne, vote@club.example</p>\n"
         for kind in (*kinds, "closed", "result"):
             [page] = [file for file in self.files(kind) if file.suffix == ".html"]
@@ -304,8 +309,9 @@ class Names(OutTest):
             self.assertIn(f"  receipt, 2026-11-23 11:00:00 UTC+01:00, to {address}: written\n", shown)
         self.add_lines(f"ada {OTHER_RANKS}")
         self.assertEqual([message["To"] for message in self.written("receipts").values()], ["ada@new.example"])
-        # whoever changes an address back does not hide what came meanwhile
-        self.change_roll("", "")
+        # whoever changes an address back, and once more, does not hide what came meanwhile
+        for address in (",ada@club", ",ada@new", ",ada@club"):
+            self.change_roll(",ada@club", address)
         self.add_lines("ada 1,1,1,1")
         self.assertEqual(sorted(message["To"] for message in self.written("receipts").values()), wanted[1:])
 
@@ -416,11 +422,12 @@ class ReceiptsAndReminders(OutTest):
         """Its elector is told once of that, and the other elector that the letter waits: Ben, who has the same address, or Dan."""
         self.change_roll("ben@club", "ada@club")
         self.add(letter("ada", f"ada {RANKS}\nben {OTHER_RANKS}\n"), letter("cleo", f"cleo {RANKS}\ndan {OTHER_RANKS}\n"))
-        for number in (1, 2):
+        self.add(letter("gus", f"hal {RANKS}\n"))
+        for number in (1, 2, 3):
             self.done("held", number, "--enter", 1)
         texts = self.texts("receipts")
-        # one goes to the address that Ben had
-        self.assertEqual(sorted(texts), ["ada", "ben", "ben_2", "cleo", "dan"])
+        # one goes to the address that Ben had; who sent one for somebody else alone is told nothing of it
+        self.assertEqual(sorted(texts), ["ada", "ben", "ben_2", "cleo", "dan", "hal"])
         for name in ("ada", "cleo"):
             self.assertEqual((texts[name].count("has arrived"), "It counts unless you send a later one." in texts[name]), (1, True))
         of_others = "10:00 (UTC) has a ballot of somebody else, which was entered. No ballot of yours from it"
@@ -428,8 +435,8 @@ class ReceiptsAndReminders(OutTest):
         self.assertIn(ELSEWHERE, texts["dan"])
         # of one that was set aside, too
         self.add(letter("ada", f"My vote, and his:\nada {OTHER_RANKS}\nben {RANKS}\n", number=2))
-        self.done("held", 3, "--enter", 2, "--force")
-        self.done("held", 3, "--set-aside")
+        self.done("held", 4, "--enter", 2, "--force")
+        self.done("held", 4, "--set-aside")
         self.assertIn(f"{of_others} was entered.", self.texts("receipts")["ben"])
         shown = {name: "letter 2, from " in self.told("show", name) for name in ("cleo", "dan", "eve")}
         self.assertEqual(shown, {"cleo": True, "dan": True, "eve": False})
@@ -583,8 +590,9 @@ class ReceiptsAndReminders(OutTest):
         self.assertIn(f" You can send a right line now, and need not wait. {WHEN} {FORM}#cleo/", texts["cleo"])
         self.assertIn(f"{LINE}cleo _,_,_,_", texts["cleo"])
         self.assertNotIn("need not wait", texts["ben"])
-        # a stranger's letter silences nobody
+        # a stranger's letter silences nobody, nor is it one for which somebody waits
         self.assertIn(ELSEWHERE, texts["dan"])
+        self.assertNotIn("need not wait", texts["dan"])
         self.assertIn("dan _,_,_,_", texts["dan"])
         # nor hides it an own letter that waits
         self.assertIn(f"{ELSEWHERE} Your letter of Monday, 23 November 2026, 09:00 (UTC) has arrived.", texts["eve"])
@@ -597,13 +605,18 @@ class ReceiptsAndReminders(OutTest):
             self.assertNotIn(words, texts["ida"])
 
     def test_the_end_after_two_extensions_in_reminders_and_receipts(self) -> None:
+        ids = set()
         for day, words in ((6, "Sunday, 6 December"), (8, "Tuesday, 8 December")):
             self.done("call", "--until", f"2026-12-{day:02} 18:00", "--zone", "UTC")
-            self.assertIn(f"Vote until: {words} 2026, 18:00 (UTC)", self.texts("reminders", "--yes")["ada"])
+            reminder = self.written("reminders", "--yes")["ada"]
+            self.assertIn(f"Vote until: {words} 2026, 18:00 (UTC)", one_line(reminder))
+            ids.add(reminder["Message-ID"])
             self.set_clock(f"2026-12-{day - 1:02}T10:00:00+00:00")
             self.add(letter("ben", "hi\n", number=day, time=f"Fri, {day - 1:02} Dec 2026 09:00:00 +0000"))
             self.assertNotIn("after the end", self.texts("receipts")["ben"])
             self.set_clock("2026-11-23T10:00:00+00:00")
+        # each run that writes files is a new one
+        self.assertEqual(len(ids), 2)
 
 class FullDisk(OutTest):
     """A disk that is full at any write: receipts are noted if their files are there, and the next run writes the others."""
@@ -616,6 +629,8 @@ class FullDisk(OutTest):
     def test_what_could_not_be_noted_leaves_the_folder_as_it_was(self) -> None:
         place = self.folder / "letters" / "call" / "4"
         for before in ({}, {"ada.eml": b"1"}):
+            # what a killed run left there goes
+            (place.parent / f"{TEMPORARY}left").mkdir(parents=True)
             with contextlib.suppress(KeyError), in_place({"ben.eml": b"2"}, place):
                 raise KeyError
             self.assertEqual({file.name: file.read_bytes() for file in place.parent.rglob("*.eml")}, before)
@@ -855,6 +870,13 @@ class Secret(OutTest):
         # a key alone, an address that is added, and an open vote
         self.write("members.csv", elections.members_of(self.names).replace("ada@club.example", "ada@new.example home@x.example"))
         self.assertNotIn("code", self.told("roll", "--yes"))
+        # on paper, by a letter that has no code, and to an address that is put back it went to none
+        for address, kind in (("", "call"), ("third@x.example", "reminders"), ("ada@club.example", "call")):
+            self.write("members.csv", elections.members_of(self.names).replace("ada@club.example", address))
+            self.told("roll", "--yes")
+            texts = self.texts(kind)
+        told = re.findall(r"It went to another address before: (\S*)\. ", texts["ada"])
+        self.assertEqual(told, ["ada@new.example", "wrong@x.example"])
 
     def test_a_second_close_does_not_tell_why_the_vote_was_opened_again(self) -> None:
         self.add_lines(f"ada {RANKS}")

@@ -51,6 +51,7 @@ class Sending(SendTest):
         self.assertEqual(self.rows("call")[-1], ("ida", "taken"))
         self.assert_none_is_due("call")
         self.assertEqual(len(self.server.taken), 9)
+        self.assertEqual(list((self.folder / "letters").glob("*/*")), [])
 
     def test_refused_for_good_or_for_now(self) -> None:
         """Who was refused is named by each later run, of whatever letters, and by `status`, until a letter is taken."""
@@ -117,7 +118,8 @@ class Sending(SendTest):
         # who has no address any more gets it printed, too
         self.change_roll("hal@club.example", "")
         self.assertEqual((self.not_reached(), self.numbers()["printed"]), ({"gus": "no letter"}, ["hal"]))
-        self.change_roll("ada@club", "ada@new")
+        self.write("members.csv", elections.members_of(self.names).replace("ada@club", "ada@new").replace("ida@club.example", ""))
+        self.told("roll", "--yes")
         self.assertEqual(self.not_reached(), dict.fromkeys(("ada", "gus", "hal"), "no letter"))
         self.assertIn("Not reached by the call: ada (no letter), gus (no letter), hal (no letter)\n", self.told("letters", "receipts"))
         self.send("call")
@@ -129,7 +131,16 @@ class Sending(SendTest):
             if words[0] == "--until":
                 self.assert_sent("call", status=9)
                 self.assertEqual(self.not_reached(), {"cleo": "refused"})
+                # who got the call printed is told that there is more time
+                self.assertIn("You have more time to vote.", self.files("call")[0].read_text())
+            if words[0] == "--take-back":
+                # who leaves the list is not named
+                self.write("members.csv", elections.members_of([name for name in self.names if name != "dan"]))
+                self.told("roll", "--yes")
         self.told("letters", "call")
+        self.assertEqual(self.not_reached(), {})
+        # nor is one that comes back now
+        self.came_back("eve", "id")
         self.assertEqual(self.not_reached(), {})
 
     def came_back(self, name: str, what: str, sender: str = "mailer-daemon@mail.example", field: str = "", time: str = TEN) -> None:
@@ -154,6 +165,7 @@ class Sending(SendTest):
         """A program answers for somebody who is away, or reports from the elector's own address; a delivery is late, or done; a stranger
         has no own mark; a person answers.
         """
+        self.change_roll("ada@club.example", "ada@club.example Ada@Home.example")
         self.assert_sent("call")
         self.came_back("ada", "nothing")
         self.came_back("ben", "text", sender="ben@club.example")
@@ -164,7 +176,7 @@ class Sending(SendTest):
         self.assert_none_is_due("call")
         servers = "mailer-daemon@mail.example"
         for number, (action, sender, wanted) in enumerate(
-            (("delayed", servers, {}), ("delivered", servers, {}), ("failed", ALL[0], {}), ("failed", servers, {"ada": "came back"}))
+            (("delayed", servers, {}), ("delivered", servers, {}), ("failed", ALL[0], {}), ("failed", "ada@home.example", {}), ("failed", servers, {"ada": "came back"}))
         ):
             report = f"--b\nContent-Type: message/delivery-status\n\nReporting-MTA: dns; x\n\nAction: {action}\n"
             text = f"{report}--b\nContent-Type: text/rfc822-headers\n\nSubject: {subject}\n--b--\n"
@@ -287,13 +299,18 @@ class Sending(SendTest):
             self.add_lines(f"ada {OTHER_RANKS}")
 
     def test_no_other_answer_than_that_it_was_taken_is_one(self) -> None:
-        """After the letter, and not before it; what is no answer of a mail server is none. Nobody else would learn that it is lost."""
+        """After the letter, and not before it; what is no answer of a mail server is none. Nobody else would learn that it is lost.
+
+        All but 4 as its first digit is for good.
+        """
         self.server.stop()
         refused = {"letter": "354 go on"}, {"letter": "yes"}, {"letter": "-99 x"}, {"data": "250 OK"}, {"data": "200 OK"}, {"to": "354 x"}, {"letter": "600 x"}
         others = ("200 OK", TAKEN), ("250-OK\r\n250 yes", TAKEN), ("299 OK", TAKEN), ("400 x", REFUSED), ("599 x", REFUSED)
         for answers, state in (*((one, REFUSED) for one in refused), *(({"letter": answer}, state) for answer, state in others)):
             with PlainServer(answers) as server:
-                self.assertEqual([letter.state for letter in sent_to(smtp.Server("127.0.0.1", server.port, False))], [state], answers)
+                [letter] = sent_to(smtp.Server("127.0.0.1", server.port, False))
+                is_for_good = state == REFUSED and answers != {"letter": "400 x"}
+                self.assertEqual((letter.state, letter.is_refused_for_good), (state, is_for_good), answers)
 
     def test_a_receipt_that_was_refused_goes_to_a_new_address(self) -> None:
         """One that was refused for now, as servers answer of a domain that has no mail server, goes to the old address, too."""

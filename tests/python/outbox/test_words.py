@@ -23,6 +23,7 @@ from debvote_tools.outbox.letter_folder import message, rows_to_print
 from debvote_tools.outbox.words import OF_BALLOT, PACKAGE, SUBJECTS, Composer, Said
 from debvote_tools.poll.announced import is_mail_address
 from debvote_tools.poll.call import CallData, call_page
+from debvote_tools.poll.questions import Questions
 from debvote_tools.poll.sealed import SealedPoll
 from debvote_tools.text.ballots import faults_of, without_ballots
 from debvote_tools.text.motions import Words, words_of
@@ -219,11 +220,33 @@ class CallLetter(unittest.TestCase):
             # a reminder begins so, too, if a letter waits
             self.assertTrue(now.reminder(ADA, [WAITS]).text.startswith(begin))
 
+    def test_a_name_is_one_on_the_roll_or_the_end_of_it_or_of_a_real_name(self) -> None:
+        now = dataclasses.replace(vote(), electors=(ADA._replace(name="ada-ley", who="Ad\u00e8le B. Lovelace"),))
+        words = ("ada-ley", "LEY", "lovelace", "Ada", "Ad\u00e8le", "B.")
+        self.assertEqual([now.is_name(word) for word in words], [True, True, True, False, False, False])
+
+    def test_what_one_letter_says_and_another_does_not(self) -> None:
+        of_box = vote(has_box=True)
+        letters = [" ".join(of_box.call_letter(one, is_extension=False).split()) for one in (ADA, ADA._replace(mark=""), GUS)]
+        # without an own mark the link is nobody's, and only the page is where a ballot is sent
+        self.assertEqual(["Open the link, choose, and press Vote" in text for text in letters[:2]], [True, False])
+        seen = "Whoever keeps this web site sees each ballot when it is sent here."
+        self.assertEqual([seen in text for text in (*letters, call_page(of_box.call_data).decode())], [False, False, False, True])
+        # the texts are in the call on paper, and not in what follows it; a word is an answer to a motion alone
+        poll = dataclasses.replace(POLL, explanations=("A lake.", "", ""))
+        motion = SealedPoll("Fee", ("Yes",), (1,), "No", 0, ("ada", "ben"), motion=True)
+        now = vote(questions=Questions({"A": poll, "B": motion}, "Meeting"), quorum_votes={"A": 1, "B": 0})
+        call, extension = (" ".join(now.call_letter(GUS, is_extension=is_extension).split()) for is_extension in (False, True))
+        self.assertEqual([text.count("A lake.") for text in (call, extension)], [1, 0])
+        whose = "The texts about the options are those of whoever sends this letter."
+        self.assertEqual([whose in text for text in (call, extension)], [True, False])
+        self.assertEqual(call.count("(or in place of the ranks one word: "), 1)
+
     def test_greeting_mark_and_texts(self) -> None:
         """By the secretary's own words, or by the name where these do not greet."""
         greeting = (
             "Dear all", "Hello members!", "Liebe Mitglieder,", "Sehr geehrte Damen und Herren,", "Chers membres,", "Bonjour \u00e0 tous",
-            "Estimados socios:", "\u00a1Hola a todos!", "Mitglieder des TSV,",
+            "Estimados socios:", "\u00a1Hola a todos!", "Mitglieder des TSV,", "Friends of the lake!",
         )  # fmt: skip
         for first in (*greeting, "Paper goes into the box.", "Das Wichtige steht unten."):
             for text in self.asking(vote(letter_text=f"{first}\n\nMore.\n"))[:3]:
@@ -394,6 +417,7 @@ class Bytes(unittest.TestCase):
         text = vote().said("closed", elector, letter="CLOSED\n").text
         self.assertEqual(len(text.split("\n\n")), 2)
         self.assertEqual(one_line(parsed(self.message(text)))[:9], "Dear Ada ")
+        self.assertLess(len(text), 250)
         right = ("a@b.example", "a.b+c@d-e.example")
         wrong = ("", "a", "a@b\nBcc: c@d", "a@b, c@d", "<a@b>", "a b@c.example", "\u00e4@b.example", "a@b@c", "-a@b", "a@b.example\n")
         self.assertEqual([text for text in (*right, *wrong) if is_mail_address(text)], list(right))
@@ -416,7 +440,7 @@ class Bytes(unittest.TestCase):
 
     def test_lines_that_read_as_ballots_get_a_bar_and_others_stay(self) -> None:
         for line in (
-            "ada 1,2,3", "  Ada: 1, 2, 3.", "\u201cada 1,-,3\u201d", "*ada* 1;2;3", "ada *1,2,3*", "ada:1,2,3", "ben-2 1,2,\u2013", "ada\u00a01 , 2 , 3", "ada -,\u2013,1", "ada 1,2,3 ,4",
+            "ada 1,2,3", "  Ada: 1, 2, 3.", "\u201cada 1,-,3\u201d", "*ada* 1;2;3", "ada *1,2,3*", "ada:1,2,3", "ben-2 1,2,\u2013", "ada\u00a01 , 2 , 3", "ada -,\u2013,1", "ada 1,2,3 ,4", "***ada*** 1,2,3",
             # ranks alone, which are offered as the ballot of whoever sends them back
             "1,2,3", "  1; 2 ;3.", "*1*,-,3", "1 2 3", "\u201c1,\u2013,3\u201d",
         ):  # fmt: skip
@@ -426,8 +450,9 @@ class Bytes(unittest.TestCase):
         self.assertEqual(self.guarded("  paper: ada 1,2,3 or so"), "  |paper:\n  |ada 1,2,3 or so")
         self.assertEqual(self.guarded("Zo\u00eb Maier 1,2,3"), "|Zo\u00eb\n|Maier 1,2,3")
         self.assertEqual(self.guarded("ada 1,2,3 ben-2 3,2,1"), "|ada 1,2,3\n|ben-2 3,2,1")
+        self.assertEqual(self.guarded("| ada 1,2,3"), "|ada 1,2,3")
         # others stay
-        for line in ("ada 1,2", "ada _,_,_", "(ada 1,2,3)", "ada, ben, cleo", "3 of 4, 5 of 6, 7 of 8", "Euro 1,2,3", "ada 100,2,3", "1,2", "-- ", "(1,2,3)"):
+        for line in ("ada 1,2", "ada _,_,_", "(ada 1,2,3)", "ada, ben, cleo", "3 of 4, 5 of 6, 7 of 8", "Euro 1,2,3", "ada 100,2,3", "ada 1,2,300", "1,2", "-- ", "(1,2,3)"):
             self.assertEqual(self.guarded(line), line)
 
     def test_lines_that_are_answers_to_a_motion_get_a_bar(self) -> None:

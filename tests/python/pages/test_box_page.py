@@ -524,6 +524,7 @@ class Answers(BoxPageTest):
 
         host = self.serve(lie, page_with_box())
         self.visit(host.at, f"#ada/{OWNS['ada']}/{LINKS['ada']}")
+        self.window.ask("document.cookie = 'of=another-page'")
         self.choose("1234")
         self.press()
         off = {

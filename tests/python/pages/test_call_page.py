@@ -156,6 +156,10 @@ class Lines(PageTest):
             self.assertEqual(self.copied(TAKES)[:2], (line, "The line is copied."))
             _, said, selected = self.copied(REFUSES)
             self.assertEqual((selected, said.startswith("The line is selected"), self.window.faults), (line, True, []))
+        # mail programs break no line of 72 characters
+        for count in (5, 6):
+            result = self.window.ballot("e01", ["10"] * count + ["1"] * (32 - count))
+            self.assertEqual((len(result["line"]), result["long"]), (67 + count, count == 6))
 
     def check_result(self, names: list[str], mark: str, ranks: list[str], result: dict) -> None:
         self.assertEqual(result["words"], words_of(ranks))
@@ -368,12 +372,15 @@ class Names(PageTest):
 
     def test_a_family_name_suggests_all_who_have_it_and_their_real_names_do_too(self) -> None:
         meiers = [f"{given}-meier" for given in ("ada", "ben", "cleo", "dan", "eve", "fay", "gus", "hal", "ida", "jon")]
-        roll = [*meiers, "kim-meierhof", "m-12"]
-        names = {name: name.replace("-", " ").title() for name in roll} | {"m-12": "Zo\u00eb M\u00fcller-Meier"}
+        of_begin, of_name = ([f"{sign}{number}{end}" for number in range(most)] for sign, end, most in (("q", "", 8), ("o", "-ott", 50)))
+        more = ["r8", "u50-utt", *(name.replace("q", "r") for name in of_begin), *(name.replace("o", "u") for name in of_name)]
+        roll = [*meiers, "kim-meierhof", "m-12", *of_begin, *of_name, *more]
+        names = {name: name.replace("-", " ").title() for name in roll} | {"m-12": "Zo\u00eb M\u00fcller-Meier", "kim-meierhof": "Kim \u00c4rmel"}
         self.open(dataclasses.replace(CALL, questions=alone(with_roll(POLL, roll)), real_names=names))
-        # of more than eight beginnings none is suggested, of a whole family name all are
+        # of more than eight beginnings none is suggested, of a whole family name fifty are
         for typed, suggested in {
             "meier": [*meiers, "m-12"], "mei": [], "meierh": ["kim-meierhof"], "Mueller": ["m-12"], "zo\u00eb": ["m-12"], "M\u00fcller-Meier": ["m-12"],
+            "Aermel": ["kim-meierhof"], "m-1": ["m-12"], "q": of_begin, "r": [], "ott": of_name, "utt": [],
         }.items():  # fmt: skip
             found = self.window.ballot(typed, "1234")
             self.assertEqual((found["suggested"], found["line"]), (suggested, ""), typed)

@@ -76,8 +76,13 @@ class ScriptsTest(publishing.ResultPageTest):
     def test_a_family_name_alone(self):
         """Whoever may be meant is named, with the real name where the page has it, and nobody is told that the name is wrong."""
         poll = re.sub("roll = .*", 'roll = ["anna-meier", "ben-lee", "eve-lee", "dan"]', publishing.PLAIN_POLL)
-        room = plain_room(self.scratch / "family", poll, "anna-meier 1,2,3\ndan 1,2\ndan-x 1,2,3\nEVE-LEE 1;2\n")
-        window = self.page_of(self.published(room, "family-names", real_names={"anna-meier": "Anna Meier", "dan": "Dan"}))
+        room = plain_room(self.scratch / "family", poll, "anna-meier 10,9,3\ndan 1,2\ndan-x 1,2,3\nEVE-LEE: 1;2\n")
+        published = self.published(room, "family-names", real_names={"anna-meier": "Anna Meier", "dan": "Dan"})
+        # the default option has won, whose page has the numbers of the others
+        said = self.page_of(published, ("<b>0 of 1</b>", "<b>1 of 1</b>")).count_again()
+        self.expect(f"another number: {said}", [": the result. " in row for row in said if row.startswith("This page does")], [True])
+        window = self.page_of(published)
+        self.expect("ranks of two digits", window.find("anna-meier")[1:], ["N", "B", "A", "The line: anna-meier 10,9,3"])
         none = "No elector has the name meyer. Type it as it is on the roll."
         for typed, said in {"Meyer": none, "lee": "Do you mean ben-leeeve-lee?", "Meier": "Do you mean anna-meier (Anna Meier)?"}.items():
             self.expect(typed, window.find(typed), [said])
@@ -154,7 +159,8 @@ class ScriptsTest(publishing.ResultPageTest):
             self.expect(f"{length} characters", '<ul class="ballots long">' in (room / "result" / "index.html").read_text(), are_long)
 
     def test_electors_with_names_of_things_of_the_page(self):
-        roll = ["find", "code", "show", "answer", "votes", "name", "result", "again", "poll-file", "ballots", "anna-meier", "graph0"]
+        cut = "maximilian-alexander-hohenzoller"[:31]
+        roll = ["find", "code", "show", "answer", "votes", "name", "result", "again", "poll-file", "ballots", cut, "anna-meier", "graph0"]
         poll = re.sub("roll = .*", f"roll = {json.dumps(roll)}", publishing.PLAIN_POLL)
         room = plain_room(self.scratch / "names", poll, "".join(f"{name} 1,2,3\n" for name in roll[:-1]))
         self.expect("it is published", publish(room, *FILES, "result"), ("Winner: 1 A\nverified\n", "", 0))
@@ -162,6 +168,7 @@ class ScriptsTest(publishing.ResultPageTest):
         for name in roll[:-1]:
             self.expect(name, window.find(name), [f"{name}: counted", "A", "B", "N", f"The line: {name} 1,2,3"])
         self.expect("no ballot", window.find(roll[-1]), [f"{roll[-1]} is on the roll, and no ballot counts for this name."])
+        self.expect("a name that is cut at a blank", window.find(f"{cut.replace('-', ' ').title()} von Sigmaringen")[0], f"{cut}: counted")
         self.expect("counted again", window.count_again()[0].startswith("The same, line for line"), True)
         # a name in capitals in the address is the one in small letters, unless it is that of a part of the page
         window.ask("location.hash = '#Anna-Meier/23456789AB/23456789abcdefgh'")
@@ -175,10 +182,14 @@ class ScriptsTest(publishing.ResultPageTest):
         window, alias = self.page_of(self.secret), alias_of(self.code, "zoe-muller")
         wanted = ["B", "A", "Not ranked: N", f"The line: {alias} 2,1,-"]
         for name in ("zoe-muller", "Zoë Müller", "  ZOE  MÜLLER "):
-            self.expect(name, window.find(name, f" {self.code[:16].upper()} {self.code[16:]}")[1:], wanted)
+            self.expect(name, window.find(name, f" {self.code[:16].upper()} {self.code[16:20]}-{self.code[20:]}")[1:], wanted)
         above = "document.querySelector('.warning').compareDocumentPosition(document.getElementById('Name')) === Node.DOCUMENT_POSITION_FOLLOWING"
         seen = window.ask(f"[{above}, document.querySelector('.warning').checkVisibility()]")
         self.expect("what is learned of what is typed stands above the fields", seen, [True, True])
+        # an answer to what was typed before is not shown
+        window.ask("""(() => { document.getElementById("Show").click(); document.getElementById("Name").dispatchEvent(new Event("input"));
+          return new Promise((done) => setTimeout(done, 100)); })()""")
+        self.expect("nothing", window.found(), [])
         none = window.find("cleo", self.code)
         self.expect("no ballot", none, [f"Your alias is {alias_of(self.code, 'cleo')}. It is on the roll, and no ballot counts under it."])
         other = f"No elector of this vote has the alias {alias_of('f' * 32, 'ada')}. Type name and code as they are in your letter or on your slip."
@@ -245,6 +256,11 @@ class ScriptsTest(publishing.ResultPageTest):
         for part in ("Votes", "How-to-verify"):
             window.ask(f"location.hash = '#%'; location.hash = '#{part}'")
             window.until(f"{unfolded}.includes('{part}')")
+        # before a browser prints, and after it
+        before = window.ask(unfolded)
+        for event, count in (("beforeprint", 9), ("afterprint", len(before))):
+            window.ask(f"dispatchEvent(new Event('{event}'))")
+            self.expect(event, len(window.ask(unfolded)), count)
         self.addCleanup(window.show)
         window.show(on_paper=True)
         self.page_of()
@@ -274,6 +290,7 @@ class ScriptsTest(publishing.ResultPageTest):
             "the result": ('<h2 id="Result"><b><bdi>&lt;i&gt;B', '<h2 id="Result"><b><bdi>&lt;i&gt;C'),
             "the result ": ("<b>1 to 0</b>", "<b>1 to 1</b>"),
             "the result  ": ("against <bdi>N", "against <bdi>M"),
+            "the result   ": ("</b>, 2\u00a0equal", "</b>, 1\u00a0equal"),
             "the names of title and options  ": ('<p class="option"><span><i>1</i>\u00a0<bdi>72', '<p class="option"><span><i>1</i>\u00a0<bdi>73'),
             "the names of title and options": ('<h1 dir="auto">Größe', '<h1 dir="auto">Grösse'),
             "the names of title and options ": (">plain name, on the result sheet: A<", ">plain name, on the result sheet: B<"),

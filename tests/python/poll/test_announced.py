@@ -96,6 +96,7 @@ class InWords(unittest.TestCase):
             self.assertEqual((time_in_words(first, language), time_in_words(later, language)), wanted)
             self.assertIn(date_in_words(first.date(), language), wanted[0])
         self.assertEqual(minute_in_words(later, datetime.UTC), "Friday, 4 December 2026, 21:30 (UTC)")
+        self.assertEqual(time_in_words(later.replace(hour=23)), "Friday, 4 December 2026, 23:00:30 (UTC-03:30)")
 
     def test_now_is_in_whole_seconds(self) -> None:
         self.assertEqual((now().microsecond, now().utcoffset()), (0, datetime.timedelta(0)))

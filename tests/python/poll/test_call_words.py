@@ -13,7 +13,7 @@ import unittest
 import urllib.parse
 
 from debvote_tools.cli.faults import Fault, Status
-from debvote_tools.poll.announced import demand_mail_address, demand_web_address
+from debvote_tools.poll.announced import demand_mail_address, demand_web_address, named_address
 from debvote_tools.poll.call import CallData, call_files, call_letter
 from debvote_tools.poll.sealed import read_plain, with_roll
 from debvote_tools.text.language import LANGUAGES, language_of
@@ -183,6 +183,8 @@ class Files(unittest.TestCase):
         self.assertIn("that of the result, which is the same one, byte for byte", page_of(SECRET))
         self.assertIn("CODE _,_,_,_ ", page_of(WITH_CODES))
         self.assertNotIn("your name", page_of(WITH_CODES).lower())
+        # nobody knows to whom a receipt would go
+        self.assertEqual(["Each ballot gets a receipt" in page_of(data) for data in (SECRET, WITH_CODES)], [True, False])
         self.assertNotIn('href="poll.toml"', call_files(WITH_CODES)["index.html"].decode())
 
 
@@ -251,20 +253,21 @@ class NoBallot(unittest.TestCase):
 
 class Addresses(unittest.TestCase):
     def test_web_addresses(self) -> None:
-        for good in (PAGE, "http://x", "https://example.org:8443/a/b?c=d", "https://xn--bcher-kva.example/", "http://[::1]:80/", "https://[::1]/", "https://x:/", "https://127.0.0.1/~ada/"):
+        for good in (PAGE, "http://x", "https://example.org:8443/a/b?c=d", "https://xn--bcher-kva.example/", "http://[::1]:80/", "https://[::1]/", "https://x:/", "https://127.0.0.1/~ada/", f"https://{'x' * 492}"):
             demand_web_address(good)
         for bad in (
             "", "example.org", "ftp://example.org/", "javascript:alert(1)", "https://", "https:///x", "https://bank.example@evil.example/", "https://bank.example:x@evil.example/", "https://ada:@example.org/", PAGE + "#a", PAGE + "\n",
             "https://example.org/ x", 'https://example.org/"', "https://example.org/<b>", "https://b\u00fccher.example/", "https://example.org:0/", "https://example.org:x/",
-            "https://example.org:99999/", "https://[::1", "https://a\\b/", "https://example.org/" + "x" * 500, "https://?x", "https://-/", " " + PAGE,
+            "https://example.org:99999/", "https://[::1", "https://a\\b/", "https://example.org/" + "x" * 500, "https://?x", "https://-/", " " + PAGE, f"https://{'x' * 493}", "httpx://example.org/",
         ):  # fmt: skip
             with self.subTest(bad=bad), self.assertRaisesRegex(Fault, "^.*--at: it must be the address of a page, as https://") as caught:
                 demand_web_address(bad)
             self.assertEqual(caught.exception.status, Status.BAD_WORDS)
 
     def test_mail_addresses(self) -> None:
-        for good in (ADDRESS, "a@b", "_x@example.org"):
+        for good in (ADDRESS, "a@b", "_x@example.org", "a@" + "b" * 252):
             demand_mail_address(good)
+        self.assertEqual(named_address(f"{'x' * 100} <a@b.org>"), ("x" * 100, "a@b.org"))
         for bad in ("", "a", "a@b@c", "Ada <a@b.org>", "a@b.org\n", "a b@c.org", "a@b..c", "a,b@c.org", "\u00e4@b.org", "a@" + "b" * 253):
             with self.subTest(bad=bad), self.assertRaisesRegex(Fault, "--to: it must be one mail address"):
                 demand_mail_address(bad)

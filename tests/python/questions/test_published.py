@@ -4,6 +4,7 @@ import csv
 import html
 import io
 import json
+import os
 import pathlib
 import re
 import shlex
@@ -316,7 +317,10 @@ class OpenTest(PublishedTest):
         # the last four are of the close before; A alone has another line
         self.assertEqual(second[5:], first[1:4])
         self.assertEqual([one == other for one, other in zip(first, second)][:4], [True, False, True, True])
+        self.addCleanup(os.umask, os.umask(0o077))
         self.publish(status=1)
+        # a web host can read it, whatever the umask is
+        self.assertEqual([(self.folder / "result" / label).stat().st_mode & 0o777 for label in ("", *self.polls)], [0o755] * 4)
         letter = " ".join(self.read("letters/result.txt").decode().split())
         self.assertEqual(letter.count("The vote was opened again"), 1)
         self.assertEqual(letter.count("struck envelope 5"), 1)
@@ -328,6 +332,7 @@ class OpenTest(PublishedTest):
         for label in self.polls:
             text = self.read(f"result/{label}/index.html").decode()
             self.assertEqual("struck envelope 5" in text, label == "C", label)
+            self.assertIn(f"Lines in time: {dict(A=4, B=2, C=3)[label]}. Checksum: ", text)
 
 
 class EndedTest(PublishedTest):

@@ -362,6 +362,10 @@ class OfOpenVotes(OfElections):
     def test_what_comes_after_the_end(self):
         """Lines and ballots of a desk are told that came after the end; not those that were struck, nor letters, which wait."""
         letter = "Received: by mx; Mon, 1 Mar 2027 12:30:00 +0000\nFrom: cleo@x.example\n\ncleo 3,2,1\n"
+        # the vote is not of the day of a call that was taken back
+        self.set_clock("2027-02-20T10:00:00+00:00")
+        self.say("call")
+        self.say("call", "--take-back")
         for day, hour in (("02-26", 11), ("02-27", 12)):
             self.set_clock(f"2027-{day}T10:00:00+00:00")
             self.say("call", "--until", f"2027-03-01 {hour}:00", "--zone", "UTC")
@@ -468,6 +472,7 @@ class OfOpenVotes(OfElections):
         self.replace("--casting", "Groesse", *cast, "--force", "--because", "She had meant this", "--language", "en")
         self.expect("another casting vote", self.doubts(), ["An earlier result of this vote was published with a casting vote for 72 Euro."])
         self.expect("the letter says whom it chose", "Winner: Option 2: Größe by casting vote" in self.letter(), True)
+        self.expect("since the second close", self.what_was_done()[-1].endswith("lines in time that came in: 1; that were struck: 0."), True)
         self.expect("and again", "as it was published before" in self.say("publish"), True)
         self.replace("--force", "--because", "It was none", "--language", "en", status=1)
         self.expect("one that is left out", self.doubts(), ["An earlier result of this vote was published with a casting vote for Größe."])

@@ -9,7 +9,9 @@ import sys
 import time
 from unittest import mock
 
+from debvote_tools.debvote import Debvote
 from debvote_tools.files import left_beside
+from debvote_tools.result.folder import NewFolder
 
 from tests.support import page_parts, publishing
 
@@ -146,3 +148,17 @@ class RefusedTest(publishing.PublishTest):
         self.scratch.joinpath("file").touch()
         with mock.patch.object(pathlib.Path, "glob", return_value=[self.scratch / "gone", self.scratch / "file", self.scratch.parent]):
             self.expect("what is left", left_beside(self.scratch, "left"), [self.scratch.parent])
+
+    def test_a_folder_that_gets_no_place(self):
+        """The one that was published before stays there."""
+        place = self.scratch / "before" / "result"
+        place.mkdir(parents=True)
+        (place / "index.html").touch()
+        with self.assertRaises(FileNotFoundError):
+            NewFolder(self.scratch / "before" / "none").take_place(place)
+        self.expect("what is there", [list(place.parent.iterdir()), list(place.iterdir())], [[place], [place / "index.html"]])
+
+    def test_the_program_beside_is_taken_first(self):
+        (self.scratch / "debvote").touch(0o755)
+        with mock.patch.dict(os.environ, {"PATH": publishing.PATH}):
+            self.expect("which one", Debvote(self.scratch, self.scratch).path, str(self.scratch / "debvote"))

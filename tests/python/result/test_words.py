@@ -57,6 +57,9 @@ class WordsTest(expecting.Expecting):
             ("-,-,-,-", "no option is ranked, so nothing is preferred"),
         ]:
             self.expect(f"{ranks} in words", ballots_in_words(names)(ranks), wanted)
+        # of a motion a hyphen is behind each rank, also one of two digits
+        answer = ballots_in_words(["Yes", "No"], motion=True)
+        self.expect("of a motion", [answer(ranks) for ranks in ("10,99", "99,10", "-,99", "99,-", "-,-")], ["Yes", "No", "No", "Yes", "Abstain"])
 
     def test_a_ballot_is_taken_apart_by_questions_and_put_together(self):
         for answers, by_label in {
