@@ -5,6 +5,7 @@ and the book as they are now. Letters are judged anew whenever they are looked a
 import bisect
 import collections
 import datetime
+import functools
 import itertools
 import operator
 from collections.abc import Callable, Collection, Iterable, Mapping, Sequence, Set
@@ -22,7 +23,7 @@ from debvote_tools.inbox.rules import Circumstances, LetterCase, LetterOutcome
 from debvote_tools.inbox.vote import Vote
 from debvote_tools.poll.call import SUBJECT, call_letter, current_call
 from debvote_tools.text import times
-from debvote_tools.text.ballots import differ
+from debvote_tools.text.ballots import answers_of
 from debvote_tools.text.language import ENGLISH
 
 # what an act decided holds, whatever the rules say, unless part of what was entered is left
@@ -53,6 +54,18 @@ class Beside:
         by_label = (self.by_label.setdefault(label, []) for label in ballot.labels)
         for its in (self.every, *by_label, self.by_clock.setdefault(ballot.behind, [])):
             bisect.insort(its, ballot, key=queries.by_time)
+        vars(self).pop("next_others", None)
+
+    @functools.cached_property
+    def next_others(self) -> dict[str, list[int]]:
+        """By label, of each ballot with an answer to this question, the index of the next one with another."""
+        found = dict[str, list[int]]()
+        for label, its in self.by_label.items():
+            ends = found[label] = []
+            for _, run in itertools.groupby(answers_of(one.line)[label] for one in its):
+                alike = [*run]
+                ends += [len(ends) + len(alike)] * len(alike)
+        return found
 
     def labels_of(self, own: Ballot) -> Set[str]:
         """Those of the questions that a ballot of a letter answers, or of all if it is not known, to which
@@ -92,15 +105,32 @@ class Beside:
         perhaps = self.turned(own) if own.is_by_letter else self.labels_of(own)
         return False if perhaps else None
 
-    def between(self, begin: datetime.datetime, end: datetime.datetime) -> list[Ballot]:
-        """Those from a time until before another one."""
-        places = (bisect.bisect_left(self.every, time, key=TIME) for time in (begin, end))
-        return self.every[slice(*places)]
+    def first_other(
+        self,
+        ballot: str,
+        begin: datetime.datetime,
+        end: datetime.datetime,
+        known: Collection[int] = (),
+    ) -> Ballot | None:
+        """The first one from a time until before another one, but for these envelopes, that answers a
+        question in another way than a ballot. Of thousands that are alike it looks at one.
+        """
+        found = list[Ballot]()
+        for label, ranks in answers_of(ballot).items():
+            its = self.by_label.get(label, [])
+            at = bisect.bisect_left(its, begin, key=TIME)
+            while at < len(its) and its[at].time < end:
+                is_other = answers_of(its[at].line)[label] != ranks
+                if is_other and its[at].number not in known:
+                    found.append(its[at])
+                    break
+                at = at + 1 if is_other else self.next_others[label][at]
+        return min(found, key=queries.by_time) if found else None
 
     def has_other_at_once(self, own: Ballot) -> bool:
         """Whether another answer to a question has the same time as one in a ballot of a letter."""
-        at_once = self.between(own.time, own.time + datetime.timedelta(seconds=1))
-        return any(differ(one.line, own.line) for one in at_once)
+        end = own.time + datetime.timedelta(seconds=1)
+        return self.first_other(own.line, own.time, end) is not None
 
     def turned(self, own: Ballot) -> Ballot | None:
         """The first one that may stand on the other side of a ballot by the clock of this computer: of each
@@ -294,28 +324,32 @@ def judge_originals(
     """Judges the letters that break no rule, by their times, and puts the ballots of those that do
     not wait to the others of their electors.
     """
-    in_order = [case for case in cases if case in originals]
-    of_letters = BallotsByElector(Beside)
-    for case in in_order:
-        of_letters[case.elector].add(ballot_in(case, case.sole_ballot.as_entered))
+    in_order = {
+        case: ballot_in(case, case.sole_ballot.as_entered) for case in cases if case in originals
+    }
+    of_letters = grouped((case.elector, own) for case, own in in_order.items())
+    # also those of letters that wait
+    every = {
+        elector: Beside(sorted((*by_elector[elector].every, *its), key=queries.by_time))
+        for elector, its in of_letters.items()
+    }
     # copies of these are not known as such, while gpgv does not answer
     unchecked = [case for case in cases if case.is_decided and case.read.is_slow]
     unchecked_ballots = {line.as_entered for case in unchecked for line in case.ballots}
-    for case in in_order:
-        own = ballot_in(case, case.sole_ballot.as_entered)
-        its, others = by_elector[case.elector], of_letters[case.elector]
-        case.outcome, case.reason = outcome_of_original(
-            case, own, its, others, own.line in unchecked_ballots
-        )
+    for case, own in in_order.items():
+        its, is_unchecked = by_elector[case.elector], own.line in unchecked_ballots
+        at_once = every[case.elector].has_other_at_once(own)
+        case.outcome, case.reason = outcome_of_original(case, own, its, at_once, is_unchecked)
         if case.outcome is not LetterOutcome.WAITS:
             its.add(own)
 
 
 def outcome_of_original(
-    case: LetterCase, own: Ballot, its: Beside, others: Beside, is_unchecked: bool
+    case: LetterCase, own: Ballot, its: Beside, has_other_at_once: bool, is_unchecked: bool
 ) -> Judgement:
-    """What becomes of a letter that breaks no rule, beside the ballots of its elector and those of other
-    letters that break none: they have to be older, but for the same one; and the vote may not be closed.
+    """What becomes of a letter that breaks no rule, beside the ballots of its elector: they have to be
+    older, but for the same one; none of them, or of another letter, may answer in another way at the same
+    time; and the vote may not be closed.
     """
     elector, time = case.elector, own.time
     if turned := its.turned(own):
@@ -325,7 +359,7 @@ def outcome_of_original(
         is_older = its.later(own, IS_BY_LETTER).keys() == own.labels
         reason = Reason.LATER_BALLOT(elector=elector, time=max(map(TIME, later.values())))
         return LetterOutcome.OLDER if is_older else LetterOutcome.WAITS, reason
-    if its.has_other_at_once(own) or others.has_other_at_once(own):
+    if has_other_at_once:
         return LetterOutcome.WAITS, Reason.SAME_TIME(elector=elector, time=time)
     if is_unchecked:
         return LetterOutcome.WAITS, Reason.PERHAPS_COPY()
@@ -374,12 +408,10 @@ def outcome_of_copy(
     # not what was typed for it, nor another line of it
     own = {one.number for one in original.entered}
     for line in case.lines_to_enter:
-        there = by_elector[line.elector].between(begin, end)
-        others = (one for one in there if one.number not in own)
-        times = (one.time for one in others if differ(one.line, line.as_entered))
-        if between := next(times, None):
+        its = by_elector[line.elector]
+        if between := its.first_other(line.as_entered, begin, end, own):
             reason = Reason.CAME_BEFORE(
-                elector=line.elector, time=case.time, first=original.time, between=between
+                elector=line.elector, time=case.time, first=original.time, between=between.time
             )
             return LetterOutcome.WAITS, reason
     return LetterOutcome.COPY, None

@@ -324,6 +324,14 @@ class Later(unittest.TestCase):
                 with self.subTest(questions, behind=behind):
                     self.assertLess(calls[1], 2.4 * calls[0])
 
+    def test_of_many_that_are_alike_and_their_copies_each_is_compared_with_few(self) -> None:
+        calls = []
+        for number in (200, 400):
+            alike = [letter("ada", f"ada {RANKS}", number=one, time=TEN) for one in range(number)]
+            copies = [letter("ada", f"ada {RANKS}", number=0, time=TEN.replace("10:00", f"11:{one % 60:02}")) for one in range(number)]
+            calls.append(letters.calls_while_judged(letters.read(*alike, *copies)))
+        self.assertLess(calls[1], 2.4 * calls[0])
+
     def test_two_letters_of_one_time(self) -> None:
         for texts, wanted in {
             ("ada A 1,2", "ada B 1,2,3,4"): ["in: ada A 1,2", "in: ada B 1,2,3,4"],
