@@ -322,6 +322,7 @@ class Told(QuestionsTest):
         self.done("strike", "1", "--because", "x", "--yes")
         self.done("letters", "receipts")
         self.assertIn("These of its answers are not entered yet: B (The chair of the board).", self.last_receipt())
+        self.assertNotIn("were not entered", self.last_receipt())
         self.done("held", "1", "--enter", "--yes")
         self.done("letters", "receipts")
         self.assertIn("It was read as ada (B 1,2,3)", self.last_receipt())
