@@ -149,7 +149,7 @@ class AtATerminal(TerminalTest):
         self.act("extend", {"until": "2020-12-04T18:00:00+01:00"})
         end = "the announced end of the vote, Friday, 4 December 2020, 18:00 (UTC+01:00), has passed"
         self.assertIn("1 counted  ada: ", self.end(self.at_terminal(f"Note: {end}; what is entered still counts until "), f"ada {RANKS}\ny\nq\n"))
-        self.act("call", {"signed": True}, {"keyring": b"keys"})
+        self.act("announce", {"signed": True}, {"keyring": b"keys"})
         self.at_terminal("Note: in this vote letters must be signed, and a desk checks no signature: ")
 
 

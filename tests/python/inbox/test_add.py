@@ -169,7 +169,7 @@ class Added(CalledTest):
         self.assertEqual((self.acts(), self.sources()), ([], []))
 
     def test_in_a_signed_vote_a_line_needs_force_and_a_reason(self) -> None:
-        self.act("call", {"signed": True}, {"keyring": b"keys"})
+        self.act("announce", {"signed": True}, {"keyring": b"keys"})
         self.write("more", f"ada {RANKS}\n")
         said = "more: in this vote letters must be signed, and nothing shows who sent a line of a file; nothing was added: "
         for words in ([], ["--force"], ["--because", "they brought it"], ["--force", "--because", " "]):
