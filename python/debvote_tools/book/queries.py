@@ -4,6 +4,7 @@ letters that came.
 
 import collections
 import datetime
+import itertools
 import json
 import sys
 from collections.abc import Callable, Collection, Iterable, Iterator, Mapping, Sequence, Set
@@ -199,6 +200,23 @@ LEFT_LATE = f"{LATE} AND became = 'late'"
 # the letters from which such envelopes came
 OF_LEFT_LATE = f"letter IN (SELECT letter FROM fate WHERE {LEFT_LATE})"
 
+# the letters from which `held` entered ballots
+BY_HAND = "SELECT value FROM act, json_each(detail, '$.letters') WHERE name = 'enter'"
+
+# of some late ballots the last one of each elector, in the order `by_time`, and of those in time the last
+# one, if that is later
+LATER_ONES = """WITH its AS (
+  SELECT *, row_number() OVER (PARTITION BY elector, late ORDER BY time DESC, envelope DESC) AS nth,
+    min(time) OVER (PARTITION BY elector, late) AS first
+  FROM entered WHERE struck IS NULL AND answer IS NULL
+    AND (NOT late OR envelope IN (SELECT value FROM json_each(?1)))
+    AND elector IN (SELECT elector FROM envelope WHERE envelope IN (SELECT value FROM json_each(?1)))
+)
+SELECT late.envelope, newer.envelope FROM its AS late JOIN its AS newer USING (elector)
+WHERE late.late AND NOT newer.late AND late.nth = 1 AND newer.nth = 1
+  AND (newer.time, newer.envelope) > (late.time, late.envelope)
+ORDER BY late.first, late.envelope"""
+
 # those that came in files of lines; a line that was entered anew came once, and is known by its last
 # envelope, though that may be struck
 KNOWN_BY_LATER = f"""SELECT before.envelope FROM (SELECT late, late AS envelope FROM anew UNION SELECT late, envelope FROM anew) AS before
@@ -342,8 +360,9 @@ def entered_by_hand(book: Book) -> dict[int, list[str]]:
     """The letters from which `held` entered ballots, though an `undo` took them back; each with the
     answers that were left out of what was typed for it, since their electors had later ones, as ballots.
     """
-    words = f"""SELECT its.value, left_out.value FROM act, json_each(detail, '$.letters') AS its
-LEFT JOIN json_each(detail, '$.left_out."' || its.value || '"') AS left_out ON {NOT_UNDONE} WHERE name = 'enter' ORDER BY act"""
+    words = f"""SELECT value, NULL FROM ({BY_HAND}) UNION ALL
+SELECT CAST(its.key AS INTEGER), ballot.value FROM act, json_each(detail, '$.left_out') AS its, json_each(its.value) AS ballot
+WHERE name = 'enter' AND {NOT_UNDONE}"""
     return {
         number: [*filter(None, ballots)] for number, ballots in grouped(book.rows(words)).items()
     }
@@ -470,6 +489,14 @@ def came_in_files(book: Book) -> dict[bytes, list[Envelope]]:
     return grouped((envelope.line, envelope) for envelope in found)
 
 
+def later_ones(book: Book, late: Sequence[int]) -> list[tuple[int, int]]:
+    """The envelopes of late ballots that would replace a later one of their elector if they were entered
+    anew, each with that of it.
+    """
+    its = (book.rows(LATER_ONES, json.dumps(late)) for _ in each_question_alone(book))
+    return [*dict.fromkeys(itertools.chain.from_iterable(its))]
+
+
 def counting_envelopes(book: Book) -> dict[tuple[int, str], tuple[int, bytes]]:
     """Number and line of the envelope that counts, of each elector who has one, by question."""
     words = "SELECT elector, envelope, line FROM counting"
@@ -501,6 +528,7 @@ NEVER_DECIDED, ENTERED, TAKEN_BACK, STRUCK = "waits", "entered", "taken back", "
 # acts have these names, too
 SET_ASIDE: Final = "set aside"
 PUT_BACK: Final = "put back"
+UNSETTLED = (NEVER_DECIDED, PUT_BACK, TAKEN_BACK)
 
 
 class KeptLetter(NamedTuple):
@@ -524,7 +552,7 @@ class KeptLetter(NamedTuple):
         over; after a decision that was taken back, or put back, it waits. One of which ballots were
         entered may wait, too (`may_wait`).
         """
-        return self.state in (NEVER_DECIDED, PUT_BACK, TAKEN_BACK)
+        return self.state in UNSETTLED
 
 
 def kept_letters(book: Book, condition: str = "1", *values: object) -> list[KeptLetter]:
@@ -556,9 +584,8 @@ def source_of(book: Book, source: int) -> bytes:
 
 def may_wait(book: Book) -> list[KeptLetter]:
     """The letters that are unsettled, or of which something may be left; and their copies."""
-    kept, by_hand = kept_letters(book), entered_by_hand(book)
-    identities = {one.identity for one in kept if one.is_unsettled or one.number in by_hand}
-    return [letter for letter in kept if letter.identity in identities]
+    words = f"SELECT identity FROM letter_now WHERE state IN {UNSETTLED} OR letter IN ({BY_HAND})"
+    return kept_letters(book, f"identity IN ({words})")
 
 
 def keep_letter(act: NewAct, where: str, data: bytes, identity: str, read_json: str) -> int:

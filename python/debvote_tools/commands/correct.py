@@ -22,7 +22,7 @@ from debvote_tools.inbox.lines import name_in
 from debvote_tools.inbox.rules import LetterCase
 from debvote_tools.inbox.taking import MOST_NAMED
 from debvote_tools.inbox.vote import envelope_words, standing_words, Vote
-from debvote_tools.text.ballots import answers_in, differ
+from debvote_tools.text.ballots import differ
 from debvote_tools.text.times import now
 
 
@@ -340,23 +340,7 @@ def chosen(vote: Vote, numbers: Sequence[int]) -> list[Envelope]:
 
 def faults_of_older(vote: Vote, offered: Sequence[Envelope]) -> Iterator[Fault]:
     """A fault for each envelope that would replace a later ballot of its elector."""
-    # a line that is refused replaces none
-    ballots = [(late, late.line.decode("ascii")) for late in offered if late.why_refused is None]
-    last = {answer: late for late, line in ballots for answer in answers_in(line)}
-    there = queries.ballots_of(vote.book, {name for name, _ in last}).values()
-    newest = {
-        answer: one
-        for its in there
-        for one in its
-        if not one.is_late
-        for answer in answers_in(one.line)
-    }
-    pairs = (
-        (late.number, newest[answered].number)
-        for answered, late in last.items()
-        if answered in newest and queries.by_time(newest[answered]) > queries.by_time(late)
-    )
     cure = "leave it out; or, if it must count, repeat the command with --force"
-    for number, replaced in dict.fromkeys(pairs):
+    for number, replaced in queries.later_ones(vote.book, [one.number for one in offered]):
         words = f"envelope {number} would replace envelope {replaced}, a later ballot of the same elector"
         yield Fault("--in-time", words, cure)
