@@ -356,8 +356,8 @@ MOST_LOOKED_FOR = 200
 
 
 def last_entering_act(book: Book) -> int | None:
-    """The last act that entered lines and that no `undo` took back; None if there is none."""
-    number: int | None = book.value(f"SELECT max(act) FROM envelope WHERE {NOT_UNDONE}")
+    """The last act that entered lines of which one is not struck; None if there is none."""
+    number: int | None = book.value("SELECT max(act) FROM entered WHERE struck IS NULL")
     return number
 
 

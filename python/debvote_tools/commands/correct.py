@@ -64,13 +64,13 @@ def undo(election: Election, arguments: UndoArguments) -> None:
 
 def what(act: DoneAct, numbers: Sequence[int]) -> str:
     files = f" of {', '.join(act.detail['files'])}" if act.detail.get("files") else ""
-    which = f"{act_time(act.time)}{', ' if numbers else ''}{envelope_words(numbers)}"
+    which = f"{act_time(act.time)}, {envelope_words(numbers)}"
     return f"{count_of(len(numbers), 'line')} (act {act.number}: {act.name}{files}, {which})"
 
 
 def what_is_taken_back(vote: Vote, arguments: UndoArguments) -> TakenBack:
-    """The last act that entered lines, and what changes. Of a `reopen` only its lines are taken back:
-    the vote stays open. Stops if there is none, or at a close.
+    """The last act that entered lines of which one is not struck, and what changes. Of a `reopen` only
+    its lines are taken back: the vote stays open. Stops if there is none, or at a close.
     """
     book, election = vote.book, vote.election
     with book.snapshot():
