@@ -72,7 +72,7 @@ def held(election: Election, arguments: Arguments) -> None:
         carried_out(vote.book, lambda: what_is_decided(vote, arguments))
     elif is_act:
         typed = [BallotLine((), ballot) for ballot in typed_ballots(vote, arguments.typed or ())]
-        carried_out(vote.book, lambda: what_is_entered(vote, arguments, typed))
+        carried_out(vote.book, lambda: what_is_entered(vote, all_letters(vote), arguments, typed))
     found = all_letters(vote)
     pending = [letter for letter in found if letter.is_pending]
     named = chosen_letters(found, arguments.numbers)
@@ -177,10 +177,11 @@ class Chosen(NamedTuple):
         return without(line.as_entered, later | done), later, done - later
 
 
-def what_is_entered(vote: Vote, arguments: Arguments, typed: Sequence[BallotLine]) -> LetterEntry:
-    """The act that enters ballots of letters."""
+def what_is_entered(
+    vote: Vote, found: Sequence[LetterCase], arguments: Arguments, typed: Sequence[BallotLine] = ()
+) -> LetterEntry:
+    """The act that enters ballots of letters. Stops at all that stands against it; `undo` asks that, too."""
     history = vote.election.history()
-    found = all_letters(vote)
     wanted = chosen_letters(found, arguments.numbers)
     chosen, faults = list[Chosen](), list[Fault]()
     for letter in sorted(wanted, key=lambda one: (one.time is None, one.time or one.number)):

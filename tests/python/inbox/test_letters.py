@@ -287,6 +287,13 @@ class Adding(LettersTest):
         self.add(letter("ada", f"ada {RANKS}"))
         self.told("held", 1, "--enter", "--force")
         self.assertIn("; debvote-election held lists these letters\n", self.told("undo", "--yes"))
+        # another ballot of the same time, and the mark of another vote
+        self.add(letter("ben", f"ben {RANKS}", number=2), letter("ben", f"ben {OTHER}", number=3), letters.letter("cleo", f"cleo {RANKS}", head="Subject: x [0123456789abcdef]\n"))
+        self.told("held", 2, "--enter")
+        for number in (3, 4):
+            self.assertEqual(self.election("held", number, "--enter").status, 9)
+            self.told("held", number, "--enter", "--force")
+            self.assertIn("; debvote-election held lists these letters\n", self.told("undo", "--yes"))
 
     def test_undo_and_strike_of_ballots_of_letters(self) -> None:
         box = (letter("ada", f"ada {RANKS}"), letter("ben", f"ben {RANKS}"), letter("cleo", f"cleo {RANKS}"), letter("dan", "hello"))
