@@ -370,6 +370,10 @@ def what_then(
         return "leave it out"
     pairs = ((line, one) for line in lines for one in again if line.elector == one.elector)
     if other := next((one for line, one in pairs if differ(line.as_entered, one.line)), None):
+        # then no strike is taken, either
+        if letter.circumstances.is_closed:
+            reopen = vote.election.command("reopen")
+            return f"the vote is closed, and its ballots stay; if this one is wrong, see {reopen}"
         strike = vote.election.command("strike", str(other.number), "--because", "TEXT")
         return f"to enter another one in its place, run {strike} first"
     if letter.left:

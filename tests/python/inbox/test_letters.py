@@ -1030,6 +1030,9 @@ class Couple(LettersTest):
         self.assert_left(1, self.ada)
         self.told("held", 1, "--set-aside")
         self.told("close")
+        # which takes no strike
+        closed = f"{said}the vote is closed, and its ballots stay; if this one is wrong, see debvote-election reopen\n"
+        self.assert_refused(("held", 1, "--as", f"ada {OTHER}"), 9, closed)
 
     def test_what_was_typed_for_one_is_taken_back_with_the_line_of_the_other(self) -> None:
         """Once the line is entered again the letter waits on."""
