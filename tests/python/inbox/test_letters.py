@@ -69,6 +69,12 @@ class Adding(LettersTest):
         self.assertEqual(self.numbers()["waiting"], 2)
         self.assertIn("2 letters wait", self.told("status"))
 
+    def test_undo_is_named_where_something_can_be_taken_back(self) -> None:
+        self.assertRegex(self.add(letter("ada", "hello")), r"\nNext: debvote-election held, which lists the letters that wait\n\Z")
+        self.assertRegex(self.add(letter("ben", f"ben {RANKS}")), r"; debvote-election undo takes back what was entered last\n\Z")
+        self.told("strike", 1, "--because", "a test")
+        self.assertNotIn("undo", self.add(letter("cleo", "hello")))
+
     def test_what_may_be_text_of_another_letter_is_kept_once(self) -> None:
         """Alone it is a letter of its own."""
         inner = self.of_this_vote(letter("ben", f"ben {RANKS}"))
