@@ -152,15 +152,10 @@ class Chosen(NamedTuple):
     left_out: Sequence[str] = ()
 
     @property
-    def entered(self) -> dict[tuple[str, str], EnteredBallot]:
-        """The last ballot of the letter that is not struck, by elector and label."""
-        there = (one for one in self.letter.entered if not one.is_struck)
-        return {answer: one for one in there for answer in one.answers}
-
-    @property
     def again(self) -> list[EnteredBallot]:
         """Those in which answers of these ballots were entered already."""
-        entered, answers = self.entered, (one for line in self.lines for one in line.answers)
+        entered = self.letter.entered_answers
+        answers = (one for line in self.lines for one in line.answers)
         return [*dict.fromkeys(entered[one] for one in answers if one in entered)]
 
     def left_of(self, line: BallotLine, its: Beside) -> tuple[str, Set[str], Set[str]]:
@@ -168,7 +163,7 @@ class Chosen(NamedTuple):
         entered; and the labels of both. What is typed is not entered yet if it says something else.
         """
         own = ballot_in(self.letter, line.as_entered)
-        entered, later = self.entered, its.answered_since(own)
+        entered, later = self.letter.entered_answers, its.answered_since(own)
         done = {
             label
             for name, label in line.answers & entered.keys()

@@ -991,6 +991,17 @@ class Family(LettersTest):
         self.told("held", 1, "--enter")
         self.assert_left(0, f"ben {OTHER}", f"cleo {RANKS}", f"ada {RANKS}")
 
+    def test_what_is_entered_is_not_shown_as_left(self) -> None:
+        """Nor where an `undo` took back another line of it, which had been struck once."""
+        self.add(letter("ada", f"ada {RANKS}\nben {OTHER}"))
+        self.told("held", 1, "--enter", "1,2")
+        self.told("strike", 1, "--because", "a test")
+        self.told("held", 1, "--enter", 1)
+        self.told("undo", "--yes")
+        shown = f"its ballot was taken back\n        line 1: ada {RANKS}\n1 letter waits."
+        self.assertIn(shown, self.told("held"))
+        self.assertRegex(self.told("held", 1), rf"It waits: .*\nline 1: ada {RANKS}\n1 letter waits\.")
+
 
 class Couple(LettersTest):
     """Two electors who have one address, and say in words how they vote."""
