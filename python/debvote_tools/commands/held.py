@@ -367,8 +367,7 @@ def what_then(
     if other := next((one for line, one in pairs if differ(line.as_entered, one.line)), None):
         # then no strike is taken, either
         if letter.circumstances.is_closed:
-            reopen = vote.election.command("reopen")
-            return f"the vote is closed, and its ballots stay; if this one is wrong, see {reopen}"
+            return f"the vote is closed, and its ballots stay; if this one is wrong, see {vote.election.command('reopen')}"
         strike = vote.election.command("strike", str(other.number), "--because", "TEXT")
         return f"to enter another one in its place, run {strike} first"
     if letter.left:

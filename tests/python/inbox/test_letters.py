@@ -645,7 +645,9 @@ class InTime(LettersTest):
         for words in (("count",), ("publish",), ("count", "--casting", "At the lake")):
             self.assertEqual(self.assert_refused(words, 9, named, "held NUMBER --set-aside", "reopen --because TEXT").output, "")
         self.assertFalse((self.folder / "result").exists())
-        self.assertIn(f"These arrived in time, and count and publish stop while they wait: {number}\n", self.told("status"))
+        status = self.told("status")
+        self.assertIn(f"These arrived in time, and count and publish stop while they wait: {number}\n", status)
+        self.assertIn("\nNext: debvote-election held, then debvote-election count, then debvote-election publish\n", status)
         self.assertEqual(self.numbers()["stopping"], [number])
 
     def assert_counted(self, *words: object) -> str:
