@@ -189,10 +189,12 @@ def by_time(ballot: Ballot | Envelope) -> tuple[datetime.datetime, int]:
 
 
 # ---- envelopes by conditions
-# conditions on envelopes, where `answer` is why debvote refuses a line; and on acts that no `undo` took back
+# conditions on envelopes, where `answer` is why debvote refuses a line; on those that an `undo` took back, which
+# never came: a `strike` before it holds; and on acts that none took back
 TO_COUNT, LATE = "NOT late AND struck IS NULL", "late AND struck IS NULL"
 VALID_OR_LATE = "struck IS NULL AND answer IS NULL"
 REFUSED = f"{TO_COUNT} AND answer IS NOT NULL"
+UNDONE = "envelope IN (SELECT envelope FROM struck JOIN act USING (act) WHERE name = 'undo')"
 NOT_UNDONE = "act NOT IN (SELECT json_extract(detail, '$.act') FROM act WHERE name = 'undo')"
 
 # the late envelopes of which no new one stands that a `reopen` entered as in time
@@ -220,9 +222,9 @@ ORDER BY late.first, late.envelope"""
 # those that came in files of lines; a line that was entered anew came once, and is known by its last
 # envelope, though that may be struck
 KNOWN_BY_LATER = f"""SELECT before.envelope FROM (SELECT late, late AS envelope FROM anew UNION SELECT late, envelope FROM anew) AS before
-JOIN anew USING (late) WHERE anew.envelope > before.envelope AND anew.{NOT_UNDONE}"""
+JOIN anew USING (late) WHERE anew.envelope > before.envelope AND NOT anew.{UNDONE}"""
 IN_FILES = (
-    f"source IS NOT NULL AND letter IS NULL AND {NOT_UNDONE} AND envelope NOT IN ({KNOWN_BY_LATER})"
+    f"source IS NOT NULL AND letter IS NULL AND NOT {UNDONE} AND envelope NOT IN ({KNOWN_BY_LATER})"
 )
 
 COLUMNS = "envelope, act, elector, line, source, letter, place, time, late, struck, answer, became"
@@ -347,8 +349,7 @@ class EnteredBallot(NamedTuple):
 
 def entered_ballots(book: Book, letters: Sequence[int]) -> dict[int, list[EnteredBallot]]:
     """The ballots of some letters that were entered, in the order of their envelopes, by the letters."""
-    undone = "struck IN (SELECT act FROM act WHERE name = 'undo')"
-    columns = f"envelope, CAST(line AS TEXT), late, struck IS NOT NULL, {undone}, envelope IN typed"
+    columns = f"envelope, CAST(line AS TEXT), late, struck IS NOT NULL, {UNDONE}, envelope IN typed"
     condition = "letter IN (SELECT value FROM json_each(?))"
     words = f"SELECT letter, {columns} FROM entered WHERE {condition} ORDER BY envelope"
     return grouped(
@@ -374,8 +375,8 @@ MOST_LOOKED_FOR = 200
 
 
 def last_entering_act(book: Book) -> int | None:
-    """The last act that entered lines and that no `undo` took back; None if there is none."""
-    number: int | None = book.value(f"SELECT max(act) FROM envelope WHERE {NOT_UNDONE}")
+    """The last act that entered lines of which one is not struck; None if there is none."""
+    number: int | None = book.value("SELECT max(act) FROM entered WHERE struck IS NULL")
     return number
 
 

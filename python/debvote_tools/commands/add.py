@@ -5,7 +5,7 @@ import dataclasses
 import itertools
 import operator
 import re
-from collections.abc import Iterator, Mapping, Sequence
+from collections.abc import Iterable, Iterator, Mapping, Sequence
 
 from debvote_tools.cli.arguments import demand_reason, flag, given, has_reason, positional
 from debvote_tools.book import queries
@@ -161,7 +161,7 @@ def what_is_added(vote: Vote, files: Sequence[FileLines], arguments: Arguments) 
     detail: Detail = {
         "files": [file.file.kept_name for file in new.files],
         "lines": len(new.lines),
-        "passed_over": sum(len(file.repeated) for file in new.files),
+        "passed_over": sum(map(ignored_in, new.files)),
     }
     came_before_close = entering.came_before_close(new.history, arguments.came_before_close)
     if came_before_close is not None:
@@ -392,11 +392,17 @@ def has_few_ballots(lines: Sequence[CheckedLine]) -> bool:
 
 
 def lines_and_ballots(lines: Sequence[CheckedLine]) -> tuple[int, int]:
-    """How many lines came, and of how many a ballot is entered; what is refused of one is entered apart."""
-    came, ballots = (
-        {line.original.where for line in some} for some in (lines, filter(is_ballot, lines))
-    )
-    return len(came), len(ballots)
+    """How many lines came, and of how many a ballot is entered."""
+    return that_came(lines), that_came(filter(is_ballot, lines))
+
+
+def that_came(lines: Iterable[CheckedLine]) -> int:
+    """How many lines these were when they came: what is refused of one is entered apart."""
+    return len({line.original.where for line in lines})
+
+
+def ignored_in(file: ComparedLines) -> int:
+    return that_came(line for line, _ in file.repeated)
 
 
 def cure_of(vote: Vote, file: FileLines) -> str:
@@ -422,11 +428,12 @@ def report_of_files(
 
 
 def repeated_words(file: ComparedLines) -> Iterator[str]:
-    if not (count := len(file.repeated)):
+    if not (count := ignored_in(file)):
         return
     ignored = "is ignored, since it" if count == 1 else "are ignored, since they"
-    new = f"{len(file.new)} {'is' if len(file.new) == 1 else 'are'} new"
-    yield f"{file.name}: {count_of(count, 'line')} {ignored} came before; {new}"
+    new = that_came(file.new)
+    are_new = f"{new} {'is' if new == 1 else 'are'} new"
+    yield f"{file.name}: {count_of(count, 'line')} {ignored} came before; {are_new}"
     changed = [(line, change) for line, change in file.repeated if change is not None]
     for line, change in changed[:MAX_REPEATED]:
         yield f"  {line.original.where}: `{shown_line(line.as_entered)}` came before, and {change}"

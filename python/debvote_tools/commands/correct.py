@@ -3,7 +3,7 @@
 import contextlib
 import dataclasses
 import re
-from collections.abc import Collection, Iterator, Sequence
+from collections.abc import Iterator, Mapping, Sequence
 
 from debvote_tools.book import outgoing, queries
 from debvote_tools.book.book import Book, Detail, DoneAct
@@ -13,7 +13,7 @@ from debvote_tools.book.queries import EnteredBallot, Envelope, NewEnvelope
 from debvote_tools.cli.arguments import Acting, demand_reason, flag, option, positional
 from debvote_tools.cli.console import act_time, count_of, shown_line, tell
 from debvote_tools.cli.faults import Fault, bad_words, stop_at
-from debvote_tools.commands.held import THE_ONE, named_lines
+from debvote_tools.commands import held
 from debvote_tools.inbox import letter_words
 from debvote_tools.inbox.entering import Entry
 from debvote_tools.inbox.fates import ANEW
@@ -56,7 +56,7 @@ def undo(election: Election, arguments: UndoArguments) -> None:
     tell(*letter_words.judged_anew(judged_before, judged_after, change.letters))
     following = f"{election.command('status')}; another {election.command('undo')} takes back the act before"
     if change.letters and not change.is_typed_or_late:
-        enter = words_to_enter([judged_after[number] for number in change.letters], change.struck)
+        enter = words_to_enter(vote, judged_after, change)
         does = "enters these letters again" if enter else "lists these letters"
         following += f"; {election.command('held', *enter)} {does}"
     tell(f"Next: {following}")
@@ -64,13 +64,13 @@ def undo(election: Election, arguments: UndoArguments) -> None:
 
 def what(act: DoneAct, numbers: Sequence[int]) -> str:
     files = f" of {', '.join(act.detail['files'])}" if act.detail.get("files") else ""
-    which = f"{act_time(act.time)}{', ' if numbers else ''}{envelope_words(numbers)}"
+    which = f"{act_time(act.time)}, {envelope_words(numbers)}"
     return f"{count_of(len(numbers), 'line')} (act {act.number}: {act.name}{files}, {which})"
 
 
 def what_is_taken_back(vote: Vote, arguments: UndoArguments) -> TakenBack:
-    """The last act that entered lines, and what changes. Of a `reopen` only its lines are taken back:
-    the vote stays open. Stops if there is none, or at a close.
+    """The last act that entered lines of which one is not struck, and what changes. Of a `reopen` only
+    its lines are taken back: the vote stays open. Stops if there is none, or at a close.
     """
     book, election = vote.book, vote.election
     with book.snapshot():
@@ -117,20 +117,19 @@ def what_else_changes(book: Book, struck: Sequence[int], letters: Sequence[int])
         yield f"These electors have receipts that are no longer true: {', '.join(names)}"
 
 
-def words_to_enter(letters: Sequence[LetterCase], struck: Collection[int]) -> list[str]:
+def words_to_enter(vote: Vote, found: Mapping[int, LetterCase], change: TakenBack) -> Sequence[str]:
     """What is typed after `held` to enter again what was taken back; empty if no one command does it."""
-    numbers, is_one = [str(letter.number) for letter in letters], len(letters) == 1
-    if any(letter.time is None or letter.voted_since for letter in letters):
-        return []
-    with contextlib.suppress(Fault):
-        for letter in letters:
-            named_lines(letter, [THE_ONE], is_one=is_one)
-        return [*numbers, "--enter"] if len(letters) <= MOST_NAMED else []
-    if not is_one:
-        return []
-    [letter] = letters
-    lines = [line_of(letter, one) for one in letter.entered if one.number in struck]
-    return [*numbers, "--enter", ",".join(dict.fromkeys(lines))] if all(lines) else []
+    words = [*map(str, change.letters), "--enter"]
+    [letter, *others] = [found[number] for number in change.letters]
+    # lines are of one letter
+    its = [one for one in letter.entered if one.number in change.struck and not others]
+    lines = ",".join(dict.fromkeys(line_of(letter, one) for one in its))
+    for enter in (held.THE_ONE, lines) if len(others) < MOST_NAMED else ():
+        how = {"numbers": [*change.letters], "enter": [enter], "force": False, "yes": True}
+        with contextlib.suppress(Fault):
+            held.what_is_entered(vote, [*found.values()], held.Arguments(**how))
+            return words if enter == held.THE_ONE else [*words, enter]
+    return ()
 
 
 def line_of(letter: LetterCase, ballot: EnteredBallot) -> str:

@@ -72,7 +72,7 @@ def held(election: Election, arguments: Arguments) -> None:
         carried_out(vote.book, lambda: what_is_decided(vote, arguments))
     elif is_act:
         typed = [BallotLine((), ballot) for ballot in typed_ballots(vote, arguments.typed or ())]
-        carried_out(vote.book, lambda: what_is_entered(vote, arguments, typed))
+        carried_out(vote.book, lambda: what_is_entered(vote, all_letters(vote), arguments, typed))
     found = all_letters(vote)
     pending = [letter for letter in found if letter.is_pending]
     named = chosen_letters(found, arguments.numbers)
@@ -152,15 +152,10 @@ class Chosen(NamedTuple):
     left_out: Sequence[str] = ()
 
     @property
-    def entered(self) -> dict[tuple[str, str], EnteredBallot]:
-        """The last ballot of the letter that is not struck, by elector and label."""
-        there = (one for one in self.letter.entered if not one.is_struck)
-        return {answer: one for one in there for answer in one.answers}
-
-    @property
     def again(self) -> list[EnteredBallot]:
         """Those in which answers of these ballots were entered already."""
-        entered, answers = self.entered, (one for line in self.lines for one in line.answers)
+        entered = self.letter.entered_answers
+        answers = (one for line in self.lines for one in line.answers)
         return [*dict.fromkeys(entered[one] for one in answers if one in entered)]
 
     def left_of(self, line: BallotLine, its: Beside) -> tuple[str, Set[str], Set[str]]:
@@ -168,7 +163,7 @@ class Chosen(NamedTuple):
         entered; and the labels of both. What is typed is not entered yet if it says something else.
         """
         own = ballot_in(self.letter, line.as_entered)
-        entered, later = self.entered, its.answered_since(own)
+        entered, later = self.letter.entered_answers, its.answered_since(own)
         done = {
             label
             for name, label in line.answers & entered.keys()
@@ -177,10 +172,11 @@ class Chosen(NamedTuple):
         return without(line.as_entered, later | done), later, done - later
 
 
-def what_is_entered(vote: Vote, arguments: Arguments, typed: Sequence[BallotLine]) -> LetterEntry:
-    """The act that enters ballots of letters."""
+def what_is_entered(
+    vote: Vote, found: Sequence[LetterCase], arguments: Arguments, typed: Sequence[BallotLine] = ()
+) -> LetterEntry:
+    """The act that enters ballots of letters. Stops at all that stands against it; `undo` asks that, too."""
     history = vote.election.history()
-    found = all_letters(vote)
     wanted = chosen_letters(found, arguments.numbers)
     chosen, faults = list[Chosen](), list[Fault]()
     for letter in sorted(wanted, key=lambda one: (one.time is None, one.time or one.number)):
@@ -369,6 +365,9 @@ def what_then(
         return "leave it out"
     pairs = ((line, one) for line in lines for one in again if line.elector == one.elector)
     if other := next((one for line, one in pairs if differ(line.as_entered, one.line)), None):
+        # then no strike is taken, either
+        if letter.circumstances.is_closed:
+            return f"the vote is closed, and its ballots stay; if this one is wrong, see {vote.election.command('reopen')}"
         strike = vote.election.command("strike", str(other.number), "--because", "TEXT")
         return f"to enter another one in its place, run {strike} first"
     if letter.left:

@@ -190,6 +190,7 @@ def what_next(election: Election, history: History, state: State) -> str:
         return f"put the published folder on the web site as it is, then {send}"
     is_unasked = unasked_fault(election, history, "count")
     first = f"{election.command('add', '--box')}, then " if is_unasked else ""
+    first += f"{election.command('held')}, then " if state["stopping"] else ""
     return f"{first}{election.command('count')}, then {election.command('publish')}"
 
 

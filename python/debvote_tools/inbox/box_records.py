@@ -19,6 +19,7 @@ from debvote_tools.cli.console import count_of, shown_text
 from debvote_tools.cli.faults import Fault, bad_words
 from debvote_tools.grouping import grouped
 from debvote_tools.inbox.asked import has_list_of_now, last_box
+from debvote_tools.inbox.letter import YEAR
 from debvote_tools.inbox.mailbox import BEGIN, RawLetter
 from debvote_tools.inbox.vote import Vote
 from debvote_tools.patience import within
@@ -100,6 +101,9 @@ def ask(at: str | None, mark: str, word: str) -> Asked:
         raise Fault(address, f"it does not answer as a box: {shown(answer)}", UPLOAD) from None
     if found_mark != mark:
         raise Fault(address, f"it is the box of another vote, [{found_mark}]", UPLOAD)
+    if not re.match(YEAR, said):
+        cure = "ask who keeps the web host to set its clock; then run the command again"
+        raise Fault(address, f"by its clock it is {said}, which can't be", cure)
     records = answer.body[head.end() :]
     if records and not (records.startswith(BEGIN) and records.endswith(END)):
         raise cut_off(address)

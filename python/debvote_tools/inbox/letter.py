@@ -57,9 +57,12 @@ COMMENT = r" *\([ !-'*-\[\]-~\udc80-\udcff]*\)"
 SENDER = re.compile(rf"{NAME}<({ADDRESS})>|({ADDRESS})(?:{COMMENT})?", re.ASCII)
 # in angle brackets (RFC 5322, 3.6.4), whatever its program writes there
 MESSAGE_ID = re.compile(r"<[!-;=?-~]{1,250}>")
+# the years of the times that mail and web servers write: far from them no clock could be set right and no
+# other zone be shown, so with another year it is no time
+YEAR = r"20\d\d"
 # a time as mail servers write it (RFC 5322, 3.3 and 4.3), and its place in a field Received, at the
 # end (3.6.7), perhaps with the name of its zone in brackets
-TIME = r"(?:[A-Z][a-z]{2}, *)?\d{1,2} +[A-Z][a-z]{2} +20\d\d +\d{1,2}:\d\d(?::\d\d)? +(?:[+-]\d{4}|UTC?|GMT|[ECMP][SD]T)"
+TIME = rf"(?:[A-Z][a-z]{{2}}, *)?\d{{1,2}} +[A-Z][a-z]{{2}} +{YEAR} +\d{{1,2}}:\d\d(?::\d\d)? +(?:[+-]\d{{4}}|UTC?|GMT|[ECMP][SD]T)"
 CLOCK = r"(?<![:\d])\d{1,2}:\d\d:\d\d(?![:\d])"
 ARRIVED = re.compile(rf"; *({TIME})(?: *\([^();]*\))? *\Z")
 # fields by which a program says that it answers by itself (RFC 3834, and programs from before it),

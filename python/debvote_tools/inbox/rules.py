@@ -377,6 +377,12 @@ class LetterCase:
         return is_as_early and (bool(self.entered) or self.first_broken_rule is None)
 
     @property
+    def entered_answers(self) -> dict[tuple[str, str], EnteredBallot]:
+        """The last ballot of it that was entered and is not struck, by elector and label."""
+        there = (one for one in self.entered if not one.is_struck)
+        return {answer: one for one in there for answer in one.answers}
+
+    @property
     def standing(self) -> list[EnteredBallot]:
         """The ballots of it that were entered, also if they were struck, and not taken back."""
         return [one for one in self.entered if not one.is_taken_back]

@@ -177,7 +177,8 @@ def tell_next(change: GoingIn) -> None:
     waiting = f"{election.command('held')}, which lists the letters that wait"
     is_waiting = any(letter.outcome is LetterOutcome.WAITS for letter in change.found)
     following = waiting if is_waiting else election.command("status")
-    tell(f"Next: {following}{'' if election.history().is_closed else undo}")
+    can_undo = not election.history().is_closed and queries.last_entering_act(election.book)
+    tell(f"Next: {following}{undo if can_undo else ''}")
 
 
 def tell_letters(vote: Vote, found: Sequence[LetterCase]) -> None:

@@ -45,8 +45,10 @@ class Line:
     text: str
     is_late: bool
     is_struck: bool = False
-    # the number of the letter that it is of
+    # the number of the letter that it is of; whether it came in a file, and whether an undo took it back
     letter: int | None = None
+    is_of_file: bool = False
+    is_undone: bool = False
 
 
 @dataclasses.dataclass
@@ -69,12 +71,11 @@ class Letter:
 
 @dataclasses.dataclass
 class Model:
-    """What is in the book: the envelopes in their order, how often each line came in files, and the acts that entered."""
+    """What is in the book: the envelopes in their order, and those of each act that entered."""
 
     lines: list[Line] = dataclasses.field(default_factory=list)
     letters: list[Letter] = dataclasses.field(default_factory=list)
-    came: collections.Counter = dataclasses.field(default_factory=collections.Counter)
-    entered: list[tuple[list[int], list[str]]] = dataclasses.field(default_factory=list)
+    entered: list[list[int]] = dataclasses.field(default_factory=list)
     # the late lines that a reopen entered anew, by the numbers of their new envelopes
     anew: dict[int, int] = dataclasses.field(default_factory=dict)
     is_closed: bool = False
@@ -82,33 +83,39 @@ class Model:
 
     def enter(self, texts: list[str], *, is_late: bool, from_file: bool, letters: list[int | None] | None = None) -> None:
         """One act that enters these lines, perhaps of letters."""
-        numbers = range(len(self.lines) + 1, len(self.lines) + len(texts) + 1)
-        self.lines += [Line(text, is_late, letter=letter) for text, letter in zip(texts, letters or [None] * len(texts))]
-        self.came.update(texts if from_file else [])
-        self.entered.append((list(numbers), texts if from_file else []))
+        self.entered.append([*range(len(self.lines) + 1, len(self.lines) + len(texts) + 1)])
+        self.lines += [Line(text, is_late, letter=letter, is_of_file=from_file) for text, letter in zip(texts, letters or [None] * len(texts))]
+
+    @property
+    def came(self) -> collections.Counter:
+        """How often each line came in files, also if it was struck: one that was entered anew came once."""
+        known = {*self.anew.values()}
+        came = (line for number, line in enumerate(self.lines, start=1) if line.is_of_file and number not in known)
+        return collections.Counter(line.text for line in came if not line.is_undone)
 
     def new_of(self, texts: list[str]) -> list[str]:
         """Which lines of a file did not come before."""
         seen: collections.Counter = collections.Counter()
-        new = []
+        came, new = self.came, []
         for text in texts:
             seen[text] += 1
-            if seen[text] > self.came[text]:
+            if seen[text] > came[text]:
                 new.append(text)
         return new
 
     def undo(self) -> None:
-        numbers, texts = self.entered.pop()
-        self.came -= collections.Counter(texts)
-        for number in numbers:
+        """Takes back the last act of which a line stands: what was struck before stays struck."""
+        *_, last = (numbers for numbers in self.entered if not all(self.lines[number - 1].is_struck for number in numbers))
+        for number in last:
             line = self.lines[number - 1]
+            if line.is_struck:
+                continue
             if line.letter is not None:
                 letter = self.letters[line.letter - 1]
                 letter.entered.remove(number)
                 letter.typed = [one for one in letter.typed if one != number]
-                if not line.is_struck:
-                    letter.is_taken_back = letter.waits = True
-            line.is_struck = True
+                letter.is_taken_back = letter.waits = True
+            line.is_struck = line.is_undone = True
             self.anew.pop(number, None)
 
     def enter_letters(self, ballots: list[tuple[int, str]], *, is_typed: bool = False) -> None:
@@ -116,7 +123,7 @@ class Model:
         ballot in it has one entered, and each who has its address, if one of them was typed.
         """
         self.enter([text for _, text in ballots], is_late=False, from_file=False, letters=[number for number, _ in ballots])
-        for envelope, (number, _) in zip(self.entered[-1][0], ballots):
+        for envelope, (number, _) in zip(self.entered[-1], ballots):
             letter = self.letters[number - 1]
             letter.entered.append(envelope)
             letter.typed += [envelope] * is_typed
@@ -248,7 +255,7 @@ class SequencesTest(LettersTest):
         return f"{letter.elector} {letter.ranks}"
 
     def undoing(self, model: Model, chance: random.Random) -> Step | None:
-        if model.is_closed or not model.entered:
+        if model.is_closed or all(line.is_struck for line in model.lines):
             return None
         model.undo()
         return Step(["undo", "--yes"], None, [model])
@@ -279,6 +286,8 @@ class SequencesTest(LettersTest):
             model.anew |= {len(model.lines) + index: number for index, number in enumerate(ordered, start=1)}
             lines = [model.lines[number - 1] for number in ordered]
             model.enter([line.text for line in lines], is_late=False, from_file=False, letters=[line.letter for line in lines])
+            for new, line in zip(model.entered[-1], lines):
+                model.lines[new - 1].is_of_file = line.is_of_file
         model.is_closed, model.is_reopened = False, True
         words = ["--force", "--in-time", *map(str, numbers)] if numbers else []
         return Step(["reopen", "--because", "a letter was forgotten", *words], None, [model])

@@ -115,6 +115,18 @@ class AtATerminal(TerminalTest):
         self.assertRegex(desk.after(f"ada {OTHER_RANKS}\n", CAST), rf"\nada: {HALL}\nIt is late, and will not count\.\n")
         self.assertIn("4 late  ada: ", self.end(desk, "y\nq\n"))
 
+    def test_the_end_meanwhile(self) -> None:
+        """It is told once, above the reply to the first ballot after it; of a late one its reply says so."""
+        desk = self.at_terminal()
+        self.assertNotIn("Note: ", desk.after(f"ada {RANKS}\ny\n", "Ballot: "))
+        self.act("extend", {"until": "2020-12-04T18:00:00+01:00"})
+        end = re.escape("Note: the announced end of the vote, Friday, 4 December 2020, 18:00 (UTC+01:00), has passed; what is entered still counts ")
+        self.assertRegex(desk.after(f"ben {RANKS}\ny\n", "Ballot: "), rf"{end}.*\n2 counted  ben: ")
+        self.assertNotIn("Note: ", desk.after(f"cleo {RANKS}\ny\n", "Ballot: "))
+        self.told("close")
+        self.assertNotIn("Note: ", self.end(desk, f"dan {RANKS}\ny\nq\n"))
+        self.assertEqual(self.late_lines(), [f"dan {RANKS}"])
+
     def test_another_call_meanwhile(self) -> None:
         """The options have other numbers now."""
         desk = self.at_terminal()

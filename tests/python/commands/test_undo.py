@@ -39,6 +39,17 @@ class Undo(CalledTest):
         self.assertRegex(self.told("undo"), rf"^Took back 2 lines \(act .*, envelopes 2, 4\)\.\n{left}Next: ")
         self.assertEqual([envelope.struck for envelope in self.envelopes()], [self.first_act + act for act in (3, 4, 2, 4)])
 
+    def test_an_act_of_which_nothing_stands(self) -> None:
+        """There is nothing of it to take back; what is taken back is what came before it."""
+        self.told("add", given=f"ada {RANKS}\n")
+        self.told("desk", given=f"ben {RANKS}\n")
+        self.told("strike", 2, "--because", "a test")
+        said = rf"^Took back 1 line \(act {self.first_act}: add of standard input, .*, envelope 1\)\.\n  ada: no ballot is left\n"
+        self.assertRegex(self.told("undo"), said)
+        self.told("desk", given=f"cleo {RANKS}\n")
+        self.told("strike", 3, "--because", "a test")
+        self.assert_stops(self.election("undo"), self.last_act(), 9, "undo: there is nothing to take back; nothing was changed: ")
+
     def test_after_the_close_and_after_reopen(self) -> None:
         self.told("add", given=f"ada {RANKS}\n")
         self.told("close")

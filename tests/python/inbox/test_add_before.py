@@ -94,6 +94,25 @@ class Before(CalledTest):
         self.told("undo")
         self.assert_ignored(2, 1)
 
+    def test_what_was_struck_came_whatever_became_of_its_act(self) -> None:
+        """A strike holds: the undo of its act takes back the other lines."""
+        self.told("strike", 1, "--because", "ada did not write it")
+        for number in (3, 4):
+            self.told("undo")
+            output = self.assert_ignored(1, 1, name="monday")
+            self.assertIn(f"  monday:1: `ada {RANKS}` came before, and was struck (envelope 1)\n", output)
+            self.assertIn(f"\n{number} counted  ben: ", output)
+        # so it is with a late line that was entered anew, which came once
+        self.told("close")
+        self.write("more", f"cleo {RANKS}\ndan {RANKS}\n")
+        self.told("add", "more")
+        self.told("reopen", "--in-time", 5, 6, "--because", "a bag was forgotten")
+        self.told("strike", 7, "--because", "cleo did not write it")
+        self.told("undo")
+        self.write("more", f"cleo {RANKS}\n" * 2)
+        output = self.assert_ignored(1, 1, "--came-before-close", "yes")
+        self.assertIn(f"  more:1: `cleo {RANKS}` came before, and was struck (envelope 7)\n", output)
+
     def test_an_older_line_above_one_that_came_before(self) -> None:
         """The file says that the other one is the newer one. Below it a line is newer, and a third one again."""
         older, newer = f"cleo {RANKS}", f"cleo {OTHER_RANKS}"

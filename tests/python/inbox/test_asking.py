@@ -242,6 +242,15 @@ class Dishonest(AskingTest):
                 "it does not answer as a box: ",
             ),
             (answered(head(now, "f" * 16)), "it is the box of another vote, [ffffffffffffffff]"),
+            # kept, such a time would stop each later command: no difference could be added to it
+            *(
+                (
+                    answered(re.sub(rb" 20\d\d-", f" {year}-".encode(), good)),
+                    f"by its clock it is {year}-",
+                    "set its clock",
+                )
+                for year in ("0001", "1970", "2100", "9999")
+            ),
             (answered(good, 201), "it answers 201: box 1 "),
             # an answer that was cut off, also where its length is not told
             (answered(good + RECORD)[:-1], "its answer was cut off", "run the command again"),

@@ -411,6 +411,27 @@ class Clicks(boxes.BoxElectionTest):
                 self.assertEqual(self.standing(), {"ada": "1,2,3,4"})
         self.assertIn("it is older than", self.done("held").output + ended.output)
 
+    def test_a_year_that_no_clock_has(self) -> None:
+        """Kept, it would stop each later command: of an answer with it nothing is, and of a record no time is known."""
+        links, mark, script = self.begun(), self.mark(), self.web / "vote.php"
+        true = script.read_bytes()
+        for year in ("0001", "9999"):
+            time_ = f"{year}-12-31T23:59:59"
+            said = f"box 1 {mark} {list_digest(true)} {time_}Z\n"
+            size = f"header('Content-Length: {len(said)}')"
+            script.write_text(f"<?php {size}; echo '{said}';")
+            why = f"by its clock it is {time_}Z, which can't be; nothing was added: "
+            self.assert_fault(self.election("add", "--box", "--yes"), 9, why)
+        script.write_bytes(true)
+        self.assertEqual(len(self.boxes_kept()), 1)
+        self.click("ada", "1,2,3,4", links["ada"])
+        far = record("x", "ben 1,2,3,4", 99, time_, mark).replace("2" * 16, links["ben"])
+        self.file().write_bytes(self.file().read_bytes() + far.encode())
+        self.off(180)
+        self.assertIn("1 ballot of letters went in", self.done("add", "--box", "--yes").output)
+        self.assertIn("no Received line at its top says when it arrived", self.done("held").output)
+        self.assertEqual(self.standing(), {"ada": "1,2,3,4"})
+
     def test_no_request_has_the_key_and_two_ask_at_once(self) -> None:
         with Liar(lambda request: [passed_on(request, self.host)]) as between:
             self.done(

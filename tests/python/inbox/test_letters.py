@@ -69,6 +69,12 @@ class Adding(LettersTest):
         self.assertEqual(self.numbers()["waiting"], 2)
         self.assertIn("2 letters wait", self.told("status"))
 
+    def test_undo_is_named_where_something_can_be_taken_back(self) -> None:
+        self.assertRegex(self.add(letter("ada", "hello")), r"\nNext: debvote-election held, which lists the letters that wait\n\Z")
+        self.assertRegex(self.add(letter("ben", f"ben {RANKS}")), r"; debvote-election undo takes back what was entered last\n\Z")
+        self.told("strike", 1, "--because", "a test")
+        self.assertNotIn("undo", self.add(letter("cleo", "hello")))
+
     def test_what_may_be_text_of_another_letter_is_kept_once(self) -> None:
         """Alone it is a letter of its own."""
         inner = self.of_this_vote(letter("ben", f"ben {RANKS}"))
@@ -287,6 +293,13 @@ class Adding(LettersTest):
         self.add(letter("ada", f"ada {RANKS}"))
         self.told("held", 1, "--enter", "--force")
         self.assertIn("; debvote-election held lists these letters\n", self.told("undo", "--yes"))
+        # another ballot of the same time, and the mark of another vote
+        self.add(letter("ben", f"ben {RANKS}", number=2), letter("ben", f"ben {OTHER}", number=3), letters.letter("cleo", f"cleo {RANKS}", head="Subject: x [0123456789abcdef]\n"))
+        self.told("held", 2, "--enter")
+        for number in (3, 4):
+            self.assertEqual(self.election("held", number, "--enter").status, 9)
+            self.told("held", number, "--enter", "--force")
+            self.assertIn("; debvote-election held lists these letters\n", self.told("undo", "--yes"))
 
     def test_undo_and_strike_of_ballots_of_letters(self) -> None:
         box = (letter("ada", f"ada {RANKS}"), letter("ben", f"ben {RANKS}"), letter("cleo", f"cleo {RANKS}"), letter("dan", "hello"))
@@ -632,7 +645,9 @@ class InTime(LettersTest):
         for words in (("count",), ("publish",), ("count", "--casting", "At the lake")):
             self.assertEqual(self.assert_refused(words, 9, named, "held NUMBER --set-aside", "reopen --because TEXT").output, "")
         self.assertFalse((self.folder / "result").exists())
-        self.assertIn(f"These arrived in time, and count and publish stop while they wait: {number}\n", self.told("status"))
+        status = self.told("status")
+        self.assertIn(f"These arrived in time, and count and publish stop while they wait: {number}\n", status)
+        self.assertIn("\nNext: debvote-election held, then debvote-election count, then debvote-election publish\n", status)
         self.assertEqual(self.numbers()["stopping"], [number])
 
     def assert_counted(self, *words: object) -> str:
@@ -978,6 +993,17 @@ class Family(LettersTest):
         self.told("held", 1, "--enter")
         self.assert_left(0, f"ben {OTHER}", f"cleo {RANKS}", f"ada {RANKS}")
 
+    def test_what_is_entered_is_not_shown_as_left(self) -> None:
+        """Nor where an `undo` took back another line of it, which had been struck once."""
+        self.add(letter("ada", f"ada {RANKS}\nben {OTHER}"))
+        self.told("held", 1, "--enter", "1,2")
+        self.told("strike", 1, "--because", "a test")
+        self.told("held", 1, "--enter", 1)
+        self.told("undo", "--yes")
+        shown = f"its ballot was taken back\n        line 1: ada {RANKS}\n1 letter waits."
+        self.assertIn(shown, self.told("held"))
+        self.assertRegex(self.told("held", 1), rf"It waits: .*\nline 1: ada {RANKS}\n1 letter waits\.")
+
 
 class Couple(LettersTest):
     """Two electors who have one address, and say in words how they vote."""
@@ -1023,6 +1049,9 @@ class Couple(LettersTest):
         self.assert_left(1, self.ada)
         self.told("held", 1, "--set-aside")
         self.told("close")
+        # which takes no strike
+        closed = f"{said}the vote is closed, and its ballots stay; if this one is wrong, see debvote-election reopen\n"
+        self.assert_refused(("held", 1, "--as", f"ada {OTHER}"), 9, closed)
 
     def test_what_was_typed_for_one_is_taken_back_with_the_line_of_the_other(self) -> None:
         """Once the line is entered again the letter waits on."""

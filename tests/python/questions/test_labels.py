@@ -145,6 +145,15 @@ class Lines(LabelsTest):
         self.done("undo", "--yes")
         self.assertEqual(self.lines(), [])
 
+    def test_a_line_with_a_refused_answer_is_one_that_came_before(self) -> None:
+        self.write("first", "cleo A 1,2,3 B 1,2,3\n")
+        self.done("add", "first")
+        self.assertIn("first: 1 line is ignored, since it came before; 0 are new\n", self.done("add", "first").output)
+        self.write("more", "cleo A 1,2,3 B 1,2,3\ndan A 1,2,3 B 1,2,3\n")
+        self.assertIn("more: 1 line is ignored, since it came before; 1 is new\n", self.done("add", "more").output)
+        detail = {"files": ["more"], "lines": 2, "passed_over": 1}
+        self.assertEqual(self.acts()[-1], ("add", detail))
+
 
 class OneNameOfTwo(QuestionsTest):
     members = "who,name,mail\nMaximilian Mayer,max,\nMax,,max@club.example\nCleo,cleo,cleo@club.example\n"
