@@ -150,13 +150,13 @@ def letters_due(
     call_data, forced = call_data_of(election, history, kind, because)
     electors = {elector.number: elector for elector in queries.electors(book)}
     noted_before = outgoing.outgoing_letters(book, kind)
-    composer = Composer(call_data, is_over, electors.values())
+    composer = Composer(call_data, is_over)
     not_reached, _ = unreached_and_printed(election, history)
-    back = {elector.number for elector, why, _ in not_reached if why == CAME_BACK}
+    tried = {elector.number for elector, why, _ in not_reached if why in (WAS_REFUSED, CAME_BACK)}
     returned_ids = {
         letter.elector: letter.message_id
         for letter in noted_before
-        if letter.elector in back and is_present(letter, electors)
+        if letter.elector in tried and is_present(letter, electors)
     }.values()
     how = (kind, sender, is_sending, forced, electors, composer, noted_before, returned_ids)
     return of_kinds[kind](Run(election, history, time, *how))
