@@ -316,11 +316,11 @@ def agreed_in_secret(
     # these are the same for each
     words, acts = next((of_one.words, of_one.acts) for of_one in facts)
     texts = publication.texts_of(questions)
-    texts |= {"--about": words.about or "", "--because": words.because or ""}
+    texts |= {words.about or "": "--about", words.because or "": "--because"}
     texts |= {
-        f"--cast-by{label and f' of question {label}'}": by for label, by in words.cast_by.items()
+        by: f"--cast-by{label and f' of question {label}'}" for label, by in words.cast_by.items()
     }
-    texts |= {f"the reason for the act of {act_time(act.time)}": act.because or "" for act in acts}
+    texts |= {act.because or "": f"the reason for the act of {act_time(act.time)}" for act in acts}
     agreed = publication.agreed_texts(history, texts, is_agreed=is_agreed)
     compared = dict.fromkeys(name for of_one in facts for name in of_one.compared)
     if compared and not is_agreed:

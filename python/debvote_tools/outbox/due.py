@@ -47,8 +47,8 @@ class Run:
     composer: Composer
     # the letters of this kind that were written before
     noted_before: Sequence[OutgoingLetter]
-    # the Message-IDs of the last of them to each elector whom the call has not reached, since a letter
-    # came back or was refused
+    # the Message-IDs of the last of them to each elector whom the call has not reached, since a
+    # letter came back or was refused
     tried_again: Collection[str]
 
     @property

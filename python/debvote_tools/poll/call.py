@@ -156,8 +156,8 @@ class CallData:
         return self.questions.words(self.language)
 
     def without_ballots(self, text: str) -> str:
-        """A letter of which no line reads as a ballot of an elector. The letter to all has its bars by
-        this rule, too: its lines are known in answers to the letters to each.
+        """A letter of which no line reads as a ballot of an elector. The letter to all has its bars
+        by this rule, too: its lines are known in answers to the letters to each.
         """
         return self.questions.without_ballots(text, self.is_name, self.words)
 

@@ -609,8 +609,14 @@ class OfSecretVotes(OfElections):
         found = "these texts may tell" in ended.faults, ended.faults.count("  of <Ada>\n"), ended.status
         self.expect(f"a reason of --moved: {ended}", found, (True, 1, 9))
         self.expect("is an act, and no publication", [act.name for act in self.acts()[acts:]], ["moved"])
+        # and those of two acts of one second
+        with mock.patch("debvote_tools.text.times.now", return_value=self.acts()[-1].time):
+            for name in ("Ben", "Cleo"):
+                self.act("moved", {"why": "a copy", "noted": None, "there": {"act": acts}, "because": f"of <{name}>"})
+        self.stops("publish", "--force", said=["  of <Ben>\n", "  of <Cleo>\n"])
         self.say("publish", "--force", "--yes", status=1)
-        self.expect("the act keeps what was agreed to", self.acts()[-1].detail["agreed"], [hashlib.sha256(b"of <Ada>").hexdigest()])
+        agreed = [hashlib.sha256(f"of <{name}>".encode()).hexdigest() for name in ("Ada", "Ben", "Cleo")]
+        self.expect("the act keeps what was agreed to", self.acts()[-1].detail["agreed"], agreed)
         self.say("publish", "--language", "fr", status=1)
         code = queries.electors(self.book)[0].code
         self.write("about", f"x {code[:16]}\n{code[16:].upper()}\n")
