@@ -236,7 +236,12 @@ def doubts_of(
 # ---- what was done
 def acts_of(book: Book, history: History, *, is_secret: bool) -> list[Act]:
     """What the pages tell, with its times in the zone in which the end was announced."""
-    acts = [act._replace(time=act.time.astimezone(history.zone)) for act in history.acts]
+    # no publication: the same book has to make the same pages before its own act and after it
+    acts = [
+        act._replace(time=act.time.astimezone(history.zone))
+        for act in history.acts
+        if act.name != "publish"
+    ]
     found = list[Act]()
     for before, act in itertools.pairwise(acts):
         if act.went_back(before):

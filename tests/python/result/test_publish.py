@@ -194,6 +194,8 @@ class OfOpenVotes(OfElections):
         self.add("ada-lovelace 1,2,3\n")
         self.say("close", "--early")
         self.write("about", TEXT)
+        # also if the clock went back before it
+        self.set_clock("2020-12-05T09:00:00+01:00")
         self.say("publish", "--about", "about")
         files, acts = self.files(), len(self.acts())
         (self.folder / "about").unlink()
