@@ -185,7 +185,8 @@ def tell_published(
     history = election.history()
     if not history.is_closed:
         # where the page of the vote is, people still vote
-        tell(f"Next: {election.command('close')}, then {election.command('publish')} once more")
+        later = election.command("publish", str(other_place(target)))
+        tell(f"Next: {election.command('close')}, then {later}")
         return
     if tied := [label for label, one in outcomes.items() if one.sheet.winner is None]:
         ask = "it is a tie: ask for the casting vote, and then give its option, its holder and its day"
@@ -214,16 +215,17 @@ def demand_place(target_folder: pathlib.Path, history: History) -> None:
         sums = sums[-1:]
     if any(folder.is_publication(place, sum) for sum in sums):
         return
-    named = next(
-        one for one in (target_folder, place, pathlib.Path(RESULT)) if one.name not in ("", "..")
-    )
+    words = "what this election has published last, since its last close"
+    cure = f"name another folder, as {other_place(target_folder)}"
+    raise folder.in_use(target_folder, words, f"{cure}: no result is replaced by a later one")
+
+
+def other_place(target_folder: pathlib.Path) -> pathlib.Path:
+    """Where a result can be that may not replace the one in this folder."""
+    places = (target_folder, real_place(target_folder), pathlib.Path(RESULT))
+    named = next(one for one in places if one.name not in ("", ".."))
     others = (named.with_name(f"{named.name}-{number}") for number in itertools.count(2))
-    other = next(other for other in others if not os.path.lexists(other))
-    raise folder.in_use(
-        target_folder,
-        "what this election has published last, since its last close",
-        f"name another folder, as {other}: no result is replaced by a later one",
-    )
+    return next(other for other in others if not os.path.lexists(other))
 
 
 def would_differ(last: DoneAct) -> Fault:

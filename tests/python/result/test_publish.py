@@ -292,7 +292,7 @@ class OfOpenVotes(OfElections):
         self.stops("publish", said=[*told, "--force --because"])
         self.stops("publish", "--force", said=told)
         output = self.say("publish", "--force", "--because", "A <test>.\n\nNo more.", "--language", "en")
-        self.expect("no result ends the vote", output.splitlines()[-1], "Next: debvote-election close, then debvote-election publish once more")
+        self.expect("no result ends the vote", output.splitlines()[-1], "Next: debvote-election close, then debvote-election publish result-2")
         wanted = ["No elector has a ballot that counts: nobody's vote has decided this."]
         wanted += ["More than half of the lines of the ballot file are refused: 1 of 1."]
         self.expect("doubts", self.doubts(), [*wanted, "The vote was not closed when this page was made: more ballots may come in."])
@@ -303,6 +303,7 @@ class OfOpenVotes(OfElections):
         self.expect("it is in the act", [doubt["kind"] for doubt in self.acts()[-1].detail["doubts"]], ["no ballot", "mostly refused", "not closed"])
         self.add("ada-lovelace 1,2,3\n")
         self.say("close")
+        self.say(*output.split()[-2:])
         self.replace("--force", "--because", "nothing", "--language", "en")
         self.expect("half of the lines are refused", json.loads(self.files()["result.json"])["refused"], 1)
         self.expect("force where nothing stops", (self.doubts(), "nothing" in self.sections()["Result"].text()), ([], False))
