@@ -14,7 +14,9 @@ from debvote_tools.cli.console import act_time, odd_sign, tell
 from debvote_tools.book import queries
 from debvote_tools.book.election import (
     BOX_KEY,
+    CALL,
     LETTERS,
+    PRIVATE,
     RESULT,
     RESULT_LETTER,
     Election,
@@ -100,7 +102,7 @@ def publish(election: Election, arguments: Arguments) -> int:
     demand_countable(election, history)
     target = pathlib.Path(arguments.target) if arguments.target else election.path(RESULT)
     given = published_words(arguments, questions)
-    demand_place(target, history)
+    demand_place(election, target, history)
     before = history.last_publication
     again = before if given == PublishedWords(is_forced=arguments.force) else None
     words = given if again is None else PublishedWords(**again.detail["words"])
@@ -200,13 +202,15 @@ def tell_published(
         tell(f"Where it takes the place of the page, remove {SCRIPT} and {records_file(key)}.")
 
 
-def demand_place(target_folder: pathlib.Path, history: History) -> None:
+def demand_place(election: Election, target_folder: pathlib.Path, history: History) -> None:
     """Stops unless the place is free, or has what was published last: an earlier result, or that of
     another election, stays. After a run that was killed, its folder is beside the place, which has
-    what was published before.
+    what was published before. The folders of the call, the letters and the codes are no place for
+    it.
     """
     place = real_place(target_folder)
     folder.demand_outside(target_folder)
+    election.demand_outside(target_folder, CALL, LETTERS, PRIVATE)
     if folder.is_free(place):
         return
     sums = [act.detail["checksums"][CHECKSUMS] for act in history.publications][-2:]

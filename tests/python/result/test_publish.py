@@ -252,6 +252,11 @@ class OfOpenVotes(OfElections):
         for name in ("result-2/x", "result-2/x/y", "result-2/../result-2/x", "call/result"):
             inside = f"it would be in {self.folder / name.partition('/')[0]}, whose files are published as they are"
             self.stops("publish", name, said=[inside, "name a folder outside of it"], status=2, folder=name)
+        # nor to what goes to others, though it is not there
+        shutil.rmtree(self.folder / "call")
+        for name in ("call", "letters", "letters/x", "private", "private/x"):
+            inside = f"{name}: it would be in the folder {name.partition('/')[0]}, whose files go to others; nothing was published"
+            self.stops("publish", name, said=[inside], status=2, folder=name)
         self.expect("nothing was added to it", self.files("result-2") == files, True)
         self.say("publish", "--language", "fr", "result-2")
         self.expect("it takes the place of the last one", self.files("result-2") == files, False)
