@@ -13,7 +13,8 @@ from debvote_tools.book.book import NAME, ActName, Book, DoneAct, damaged, from_
 from debvote_tools.cli.arguments import Acting, demand_reason
 from debvote_tools.cli.console import ZONE, tell_aside
 from debvote_tools.debvote import Debvote
-from debvote_tools.cli.faults import Fault, Status, bad_words, stop_at
+from debvote_tools.cli.faults import NOTHING_CHANGED, Fault, Status, bad_words, stop_at
+from debvote_tools.files import real_place
 from debvote_tools.text.language import Language, language_of
 from debvote_tools.poll.questions import Questions, read_questions
 
@@ -290,6 +291,15 @@ class Election:
         if history.call is None:
             raise Fault(None, "there is no call for votes yet", f"run {self.command('call')} first")
         return history.call
+
+    def demand_outside(
+        self, target: pathlib.Path, *names: str, done: str = NOTHING_CHANGED
+    ) -> None:
+        """Stops at a place in one of these folders of the election, whether it is there or not."""
+        for name in names:
+            if real_place(target).is_relative_to(real_place(self.path(name))):
+                words = f"it would be in the folder {name}, whose files go to others"
+                raise bad_words(target, words, "name a place outside that folder", done)
 
     def to_all(self, kind: str, file: pathlib.Path) -> str:
         """How a letter goes to all: where nobody knows whose each code is, none can be written to an

@@ -236,7 +236,7 @@ def sealed_by(
             demand_no_code(name, content, codes)
         if sealed or LETTER_TEXT in files:
             # letter.txt begins the letter to all
-            texts = {**(texts_of(sealed.counted) if sealed else {}), LETTER_TEXT: letter_text}
+            texts = {**(texts_of(sealed.counted) if sealed else {}), letter_text: LETTER_TEXT}
             said["agreed"] = agreed_texts(election.history(), texts, is_agreed=arguments.yes)
     return files if keyring is None else {**files, KEYRING: keyring}
 

@@ -348,10 +348,7 @@ def backup(election: Election, arguments: BackupArguments) -> None:
 
 def demand_new(election: Election, target: pathlib.Path, what: str) -> None:
     """Stops if there is something, or a folder for others above it."""
-    place, nothing = target.absolute().resolve(), "nothing was written"
-    for name in (CALL, LETTERS, RESULT, PRIVATE):
-        if place.is_relative_to(election.path(name).absolute().resolve()):
-            words = f"it would be in the folder {name}, whose files go to others"
-            raise bad_words(target, words, "name a place outside that folder", nothing)
+    nothing = "nothing was written"
+    election.demand_outside(target, CALL, LETTERS, RESULT, PRIVATE, done=nothing)
     if os.path.lexists(target):
         raise bad_words(target, "it exists already", f"name a new {what}", nothing)

@@ -14,7 +14,9 @@ from debvote_tools.cli.console import act_time, odd_sign, tell
 from debvote_tools.book import queries
 from debvote_tools.book.election import (
     BOX_KEY,
+    CALL,
     LETTERS,
+    PRIVATE,
     RESULT,
     RESULT_LETTER,
     Election,
@@ -100,7 +102,7 @@ def publish(election: Election, arguments: Arguments) -> int:
     demand_countable(election, history)
     target = pathlib.Path(arguments.target) if arguments.target else election.path(RESULT)
     given = published_words(arguments, questions)
-    demand_place(target, history)
+    demand_place(election, target, history)
     before = history.last_publication
     again = before if given == PublishedWords(is_forced=arguments.force) else None
     words = given if again is None else PublishedWords(**again.detail["words"])
@@ -185,7 +187,8 @@ def tell_published(
     history = election.history()
     if not history.is_closed:
         # where the page of the vote is, people still vote
-        tell(f"Next: {election.command('close')}, then {election.command('publish')} once more")
+        later = election.command("publish", str(other_place(target)))
+        tell(f"Next: {election.command('close')}, then {later}")
         return
     if tied := [label for label, one in outcomes.items() if one.sheet.winner is None]:
         ask = "it is a tie: ask for the casting vote, and then give its option, its holder and its day"
@@ -199,13 +202,15 @@ def tell_published(
         tell(f"Where it takes the place of the page, remove {SCRIPT} and {records_file(key)}.")
 
 
-def demand_place(target_folder: pathlib.Path, history: History) -> None:
+def demand_place(election: Election, target_folder: pathlib.Path, history: History) -> None:
     """Stops unless the place is free, or has what was published last: an earlier result, or that of
     another election, stays. After a run that was killed, its folder is beside the place, which has
-    what was published before.
+    what was published before. The folders of the call, the letters and the codes are no place for
+    it.
     """
     place = real_place(target_folder)
     folder.demand_outside(target_folder)
+    election.demand_outside(target_folder, CALL, LETTERS, PRIVATE)
     if folder.is_free(place):
         return
     sums = [act.detail["checksums"][CHECKSUMS] for act in history.publications][-2:]
@@ -214,16 +219,17 @@ def demand_place(target_folder: pathlib.Path, history: History) -> None:
         sums = sums[-1:]
     if any(folder.is_publication(place, sum) for sum in sums):
         return
-    named = next(
-        one for one in (target_folder, place, pathlib.Path(RESULT)) if one.name not in ("", "..")
-    )
+    words = "what this election has published last, since its last close"
+    cure = f"name another folder, as {other_place(target_folder)}"
+    raise folder.in_use(target_folder, words, f"{cure}: no result is replaced by a later one")
+
+
+def other_place(target_folder: pathlib.Path) -> pathlib.Path:
+    """Where a result can be that may not replace the one in this folder."""
+    places = (target_folder, real_place(target_folder), pathlib.Path(RESULT))
+    named = next(one for one in places if one.name not in ("", ".."))
     others = (named.with_name(f"{named.name}-{number}") for number in itertools.count(2))
-    other = next(other for other in others if not os.path.lexists(other))
-    raise folder.in_use(
-        target_folder,
-        "what this election has published last, since its last close",
-        f"name another folder, as {other}: no result is replaced by a later one",
-    )
+    return next(other for other in others if not os.path.lexists(other))
 
 
 def would_differ(last: DoneAct) -> Fault:
@@ -316,11 +322,11 @@ def agreed_in_secret(
     # these are the same for each
     words, acts = next((of_one.words, of_one.acts) for of_one in facts)
     texts = publication.texts_of(questions)
-    texts |= {"--about": words.about or "", "--because": words.because or ""}
+    texts |= {words.about or "": "--about", words.because or "": "--because"}
     texts |= {
-        f"--cast-by{label and f' of question {label}'}": by for label, by in words.cast_by.items()
+        by: f"--cast-by{label and f' of question {label}'}" for label, by in words.cast_by.items()
     }
-    texts |= {f"the reason for the act of {act_time(act.time)}": act.because or "" for act in acts}
+    texts |= {act.because or "": f"the reason for the act of {act_time(act.time)}" for act in acts}
     agreed = publication.agreed_texts(history, texts, is_agreed=is_agreed)
     compared = dict.fromkeys(name for of_one in facts for name in of_one.compared)
     if compared and not is_agreed:

@@ -15,7 +15,7 @@ from debvote_tools.inbox.asked import unasked_fault
 from debvote_tools.inbox.fates import ANEW, COUNTS, NOBODY, Fate, fates_of
 from debvote_tools.inbox.rules import LetterOutcome
 from debvote_tools.inbox.stopping import pending_letters, what_stops
-from debvote_tools.outbox.reached import CAME_BACK, page_since, unreached_and_printed, unreached
+from debvote_tools.outbox.reached import NO_LETTER, page_since, unreached_and_printed, unreached
 from debvote_tools.outbox.words import Composer, Said
 from debvote_tools.poll.announced import address_in
 from debvote_tools.poll.call import CallData, current_call
@@ -47,9 +47,9 @@ class Run:
     composer: Composer
     # the letters of this kind that were written before
     noted_before: Sequence[OutgoingLetter]
-    # the Message-IDs of the last of them to each elector to whom the call came back: they are tried
-    # again
-    returned_ids: Collection[str]
+    # the Message-IDs of the last of them to each elector whom the call has not reached, since a
+    # letter came back or was refused
+    tried_again: Collection[str]
 
     @property
     def sender_name(self) -> str:
@@ -64,7 +64,7 @@ class Run:
         """Whether a server is to take a letter now: one to be printed has no address, and an
         elector's earlier address that refused one for good is not tried again.
         """
-        is_done = letter.state == TAKEN and letter.message_id not in self.returned_ids
+        is_done = letter.state == TAKEN and letter.message_id not in self.tried_again
         is_gone = letter.is_refused_for_good and not is_present(letter, self.electors)
         return bool(letter.address) and not is_done and not is_gone
 
@@ -150,15 +150,15 @@ def letters_due(
     call_data, forced = call_data_of(election, history, kind, because)
     electors = {elector.number: elector for elector in queries.electors(book)}
     noted_before = outgoing.outgoing_letters(book, kind)
-    composer = Composer(call_data, is_over, electors.values())
+    composer = Composer(call_data, is_over)
     not_reached, _ = unreached_and_printed(election, history)
-    back = {elector.number for elector, why, _ in not_reached if why == CAME_BACK}
-    returned_ids = {
+    tried = {elector.number for elector, why, _ in not_reached if why != NO_LETTER}
+    tried_again = {
         letter.elector: letter.message_id
         for letter in noted_before
-        if letter.elector in back and is_present(letter, electors)
+        if letter.elector in tried and is_present(letter, electors)
     }.values()
-    how = (kind, sender, is_sending, forced, electors, composer, noted_before, returned_ids)
+    how = (kind, sender, is_sending, forced, electors, composer, noted_before, tried_again)
     return of_kinds[kind](Run(election, history, time, *how))
 
 
@@ -266,8 +266,8 @@ def reminders_due(run: Run) -> LettersDue:
     silent = {
         number: elector for number, elector in run.electors.items() if elector.name not in counting
     }
-    # whose letter came back is reminded again, but not in the same run
-    run = dataclasses.replace(run, electors=silent, returned_ids=())
+    # whom a letter did not reach is reminded again, but not in the same run
+    run = dataclasses.replace(run, electors=silent, tried_again=())
 
     def says(elector: Elector, _: OutgoingLetter) -> Said:
         came = fates[elector.name]
@@ -298,7 +298,7 @@ def receipts_due(run: Run) -> LettersDue:
     earlier = [
         one
         for one in run.noted_before
-        if (one.state != TAKEN or one.message_id in run.returned_ids)
+        if (one.state != TAKEN or one.message_id in run.tried_again)
         and one.elector in to_tell
         and about_now(one.about, to_tell[one.elector])
     ]

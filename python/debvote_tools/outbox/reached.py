@@ -9,7 +9,7 @@ from debvote_tools.book.election import Election, History
 from debvote_tools.book.queries import Elector
 from debvote_tools.poll.announced import address_in
 
-WAS_REFUSED, CAME_BACK = "refused", "came back"
+NO_LETTER, WAS_REFUSED = "no letter", "refused"
 
 # an elector, why the call has not reached them, by what came last, and what the server said
 Unreached = tuple[Elector, str, str]

@@ -9,7 +9,7 @@ import dataclasses
 import datetime
 import functools
 import re
-from collections.abc import Collection, Iterator, Mapping, Sequence, Set
+from collections.abc import Iterator, Mapping, Sequence, Set
 from typing import NamedTuple
 
 from debvote_tools.book.queries import Elector
@@ -18,7 +18,6 @@ from debvote_tools.inbox.fates import COUNTS, REFUSED, TAKEN_BACK, Fate
 from debvote_tools.inbox.reasons import for_elector
 from debvote_tools.poll.announced import address_in
 from debvote_tools.poll.call import CallData
-from debvote_tools.poll.plain_names import without_accents
 from debvote_tools.text.ballots import faults_of
 from debvote_tools.text.language import marked
 from debvote_tools.text.rendering import one_line, render_letter
@@ -126,7 +125,6 @@ class Composer:
 
     call_data: CallData
     is_over: bool
-    electors: Collection[Elector] = ()
 
     def subject(self, kind: str, *, is_extension: bool = False) -> str:
         """The subject of a kind of letters, before the mark that ends it."""
@@ -190,21 +188,7 @@ class Composer:
             "is_whole": call.at is None or is_on_paper(elector),
         }
         text = render_letter(package, template, call.language, **own, **values)
-        return call.questions.without_ballots(text, self.is_name, call.words)
-
-    def is_name(self, word: str) -> bool:
-        """Whether a word is a name on the roll, or ends one or a real name, in whatever case."""
-        return self.folded(word) in self.names
-
-    @functools.cached_property
-    def names(self) -> frozenset[str]:
-        names = (
-            (one.name, one.name.split("-")[-1], *one.who.split()[-1:]) for one in self.electors
-        )
-        return frozenset(self.folded(word) for words in names for word in words)
-
-    def folded(self, word: str) -> str:
-        return without_accents(word, self.call_data.language.code).lower()
+        return call.without_ballots(text)
 
     def said_of(self, fate: Fate, name: str) -> str:
         """Says what became of something that came, with its time in the zone in which the end was

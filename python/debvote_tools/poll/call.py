@@ -5,7 +5,7 @@ import datetime
 import functools
 import re
 import urllib.parse
-from collections.abc import Callable, Iterable, Mapping
+from collections.abc import Callable, Collection, Iterable, Mapping
 from typing import Any
 
 from debvote_tools.book import queries
@@ -17,6 +17,7 @@ from debvote_tools.text.language import Language, marked
 from debvote_tools.text.motions import Words
 from debvote_tools.text.rendering import render_letter, render_page, resources
 from debvote_tools.poll import box
+from debvote_tools.poll.plain_names import without_accents
 from debvote_tools.poll.questions import Questions
 from debvote_tools.poll.sealed import SealedPoll, in_brackets
 
@@ -81,6 +82,7 @@ class CallData:
     has_codes_on_roll: bool = False
     # codes were given out with a call that was taken back
     has_lapsed_codes: bool = False
+    electors: Collection[Elector] = ()
 
     @property
     def is_by_name(self) -> bool:
@@ -153,6 +155,26 @@ class CallData:
         """Those of motions."""
         return self.questions.words(self.language)
 
+    def without_ballots(self, text: str) -> str:
+        """A letter of which no line reads as a ballot of an elector. The letter to all has its bars
+        by this rule, too: its lines are known in answers to the letters to each.
+        """
+        return self.questions.without_ballots(text, self.is_name, self.words)
+
+    def is_name(self, word: str) -> bool:
+        """Whether a word is a name on the roll, or ends one or a real name, in whatever case."""
+        return self.folded(word) in self.names
+
+    @functools.cached_property
+    def names(self) -> frozenset[str]:
+        names = (
+            (one.name, one.name.split("-")[-1], *one.who.split()[-1:]) for one in self.electors
+        )
+        return frozenset(self.folded(word) for words in names for word in words)
+
+    def folded(self, word: str) -> str:
+        return without_accents(word, self.language.code).lower()
+
     def form_of(self, name: str) -> list[str]:
         """A ballot with gaps in place of the ranks, where an elector is to write them: one line, or the
         name and each answer with its label.
@@ -202,7 +224,7 @@ def call_letter(call: CallData, *, is_extension: bool = False) -> str:
         is_on_paper=False,
         is_titled=False,
     )
-    return call.questions.without_ballots(text, lambda word: True, call.words)
+    return call.without_ballots(text)
 
 
 def call_page(call: CallData) -> bytes:
@@ -246,6 +268,7 @@ def current_call(
 ) -> CallData:
     """What the page and the letter say as it is now, and with what an act would say or seal."""
     now, saying, sealed = history or election.history(), said or {}, sealed or election.sealed()
+    electors = queries.electors(election.book)
 
     def value_of(key: str) -> Any:
         return saying.get(key) or now.announced(key)
@@ -257,7 +280,7 @@ def current_call(
         until=until_of(saying) or now.until,
         to=value_of("to"),
         at=value_of("at"),
-        real_names={elector.name: elector.who for elector in queries.electors(election.book)}
+        real_names={elector.name: elector.who for elector in electors}
         if value_of("names")
         else None,
         is_signed=bool(value_of("signed")),
@@ -268,6 +291,7 @@ def current_call(
         has_aliases=sealed.is_aliased,
         has_codes_on_roll=now.has_codes_on_roll,
         has_lapsed_codes=any(act.detail.get("codes") for act in now.named("take back")),
+        electors=electors,
     )
 
 

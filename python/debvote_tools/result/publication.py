@@ -236,7 +236,12 @@ def doubts_of(
 # ---- what was done
 def acts_of(book: Book, history: History, *, is_secret: bool) -> list[Act]:
     """What the pages tell, with its times in the zone in which the end was announced."""
-    acts = [act._replace(time=act.time.astimezone(history.zone)) for act in history.acts]
+    # no publication: the same book has to make the same pages before its own act and after it
+    acts = [
+        act._replace(time=act.time.astimezone(history.zone))
+        for act in history.acts
+        if act.name != "publish"
+    ]
     found = list[Act]()
     for before, act in itertools.pairwise(acts):
         if act.went_back(before):
@@ -327,29 +332,30 @@ def close_of(act: DoneAct, book: Book, history: History) -> dict[str, Any]:
 
 # ---- texts that a secret vote makes public
 def texts_of(questions: Questions) -> dict[str, str]:
-    """The texts of the options, by their files."""
+    """The files of the texts of the options, by these texts."""
     return {
-        f"{TEXTS}/{place_of(label, f'{number}.txt')}": text
+        text: f"{TEXTS}/{place_of(label, f'{number}.txt')}"
         for label, poll in questions.items()
         for number, text in enumerate(poll.explanations, start=1)
     }
 
 
 def agreed_texts(history: History, texts: Mapping[str, str], *, is_agreed: bool) -> list[str]:
-    """The checksums of the texts that are new, for the act that makes them public. Shows these, and
-    asks about them once, unless the command line agrees.
+    """The checksums of the texts that are new, for the act that makes them public. Shows these,
+    with where each is from, which two acts of one second share; and asks about them once, unless
+    the command line agrees.
     """
     known = {checksum for act in history.acts for checksum in act.detail.get("agreed", ())}
     new = {
-        checksum: where
-        for where, text in texts.items()
+        text: checksum
+        for text in texts
         if text.strip() and (checksum := sha256_of(text.encode())) not in known
     }
     if new and not is_agreed:
-        for where in new.values():
-            tell_aside(f"{where}:", *(f"  {line}" for line in texts[where].strip().split("\n")))
+        for text in new:
+            tell_aside(f"{texts[text]}:", *(f"  {line}" for line in text.strip().split("\n")))
         demand_yes("May everybody read this?", "these texts may tell who voted what")
-    return list(new)
+    return list(new.values())
 
 
 def demand_yes(question: str, why: str) -> None:

@@ -183,8 +183,8 @@ class Answering(LettersTest):
     call_words = ("--to", "vote@club.example", "--at", "https://club.example/vote")
 
     def test_our_letter_below_a_ballot_has_no_other_answer(self) -> None:
-        """As programs quote that mark nothing; the lines of the options stand so in our letter."""
-        self.write("letter.txt", "Dear all,\n\nsay\nYes!\nor\nada no\n")
+        """As programs quote that mark nothing; the lines of the options stand so in our letter, and those of letter.txt as its elector got them."""
+        self.write("letter.txt", "Dear all,\n\nPlease vote yes.\nsay\nYes!\nor\nada no\n")
         self.told("call")
         self.told("letters", "call")
         ours = {name: email.message_from_bytes(data, policy=email.policy.default) for name in ("ada", "ben") for data in self.contents().values() if f"To: {name}@".encode() in data}

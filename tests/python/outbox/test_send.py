@@ -92,6 +92,19 @@ class Sending(SendTest):
         self.assertEqual(self.not_reached(), {})
         self.assert_none_is_due("call")
 
+    def test_who_was_refused_after_the_call_gets_it_again(self) -> None:
+        """By the next run of it, since that names them until a letter is taken."""
+        self.assert_sent("call")
+        self.add_lines(f"cleo {RANKS}")
+        for kind, name in (("reminders", "ben"), ("receipts", "cleo")):
+            self.server.rcpt_answers = {f"{name}@club.example": "552 full"}
+            self.send(kind)
+            self.assertEqual(self.not_reached(), {name: "refused"})
+            self.server.rcpt_answers = {}
+            self.assertNotIn("Not reached", self.assert_sent("call", "Sent 1 of 1 letter.\n").output)
+            self.assertEqual((self.server.addresses()[-1], self.not_reached()), (f"{name}@club.example", {}))
+            self.assert_none_is_due("call")
+
     def not_reached(self) -> dict[str, str]:
         """Whom `status` names, in both of its forms, with the reason."""
         found, said = self.numbers()["not_reached"], self.told("status")

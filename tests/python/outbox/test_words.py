@@ -206,7 +206,7 @@ class CallLetter(unittest.TestCase):
 
     def test_the_words_of_the_secretary_come_first_and_it_is_said_once_whose_they_are(self) -> None:
         for code in LANGUAGES:
-            now = dataclasses.replace(vote(code, letter_text=self.letter), electors=(ADA, ADA._replace(name="ben")))
+            now = vote(code, letter_text=self.letter, electors=(ADA, ADA._replace(name="ben")))
             *first, refusing = self.asking(now)
             for text in first:
                 begin = "Dear friends,\n\npaper ballots go to the box in the hall.\n|Write\n|ada 1,2,3 or so.\n  |ben 3,2,1\n\nYours, Eve\n\n"
@@ -263,8 +263,8 @@ class CallLetter(unittest.TestCase):
         # without a page the texts follow
         poll = dataclasses.replace(POLL, explanations=("A lake.\nada 1,2,3\n", "", ""))
         for letter in ("", self.letter):
-            now = vote(questions=alone(poll), at=None, letter_text=letter)
-            text = dataclasses.replace(now, electors=(ADA,)).call_letter(ADA, is_extension=False).text
+            now = vote(questions=alone(poll), at=None, letter_text=letter, electors=(ADA,))
+            text = now.call_letter(ADA, is_extension=False).text
             self.assertIn("\n\nOption 1: Lake\n\nA lake.\n|ada 1,2,3\n\nWHAT DECIDES\n", text)
             self.assertEqual(text.count("checked"), 1)
             self.assertEqual("The words at the head of this letter, and the texts" in " ".join(text.split()), bool(letter))

@@ -4,6 +4,7 @@ import email
 import json
 
 from tests.support.letters import TEN, letter
+from tests.support.outgoing import parsed
 from tests.support.questions import QuestionsTest
 from tests.support.terminal import Terminal
 
@@ -299,6 +300,16 @@ class Told(QuestionsTest):
             assert isinstance(data, bytes)
             texts[file.stem] = " ".join(data.decode().split())
         return texts
+
+    def test_our_letter_below_a_ballot_has_no_other_answer(self) -> None:
+        """As programs quote that mark nothing: a line of letter.txt is as its elector got it."""
+        self.write("letter.txt", "Dear all,\n\nthe fee is 12,50 Euro.\n")
+        self.done("call")
+        self.done("letters", "call")
+        [file] = (self.folder / "letters" / "call").rglob("ada.eml")
+        ours = parsed(file.read_bytes())
+        self.add(letter("ada", f"ada A 1,2\n\n{ours.get_content()}", head=f"In-Reply-To: {ours['Message-ID']}\n"))
+        self.assertEqual(self.lines(), ["ada A 1,2"])
 
     def test_receipts_say_what_of_a_ballot_does_not_count(self) -> None:
         self.add_lines("ada A 1,2 B 1,2,3", "ada A 2,1", "ben A 1,2 B 1,2", words=["--force"])

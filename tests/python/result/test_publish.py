@@ -194,6 +194,8 @@ class OfOpenVotes(OfElections):
         self.add("ada-lovelace 1,2,3\n")
         self.say("close", "--early")
         self.write("about", TEXT)
+        # also if the clock went back before it
+        self.set_clock("2020-12-05T09:00:00+01:00")
         self.say("publish", "--about", "about")
         files, acts = self.files(), len(self.acts())
         (self.folder / "about").unlink()
@@ -250,6 +252,11 @@ class OfOpenVotes(OfElections):
         for name in ("result-2/x", "result-2/x/y", "result-2/../result-2/x", "call/result"):
             inside = f"it would be in {self.folder / name.partition('/')[0]}, whose files are published as they are"
             self.stops("publish", name, said=[inside, "name a folder outside of it"], status=2, folder=name)
+        # nor to what goes to others, though it is not there
+        shutil.rmtree(self.folder / "call")
+        for name in ("call", "letters", "letters/x", "private", "private/x"):
+            inside = f"{name}: it would be in the folder {name.partition('/')[0]}, whose files go to others; nothing was published"
+            self.stops("publish", name, said=[inside], status=2, folder=name)
         self.expect("nothing was added to it", self.files("result-2") == files, True)
         self.say("publish", "--language", "fr", "result-2")
         self.expect("it takes the place of the last one", self.files("result-2") == files, False)
@@ -290,7 +297,7 @@ class OfOpenVotes(OfElections):
         self.stops("publish", said=[*told, "--force --because"])
         self.stops("publish", "--force", said=told)
         output = self.say("publish", "--force", "--because", "A <test>.\n\nNo more.", "--language", "en")
-        self.expect("no result ends the vote", output.splitlines()[-1], "Next: debvote-election close, then debvote-election publish once more")
+        self.expect("no result ends the vote", output.splitlines()[-1], "Next: debvote-election close, then debvote-election publish result-2")
         wanted = ["No elector has a ballot that counts: nobody's vote has decided this."]
         wanted += ["More than half of the lines of the ballot file are refused: 1 of 1."]
         self.expect("doubts", self.doubts(), [*wanted, "The vote was not closed when this page was made: more ballots may come in."])
@@ -301,6 +308,7 @@ class OfOpenVotes(OfElections):
         self.expect("it is in the act", [doubt["kind"] for doubt in self.acts()[-1].detail["doubts"]], ["no ballot", "mostly refused", "not closed"])
         self.add("ada-lovelace 1,2,3\n")
         self.say("close")
+        self.say(*output.split()[-2:])
         self.replace("--force", "--because", "nothing", "--language", "en")
         self.expect("half of the lines are refused", json.loads(self.files()["result.json"])["refused"], 1)
         self.expect("force where nothing stops", (self.doubts(), "nothing" in self.sections()["Result"].text()), ([], False))
@@ -614,8 +622,14 @@ class OfSecretVotes(OfElections):
         found = "these texts may tell" in ended.faults, ended.faults.count("  of <Ada>\n"), ended.status
         self.expect(f"a reason of --moved: {ended}", found, (True, 1, 9))
         self.expect("is an act, and no publication", [act.name for act in self.acts()[acts:]], ["moved"])
+        # and those of two acts of one second
+        with mock.patch("debvote_tools.text.times.now", return_value=self.acts()[-1].time):
+            for name in ("Ben", "Cleo"):
+                self.act("moved", {"why": "a copy", "noted": None, "there": {"act": acts}, "because": f"of <{name}>"})
+        self.stops("publish", "--force", said=["  of <Ben>\n", "  of <Cleo>\n"])
         self.say("publish", "--force", "--yes", status=1)
-        self.expect("the act keeps what was agreed to", self.acts()[-1].detail["agreed"], [hashlib.sha256(b"of <Ada>").hexdigest()])
+        agreed = [hashlib.sha256(f"of <{name}>".encode()).hexdigest() for name in ("Ada", "Ben", "Cleo")]
+        self.expect("the act keeps what was agreed to", self.acts()[-1].detail["agreed"], agreed)
         self.say("publish", "--language", "fr", status=1)
         code = queries.electors(self.book)[0].code
         self.write("about", f"x {code[:16]}\n{code[16:].upper()}\n")
