@@ -227,7 +227,7 @@ class CallLetter(unittest.TestCase):
 
     def test_what_one_letter_says_and_another_does_not(self) -> None:
         of_box = vote(has_box=True)
-        letters = [" ".join(of_box.call_letter(one, is_extension=False).split()) for one in (ADA, ADA._replace(mark=""), GUS)]
+        letters = [" ".join(of_box.call_letter(one, is_extension=False).text.split()) for one in (ADA, ADA._replace(mark=""), GUS)]
         # without an own mark the link is nobody's, and only the page is where a ballot is sent
         self.assertEqual(["Open the link, choose, and press Vote" in text for text in letters[:2]], [True, False])
         seen = "Whoever keeps this web site sees each ballot when it is sent here."
@@ -236,7 +236,7 @@ class CallLetter(unittest.TestCase):
         poll = dataclasses.replace(POLL, explanations=("A lake.", "", ""))
         motion = SealedPoll("Fee", ("Yes",), (1,), "No", 0, ("ada", "ben"), motion=True)
         now = vote(questions=Questions({"A": poll, "B": motion}, "Meeting"), quorum_votes={"A": 1, "B": 0})
-        call, extension = (" ".join(now.call_letter(GUS, is_extension=is_extension).split()) for is_extension in (False, True))
+        call, extension = (" ".join(now.call_letter(GUS, is_extension=is_extension).text.split()) for is_extension in (False, True))
         self.assertEqual([text.count("A lake.") for text in (call, extension)], [1, 0])
         whose = "The texts about the options are those of whoever sends this letter."
         self.assertEqual([whose in text for text in (call, extension)], [True, False])
