@@ -221,7 +221,7 @@ class CallLetter(unittest.TestCase):
             self.assertTrue(now.reminder(ADA, [WAITS]).text.startswith(begin))
 
     def test_a_name_is_one_on_the_roll_or_the_end_of_it_or_of_a_real_name(self) -> None:
-        now = dataclasses.replace(vote(), electors=(ADA._replace(name="ada-ley", who="Ad\u00e8le B. Lovelace"),))
+        now = dataclasses.replace(vote().call_data, electors=(ADA._replace(name="ada-ley", who="Ad\u00e8le B. Lovelace"),))
         words = ("ada-ley", "LEY", "lovelace", "Ada", "Ad\u00e8le", "B.")
         self.assertEqual([now.is_name(word) for word in words], [True, True, True, False, False, False])
 
