@@ -189,13 +189,12 @@ def by_time(ballot: Ballot | Envelope) -> tuple[datetime.datetime, int]:
 
 
 # ---- envelopes by conditions
-# conditions on envelopes, where `answer` is why debvote refuses a line; on those that an `undo` took back, which
-# never came: a `strike` before it holds; and on acts that none took back
+# conditions on envelopes, where `answer` is why debvote refuses a line; those that an `undo` took back never came, but
+# a `strike` before it holds
 TO_COUNT, LATE = "NOT late AND struck IS NULL", "late AND struck IS NULL"
 VALID_OR_LATE = "struck IS NULL AND answer IS NULL"
 REFUSED = f"{TO_COUNT} AND answer IS NOT NULL"
 UNDONE = "envelope IN (SELECT envelope FROM struck JOIN act USING (act) WHERE name = 'undo')"
-NOT_UNDONE = "act NOT IN (SELECT json_extract(detail, '$.act') FROM act WHERE name = 'undo')"
 
 # the late envelopes of which no new one stands that a `reopen` entered as in time
 LEFT_LATE = f"{LATE} AND became = 'late'"
@@ -363,7 +362,7 @@ def entered_by_hand(book: Book) -> dict[int, list[str]]:
     """
     words = f"""SELECT value, NULL FROM ({BY_HAND}) UNION ALL
 SELECT CAST(its.key AS INTEGER), ballot.value FROM act, json_each(detail, '$.left_out') AS its, json_each(its.value) AS ballot
-WHERE name = 'enter' AND {NOT_UNDONE}"""
+WHERE name = 'enter' AND act NOT IN (SELECT detail ->> '$.act' FROM act WHERE name = 'undo')"""
     return {
         number: [*filter(None, ballots)] for number, ballots in grouped(book.rows(words)).items()
     }
@@ -374,10 +373,9 @@ WHERE name = 'enter' AND {NOT_UNDONE}"""
 MOST_LOOKED_FOR = 200
 
 
-def last_entering_act(book: Book) -> int | None:
-    """The last act that entered lines of which one is not struck; None if there is none."""
-    number: int | None = book.value("SELECT max(act) FROM entered WHERE struck IS NULL")
-    return number
+def last_entering_act(book: Book) -> int:
+    """The last act that entered lines of which one is not struck; 0 if there is none."""
+    return int(book.value("SELECT coalesce(max(act), 0) FROM entered WHERE struck IS NULL"))
 
 
 def of_electors(electors: Collection[int] | None) -> tuple[str, Sequence[str]]:

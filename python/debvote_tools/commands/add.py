@@ -161,7 +161,7 @@ def what_is_added(vote: Vote, files: Sequence[FileLines], arguments: Arguments) 
     detail: Detail = {
         "files": [file.file.kept_name for file in new.files],
         "lines": len(new.lines),
-        "passed_over": sum(map(ignored_in, new.files)),
+        "passed_over": sum(that_came(line for line, _ in file.repeated) for file in new.files),
     }
     came_before_close = entering.came_before_close(new.history, arguments.came_before_close)
     if came_before_close is not None:
@@ -401,10 +401,6 @@ def that_came(lines: Iterable[CheckedLine]) -> int:
     return len({line.original.where for line in lines})
 
 
-def ignored_in(file: ComparedLines) -> int:
-    return that_came(line for line, _ in file.repeated)
-
-
 def cure_of(vote: Vote, file: FileLines) -> str:
     head = file.file.data.removeprefix(MARK).lstrip().partition(b"\n")[0].decode("utf-8", "replace")
     if MEMBERS_HEADS <= {cell.strip(' \t\r"').casefold() for cell in re.split("[,;\t]", head)}:
@@ -428,13 +424,13 @@ def report_of_files(
 
 
 def repeated_words(file: ComparedLines) -> Iterator[str]:
-    if not (count := ignored_in(file)):
+    if not (count := that_came(line for line, _ in file.repeated)):
         return
     ignored = "is ignored, since it" if count == 1 else "are ignored, since they"
     new = that_came(file.new)
-    are_new = f"{new} {'is' if new == 1 else 'are'} new"
-    yield f"{file.name}: {count_of(count, 'line')} {ignored} came before; {are_new}"
-    changed = [(line, change) for line, change in file.repeated if change is not None]
+    before = f"{count_of(count, 'line')} {ignored} came before"
+    yield f"{file.name}: {before}; {new} {'is' if new == 1 else 'are'} new"
+    changed = [(line, change) for line, change in file.repeated if change]
     for line, change in changed[:MAX_REPEATED]:
         yield f"  {line.original.where}: `{shown_line(line.as_entered)}` came before, and {change}"
     if len(changed) > MAX_REPEATED:

@@ -64,8 +64,8 @@ def undo(election: Election, arguments: UndoArguments) -> None:
 
 def what(act: DoneAct, numbers: Sequence[int]) -> str:
     files = f" of {', '.join(act.detail['files'])}" if act.detail.get("files") else ""
-    which = f"{act_time(act.time)}, {envelope_words(numbers)}"
-    return f"{count_of(len(numbers), 'line')} (act {act.number}: {act.name}{files}, {which})"
+    which = f"act {act.number}: {act.name}{files}, {act_time(act.time)}, {envelope_words(numbers)}"
+    return f"{count_of(len(numbers), 'line')} ({which})"
 
 
 def what_is_taken_back(vote: Vote, arguments: UndoArguments) -> TakenBack:
@@ -77,7 +77,7 @@ def what_is_taken_back(vote: Vote, arguments: UndoArguments) -> TakenBack:
         history = election.history()
         demand_open(election, history)
         number = queries.last_entering_act(book)
-        if number is None:
+        if not number:
             words = "there is nothing to take back"
             raise Fault("undo", words, f"see {election.command('status')}")
         envelopes = queries.envelopes(book, "act = ? AND struck IS NULL", number)
@@ -117,19 +117,20 @@ def what_else_changes(book: Book, struck: Sequence[int], letters: Sequence[int])
         yield f"These electors have receipts that are no longer true: {', '.join(names)}"
 
 
-def words_to_enter(vote: Vote, found: Mapping[int, LetterCase], change: TakenBack) -> Sequence[str]:
+def words_to_enter(vote: Vote, found: Mapping[int, LetterCase], change: TakenBack) -> list[str]:
     """What is typed after `held` to enter again what was taken back; empty if no one command does it."""
-    words = [*map(str, change.letters), "--enter"]
-    [letter, *others] = [found[number] for number in change.letters]
+    numbers = [*change.letters]
+    [letter, *others] = [found[number] for number in numbers]
     # lines are of one letter
     its = [one for one in letter.entered if one.number in change.struck and not others]
     lines = ",".join(dict.fromkeys(line_of(letter, one) for one in its))
-    for enter in (held.THE_ONE, lines) if len(others) < MOST_NAMED else ():
-        how = {"numbers": [*change.letters], "enter": [enter], "force": False, "yes": True}
+    for words in (list[str](), [lines]) if len(others) < MOST_NAMED else ():
+        enter = words or [held.THE_ONE]
+        how = held.Arguments(numbers=numbers, enter=enter, force=False, yes=True)
         with contextlib.suppress(Fault):
-            held.what_is_entered(vote, [*found.values()], held.Arguments(**how))
-            return words if enter == held.THE_ONE else [*words, enter]
-    return ()
+            held.what_is_entered(vote, [*found.values()], how)
+            return [*map(str, numbers), "--enter", *words]
+    return []
 
 
 def line_of(letter: LetterCase, ballot: EnteredBallot) -> str:

@@ -61,8 +61,8 @@ class Desk:
     is_over: bool = False
     # the lines that came at a pipe, until one of them is a ballot
     above: list[Line] | None = dataclasses.field(default_factory=list[Line])
-    # what was told last of an end or a close
-    notes: list[str] = dataclasses.field(default_factory=list)
+    # what was said last of an end or a close that has passed
+    notes: Sequence[str] = ()
 
     @functools.cached_property
     def texts(self) -> list[tuple[Elector, str]]:
@@ -74,12 +74,6 @@ class Desk:
         """If the vote was opened again, asks once whether what is cast came before the first close."""
         if self.came_before_close is None:
             self.came_before_close = entering.came_before_close(history, self.answer)
-
-    def new_notes(self) -> list[str]:
-        """What is told, once, of lines that are entered after the end, which may pass meanwhile, or a close."""
-        election, told = self.vote.election, self.notes
-        self.notes = entering.late_notes(election, election.history(), "what is entered")
-        return self.notes if self.notes != told else []
 
     @functools.cached_property
     def names(self) -> Names:
@@ -144,8 +138,11 @@ class Casting(Entry):
 
     def words(self, numbers: range, replies: Sequence[str]) -> Iterator[str]:
         self.desk.replies += replies
-        # of a late line its reply says so
-        yield from () if self.is_late else self.desk.new_notes()
+        election, told = self.vote.election, self.desk.notes
+        self.desk.notes = entering.late_notes(election, election.history(), "what is entered")
+        # the end may pass while a desk is open; of a late line its reply says so
+        if not (told or self.is_late):
+            yield from self.desk.notes
         yield from self.vote.report_of_lines(self.lines, numbers, replies)
 
 
@@ -190,7 +187,8 @@ def desk(election: Election, arguments: Arguments) -> None:
         labels = ", ".join(vote.names.labels) or "none: this vote has one question"
         raise bad_words("--question", f"the labels are {labels}", "give one of them")
     desk, history = Desk(vote, arguments.came_before_close), election.history()
-    tell(*desk.new_notes())
+    desk.notes = entering.late_notes(election, history, "what is entered")
+    tell(*desk.notes)
     if desk.vote.is_signed:
         words = "in this vote letters must be signed, and a desk checks no signature"
         tell(f"Note: {words}: enter only ballots on paper or by word of mouth.")

@@ -188,6 +188,7 @@ def what_next(election: Election, history: History, state: State) -> str:
     if state["stage"] == "published" and not state["stopping"]:
         send = election.to_all("result", election.path(LETTERS) / RESULT_LETTER)
         return f"put the published folder on the web site as it is, then {send}"
+    # what stops a count goes first
     is_unasked = unasked_fault(election, history, "count")
     first = f"{election.command('add', '--box')}, then " if is_unasked else ""
     first += f"{election.command('held')}, then " if state["stopping"] else ""

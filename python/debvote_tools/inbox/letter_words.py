@@ -151,15 +151,12 @@ def why(letter: LetterCase, elector: str = "") -> str:
 
 
 def near_words(letter: LetterCase) -> Iterator[str]:
-    # of a letter that was entered they say how it was read
-    entered = letter.entered_answers if letter.is_pending else {}
     for line in letter.lines_to_enter:
-        ballot, shown = line.as_entered, ""
-        if letter.left:
-            shown = letter.left_in(ballot)
-        elif not line.answers <= entered.keys():
-            shown = without(ballot, letter.answered_since[ballot]) or ballot
-        if shown:
+        # of a letter that does not wait they say how it was read
+        if letter.is_pending and line.answers <= letter.entered_answers.keys():
+            continue
+        left = without(line.as_entered, letter.answered_since[line.as_entered]) or line.as_entered
+        if shown := letter.left_in(line.as_entered) if letter.left else left:
             yield f"line {line.number}: {shown}"
     for typed in filter(None, map(letter.left_in, letter.left_out)):
         yield f"left out of what was typed: {typed}"

@@ -173,12 +173,12 @@ def what_goes_in(
 
 def tell_next(change: GoingIn) -> None:
     election = change.vote.election
-    undo = f"; {election.command('undo')} takes back what was entered last"
-    waiting = f"{election.command('held')}, which lists the letters that wait"
-    is_waiting = any(letter.outcome is LetterOutcome.WAITS for letter in change.found)
-    following = waiting if is_waiting else election.command("status")
-    can_undo = not election.history().is_closed and queries.last_entering_act(election.book)
-    tell(f"Next: {following}{undo if can_undo else ''}")
+    following = election.command("status")
+    if any(letter.outcome is LetterOutcome.WAITS for letter in change.found):
+        following = f"{election.command('held')}, which lists the letters that wait"
+    if not election.history().is_closed and queries.last_entering_act(election.book):
+        following += f"; {election.command('undo')} takes back what was entered last"
+    tell(f"Next: {following}")
 
 
 def tell_letters(vote: Vote, found: Sequence[LetterCase]) -> None:

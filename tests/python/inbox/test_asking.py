@@ -246,8 +246,7 @@ class Dishonest(AskingTest):
             *(
                 (
                     answered(re.sub(rb" 20\d\d-", f" {year}-".encode(), good)),
-                    f"by its clock it is {year}-",
-                    "set its clock",
+                    "it does not answer as a box: box 1 ",
                 )
                 for year in ("0001", "1970", "2100", "9999")
             ),

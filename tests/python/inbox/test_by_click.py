@@ -420,7 +420,7 @@ class Clicks(boxes.BoxElectionTest):
             said = f"box 1 {mark} {list_digest(true)} {time_}Z\n"
             size = f"header('Content-Length: {len(said)}')"
             script.write_text(f"<?php {size}; echo '{said}';")
-            why = f"by its clock it is {time_}Z, which can't be; nothing was added: "
+            why = f"it does not answer as a box: {said[:20]}"
             self.assert_fault(self.election("add", "--box", "--yes"), 9, why)
         script.write_bytes(true)
         self.assertEqual(len(self.boxes_kept()), 1)
