@@ -6,8 +6,14 @@ import datetime
 def set_clock(time: str) -> None:
     """Sets the clock to this time, which has its offset; from then on it runs like that of the computer."""
     shift = datetime.datetime.fromisoformat(time) - datetime.datetime.now(datetime.UTC)
+    known = datetime.datetime
 
-    class Clock(datetime.datetime):
+    class Kind(type):
+        def __instancecheck__(cls, value: object) -> bool:
+            """A time is one, too, that was read by what was kept from before, as in the test of which this process is a fork."""
+            return isinstance(value, known)
+
+    class Clock(datetime.datetime, metaclass=Kind):
         @classmethod
         def now(cls, tz: datetime.tzinfo | None = None) -> datetime.datetime:
             real = super().now(datetime.UTC) + shift
