@@ -460,6 +460,8 @@ class Rewritten(BookTest):
     def test_no_act_adopts_rows(self) -> None:
         """Rows with the number of the act to come, or of one after it, stop it, in whatever table they are."""
         self.fill_each_table()
+        # a line that stands beside the one that is struck: else there is nothing to take back
+        self.done("desk", given="hal 4,3,2,1\n")
         whole = self.read("election.db")
         [(last,)] = self.rows("SELECT max(act) FROM act")
         tables = [name for name, in self.rows("SELECT name FROM sqlite_schema WHERE type = 'table' AND name <> 'act'")]

@@ -293,12 +293,14 @@ class Adding(LettersTest):
         self.add(letter("ada", f"ada {RANKS}"))
         self.told("held", 1, "--enter", "--force")
         self.assertIn("; debvote-election held lists these letters\n", self.told("undo", "--yes"))
-        # another ballot of the same time, and the mark of another vote
-        self.add(letter("ben", f"ben {RANKS}", number=2), letter("ben", f"ben {OTHER}", number=3), letters.letter("cleo", f"cleo {RANKS}", head="Subject: x [0123456789abcdef]\n"))
-        self.told("held", 2, "--enter")
+        # nor one of the time of another ballot, or with the mark of another vote
+        wordy = letter("ben", f"I thought about it for 3 days:\n\nben {OTHER}", number=3)
+        other = letters.letter("cleo", f"cleo {RANKS}", head="Subject: x [0123456789abcdef]\n")
+        self.add(letter("ben", f"ben {RANKS}", number=2), wordy, other)
         for number in (3, 4):
-            self.assertEqual(self.election("held", number, "--enter").status, 9)
-            self.told("held", number, "--enter", "--force")
+            words = ("held", number, "--enter", *(["3"] if number == 3 else []))
+            self.assertEqual(self.election(*words).status, 9)
+            self.told(*words, "--force")
             self.assertIn("; debvote-election held lists these letters\n", self.told("undo", "--yes"))
 
     def test_undo_and_strike_of_ballots_of_letters(self) -> None:
