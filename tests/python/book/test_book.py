@@ -477,7 +477,7 @@ class Rewritten(BookTest):
                 self.assertEqual(self.rows("SELECT max(act) FROM act"), [(last,)])
             self.book.write_bytes(whole)
         # after that each command that acts, and the book stays as it is
-        self.sql(f"INSERT INTO source (act, name, data) VALUES ({last + 1}, 'more', x'')")
+        self.sql(f"INSERT INTO struck VALUES (1, {last + 1})")
         changed = self.read("election.db")
         self.write("more", "hal 1,2,3,4\n")
         for words in (("add", "--yes", "more"), ("undo", "--yes"), ("held", "1", "--wait"), ("close",), ("call", "--at", "https://x.example/")):
