@@ -143,6 +143,20 @@ class Texts(unittest.TestCase):
         for without, *others in zip(*[iter(texts)] * 3):
             self.assertEqual(others, [without, without])
 
+    def test_of_a_letter_of_two_each_is_told_of_the_own_ballot(self) -> None:
+        """What of the other's ballot was left out, is left or was typed is not told; and what was left out of one that is struck does not matter."""
+        now = vote(questions=Questions({label: POLL for label in "ABC"}, "Meeting"), quorum_votes=dict.fromkeys("ABC", 1))
+        typed = EnteredBallot(2, "ben A 1,2,3", is_late=False, is_struck=False, is_taken_back=False, is_typed=True)
+        letter = came_letter(None, entered=[typed._replace(number=1, is_typed=False), typed], not_entered={("ada", "A"), ("ada", "B"), ("ben", "B"), ("ben", "C")}, left={("ada", "B"), ("ben", "C")})
+        there = Envelope(1, 1, 1, b"ada C 1,2,3", None, 1, "", TIME, False, None)
+        left_out, left, by_hand = "not entered, since you had later ones: {}.", "not entered yet: {}.", "The secretary typed it"
+        for name, number, labels in (("ada", 1, "AB"), ("ben", 2, "BC")):
+            told = now.said_of(Fate(TIME, "counts", there._replace(number=number), came_by=letter), name)
+            self.assertEqual([said.format(f"{label} (Spring)") in told for said, label in zip((left_out, left), labels)], [True, True], told)
+            self.assertEqual((told.count("(Spring)"), by_hand in told), (2, number == 2), told)
+            struck = now.said_of(Fate(TIME, "struck", there._replace(number=number, struck=9), came_by=letter), name)
+            self.assertEqual((struck.count("(Spring)"), by_hand in struck), (0, number == 2), struck)
+
     def test_of_a_result(self) -> None:
         """The letter for all, and within it, behind the winner, the own ballot and where the result is."""
         rest = "THE FILES OF THE RESULT\n\nDownload them.\n"
