@@ -255,6 +255,9 @@ class CallLetter(unittest.TestCase):
         whose = "The texts about the options are those of whoever sends this letter."
         self.assertEqual([whose in text for text in (call, extension)], [True, False])
         self.assertEqual(call.count("(or in place of the ranks one word: "), 1)
+        # the quorum of a question has its title before it, where the rest is on the page
+        by_mail = " ".join(now.call_letter(ADA, is_extension=False).text.split())
+        self.assertIn("Question A: Spring The quorum is 1 vote: at least 1 elector must prefer an option to the default option.", by_mail)
 
     def test_greeting_mark_and_texts(self) -> None:
         """By the secretary's own words, or by the name where these do not greet."""
