@@ -10,8 +10,8 @@ import time
 from unittest import mock
 
 from debvote_tools.debvote import Debvote
-from debvote_tools.files import left_beside
-from debvote_tools.result.folder import NewFolder
+from debvote_tools.files import left_beside, remove_left
+from debvote_tools.result.folder import BESIDE_PLACE, NewFolder
 
 from tests.support import page_parts, publishing
 
@@ -154,9 +154,17 @@ class RefusedTest(publishing.PublishTest):
         place = self.scratch / "before" / "result"
         place.mkdir(parents=True)
         (place / "index.html").touch()
-        with self.assertRaises(FileNotFoundError):
-            NewFolder(self.scratch / "before" / "none").take_place(place)
-        self.expect("what is there", [list(place.parent.iterdir()), list(place.iterdir())], [[place], [place / "index.html"]])
+
+        def after_another_run(target):
+            """What is aside for a moment is not taken for what a killed run has left."""
+            remove_left(target, BESIDE_PLACE)
+            raise FileNotFoundError
+
+        late = mock.Mock(rename=after_another_run)
+        for new in (self.scratch / "before" / "none", late):
+            with self.assertRaises(FileNotFoundError):
+                NewFolder(new).take_place(place)
+            self.expect("what is there", [list(place.parent.iterdir()), list(place.glob("*"))], [[place], [place / "index.html"]])
 
     def test_the_program_beside_is_taken_first(self):
         (self.scratch / "debvote").touch(0o755)
