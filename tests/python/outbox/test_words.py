@@ -365,6 +365,15 @@ class Printed(unittest.TestCase):
                     self.assertIn(now.call_data.language.say(head).upper(), text)
                 self.assertEqual(f"{at}#{GUS.name}/{GUS.mark}" in text, at is not None)
                 printed.append((now, text))
+            # the longest that has them fills its two sides
+            for lines in itertools.count(30):
+                poll = dataclasses.replace(POLL, explanations=("A meadow with room for forty tents.\n" * lines, "", ""))
+                now = vote(code, questions=alone(poll))
+                text, longest = now.call_letter(GUS, is_extension=False).text, text
+                if "forty tents" not in text:
+                    break
+            self.assertEqual((longest.count("forty tents"), longest.count("\n")), (lines - 1, 112), code)
+            printed.append((now, longest))
         self.assert_sides(printed)
 
     def test_on_paper_the_ballot_is_cut_off_and_has_no_code(self) -> None:
@@ -424,7 +433,7 @@ class Bytes(unittest.TestCase):
             self.assertEqual((address.display_name, address.addr_spec), (on_one_line(name), "vote@club.example"))
             self.assertEqual((found["To"], found["Bcc"]), ("ada@club.example", None))
         # no encoded word is longer than 75 characters, and no line with one longer than 76
-        for name in ("\u00e4" * 100, "\u00e4 b " * 24 + "c", "\u65e5" * 100, "B\u00fc" * 14):
+        for name in ("\u00e4" * 100, "\u00e4 b " * 24 + "c", "\u65e5" * 100, "B\u00fc" * 14, *("\u00fc" + "x" * number for number in (32, 33))):
             data = self.message("text\n", sender_name=name)
             sender = email.header.decode_header(email.message_from_bytes(data)["From"])
             self.assertEqual(str(email.header.make_header(sender)), f"{name} <vote@club.example>")
