@@ -207,8 +207,9 @@ class Adding(LettersTest):
         result = ("letters", "result", "--at", "https://club.example/vote")
         self.told(*result)
         self.add(ben)
-        for words in (("count",), ("publish",), (*result[:-1], "https://club.example/other")):
-            self.assert_refused(words, 9, "these letters arrived in time, and wait: 2;", "reopen --because TEXT")
+        anyway = "or count without them with --force", "nothing was published", "or publish without them, with --force --because TEXT"
+        for words, how in zip((("count",), ("publish",), (*result[:-1], "https://club.example/other")), anyway):
+            self.assert_refused(words, 9, "these letters arrived in time, and wait: 2;", "reopen --because TEXT", how)
         self.told("held", 2, "--set-aside")
         self.told(*result)
         self.assertEqual(self.exported(), (f"ada {RANKS}\n", ""))
