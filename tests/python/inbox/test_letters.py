@@ -751,6 +751,13 @@ class InTime(LettersTest):
         self.assertEqual(self.read("result-2/index.html").decode().count(said), 2)
         self.add(letter("fay", "hello"))
         self.assert_fault(self.election("publish", "result-2"), 9, "these letters arrived in time, and wait: 2;")
+        # one that waits again is told, too, if the last close does not tell it
+        self.told("reopen", "--because", "another bag")
+        self.told("held", 1, 2, "--set-aside")
+        self.told("close")
+        self.told("held", 1, 2, "--wait")
+        self.assertEqual(self.numbers()["stopping"], [2])
+        self.assert_fault(self.election("publish", "result-3"), 9, "these letters arrived in time, and wait: 1, 2;")
 
 
     def test_one_that_arrived_at_no_known_time(self) -> None:
