@@ -8,7 +8,7 @@ from debvote_tools.result.facts import Act
 from debvote_tools.result.page import share
 from debvote_tools.result.sheet import sheet_in
 from debvote_tools.result.why import Why
-from debvote_tools.text.ballots import ballots_in_words, line_of, part_of, ranks_by_label
+from debvote_tools.text.ballots import ballot_lines, ballots_in_words, line_of, part_of, ranks_by_label
 from debvote_tools.text.language import ENGLISH, language_of
 from debvote_tools.text.rendering import templates_of
 
@@ -73,6 +73,11 @@ class WordsTest(expecting.Expecting):
             parts = {label: part_of(f"ada {answers}".encode(), label) for label in by_label}
             self.expect(f"the parts of {answers}", parts, {label: f"ada {ranks}".encode() for label, ranks in by_label.items()})
             self.expect(f"no part of {answers}", part_of(f"ada {answers}".encode(), "B"), None)
+
+    def test_the_lines_of_a_file(self):
+        """Empty ones at its end are lines, too, which debvote refuses by their numbers."""
+        for data, lines in ((b"", []), (b"\n", [b""]), (b"ada 1,2", [b"ada 1,2"]), (b"ada 1,2\n\n\n", [b"ada 1,2", b"", b""])):
+            self.expect(f"{data}", ballot_lines(data), lines)
 
     def test_who_is_for_an_option(self):
         said = "For: how many prefer the option to the default option, {option}. Against: the reverse. The mark: what it needs."
