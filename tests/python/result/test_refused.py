@@ -137,7 +137,12 @@ class RefusedTest(publishing.PublishTest):
         twice = publishing.plain_room(self.scratch / "twice", poll=poll, ballots=f"{roll[0]} 1,2,3\n{roll[1]} 2,1,3\n{roll[0]} 2,1,3\n")
         _, faults, status = publishing.publish(twice, *publishing.FILES, "result")
         self.expect(f"an alias twice: {faults}", ("a line of this secret vote does not count, or counts more than once" in faults, status), (True, 9))
-        room = publishing.plain_room(self.scratch / "aliases", poll=poll, ballots=f"{roll[1]} 2,1,3\n{roll[0]} 1,2,3\n{roll[2]} 1,2,3\n")
+        once = f"{roll[1]} 2,1,3\n{roll[0]} 1,2,3\n{roll[2]} 1,2,3\n"
+        # whoever publishes a secret vote leaves out what is late
+        late = publishing.plain_room(self.scratch / "late", poll=poll.replace("secret", "last_envelope = 3\nsecret"), ballots=once)
+        _, faults, status = publishing.publish(late, *publishing.FILES, "result")
+        self.expect(f"a last envelope: {faults}", ("a line of this secret vote does not count" in faults, status), (True, 9))
+        room = publishing.plain_room(self.scratch / "aliases", poll=poll, ballots=once)
         self.expect("a secret vote with aliases", publishing.publish(room, *publishing.FILES, "result")[1:], ("", 0))
         sections = page_parts.sections_of((room / "result" / "index.html").read_text())
         self.expect("nobody is listed as one who voted", "Who-voted" in sections, False)
