@@ -32,6 +32,23 @@ def random_election(seed):
     return poll.encode(), ballots.encode()
 
 
+def gone_before(sheet, option):
+    """The defeats that were removed before the round in which an option is out."""
+    stays = sum(option in options for options, _ in sheet.rounds)
+    return {pair for _, removed in sheet.rounds[:stays] for pair in removed}
+
+
+def end_of_chain(sheet, option):
+    """How many defeats the shortest chain to an option that is out has, and with which option it begins: the winner, or that of the least
+    number."""
+    [within, *_] = [options for options, _ in sheet.rounds if option not in options]
+    left, reached, steps = {*sheet.defeats} - gone_before(sheet, option), {option}, 0
+    while not (ends := reached & {*within}):
+        reached |= {over for over, under in left if under in reached}
+        steps += 1
+    return steps, sheet.winner if sheet.winner in ends else min(ends)
+
+
 class WordsTest(expecting.Expecting):
     def test_each_kind_of_what_was_done_is_told(self):
         """Also that the clock went back, and a plain close; each with its time."""
@@ -104,6 +121,14 @@ class WordsTest(expecting.Expecting):
             beats = {over for over, under in sheet.defeats if under == sheet.winner}
             found = [row["over"] > row["under"] for row in rows], shorter == beats, len(others) == len({*others} & rivals)
             self.expect(f"seed {seed}: {rows} {aside}", found, ([True] * len(rows), True, True))
+            # the winner is the first of all options, who stays longer comes before others, and those that were dropped are last
+            first, *others_in_order = why.in_order
+            keys = [(one in sheet.dropped, -sum(one in options for options, _ in sheet.rounds), one) for one in others_in_order]
+            self.expect(f"seed {seed}: the order", (first, keys, len(keys) + 1), (sheet.winner, sorted(keys), len(sheet.names)))
+            for option in rivals:
+                pairs = [(int(row["option"]), int(row["other"])) for row in why.chain(option)]
+                found = [b for _, b in pairs[1:]] == [a for a, _ in pairs[:-1]], pairs[0][1], len(pairs), pairs[-1][0], {*pairs} & gone_before(sheet, option)
+                self.expect(f"seed {seed}: the chain to {option}", found, (True, option, *end_of_chain(sheet, option), set()))
             met["default" if sheet.winner == sheet.default else "circle" if aside else "chain" if rivals > {*others} else "plain"] += 1
         self.expect(f"kinds of elections: {met}", len(met), 4)
 
