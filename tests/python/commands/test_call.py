@@ -206,6 +206,8 @@ class Letters(CallTest):
         self.done("call", "--take-back")
         self.done("call", *UNTIL, "--to", "vote@club.example")
         self.assertNotIn("your own mark", " ".join(self.texts().split()))
+        # no code was given out with a call of an open vote
+        self.assertNotIn("An earlier call", " ".join(self.texts().split()))
         self.assert_fault(self.election("call", "--marked"), 9, "--marked: the call was made without it", "--take-back")
 
     def test_the_text_is_sealed_by_each_call(self) -> None:

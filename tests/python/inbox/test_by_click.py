@@ -645,7 +645,7 @@ class Asked(boxes.BoxElectionTest):
         # an asking is fresh for ten minutes
         self.off(540)
         self.done("letters", "reminders", "--yes")
-        self.off(660)
+        self.off(601)
         fault = "reminders: who voted by a click in the last ten minutes would be told that they have not; nothing was written: run debvote-election add --box"
         self.assert_fault(self.election("letters", "reminders", "--yes"), 9, fault)
         self.assert_fault(
@@ -705,13 +705,13 @@ class Asked(boxes.BoxElectionTest):
         self.assertIn("it arrived after the vote was closed", ended.output)
         self.assertEqual(self.election("count").status, 0)
         self.done("letters", "closed")
-        self.done("publish", "--language", "en", "result-2")
-        self.assertNotIn(b"that the secretary did not get", self.read("result-2/index.html"))
         # a later close needs none
         self.done("reopen", "--because", "A letter was found.")
         self.off(5000)
         self.done("close", "--early")
         self.assertEqual(self.election("count").status, 0)
+        self.done("publish", "--language", "en", "result-2")
+        self.assertNotIn(b"that the secretary did not get", self.read("result-2/index.html"))
 
     def test_the_end_by_both_clocks(self) -> None:
         links = self.begun()

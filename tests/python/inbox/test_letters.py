@@ -207,8 +207,9 @@ class Adding(LettersTest):
         result = ("letters", "result", "--at", "https://club.example/vote")
         self.told(*result)
         self.add(ben)
-        for words in (("count",), ("publish",), (*result[:-1], "https://club.example/other")):
-            self.assert_refused(words, 9, "these letters arrived in time, and wait: 2;", "reopen --because TEXT")
+        anyway = "or count without them with --force", "nothing was published", "or publish without them, with --force --because TEXT"
+        for words, how in zip((("count",), ("publish",), (*result[:-1], "https://club.example/other")), anyway):
+            self.assert_refused(words, 9, "these letters arrived in time, and wait: 2;", "reopen --because TEXT", how)
         self.told("held", 2, "--set-aside")
         self.told(*result)
         self.assertEqual(self.exported(), (f"ada {RANKS}\n", ""))
@@ -752,6 +753,13 @@ class InTime(LettersTest):
         self.assertEqual(self.read("result-2/index.html").decode().count(said), 2)
         self.add(letter("fay", "hello"))
         self.assert_fault(self.election("publish", "result-2"), 9, "these letters arrived in time, and wait: 2;")
+        # one that waits again is told, too, if the last close does not tell it
+        self.told("reopen", "--because", "another bag")
+        self.told("held", 1, 2, "--set-aside")
+        self.told("close")
+        self.told("held", 1, 2, "--wait")
+        self.assertEqual(self.numbers()["stopping"], [2])
+        self.assert_fault(self.election("publish", "result-3"), 9, "these letters arrived in time, and wait: 1, 2;")
 
 
     def test_one_that_arrived_at_no_known_time(self) -> None:

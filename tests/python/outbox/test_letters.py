@@ -267,6 +267,8 @@ class Paper(OutTest):
     def test_a_printed_letter_says_who_sends_it_and_where_to_answer(self) -> None:
         """Where the secretary's own words do not begin it."""
         self.done("call", "--take-back")
+        self.write("members.csv", f"{re.sub('(?m)^(?=.)', ',', self.members).replace(',who', 'name,who')}gus,,\n")
+        self.told("roll", "--yes")
         self.done("call", "--to", "T\u00fcV & S\u00f6hne <vote@club.example>", *self.call_words[2:])
         self.add_lines("eve 1,2", f"ben {RANKS}")
         kinds = ["call", "reminders", "receipts"]
@@ -280,6 +282,8 @@ class Paper(OutTest):
         for kind in (*kinds, "closed", "result"):
             [page] = [file for file in self.files(kind) if file.suffix == ".html"]
             self.assertEqual(begin in page.read_text(), kind not in ("call", "reminders"), kind)
+            # who has no real name is named as on the roll
+            self.assertEqual("<h2><bdi>gus</bdi></h2>" in page.read_text(), kind != "receipts", kind)
         # only what comes by e-mail has a subject
         for file in self.files("result"):
             text = page.read_text() if file == page else parsed(file.read_bytes()).get_content()

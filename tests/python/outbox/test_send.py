@@ -340,6 +340,14 @@ class Sending(SendTest):
         self.assert_sent("receipts", "Sent 1 of 1 letter.")
         self.assertEqual(self.server.addresses()[3:], [ALL[0]])
         self.assert_none_is_due("receipts")
+        # those that go out again do so in the order in which they were written
+        now = ["ada@new.example", "ben@new.example", *ALL[2:]]
+        self.add_lines(*(f"{name} {OTHER_RANKS}" for name in self.names))
+        self.server.rcpt_answers = dict.fromkeys(now, "451 later")
+        self.assert_sent("receipts", "Sent 0 of 9 letters.", 9)
+        self.server.rcpt_answers = {}
+        self.assert_sent("receipts", "Sent 9 of 9 letters.")
+        self.assertEqual(self.server.addresses()[4:], now)
 
     def test_a_receipt_that_is_a_file_is_sent_once_to_each_address(self) -> None:
         """Whether the address changed before it was written or after."""

@@ -143,6 +143,20 @@ class Texts(unittest.TestCase):
         for without, *others in zip(*[iter(texts)] * 3):
             self.assertEqual(others, [without, without])
 
+    def test_of_a_letter_of_two_each_is_told_of_the_own_ballot(self) -> None:
+        """What of the other's ballot was left out, is left or was typed is not told; and what was left out of one that is struck does not matter."""
+        now = vote(questions=Questions({label: POLL for label in "ABC"}, "Meeting"), quorum_votes=dict.fromkeys("ABC", 1))
+        typed = EnteredBallot(2, "ben A 1,2,3", is_late=False, is_struck=False, is_taken_back=False, is_typed=True)
+        letter = came_letter(None, entered=[typed._replace(number=1, is_typed=False), typed], not_entered={("ada", "A"), ("ada", "B"), ("ben", "B"), ("ben", "C")}, left={("ada", "B"), ("ben", "C")})
+        there = Envelope(1, 1, 1, b"ada C 1,2,3", None, 1, "", TIME, False, None)
+        left_out, left, by_hand = "not entered, since you had later ones: {}.", "not entered yet: {}.", "The secretary typed it"
+        for name, number, labels in (("ada", 1, "AB"), ("ben", 2, "BC")):
+            told = now.said_of(Fate(TIME, "counts", there._replace(number=number), came_by=letter), name)
+            self.assertEqual([said.format(f"{label} (Spring)") in told for said, label in zip((left_out, left), labels)], [True, True], told)
+            self.assertEqual((told.count("(Spring)"), by_hand in told), (2, number == 2), told)
+            struck = now.said_of(Fate(TIME, "struck", there._replace(number=number, struck=9), came_by=letter), name)
+            self.assertEqual((struck.count("(Spring)"), by_hand in struck), (0, number == 2), struck)
+
     def test_of_a_result(self) -> None:
         """The letter for all, and within it, behind the winner, the own ballot and where the result is."""
         rest = "THE FILES OF THE RESULT\n\nDownload them.\n"
@@ -241,6 +255,9 @@ class CallLetter(unittest.TestCase):
         whose = "The texts about the options are those of whoever sends this letter."
         self.assertEqual([whose in text for text in (call, extension)], [True, False])
         self.assertEqual(call.count("(or in place of the ranks one word: "), 1)
+        # the quorum of a question has its title before it, where the rest is on the page
+        by_mail = " ".join(now.call_letter(ADA, is_extension=False).text.split())
+        self.assertIn("Question A: Spring The quorum is 1 vote: at least 1 elector must prefer an option to the default option.", by_mail)
 
     def test_greeting_mark_and_texts(self) -> None:
         """By the secretary's own words, or by the name where these do not greet."""
@@ -348,6 +365,15 @@ class Printed(unittest.TestCase):
                     self.assertIn(now.call_data.language.say(head).upper(), text)
                 self.assertEqual(f"{at}#{GUS.name}/{GUS.mark}" in text, at is not None)
                 printed.append((now, text))
+            # the longest that has them fills its two sides
+            for lines in itertools.count(30):
+                poll = dataclasses.replace(POLL, explanations=("A meadow with room for forty tents.\n" * lines, "", ""))
+                now = vote(code, questions=alone(poll))
+                text, longest = now.call_letter(GUS, is_extension=False).text, text
+                if "forty tents" not in text:
+                    break
+            self.assertEqual((longest.count("forty tents"), longest.count("\n")), (lines - 1, 112), code)
+            printed.append((now, longest))
         self.assert_sides(printed)
 
     def test_on_paper_the_ballot_is_cut_off_and_has_no_code(self) -> None:
@@ -407,7 +433,7 @@ class Bytes(unittest.TestCase):
             self.assertEqual((address.display_name, address.addr_spec), (on_one_line(name), "vote@club.example"))
             self.assertEqual((found["To"], found["Bcc"]), ("ada@club.example", None))
         # no encoded word is longer than 75 characters, and no line with one longer than 76
-        for name in ("\u00e4" * 100, "\u00e4 b " * 24 + "c", "\u65e5" * 100, "B\u00fc" * 14):
+        for name in ("\u00e4" * 100, "\u00e4 b " * 24 + "c", "\u65e5" * 100, "B\u00fc" * 14, *("\u00fc" + "x" * number for number in (32, 33))):
             data = self.message("text\n", sender_name=name)
             sender = email.header.decode_header(email.message_from_bytes(data)["From"])
             self.assertEqual(str(email.header.make_header(sender)), f"{name} <vote@club.example>")

@@ -335,7 +335,7 @@ class Several(PageTest):
 class Names(PageTest):
     def test_names_on_the_roll_are_offered_and_what_is_typed_is_folded(self) -> None:
         code = "0123456789abcdef" * 2
-        roll = ["zoe", "ada-angstrom", "ada.lovelace", "strasse", "oedipus", "-", "anna-1", "anna-2", "anna-3", "eve-arnold", "ben-lee", "ben-lee-2", code]
+        roll = ["zoe", "ada-angstrom", "ada.lovelace", "strasse", "oedipus", "-", "anna-1", "anna-2", "anna-3", "eve-arnold", "ben-lee", "ben-lee-2", "iolddthae-iht", code]
         annas = ["anna-1", "anna-2", "anna-3"]
         # by what is typed: the name in the line, and those that are suggested
         wanted = {
@@ -343,6 +343,7 @@ class Names(PageTest):
             "Eve Arnold": ("eve-arnold", ["eve-arnold"]), "Arnold, Eve": ("eve-arnold", ["eve-arnold"]), "\u00c8ve  ARNOLD": ("eve-arnold", ["eve-arnold"]),
             "Ada \u00c5ngstr\u00f6m": ("ada-angstrom", ["ada-angstrom"]), "ada A\u030angstr\u00f6m": ("ada-angstrom", ["ada-angstrom"]),
             "stra\u00dfe": ("strasse", ["strasse"]), "\u0152dipus": ("oedipus", ["oedipus"]),
+            "I\u00d8\u0141\u0110\u00d0\u00de\u00c6 \u0131\u0126\u0166": ("iolddthae-iht", ["iolddthae-iht"]),
             # never one of several namesakes alone
             "Anna": ("", annas), "anna2": ("anna-2", ["anna-2"]), "Ben Lee": ("", ["ben-lee", "ben-lee-2"]), "ben lee 2": ("ben-lee-2", ["ben-lee-2"]),
             "ada": ("", ["ada-angstrom", "ada.lovelace"]), "eve": ("", ["eve-arnold"]),

@@ -181,6 +181,10 @@ class ScriptsTest(publishing.ResultPageTest):
         self.expect("secret", self.told_in_secret[1:], ("", 1))
         window, alias = self.page_of(self.secret), alias_of(self.code, "zoe-muller")
         wanted = ["B", "A", "Not ranked: N", f"The line: {alias} 2,1,-"]
+        # an alias in the address is a place in the list, and types nothing
+        window.ask(f"location.hash = '#{alias}'; new Promise((done) => setTimeout(done, 100))")
+        seen = window.ask(f"[document.getElementById('Name').value, document.getElementById('{alias}').closest('details').open]")
+        self.expect("an alias in the address", (seen, window.found()), (["", True], []))
         for name in ("zoe-muller", "Zoë Müller", "  ZOE  MÜLLER "):
             self.expect(name, window.find(name, f" {self.code[:16].upper()} {self.code[16:20]}-{self.code[20:]}")[1:], wanted)
         above = "document.querySelector('.warning').compareDocumentPosition(document.getElementById('Name')) === Node.DOCUMENT_POSITION_FOLLOWING"

@@ -115,6 +115,12 @@ class Files(unittest.TestCase):
         more_than = page_of(dataclasses.replace(CALL, questions=alone(dataclasses.replace(POLL, wording="more_than", quorum=0))))
         self.assertIn("Majority ratio 3: more than 3 times as many electors", more_than)
         self.assertIn("There is no quorum. The roll has 4 electors.", more_than)
+        # of more than eight options the ranks are in lists, where buttons would be too many
+        for size in (8, 9):
+            many = dataclasses.replace(POLL, options=tuple(f"Plan {number}" for number in range(1, size)), ratios=(1,) * (size - 1))
+            page = call_files(dataclasses.replace(CALL, questions=alone(many)))["index.html"].decode()
+            found = (page.count('<select class="rank'), page.count('<input type="radio"'))
+            self.assertEqual(found, (0, 8 * 9) if size == 8 else (9, 0))
 
     def test_texts_of_options(self) -> None:
         poll = dataclasses.replace(POLL, explanations=("First line\nsecond <b>line</b>\n\nand more\n", "", "Sell \u05d0\u05d1\n \n\nit"))

@@ -95,6 +95,9 @@ class Sealed(DraftTest):
         keys = "title options ratios default quorum wording roll deadline address secret shown_title shown_options explanations"
         self.assertEqual([line.split(" = ")[0] for line in sealed.decode().splitlines()], keys.split())
         self.assertIs(seal(self.draft(GERMAN + "secret = false\n"), ROLL, "de").secret, False)
+        # it is TOML also where a text has what TOML does not take as it is
+        odd = dataclasses.replace(wanted, explanations=("", "\x7f", ""))
+        self.assertEqual((tomllib.loads(odd.as_bytes().decode())["explanations"][1], read_plain(odd.as_bytes())), ("\x7f", odd))
 
 
 class Explained(DraftTest):

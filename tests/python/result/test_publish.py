@@ -468,6 +468,8 @@ class OfOpenVotes(OfElections):
         earlier = ["an earlier publication has a casting vote for 72 Euro", "publish --casting '72 Euro' --cast-by 'Anna <b>' --cast-on 2026-11-20"]
         for words in (("--casting", "Groesse", *cast), ("--language", "fr")):
             self.stops("publish", *words, said=earlier)
+        # what no reason lets through is said, and no reason is asked for
+        self.stops("publish", "--casting", "Nichts davon", *cast, said=["no casting vote can choose Nichts davon"], status=8)
         self.reopened_with("cleo 1,2,3\n")
         self.replace("--casting", "72 Euro", *cast, "--language", "en")
         texts = (self.sections()["Result"].text(), self.letter())

@@ -10,8 +10,8 @@ import time
 from unittest import mock
 
 from debvote_tools.debvote import Debvote
-from debvote_tools.files import left_beside
-from debvote_tools.result.folder import NewFolder
+from debvote_tools.files import left_beside, remove_left
+from debvote_tools.result.folder import BESIDE_PLACE, NewFolder
 
 from tests.support import page_parts, publishing
 
@@ -137,7 +137,12 @@ class RefusedTest(publishing.PublishTest):
         twice = publishing.plain_room(self.scratch / "twice", poll=poll, ballots=f"{roll[0]} 1,2,3\n{roll[1]} 2,1,3\n{roll[0]} 2,1,3\n")
         _, faults, status = publishing.publish(twice, *publishing.FILES, "result")
         self.expect(f"an alias twice: {faults}", ("a line of this secret vote does not count, or counts more than once" in faults, status), (True, 9))
-        room = publishing.plain_room(self.scratch / "aliases", poll=poll, ballots=f"{roll[1]} 2,1,3\n{roll[0]} 1,2,3\n{roll[2]} 1,2,3\n")
+        once = f"{roll[1]} 2,1,3\n{roll[0]} 1,2,3\n{roll[2]} 1,2,3\n"
+        # whoever publishes a secret vote leaves out what is late
+        late = publishing.plain_room(self.scratch / "late", poll=poll.replace("secret", "last_envelope = 3\nsecret"), ballots=once)
+        _, faults, status = publishing.publish(late, *publishing.FILES, "result")
+        self.expect(f"a last envelope: {faults}", ("a line of this secret vote does not count" in faults, status), (True, 9))
+        room = publishing.plain_room(self.scratch / "aliases", poll=poll, ballots=once)
         self.expect("a secret vote with aliases", publishing.publish(room, *publishing.FILES, "result")[1:], ("", 0))
         sections = page_parts.sections_of((room / "result" / "index.html").read_text())
         self.expect("nobody is listed as one who voted", "Who-voted" in sections, False)
@@ -154,9 +159,17 @@ class RefusedTest(publishing.PublishTest):
         place = self.scratch / "before" / "result"
         place.mkdir(parents=True)
         (place / "index.html").touch()
-        with self.assertRaises(FileNotFoundError):
-            NewFolder(self.scratch / "before" / "none").take_place(place)
-        self.expect("what is there", [list(place.parent.iterdir()), list(place.iterdir())], [[place], [place / "index.html"]])
+
+        def after_another_run(target):
+            """What is aside for a moment is not taken for what a killed run has left."""
+            remove_left(target, BESIDE_PLACE)
+            raise FileNotFoundError
+
+        late = mock.Mock(rename=after_another_run)
+        for new in (self.scratch / "before" / "none", late):
+            with self.assertRaises(FileNotFoundError):
+                NewFolder(new).take_place(place)
+            self.expect("what is there", [list(place.parent.iterdir()), list(place.glob("*"))], [[place], [place / "index.html"]])
 
     def test_the_program_beside_is_taken_first(self):
         (self.scratch / "debvote").touch(0o755)

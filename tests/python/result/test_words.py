@@ -8,7 +8,7 @@ from debvote_tools.result.facts import Act
 from debvote_tools.result.page import share
 from debvote_tools.result.sheet import sheet_in
 from debvote_tools.result.why import Why
-from debvote_tools.text.ballots import ballots_in_words, line_of, part_of, ranks_by_label
+from debvote_tools.text.ballots import ballot_lines, ballots_in_words, line_of, part_of, ranks_by_label
 from debvote_tools.text.language import ENGLISH, language_of
 from debvote_tools.text.rendering import templates_of
 
@@ -30,6 +30,23 @@ def random_election(seed):
     poll = f'title = "T"\noptions = [{names}]\nratios = {ratios}\ndefault = "N"\nquorum = {rng.choice([0, 1])}\nroll = [{roll}]\n'
     ballots = "".join(f"v{voter} {','.join(map(str, rng.choice(opinions)))}\n" for voter in range(voters))
     return poll.encode(), ballots.encode()
+
+
+def gone_before(sheet, option):
+    """The defeats that were removed before the round in which an option is out."""
+    stays = sum(option in options for options, _ in sheet.rounds)
+    return {pair for _, removed in sheet.rounds[:stays] for pair in removed}
+
+
+def end_of_chain(sheet, option):
+    """How many defeats the shortest chain to an option that is out has, and with which option it begins: the winner, or that of the least
+    number."""
+    [within, *_] = [options for options, _ in sheet.rounds if option not in options]
+    left, reached, steps = {*sheet.defeats} - gone_before(sheet, option), {option}, 0
+    while not (ends := reached & {*within}):
+        reached |= {over for over, under in left if under in reached}
+        steps += 1
+    return steps, sheet.winner if sheet.winner in ends else min(ends)
 
 
 class WordsTest(expecting.Expecting):
@@ -74,6 +91,11 @@ class WordsTest(expecting.Expecting):
             self.expect(f"the parts of {answers}", parts, {label: f"ada {ranks}".encode() for label, ranks in by_label.items()})
             self.expect(f"no part of {answers}", part_of(f"ada {answers}".encode(), "B"), None)
 
+    def test_the_lines_of_a_file(self):
+        """Empty ones at its end are lines, too, which debvote refuses by their numbers."""
+        for data, lines in ((b"", []), (b"\n", [b""]), (b"ada 1,2", [b"ada 1,2"]), (b"ada 1,2\n\n\n", [b"ada 1,2", b"", b""])):
+            self.expect(f"{data}", ballot_lines(data), lines)
+
     def test_who_is_for_an_option(self):
         said = "For: how many prefer the option to the default option, {option}. Against: the reverse. The mark: what it needs."
         for code, before in {"de": "vor die Standardoption", "fr": "avant l'option par défaut", "es": "delante de la opción por defecto"}.items():
@@ -99,6 +121,14 @@ class WordsTest(expecting.Expecting):
             beats = {over for over, under in sheet.defeats if under == sheet.winner}
             found = [row["over"] > row["under"] for row in rows], shorter == beats, len(others) == len({*others} & rivals)
             self.expect(f"seed {seed}: {rows} {aside}", found, ([True] * len(rows), True, True))
+            # the winner is the first of all options, who stays longer comes before others, and those that were dropped are last
+            first, *others_in_order = why.in_order
+            keys = [(one in sheet.dropped, -sum(one in options for options, _ in sheet.rounds), one) for one in others_in_order]
+            self.expect(f"seed {seed}: the order", (first, keys, len(keys) + 1), (sheet.winner, sorted(keys), len(sheet.names)))
+            for option in rivals:
+                pairs = [(int(row["option"]), int(row["other"])) for row in why.chain(option)]
+                found = [b for _, b in pairs[1:]] == [a for a, _ in pairs[:-1]], pairs[0][1], len(pairs), pairs[-1][0], {*pairs} & gone_before(sheet, option)
+                self.expect(f"seed {seed}: the chain to {option}", found, (True, option, *end_of_chain(sheet, option), set()))
             met["default" if sheet.winner == sheet.default else "circle" if aside else "chain" if rivals > {*others} else "plain"] += 1
         self.expect(f"kinds of elections: {met}", len(met), 4)
 
