@@ -44,7 +44,7 @@ class TakenBack(Change):
 
 
 def undo(election: Election, arguments: UndoArguments) -> None:
-    """Take back the last act that entered lines; a second undo takes back the one before."""
+    """Take back the last act whose lines are not all struck; a second undo the one before."""
     book = election.book_for(arguments)
     vote = Vote(election)
     judged_before = letters_now(vote)
@@ -54,7 +54,9 @@ def undo(election: Election, arguments: UndoArguments) -> None:
     # the letters whose own ballots it was are told apart
     judged_after = letters_now(vote)
     tell(*letter_words.judged_anew(judged_before, judged_after, change.letters))
-    following = f"{election.command('status')}; another {election.command('undo')} takes back the act before"
+    following = election.command("status")
+    if queries.last_entering_act(book):
+        following += f"; another {election.command('undo')} takes back the act before"
     if change.letters and not change.is_typed_or_late:
         enter = words_to_enter(vote, judged_after, change)
         does = "enters these letters again" if enter else "lists these letters"

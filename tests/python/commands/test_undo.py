@@ -20,10 +20,13 @@ class Undo(CalledTest):
             self.assertIn(f"\n  ada: {LAKE}, as before\n  cleo: no ballot is left\n", output)
             self.assertEqual(self.lines(), [f"ada {RANKS}", f"ben {RANKS}"])
         self.told("desk", given=f"dan {RANKS}\n")
-        said = rf"^Took back 1 line \(act {first + 5}: desk, [-\d]+ [:\d]+ UTC, envelope 9\)\.\n  dan: no ballot is left\nNext: "
+        next_one = "Next: debvote-election status; another debvote-election undo takes back the act before\n"
+        said = rf"^Took back 1 line \(act {first + 5}: desk, [-\d]+ [:\d]+ UTC, envelope 9\)\.\n  dan: no ballot is left\n{next_one}$"
         self.assertRegex(self.told("undo"), said)
-        # the one before that is not taken back yet
-        self.assertRegex(self.told("undo"), rf"^Took back 2 lines \(act {first}: add of standard input, .* UTC, envelopes 1-2\)\.\n")
+        # the one before that is not taken back yet; before it is none
+        output = self.told("undo")
+        self.assertRegex(output, rf"^Took back 2 lines \(act {first}: add of standard input, .* UTC, envelopes 1-2\)\.\n")
+        self.assertTrue(output.endswith("\nNext: debvote-election status\n"), output)
         self.assertEqual(self.lines(), [])
         self.assert_stops(self.election("undo"), self.last_act(), 9, "undo: there is nothing to take back; nothing was changed: ")
         self.assertEqual([detail for name, detail in self.acts() if name == "undo"], [{"act": first + number} for number in (1, 3, 5, 0)])

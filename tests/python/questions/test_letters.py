@@ -1,7 +1,6 @@
 """Letters with answers to several questions: what goes in has each answer that stands in it, and no other; random ones, and ones that somebody forged."""
 
 import dataclasses
-import datetime
 import os
 import random
 import re
