@@ -10,16 +10,18 @@ started, and the most that it may take on a quiet machine; beyond it the script 
 import argparse
 import contextlib
 import hashlib
+import html
 import json
 import os
 import pathlib
 import random
 import resource
+import sqlite3
 import subprocess
 import sys
 import tempfile
 import tomllib
-from collections.abc import Iterator
+from collections.abc import Iterable, Iterator
 
 import elections
 
@@ -95,9 +97,7 @@ def asked(room: pathlib.Path, labels: str, clock: pathlib.Path, path: str) -> di
 
     lines = [ballot(name, ranks) for ranks in ("1,2,3,4", "2,1,3,4") for name in names[FEW:]]
     (room / "lines").write_text("".join(f"{line}\n" for line in lines))
-    mark = hashlib.sha256((room / "call" / ("polls.sha256" if labels else "poll.toml")).read_bytes()).hexdigest()[:16]
-    texts = (ballot(name, "1,2,3,4") for name in names[:FEW])
-    (room / "inbox").write_text("".join(letter_of(number, name, text, mark) for number, (name, text) in enumerate(zip(names, texts))))
+    write_inbox(room, ((name, ballot(name, "1,2,3,4")) for name in names[:FEW]), is_quoting=True)
     runs = [
         ("letters call", ["letters", "call"]),
         ("add, lines", ["add", "--yes", "lines"]),
@@ -110,7 +110,9 @@ def asked(room: pathlib.Path, labels: str, clock: pathlib.Path, path: str) -> di
         ("publish", ["publish", "--force", "--because", "it is early"]),
         ("letters result", ["letters", "result"]),
     ]
-    return {name: command([ELECTION, *words], room, path, (0, 1)) for name, words in runs}
+    found = {name: command([ELECTION, *words], room, path, (0, 1)) for name, words in runs}
+    demand_entered(room, FEW)
+    return found
 
 
 def several_questions(folder: pathlib.Path, path: str) -> Iterator[tuple[str, float, float]]:
@@ -170,40 +172,64 @@ def largest_page(folder: pathlib.Path, path: str) -> Iterator[tuple[str, float, 
     yield "publish, 32 options", command(words, room, path, (0, 1)), 60
 
 
-def letter_of(number: int, name: str, text: str, mark: str) -> str:
-    """A letter of a mailbox, as mail programs write an answer: plain text and HTML, with the call quoted."""
+def write_inbox(room: pathlib.Path, ballots: Iterable[tuple[str, str]], *, is_quoting: bool) -> None:
+    """A mailbox with a letter for each elector and ballot: answers to the letter of the call, with their own marks."""
+    call = room / "call"
+    sealed = next(file for file in (call / "polls.sha256", call / "poll.toml") if file.exists())
+    mark = hashlib.sha256(sealed.read_bytes()).hexdigest()[:16]
+    with contextlib.closing(sqlite3.connect(room / "election.db")) as book:
+        owns = dict(book.execute("SELECT name, mark FROM elector JOIN elector_state USING (elector) WHERE mark <> ''"))
+    quoted = (call / "call.txt").read_text().splitlines() if is_quoting else []
+    letters = (letter_of(number, name, text, f"[{mark}-{owns[name]}]", quoted) for number, (name, text) in enumerate(ballots))
+    (room / "inbox").write_text("".join(letters))
+
+
+def letter_of(number: int, name: str, text: str, mark: str, quoted: list[str]) -> str:
+    """A letter of a mailbox: plain text; or as mail programs write an answer, plain text and HTML, with the call quoted."""
     time = f"{number // 3600:02}:{number // 60 % 60:02}:{number % 60:02}"
     head = f"Received: from a by b; Mon, 23 Nov 2026 {time} +0000\nFrom: E <{name}@club.example>\nMessage-ID: <{number}@mail.example>\n"
-    quoted = [f"a line of the call, number {line}, as long as the lines of calls are" for line in range(40)]
+    head = f"From {name}@club.example Mon Nov 23 10:00:00 2026\n{head}Subject: Re: T {mark}\n"
+    if not quoted:
+        return f"{head}Content-Type: text/plain; charset=utf-8\n\nHello\n\n{text}\n\n"
     plain = "".join(f"> {line}\n" for line in quoted)
-    marked = "".join(f'<div style="font-size:10pt">{line}</div>\n' for line in quoted)
+    marked = "".join(f'<div style="font-size:10pt">{html.escape(line)}</div>\n' for line in quoted)
     parts = {
-        "plain": f"Hello\n\n{text}\n\nOn Mon, 23 Nov 2026, Vote wrote:\n{plain}",
+        "plain": f"Hello\n\n{text}\n\nOn Sun, 22 Nov 2026 at 10:00, Vote wrote:\n{plain}",
         "html": f"<p>{text}</p><blockquote>{marked}</blockquote>",
     }
     body = "".join(f"--b\nContent-Type: text/{kind}; charset=utf-8\n\n{part}\n" for kind, part in parts.items())
-    kind = 'Content-Type: multipart/alternative; boundary="b"'
-    head += f"Subject: Re: T [{mark}]\n"
-    return f"From {name}@club.example Mon Nov 23 10:00:00 2026\n{head}{kind}\n\n{body}--b--\n\n"
+    return f'{head}Content-Type: multipart/alternative; boundary="b"\n\n{body}--b--\n\n'
+
+
+def demand_entered(room: pathlib.Path, ballots: int) -> None:
+    """Stops if not so many ballots of letters went in: else the times are those of letters that wait."""
+    with contextlib.closing(sqlite3.connect(room / "election.db")) as book:
+        [(entered,)] = book.execute("SELECT count(*) FROM envelope WHERE letter IS NOT NULL")
+    if entered != ballots:
+        sys.exit(f"{room}: {entered} ballots of letters went in, not {ballots}")
+
+
+def election_by_letters(room: pathlib.Path, path: str, *, is_quoting: bool) -> None:
+    """A called election with a mailbox of 10,000 electors, of whom a tenth leave a rank out."""
+    names = [f"elector-{number}" for number in range(LETTERS)]
+    poll = 'title = "T"\noptions = ["A", "B", "C"]\nratios = [1, 1, 1]\ndefault = "N"\nquorum = 1\n'
+    members = "name,who,mail\n" + "".join(f"{name},{name},{name}@club.example\n" for name in names)
+    clock = room.parent / "clock"
+    clock.write_text("2026-11-20T09:00:00+00:00")
+    with before(clock):
+        new_election(room, poll, members, path)
+    ballots = ((name, f"{name} {'1,2,3,4' if number % 10 else '1,2,3'}") for number, name in enumerate(names))
+    write_inbox(room, ballots, is_quoting=is_quoting)
 
 
 def many_letters(folder: pathlib.Path, path: str) -> Iterator[tuple[str, float, float]]:
     """The same for letters of 10,000 electors, of which a tenth waits."""
     room = folder / "letters"
-    names = [f"elector-{number}" for number in range(LETTERS)]
-    poll = 'title = "T"\noptions = ["A", "B", "C"]\nratios = [1, 1, 1]\ndefault = "N"\nquorum = 1\n'
-    members = "name,who,mail\n" + "".join(f"{name},{name},{name}@club.example\n" for name in names)
-    clock = folder / "clock"
-    clock.write_text("2026-11-20T09:00:00+00:00")
-    with before(clock):
-        new_election(room, poll, members, path)
-    mark = hashlib.sha256((room / "call" / "poll.toml").read_bytes()).hexdigest()[:16]
-    texts = (f"{name} {'1,2,3,4' if number % 10 else '1,2,3'}" for number, name in enumerate(names))
-    (room / "inbox").write_text("".join(letter_of(number, name, text, mark) for number, (name, text) in enumerate(zip(names, texts))))
+    election_by_letters(room, path, is_quoting=True)
     for name, words, most in [
         ("letters, 10,000 calls", ["letters", "call"], 30),
         ("status, after these", ["status"], 0.5),
-        ("add, 10,000 letters", ["add", "--yes", "inbox"], 30),
+        ("add, 10,000 that quote", ["add", "--yes", "inbox"], 30),
         ("add, all of them again", ["add", "--yes", "inbox"], 30),
         ("held, of 1,000", ["held"], 5),
         ("letters, 10,000 receipts", ["letters", "receipts"], 30),
@@ -211,6 +237,11 @@ def many_letters(folder: pathlib.Path, path: str) -> Iterator[tuple[str, float, 
         ("undo, 9,000 lines", ["undo", "--yes"], 5),
     ]:
         yield name, command([ELECTION, *words], room, path), most
+    demand_entered(room, LETTERS - LETTERS // 10)
+    room = folder / "plain"
+    election_by_letters(room, path, is_quoting=False)
+    yield "add, 10,000 plain letters", command([ELECTION, "add", "--yes", "inbox"], room, path), 15
+    demand_entered(room, LETTERS - LETTERS // 10)
 
 
 def main() -> int:

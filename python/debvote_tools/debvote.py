@@ -41,6 +41,11 @@ class Finding(NamedTuple):
         question = f"; did you mean {' or '.join(self.near)}?" if self.near else ""
         return f"{self.said}{question}{self.remark}"
 
+    @property
+    def verdict(self) -> str:
+        """What the book keeps of it: nothing that depends on other lines."""
+        return f"{self.word}: {self._replace(remark='').hint}"
+
 
 class Findings(NamedTuple):
     """What `explain` says of each refused line, how many electors have a ballot, and whether the lines

@@ -270,6 +270,17 @@ def uninterrupted() -> Iterator[None]:
 PUBLIC, OWN = (0o755, 0o644), (0o700, 0o600)
 
 
+def remove_left_in(folder: pathlib.Path) -> None:
+    """Removes what killed runs have left in a folder, files and folders. The caller has a lock, so that
+    no other run makes some there now.
+    """
+    for left in folder.glob(f"{TEMPORARY}*"):
+        if left.is_dir():
+            shutil.rmtree(left)
+        else:
+            left.unlink()
+
+
 def write_made(
     folder: pathlib.Path,
     files: Mapping[str, bytes],
@@ -287,8 +298,7 @@ def write_made(
     written = []
     with locked(folder, is_directory=True, waits=True):
         for place in places:
-            for left in place.glob(f"{TEMPORARY}*"):
-                left.unlink()
+            remove_left_in(place)
         for name, data in files.items():
             file = folder / name
             if (

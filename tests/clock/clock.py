@@ -4,9 +4,9 @@ import datetime
 
 
 def set_clock(time: str) -> None:
-    """Sets the clock to this time, which has its offset; from then on it runs like that of the computer."""
-    shift = datetime.datetime.fromisoformat(time) - datetime.datetime.now(datetime.UTC)
+    """Sets the clock to this time, which has its offset; there it stands, however slow the computer is."""
     known = datetime.datetime
+    still = known.fromisoformat(time)
 
     class Kind(type):
         def __instancecheck__(cls, value: object) -> bool:
@@ -16,7 +16,6 @@ def set_clock(time: str) -> None:
     class Clock(datetime.datetime, metaclass=Kind):
         @classmethod
         def now(cls, tz: datetime.tzinfo | None = None) -> datetime.datetime:
-            real = super().now(datetime.UTC) + shift
-            return real.astimezone(tz) if tz is not None else real.astimezone().replace(tzinfo=None)
+            return still.astimezone(tz) if tz is not None else still.astimezone().replace(tzinfo=None)
 
     datetime.datetime = Clock

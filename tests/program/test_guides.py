@@ -29,6 +29,16 @@ MARK = "\x1e"
 # the time at which something was done, which differs from run to run
 TIME = re.compile(r"\b\d{4}-\d\d-\d\d \d\d:\d\d:\d\d UTC")
 
+# gives the letters of a guide the own marks that their electors have
+OWN_MARKS = r"""python3 -c '
+import pathlib, re, sqlite3
+file = pathlib.Path("NAME")
+text = file.read_text()
+for name, own in sqlite3.connect("election.db").execute("SELECT name, mark FROM elector_now"):
+    text = re.sub(rf"(<{name}@.*\nSubject: .*-)\w+(?=\])", rf"\g<1>{own}", text)
+file.write_text(text)'
+"""
+
 # draws if Graphviz is missing: an empty picture
 DOT = '#!/bin/sh\ncat >/dev/null\necho \'<svg xmlns="http://www.w3.org/2000/svg" width="1pt" height="1pt"/>\'\n'
 
@@ -54,6 +64,7 @@ def shell_text(steps):
             yield f'echo {name} > "$DEBVOTE_CLOCK"\n'
         elif kind == "file":
             yield f"cat > {name} <<'END OF FILE'\n{text}END OF FILE\n"
+            yield OWN_MARKS.replace("NAME", name) if name.endswith(".mbox") else ""
         else:
             # the next command may ask for the status of this one
             yield f"{name}\nstatus=$?; printf '{MARK}'; (exit $status)\n"

@@ -120,6 +120,15 @@ class HelpTest(expecting.Expecting):
         found = [" ".join(line.split()) for line in said.partition("\nExit statuses:\n")[2].splitlines()]
         self.expect("--help: the exit statuses", (found, len(wanted)), (wanted, 11))
 
+    def test_names_of_values(self):
+        """In the usage of each command they are in capitals, as they are in its pages, or are choices."""
+        commands = [(ELECTION, name) for name in options_of_election()]
+        self.expect("there are commands", len(commands) > 15, True)
+        for words in [(PUBLISH,), *commands]:
+            usage = output_of(sys.executable, *words, "--help").partition("\n\n")[0].split()
+            values = [word for word in usage[1 + len(words) :] if not word.lstrip("[(").startswith(("-", "{"))]
+            self.expect(f"{words[-1]}: names of values", [word for word in values if word != word.upper()], [])
+
     def test_version(self):
         """The version in the code; everywhere else it is the same."""
         version = output_of(PROGRAM, "--version").strip()

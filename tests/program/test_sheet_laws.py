@@ -321,19 +321,13 @@ LAWS = {
     refused_lines_have_no_influence: ["bad lines changed", "late lines changed", "bad lines added", "late lines added"],
     only_the_last_ballot_counts: ["outdated ballots changed"],
     one_ballot_moves_each_count_by_one: [
-        "last ballots changed",
-        "voters without a ballot any more",
-        "first ballots of an elector",
-        "numbers of votes moved",
+        "last ballots changed", "voters without a ballot any more", "first ballots of an elector", "numbers of votes moved",
     ],
     ballots_that_order_alike_count_alike: ["ballots with other numbers", "last options left without a rank"],
     published_files_have_the_same_sheet: [
-        "ballots under other names",
-        "ballots with ranks in normal form that were not",
-        "ballots with equal ranks",
-        "last envelopes left out",
+        "ballots under other names", "ballots with ranks in normal form that were not", "ballots with equal ranks", "last envelopes left out",
     ],
-}
+}  # fmt: skip
 
 
 def class_of(law, kinds):

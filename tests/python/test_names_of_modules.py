@@ -13,7 +13,8 @@ import unittest
 
 from tests.support.program import ROOT
 
-SECONDS = 120
+# more than any of these runs takes on a slow machine
+SECONDS = 600
 
 # imports what a program imports, as if it was typed
 IMPORTS = """

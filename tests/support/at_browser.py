@@ -41,7 +41,7 @@ CHOOSE = """((name, ranks) => {
     names: Object.fromEntries(words.map((part) => part.querySelector("bdi")).map((part) => [part.dataset.option, part.textContent])),
     suggested: [...document.querySelectorAll("#Name-said button")].map((button) => button.textContent),
     letter: seen("Letter") && node("Letter").getAttribute("href"), ready: !node("Ready").hidden, long: !node("Long").hidden,
-    unmarked: seen("Unmarked"), invalid: field?.getAttribute("aria-invalid"), wide: document.documentElement.scrollWidth };
+    invalid: field?.getAttribute("aria-invalid"), wide: document.documentElement.scrollWidth };
 })"""
 
 

@@ -49,33 +49,23 @@ class BoxElectionTest(elections.ElectionTest):
 
     def call(self, *words: str) -> elections.Ended:
         """The call, an hour ago."""
-        self.set_clock(
-            f"{datetime.datetime.now(datetime.UTC) - datetime.timedelta(hours=1):%Y-%m-%dT%H:%M:%S+00:00}"
-        )
-        ended = self.done(
-            "call", *UNTIL, "--to", "vote@club.example", "--at", self.host.at, "--box", *words
-        )
+        self.set_clock(f"{datetime.datetime.now(datetime.UTC) - datetime.timedelta(hours=1):%Y-%m-%dT%H:%M:%S+00:00}")
+        ended = self.done("call", *UNTIL, "--to", "vote@club.example", "--at", self.host.at, "--box", *words)
         self.clock = {}
         self.upload()
         return ended
 
     def mark(self) -> str:
         """That of the poll."""
-        return re.findall(r"\[([0-9a-f]{16})", self.read("call/call.txt").decode())[0]
+        return self.of_this_vote(elections.ANY_MARK.encode()).decode()
 
     def upload(self) -> None:
         shutil.copytree(self.folder / "call", self.web, dirs_exist_ok=True)
 
     def links(self) -> dict[str, str]:
         """The third parts of the personal links, by name, as the last letters of the call have them."""
-        folders = sorted(
-            (self.folder / "letters" / "call").iterdir(), key=lambda one: one.stat().st_mtime
-        )
-        found = [
-            link_in(file.read_bytes())
-            for folder in folders
-            for file in sorted(folder.glob("*.eml"))
-        ]
+        folders = sorted((self.folder / "letters" / "call").iterdir(), key=lambda one: one.stat().st_mtime)
+        found = [link_in(file.read_bytes()) for folder in folders for file in sorted(folder.glob("*.eml"))]
         return {name: link for name, _, link in found}
 
     def begun(self) -> dict[str, str]:
@@ -85,16 +75,21 @@ class BoxElectionTest(elections.ElectionTest):
         self.done("letters", "call")
         return self.links()
 
+    def page(self) -> str:
+        """What the page that is uploaded posts with each ballot."""
+        return re.findall(r'data-page="(\w+)"', (self.web / "index.html").read_text())[0]
+
+    def sent(self, name: str, ranks: str, link: str, number: int) -> Answer:
+        return self.host.send(ballot(name, ranks, number, link, self.page()))
+
     def click(self, name: str, ranks: str, link: str) -> Answer:
-        answer = self.host.send(ballot(name, ranks, next(self.numbers), link))
+        answer = self.sent(name, ranks, link, next(self.numbers))
         assert answer.word == "received", answer
         return answer
 
     def off(self, seconds: int) -> None:
         """From now on the clock of this computer is so many seconds ahead."""
-        self.set_clock(
-            f"{datetime.datetime.now(datetime.UTC) + datetime.timedelta(seconds=seconds):%Y-%m-%dT%H:%M:%S+00:00}"
-        )
+        self.set_clock(f"{datetime.datetime.now(datetime.UTC) + datetime.timedelta(seconds=seconds):%Y-%m-%dT%H:%M:%S+00:00}")
 
     def host_off(self, seconds: int) -> None:
         """From now on the clock of the host is so many seconds ahead."""
@@ -115,10 +110,7 @@ class BoxElectionTest(elections.ElectionTest):
 
     def boxes_kept(self) -> list[dict[str, object]]:
         """What the acts keep of each asking."""
-        details = (
-            json.loads(str(detail))
-            for detail, in self.rows("SELECT detail FROM act WHERE name = 'letters' ORDER BY act")
-        )
+        details = (json.loads(str(detail)) for detail, in self.rows("SELECT detail FROM act WHERE name = 'letters' ORDER BY act"))
         return [detail["box"] for detail in details if "box" in detail]
 
     def standing(self) -> dict[str, str]:

@@ -1,6 +1,7 @@
 """What the tests of elections share: a folder for each test, and the programs, which run as a user runs them."""
 
 import contextlib
+import hashlib
 import os
 import pathlib
 import re
@@ -16,6 +17,7 @@ from unittest import mock
 
 from debvote_tools.book.book import open_book
 from debvote_tools.book.machine_note import Note
+from debvote_tools.poll.sealed import OWN, OWN_LENGTH, OWN_SIGNS
 
 from tests.support import forks
 from tests.support.program import PROGRAM, ROOT
@@ -33,6 +35,12 @@ NO_PICTURE = "Note: no picture: Graphviz (its program dot) is not installed\n"
 # the mark in the letters that tests write, in place of which they get that of the election
 ANY_MARK = "1ac5041b936c7fc1"
 
+
+def any_own(name: str) -> str:
+    """The own mark of an elector in these letters, in place of which they get that of the book."""
+    return "".join(OWN_SIGNS[byte % len(OWN_SIGNS)] for byte in hashlib.sha256(name.encode()).digest()[:OWN_LENGTH])
+
+
 # four options and nine electors, of whom nobody has voted
 POLL = """title = "Where we meet in spring"
 options = ["At the lake", "In the town hall", "Sell the house and meet there"]
@@ -41,6 +49,17 @@ default = "Further discussion"
 quorum = 1
 """
 NAMES = ["ada", "ben", "cleo", "dan", "eve", "fay", "gus", "hal", "ida"]
+
+
+def of_vote(folder: pathlib.Path, letters: bytes) -> bytes:
+    """Letters with the mark of the election in a folder, and the own marks of its electors."""
+    if ANY_MARK.encode() not in letters:
+        return letters
+    with contextlib.closing(sqlite3.connect(folder / "election.db")) as book:
+        owns = {any_own(name).encode(): mark.encode() for name, mark in book.execute("SELECT name, mark FROM elector_now WHERE mark <> ''")}
+    letters = re.sub(rf"(?<={ANY_MARK}-){OWN}(?=\])".encode(), lambda own: owns.get(own[0], own[0]), letters)
+    # the checksum of the poll, or of the list of polls, begins with it
+    return letters.replace(ANY_MARK.encode(), re.findall(rb"\b([0-9a-f]{16})[0-9a-f]{48}\b", (folder / "call" / "call.txt").read_bytes())[-1])
 
 
 def members_of(names: Sequence[str]) -> str:
@@ -194,10 +213,7 @@ class ElectionTest(unittest.TestCase):
         return file
 
     def of_this_vote(self, letter: bytes) -> bytes:
-        """A letter with the mark of this election."""
-        # the checksum of the poll, or of the list of polls, begins with it
-        found = re.findall(rb"\b([0-9a-f]{16})[0-9a-f]{48}\b", self.read("call/call.txt")) if ANY_MARK.encode() in letter else []
-        return letter.replace(ANY_MARK.encode(), found[-1]) if found else letter
+        return of_vote(self.folder, letter)
 
     def read(self, name: str) -> bytes:
         return (self.folder / name).read_bytes()

@@ -11,6 +11,7 @@ import unittest
 import unittest.mock
 from collections.abc import Iterator
 
+from debvote_tools.poll.sealed import in_brackets
 from debvote_tools.text.language import catalog_of, language_of
 from debvote_tools.text.rendering import templates_of
 
@@ -46,7 +47,8 @@ FIRST_END, END, REASON = "2031-12-01 18:00", "2031-12-03 18:00:30", "Nobody has 
 
 # each of our words is between these characters in the language of `marked_german`
 BEGIN, END_MARK = "\u27e6", "\u27e7"
-MARKED = re.compile(f"{BEGIN}[^{BEGIN}{END_MARK}]*{END_MARK}")
+# after the end a sentence of two is cut off behind the first
+MARKED = re.compile(f"{BEGIN}(?:[^{BEGIN}{END_MARK}]*{END_MARK}|[^{BEGIN}{END_MARK}.]*\\.)")
 
 
 def marked(text: str) -> str:
@@ -138,8 +140,8 @@ class LanguageTest(elections.ElectionTest):
     def letters(self, place: pathlib.Path) -> list[pathlib.Path]:
         """Files with the letters of electors, which have arrived now."""
         files = {self.scratch / f"{name}.eml": name for name in LETTERS}
-        [mark] = set(re.findall(r"\[[0-9a-f]{16}\]", (place / "call" / "call.txt").read_text()))
         for file, name in files.items():
-            head = f"From: {name}@example.org\nTo: {TO}\nSubject: {mark}\nMessage-ID: <{name}@x>\n"
-            file.write_text(f"{head}Received: from a by b; {email.utils.formatdate()}\nDate: {email.utils.formatdate()}\n\n{LETTERS[name]}\n")
+            head = f"From: {name}@example.org\nTo: {TO}\nSubject: {in_brackets(elections.ANY_MARK, elections.any_own(name))}\nMessage-ID: <{name}@x>\n"
+            text = f"{head}Received: from a by b; {email.utils.formatdate()}\nDate: {email.utils.formatdate()}\n\n{LETTERS[name]}\n"
+            file.write_bytes(elections.of_vote(place, text.encode()))
         return list(files)

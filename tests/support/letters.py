@@ -1,45 +1,48 @@
 """What the tests of letters that come share: letters, the circumstances in which they are judged, and debvote, which is asked about lines."""
 
 import collections
+import dataclasses
 import datetime
 import json
 import os
 import re
 import subprocess
 import sys
-from collections.abc import Collection, Mapping, Sequence
+from collections.abc import Callable, Collection, Mapping, Sequence
+from typing import TypeVar
 
 from debvote_tools.book import queries
-from debvote_tools.book.queries import Elector, EnteredBallot
+from debvote_tools.book.queries import Elector, EnteredBallot, OwnMark
 from debvote_tools.debvote import findings_in
 from debvote_tools.inbox.judging import Ballot, BallotsByElector, Beside, judge_all
 from debvote_tools.inbox.letter import ParsedLetter, parse
-from debvote_tools.inbox.letter_lines import Names, ReadLetter, from_json, to_json, with_lines
+from debvote_tools.inbox.letter_lines import Names, ReadLetter, from_json, to_json, with_texts
 from debvote_tools.inbox.lines import repaired_but_for_name, with_small_name
 from debvote_tools.inbox.mailbox import NotRead, RawLetter
 from debvote_tools.inbox.reasons import ReasonWithValues, for_secretary
 from debvote_tools.inbox.rules import NOT_KEPT, Circumstances, LetterCase, LetterOutcome
 from debvote_tools.poll.questions import LONGEST_LINE
+from debvote_tools.poll.sealed import in_brackets
+
+from debvote_tools.text.answers import answer_pattern
 
 from tests.support import elections
 from tests.support.program import PROGRAM, ROOT
 
+Found = TypeVar("Found")
 SAMPLES = ROOT / "tests" / "letters"
 NAMES = tuple(elections.NAMES)
 POLL = f"{elections.POLL}roll = {json.dumps(NAMES)}\n"
 RANKS, OTHER_RANKS = "1,2,4,3", "2,1,4,3"
 BALLOT, OTHER = f"ada {RANKS}", f"ada {OTHER_RANKS}"
 IN = f"in: {BALLOT}"
-FLOWED, HTML = "text/plain; charset=utf-8; format=flowed", "text/html; charset=utf-8"
+HTML = "text/html; charset=utf-8"
 MARK = elections.ANY_MARK
-# the own mark of each elector, and the subjects of a letter of ours and of the page of the call
-OWN = {name: re.sub("[ilo]", "x", f"{name}23456789")[:10] for name in NAMES}
+# the own mark of each elector, and what the subject of a letter of ours has
+OWN = {name: elections.any_own(name) for name in NAMES}
 TITLE = "Where we meet in spring"
-BY_PAGE = f"Ballot: {TITLE}"
 
 TEN = "Mon, 23 Nov 2026 10:00:00 +0000"
-# what was written to each elector
-OURS = {name: {f"<call.{name}@club.example>"} for name in NAMES}
 
 
 def at(hour: int, minute: int = 0, day: int = 23) -> datetime.datetime:
@@ -81,43 +84,49 @@ def repaired_line(line: bytes) -> bytes:
     return with_small_name(repaired_but_for_name(line, LONGEST_LINE))
 
 
-def names(**other: object) -> Names:
+def names(options: int = RANKS.count(",") + 1, **other: object) -> Names:
     usual: dict[str, object] = {"roll": frozenset(NAMES), "language": "en", "real_names": {name: name.capitalize() for name in NAMES}, "longest_line": LONGEST_LINE, "words": {}}
-    return Names(**{**usual, **other})  # type: ignore[arg-type]
+    found = Names(**{**usual, **other})  # type: ignore[arg-type]
+    fewest = 2 if found.labels else options
+    return dataclasses.replace(found, answers=answer_pattern(fewest, "".join(found.labels), frozenset(found.words)))
 
 
 def circumstances(
     *, addresses: Mapping[str, Sequence[str]] | None = None, keys: Mapping[str, str] | None = None,
-    own_marks: Mapping[str, str] = OWN, own_marks_before: Collection[str] = (), roll: Collection[str] = NAMES, **other: object,
+    own_marks: Mapping[str, str] = OWN, old_marks: Mapping[str, str] = {}, roll: Collection[str] = NAMES, **other: object,
 ) -> Circumstances:  # fmt: skip
-    """The circumstances of a vote that was called three days ago and has no end; with `keys` letters have to be signed."""
+    """The circumstances of a vote that was called three days ago and has no end; with `keys` letters have to be signed. The electors of
+    `old_marks` had these on the first day."""
     listed = {name: [f"{name}@club.example"] for name in NAMES} if addresses is None else addresses
     electors = {
         name: Elector(number, name, number, name, tuple(listed.get(name, ())), (keys or {}).get(name, ""), mark=own_marks[name])
         for number, name in enumerate(roll)
     }
+    marks = {own: OwnMark(name) for name, own in own_marks.items() if own} | {own: OwnMark(name, at(9, day=21)) for own, name in old_marks.items()}
     usual: dict[str, object] = {
-        "mark": MARK, "subject": BY_PAGE, "electors": electors, "is_marked": False, "is_signed": keys is not None,
-        "called": at(9, day=20), "end": None, "first_close": None, "is_closed": False, "now": at(9, day=25), "our_ids": OURS,
-        "marks": {MARK}, "own_marks": {*filter(None, own_marks.values()), *own_marks_before},
+        "mark": MARK, "electors": electors, "is_signed": keys is not None, "marks": {MARK}, "own_marks": marks,
+        "called": at(9, day=20), "end": None, "first_close": None, "is_closed": False, "now": at(9, day=25),
     }  # fmt: skip
     return Circumstances(**{**usual, **other})  # type: ignore[arg-type]
 
 
 def letter(
     name: str, text: str, *, number: int | str = 1, time: str | None = TEN, sender: str | None = None, head: str = "",
-    kind: str = "text/plain; charset=utf-8", subject: str = f"my ballot [{MARK}]",
+    kind: str = "text/plain; charset=utf-8", subject: str | None = None,
 ) -> bytes:  # fmt: skip
-    """A letter of an elector. Its subject has the mark of the poll, unless its head has another one."""
+    """A letter of an elector. Its subject has the mark of the poll, with the own mark of who has the sender's address, unless it is given."""
+    sender = sender or f"{name}@club.example"
     if not re.search("(?im)^subject", head):
-        head = f"Subject: {subject}\n{head}"
+        whose = re.search(r"([\w.-]+)@club\.example>?$", sender)
+        usual = f"my ballot {in_brackets(MARK, elections.any_own(whose[1]) if whose else '')}"
+        head = f"Subject: {usual if subject is None else subject}\n{head}"
     received = "" if time is None else f"Received: from a by b; {time}\n"
-    fields = f"From: {sender or f'{name}@club.example'}\nTo: vote@club.example\nMessage-ID: <{number}.{name}@mail.example>\n"
+    fields = f"From: {sender}\nTo: vote@club.example\nMessage-ID: <{number}.{name}@mail.example>\n"
     return f"{received}{fields}{head}Content-Type: {kind}\n\n{text}".encode("utf-8", "surrogateescape")
 
 
 def marked(name: str, text: str, **how: object) -> bytes:
-    """A letter of an elector whose subject has the own mark, as that of each letter of ours to them."""
+    """A letter of an elector whose subject has the own mark, whoever sent it, as that of each letter of ours to them."""
     return letter(name, text, **{"subject": f"Re: Vote: {TITLE} [{MARK}-{OWN[name]}]", **how})  # type: ignore[arg-type]
 
 
@@ -148,7 +157,7 @@ def read(*letters: bytes | ParsedLetter, reader: DebvoteReader | None = None, **
     """Letters with what their lines may be, as the book gives them back."""
     given = [one if isinstance(one, ParsedLetter) else parsed(one, f"letter {number}") for number, one in enumerate(letters, start=1)]
     new = [one for one in given if not isinstance(one, ReadLetter)]
-    fresh = iter(with_lines(new, names(**of_names), (reader or DebvoteReader()).answers))
+    fresh = iter(with_texts(new, names(**of_names), (reader or DebvoteReader()).answers))
     found = [one if isinstance(one, ReadLetter) else next(fresh) for one in given]
     kept = [from_json(to_json(one)) for one in found]
     assert kept == found and len(found) == len(given)
@@ -161,7 +170,7 @@ def judged(
 ) -> list[LetterCase]:  # fmt: skip
     """What becomes of letters, in the order of their times; `decisions` are those of acts, by the digests of letters."""
     of_names = {name: value for name, value in other.items() if name in ("roll", "language", "real_names", "words")}
-    of_others = {name: value for name, value in other.items() if name not in ("language", "real_names")}
+    of_others = {name: value for name, value in other.items() if name not in ("language", "real_names", "words")}
     now = circumstances(**of_others)
     cases = [case_of(one, now, decisions.get(one.digest)) for one in read(*letters, reader=reader, **of_names)]
     return judge_all(cases, in_order(ballots or {}))
@@ -178,7 +187,8 @@ def case_of(one: ReadLetter, now: Circumstances, state: str | None) -> LetterCas
     if state in (queries.ENTERED, queries.STRUCK, queries.TAKEN_BACK):
         is_taken_back = state == queries.TAKEN_BACK
         is_struck = state != queries.ENTERED
-        case.entered = [EnteredBallot(1, BALLOT, is_late=False, is_struck=is_struck, is_taken_back=is_taken_back, is_typed=False)]
+        is_typed = not case.ballots
+        case.entered = [EnteredBallot(1, BALLOT, is_late=False, is_struck=is_struck, is_taken_back=is_taken_back, is_typed=is_typed)]
     return case
 
 
@@ -187,16 +197,29 @@ def judged_alone(one: ReadLetter, now: Circumstances) -> LetterCase:
     return found
 
 
-def calls_while_judged(letters: Sequence[ReadLetter]) -> int:
-    """How many functions are called while letters are judged, of which the first goes in."""
-    cases, events = [LetterCase(one, circumstances()) for one in letters], collections.Counter[str]()
+def counted(action: Callable[[], Found]) -> tuple[Found, int]:
+    """What is found, and how many functions are called meanwhile."""
+    events = collections.Counter[str]()
     sys.setprofile(lambda _, event, __: events.update([event]))
     try:
-        found = judge_all(cases, in_order({}))
+        return action(), events.total()
     finally:
         sys.setprofile(None)
+
+
+def calls_while_judged(letters: Sequence[ReadLetter]) -> int:
+    """How many functions are called while letters are judged, of which the first goes in."""
+    cases = [LetterCase(one, circumstances()) for one in letters]
+    found, calls = counted(lambda: judge_all(cases, in_order({})))
     assert found[0].outcome is LetterOutcome.GOES_IN, outcome(found[0])
-    return events.total()
+    return calls
+
+
+def calls_while_read(data: bytes, **of_names: object) -> int:
+    """The same while a letter is read, where all ranks are valid, the second time."""
+    its_names = names(**of_names)  # type: ignore[arg-type]
+    [(_, _), (_, calls)] = (counted(lambda: with_texts([parsed(data)], its_names, dict.fromkeys)) for _ in range(2))
+    return calls
 
 
 def label(why: ReasonWithValues) -> str:

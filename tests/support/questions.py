@@ -8,8 +8,11 @@ import tomllib
 from collections.abc import Iterable, Mapping, Sequence
 from typing import NamedTuple
 
+from debvote_tools.book.election import Election
+from debvote_tools.text.language import language_of
+
 from tests.support.called import LettersTest
-from tests.support.program import ROOT
+from tests.support.program import PROGRAM, ROOT
 
 REFERENCE = ROOT / "tests" / "reference.py"
 
@@ -75,9 +78,11 @@ def one_line(name: str, answers: Answers) -> str:
     return " ".join([name, *itertools.chain.from_iterable(sorted(answers.items()))])
 
 
-def in_a_letter(name: str, answers: Answers) -> str:
-    """The same as letters repeat it, with each answer in brackets."""
-    return " ".join([name, *(f"({label} {ranks})" for label, ranks in sorted(answers.items()))])
+def in_a_letter(folder: pathlib.Path, answers: Answers, code: str = "en") -> str:
+    """The same in words, as the letter of the result has it in a language."""
+    language = language_of(code)
+    said = Election(folder, PROGRAM.parent).questions.in_words(language)(one_line("", answers).strip())
+    return language.say("Your own ballot in words: {ballot}. The page shows it at:", ballot=said)
 
 
 def taken_apart(line: str) -> tuple[str, dict[str, str]]:

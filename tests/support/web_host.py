@@ -20,7 +20,7 @@ import unittest.mock
 from collections.abc import Callable, Iterable, Mapping, Sequence
 from typing import NamedTuple
 
-from debvote_tools.poll.box import asking_word, third_part, records_file, script_of
+from debvote_tools.poll.box import asking_word, page_of, third_part, records_file, script_of
 
 PHP, STRACE = shutil.which("php"), shutil.which("strace")
 NEEDS_PHP = unittest.skipUnless(PHP, "php is not installed")
@@ -31,7 +31,7 @@ SECONDS = 60
 
 MARK, KEY = "1ac5041b936c7fc1", bytes(range(32))
 OWNS = {"ada": "23456789ab", "ben-lee": "3456789abc", "cleo.x": "456789abcd"}
-WORD, FILE = asking_word(KEY), records_file(KEY)
+WORD, FILE, PAGE = asking_word(KEY), records_file(KEY), page_of(KEY, MARK)
 LINKS = {name: third_part(KEY, name, own) for name, own in OWNS.items()}
 # the first line of the file, and the end of each record
 FIRST, END = b"<?php exit; ?>\n", b"\n-- \n\n"
@@ -71,20 +71,19 @@ def request_of(*lines: str) -> bytes:
 ASK = request_of(f"ask {WORD}")
 
 
-def ballot(name: str, ranks: str, number: int, link: str | None = None) -> bytes:
-    """What the page sends; `number` makes the Message-ID."""
-    return request_of(
-        f"{name} {ranks}", LINKS.get(name, "") if link is None else link, f"{number:032x}"
-    )
+def ballot(name: str, ranks: str, number: int, link: str | None = None, page: str = PAGE) -> bytes:
+    """What this page sends; `number` makes the Message-ID."""
+    link = LINKS.get(name, "") if link is None else link
+    return request_of(f"{page} {name} {ranks}", link, f"{number:032x}")
 
 
-def record(name: str, line: str, number: int, time_: str, mark: str = MARK) -> str:
-    """The record of a ballot that arrived at this time, as FORMATS has it."""
+def record(name: str, line: str, number: int, time_: str, mark: str = MARK, page: str = PAGE) -> str:
+    """The record of a ballot that arrived from this page at this time, as FORMATS has it."""
     when = datetime.datetime.fromisoformat(time_)
     return (
         f"From box@page.invalid {when:%a %b %d %H:%M:%S %Y}\n"
         f"Received: by box; {when:%a, %d %b %Y %H:%M:%S} +0000\n"
-        f"X-Link: {LINKS.get(name, '2' * 16)}\n"
+        f"X-Link: {LINKS.get(name, '2' * 16)}\nX-Page: {page}\n"
         f"From: box@page.invalid\nSubject: [{mark}]\n"
         f"Message-ID: <{number:032x}@page.invalid>\n\n{line}\n-- \n\n"
     )
@@ -101,13 +100,9 @@ class Host:
     """
 
     def __init__(
-        self,
-        folder: pathlib.Path,
-        *settings: str,
-        tracer: Sequence[object] = (),
-        workers: int = 1,
-        most_bytes: int | None = None,
-    ) -> None:
+        self, folder: pathlib.Path, *settings: str,
+        tracer: Sequence[object] = (), workers: int = 1, most_bytes: int | None = None,
+    ) -> None:  # fmt: skip
         self.folder, self.workers, self.most_bytes = folder, workers, most_bytes
         self.before, self.settings = [*tracer, *START], settings
 
@@ -131,17 +126,12 @@ class Host:
         self.port = free_port()
         words = [*self.before, *self.settings, "-S", f"127.0.0.1:{self.port}", "-t", self.folder]
         environment = {"PHP_CLI_SERVER_WORKERS": str(self.workers)} if self.workers > 1 else {}
+        environment["PATH"] = "/usr/bin:/bin"
+        is_free, streams = self.most_bytes is None, {"stdout": self.log, "stderr": self.log}
         # a file that would be longer is an error then, and no signal
-        self.process = subprocess.Popen(
-            [str(word) for word in words],
-            stdin=subprocess.DEVNULL,
-            stdout=self.log,
-            stderr=self.log,
-            env=environment | {"PATH": "/usr/bin:/bin"},
-            restore_signals=self.most_bytes is None,
-            preexec_fn=None if self.most_bytes is None else self.limit,
-            start_new_session=True,
-        )
+        how = {"restore_signals": is_free, "preexec_fn": None if is_free else self.limit}
+        how |= {"stdin": subprocess.DEVNULL, "env": environment, "start_new_session": True}
+        self.process = subprocess.Popen(list(map(str, words)), **streams, **how)
 
     def has_started(self) -> bool:
         if self.most_bytes is None:
@@ -181,9 +171,8 @@ class Host:
         self, body: bytes, method: str = "POST", path: str = "/vote.php", **headers: str
     ) -> Answer:
         connection = http.client.HTTPConnection("127.0.0.1", self.port, timeout=SECONDS)
-        fields, parts = {name.replace("_", "-"): text for name, text in headers.items()}, list[
-            bytes
-        ]()
+        fields = {name.replace("_", "-"): text for name, text in headers.items()}
+        parts: list[bytes] = []
         try:
             # in one piece, so that the server's calls are the same each time
             connection.connect()
@@ -192,11 +181,8 @@ class Host:
             connection.send(b"".join(parts))
             response = connection.getresponse()
             text = response.read().decode("utf-8", "replace")
-            return Answer(
-                response.status,
-                text,
-                {name.lower(): value for name, value in response.getheaders()},
-            )
+            found = {name.lower(): value for name, value in response.getheaders()}
+            return Answer(response.status, text, found)
         except (OSError, http.client.HTTPException):
             return Answer(0)
         finally:
@@ -247,17 +233,14 @@ class Liar:
     def serve(self) -> None:
         with contextlib.suppress(OSError):
             while True:
-                threading.Thread(
-                    target=self.converse, args=self.socket.accept()[:1], daemon=True
-                ).start()
+                found = self.socket.accept()[:1]
+                threading.Thread(target=self.converse, args=found, daemon=True).start()
 
     def converse(self, connection: socket.socket) -> None:
         with contextlib.suppress(OSError), connection:
-            wrapped = (
-                self.context.wrap_socket(connection, server_side=True)
-                if self.context
-                else connection
-            )
+            wrapped = connection
+            if self.context:
+                wrapped = self.context.wrap_socket(connection, server_side=True)
             with wrapped:
                 request = request_in(wrapped)
                 self.requests.append(request)
@@ -291,27 +274,21 @@ def passed_on(request: bytes, host: Host) -> bytes:
         return b"".join(iter(lambda: connection.recv(65_536), b""))
 
 
-def firewall(host: Host) -> Callable[[bytes], Iterable[bytes]]:
+def firewall(host: Host, status: int) -> Callable[[bytes], Iterable[bytes]]:
     """A web firewall before a host, which refuses lines that are in no field of a form."""
 
     def lie(request: bytes) -> Iterable[bytes]:
         body = request.partition(b"\r\n\r\n")[2]
         is_good = b"\n" not in body or b"=" in body.partition(b"\n")[0]
-        yield passed_on(request, host) if is_good else answered(b"<h1>Forbidden</h1>", 403)
+        yield passed_on(request, host) if is_good else answered(b"<h1>Forbidden</h1>", status)
 
     return lie
 
 
 def answered(body: bytes, status: int = 200, *fields: str) -> bytes:
     """An answer with this body."""
-    lines = [
-        f"HTTP/1.1 {status} x",
-        *fields,
-        f"Content-Length: {len(body)}",
-        "Connection: close",
-        "",
-        "",
-    ]
+    length = f"Content-Length: {len(body)}"
+    lines = [f"HTTP/1.1 {status} x", *fields, length, "Connection: close", "", ""]
     return "\r\n".join(lines).encode() + body
 
 
@@ -321,9 +298,8 @@ class BoxTest(unittest.TestCase):
     maxDiff = None
 
     def setUp(self) -> None:
-        self.folder = pathlib.Path(
-            self.enterContext(tempfile.TemporaryDirectory(prefix="debvote-box-"))
-        )
+        room = tempfile.TemporaryDirectory(prefix="debvote-box-")
+        self.folder = pathlib.Path(self.enterContext(room))
         self.script = script_of(KEY, MARK, OWNS)
         (self.folder / "vote.php").write_bytes(self.script)
         self.file = self.folder / FILE

@@ -18,6 +18,7 @@ from typing import Any, Final, Literal, NamedTuple
 
 from debvote_tools.book import chain
 from debvote_tools.book.machine_note import MachineNote, Note, machine_of
+from debvote_tools.cli.console import ENDED
 from debvote_tools.cli.faults import Fault, Status, bad_words, kept_in
 from debvote_tools.files import read_at_most, uninterrupted, whole_folder
 from debvote_tools.poll.announced import address_in
@@ -34,7 +35,7 @@ RESTORED = "it was restored, as the secretary says"
 
 # "dbvt"; the version of the schema, and of what is kept of letters as JSON; and the program that
 # wrote the books of an earlier version
-APPLICATION_ID, VERSION = 0x64627674, 5
+APPLICATION_ID, VERSION = 0x64627674, 6
 PROGRAMS = {3: "debvote-election 2.0.0", 4: "debvote-election 2.1.0"}
 
 # how a database of SQLite begins, how many bytes say what it is, and where these have the version and
@@ -57,6 +58,9 @@ VIEWS_OF_LINES = ("entered", "ballot")
 # the byte of the file that SQLite locks for an act, and how many seconds an act waits for others
 RESERVED_BYTE, PATIENCE = 0x40000001, 120
 
+# after so many steps of SQLite, some milliseconds, a query looks for signals
+STEPS = 100_000
+
 
 # the clock was put back if an act is earlier than the one before by more: clocks are set by some
 SECONDS_BACK = 60
@@ -75,20 +79,19 @@ ActName = (
 # given. `letters` and `lines` are how many came; of set aside, put back and enter their numbers
 #   new: language
 #   roll, addresses: electors, how many; codes: codes, how many, and on_roll
-#   call, extend, announce: to, to_name, at, as the command line names them; box, names, marked,
+#   call, extend, announce: to, to_name, at, as the command line names them; box, names,
 #     signed, keyring, codes_on_roll, quorum_votes; call, extend: until, zone
 #   call, announce, publish: agreed, the checksums of texts that a secret vote may make public
 #   take back: call, its act; codes, how many have lapsed
 #   letters: letters, and box, what the box of the web host had; add: files, lines, letters, unsigned, and passed_over, how many came before;
 #     desk: lines
 #   add, desk: came_before_close, after reopen
-#   set aside, put back: letters; enter: letters, and lines, empty if the ballot was typed; left_out, of what was typed by the
-#     number of its letter the answers that did not go in, since their electors had later ones, each as a ballot
+#   set aside, put back: letters; enter: letters, and lines, empty if the ballot was typed
 #   undo: act, that it takes back; strike: envelope
 #   close: questions, by label what it fixes of each (`Fixed`); early; left, the letters that had arrived in time and wait, and
-#     waiting, how many these are; after_end and before_call, how many others wait
-#   reopen: in_time, the late envelopes that were entered anew; force
-#   publish: words, casting, checksums, doubts, left
+#     waiting, how many these are; after_end and before_call, how many others wait; replaced_in_time, how many late lines were
+#     entered again since the close before in place of other ballots in time
+#   publish: words, casting, ended, how each question did by its label, checksums, doubts, left
 #   letters out: kind, letters, because; letter sent: kind, server, user
 #   moved: why; noted, the act that was noted, and there, the one that is there
 Detail = dict[str, Any]
@@ -482,6 +485,8 @@ def connected(path: pathlib.Path, mode: str) -> sqlite3.Connection:
     connection.create_function("part_of", 2, part_of, deterministic=True)
     connection.create_function("address_in", 1, address_of, deterministic=True)
     connection.executescript(VIEWS.read_text())
+    # Python sees a signal only while it runs itself
+    connection.set_progress_handler(lambda: False, STEPS)
     return connection
 
 
@@ -493,7 +498,7 @@ PLACES = {
     ("IOERR_READ", "IOERR_SHORT_READ"): ("it can't be read", DISK),
     ("FULL", "IOERR"): (WRITE, f"make room on the disk, or {DISK}"),
     ("READONLY", "CANTOPEN", "PERM", "AUTH"): (WRITE, f"{OPEN} writable for you"),
-    ("NOMEM", "INTERRUPT"): ("SQLite gave up", "make room in memory"),
+    ("NOMEM",): ("SQLite gave up", "make room in memory"),
 }
 
 
@@ -504,6 +509,8 @@ def sqlite_faults(path: pathlib.Path) -> Iterator[None]:
         yield
     except sqlite3.Error as error:
         kind = getattr(error, "sqlite_errorname", "").removeprefix("SQLITE_")
+        if kind == "INTERRUPT":
+            raise (ENDED or [KeyboardInterrupt()])[-1] from None
         for kinds, (words, cure) in PLACES.items():
             if kind.startswith(kinds):
                 cure += f", then {AGAIN}"

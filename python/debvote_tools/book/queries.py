@@ -4,7 +4,6 @@ letters that came.
 
 import collections
 import datetime
-import itertools
 import json
 import sys
 from collections.abc import Callable, Collection, Iterable, Iterator, Mapping, Sequence, Set
@@ -97,10 +96,20 @@ def files_sealed(book: Book, folder: str) -> dict[str, int]:
     return dict(book.rows(words, folder))
 
 
-def own_marks(book: Book) -> dict[str, str]:
-    """The own marks that electors have, or had, with their names."""
-    words = "SELECT mark, name FROM elector_state JOIN elector USING (elector) WHERE mark <> ''"
-    return dict(book.rows(words))
+class OwnMark(NamedTuple):
+    """Whose own mark one is, and until when they had it: None of that of now."""
+
+    elector: str
+    until: datetime.datetime | None = None
+
+
+def own_marks(book: Book) -> dict[str, OwnMark]:
+    """The own marks that electors have, or had."""
+    until = "SELECT min(time) FROM elector_state AS later JOIN act USING (act) WHERE later.elector = its.elector AND later.act > its.act AND later.mark <> its.mark"
+    words = f"SELECT mark, name, ({until}) FROM elector_state AS its JOIN elector USING (elector) WHERE mark <> ''"
+    return {
+        mark: OwnMark(name, from_text(end) if end else None) for mark, name, end in book.rows(words)
+    }
 
 
 def last_act_that_sealed(book: Book, name: str) -> int:
@@ -149,9 +158,9 @@ NEXT: Final = sys.maxsize
 
 
 class Ballot(NamedTuple):
-    """A ballot that was entered, late or not, and is not struck, or that goes in or is passed over: its
-    time, in whole seconds, its line, whether it came by letter and is in time, by how many seconds
-    the clock was behind that gave it, its envelope, and whether it is late.
+    """A ballot that was entered in time and is not struck, or that goes in or is passed over: its time, in
+    whole seconds, its line, whether it came by letter, by how many seconds the clock was behind that
+    gave it, and its envelope.
     """
 
     time: datetime.datetime
@@ -159,7 +168,6 @@ class Ballot(NamedTuple):
     is_by_letter: bool = False
     behind: int = 0
     number: int = NEXT
-    is_late: bool = False
 
     def may_turn(self, other: "Ballot") -> bool:
         """Whether by the clock of this computer it may stand on the other side of another ballot."""
@@ -176,7 +184,7 @@ class Ballot(NamedTuple):
         return answers_of(self.line).keys()
 
 
-def by_time(ballot: Ballot | Envelope) -> tuple[datetime.datetime, int]:
+def by_time(ballot: Ballot) -> tuple[datetime.datetime, int]:
     """The order in which one ballot is later than another: by their times; of the same time, by their
     envelopes. A letter has the time at which it arrived, or was signed; a line, and a letter of which
     that is not known, has that of the act that entered it.
@@ -189,41 +197,32 @@ def by_time(ballot: Ballot | Envelope) -> tuple[datetime.datetime, int]:
 
 
 # ---- envelopes by conditions
-# conditions on envelopes, where `answer` is why debvote refuses a line; those that an `undo` took back never came, but
-# a `strike` before it holds
+# conditions on envelopes, where `answer` is why debvote refuses a line
 TO_COUNT, LATE = "NOT late AND struck IS NULL", "late AND struck IS NULL"
-VALID_OR_LATE = "struck IS NULL AND answer IS NULL"
+LATE_BALLOTS = f"{LATE} AND answer IS NULL"
 REFUSED = f"{TO_COUNT} AND answer IS NOT NULL"
-UNDONE = "envelope IN (SELECT envelope FROM struck JOIN act USING (act) WHERE name = 'undo')"
 
-# the late envelopes of which no new one stands that a `reopen` entered as in time
-LEFT_LATE = f"{LATE} AND became = 'late'"
-# the letters from which such envelopes came
-OF_LEFT_LATE = f"letter IN (SELECT letter FROM fate WHERE {LEFT_LATE})"
+# the whole lines of the late ballots whose electors have another ballot in time, each with its envelope
+BESIDE_OTHERS = """SELECT envelope.line, other.envelope
+FROM entered AS one JOIN envelope USING (envelope)
+JOIN entered AS other ON other.envelope = (SELECT envelope FROM counting WHERE elector = one.elector)
+WHERE one.late AND one.struck IS NULL AND one.answer IS NULL AND one.line <> other.line"""
 
-# the letters from which `held` entered ballots
-BY_HAND = "SELECT value FROM act, json_each(detail, '$.letters') WHERE name = 'enter'"
+# the ballots since the last close that came by no letter, were late before, and replaced another one
+OVER_OTHERS = """SELECT envelope FROM valid AS again
+WHERE letter IS NULL AND act > (SELECT max(act) FROM act WHERE name = 'close') AND EXISTS (
+  SELECT 1 FROM entered AS before WHERE elector = again.elector AND line = again.line
+  AND envelope < again.envelope AND late AND struck IS NULL
+) AND line <> (
+  SELECT line FROM valid WHERE elector = again.elector AND envelope < again.envelope
+  ORDER BY envelope DESC LIMIT 1
+)"""
 
-# of some late ballots the last one of each elector, in the order `by_time`, and of those in time the last
-# one, if that is later
-LATER_ONES = """WITH its AS (
-  SELECT *, row_number() OVER (PARTITION BY elector, late ORDER BY time DESC, envelope DESC) AS nth,
-    min(time) OVER (PARTITION BY elector, late) AS first
-  FROM entered WHERE struck IS NULL AND answer IS NULL
-    AND (NOT late OR envelope IN (SELECT value FROM json_each(?1)))
-    AND elector IN (SELECT elector FROM envelope WHERE envelope IN (SELECT value FROM json_each(?1)))
-)
-SELECT late.envelope, newer.envelope FROM its AS late JOIN its AS newer USING (elector)
-WHERE late.late AND NOT newer.late AND late.nth = 1 AND newer.nth = 1
-  AND (newer.time, newer.envelope) > (late.time, late.envelope)
-ORDER BY late.first, late.envelope"""
-
-# those that came in files of lines; a line that was entered anew came once, and is known by its last
-# envelope, though that may be struck
-KNOWN_BY_LATER = f"""SELECT before.envelope FROM (SELECT late, late AS envelope FROM anew UNION SELECT late, envelope FROM anew) AS before
-JOIN anew USING (late) WHERE anew.envelope > before.envelope AND NOT anew.{UNDONE}"""
+# those that came in files of lines. If what comes now is not late (?1), a late one did not come: it is
+# entered again
 IN_FILES = (
-    f"source IS NOT NULL AND letter IS NULL AND NOT {UNDONE} AND envelope NOT IN ({KNOWN_BY_LATER})"
+    "source IS NOT NULL AND letter IS NULL AND envelope NOT IN undone"
+    " AND (?1 OR NOT late OR struck IS NOT NULL)"
 )
 
 COLUMNS = "envelope, act, elector, line, source, letter, place, time, late, struck, answer, became"
@@ -246,6 +245,16 @@ def envelopes(book: Book, condition: str = "1", *values: object) -> list[Envelop
     return [one.with_questions(became[one.number]) for one in found]
 
 
+def lost(book: Book) -> list[Envelope]:
+    """The ballots that were entered and do not count any more since an `undo`, as the view says."""
+    return [one for one in envelopes(book, "envelope IN lost") if one.by_question]
+
+
+def undone_acts(book: Book) -> set[int]:
+    """The acts whose lines an `undo` took back."""
+    return {act for act, in book.rows("SELECT act FROM envelope WHERE envelope IN undone")}
+
+
 def lines(book: Book, condition: str, *values: object) -> list[bytes]:
     """The line of each envelope that meets a condition, in their order."""
     words = f"SELECT line FROM fate WHERE {condition} ORDER BY envelope"
@@ -262,13 +271,6 @@ def lines_to_count(book: Book) -> list[bytes]:
 def answered_lines(book: Book) -> list[tuple[bytes, str | None]]:
     """The same lines, each with why debvote refuses it; None of a ballot."""
     return book.rows("SELECT line, answer FROM ballot ORDER BY envelope")
-
-
-def late_lines(book: Book) -> list[tuple[bytes, str]]:
-    """The line of each envelope that is late and not struck: entered while the vote was closed, or
-    after a reopen if it had not come before the first close (`History.is_late`); and what became of it.
-    """
-    return book.rows(f"SELECT line, became FROM fate WHERE {LATE} ORDER BY envelope")
 
 
 def has_come(book: Book, since: int) -> bool:
@@ -348,24 +350,12 @@ class EnteredBallot(NamedTuple):
 
 def entered_ballots(book: Book, letters: Sequence[int]) -> dict[int, list[EnteredBallot]]:
     """The ballots of some letters that were entered, in the order of their envelopes, by the letters."""
-    columns = f"envelope, CAST(line AS TEXT), late, struck IS NOT NULL, {UNDONE}, envelope IN typed"
+    columns = "envelope, CAST(line AS TEXT), late, struck IS NOT NULL, envelope IN undone, envelope IN typed"
     condition = "letter IN (SELECT value FROM json_each(?))"
     words = f"SELECT letter, {columns} FROM entered WHERE {condition} ORDER BY envelope"
     return grouped(
         (letter, EnteredBallot(*its)) for letter, *its in book.rows(words, json.dumps(letters))
     )
-
-
-def entered_by_hand(book: Book) -> dict[int, list[str]]:
-    """The letters from which `held` entered ballots, though an `undo` took them back; each with the
-    answers that were left out of what was typed for it, since their electors had later ones, as ballots.
-    """
-    words = f"""SELECT value, NULL FROM ({BY_HAND}) UNION ALL
-SELECT CAST(its.key AS INTEGER), ballot.value FROM act, json_each(detail, '$.left_out') AS its, json_each(its.value) AS ballot
-WHERE name = 'enter' AND act NOT IN (SELECT detail ->> '$.act' FROM act WHERE name = 'undo')"""
-    return {
-        number: [*filter(None, ballots)] for number, ballots in grouped(book.rows(words)).items()
-    }
 
 
 # ---- lines by act, and those that came in files
@@ -409,17 +399,15 @@ def envelopes_of(
 
 
 def ballots_of(book: Book, names: Collection[str]) -> dict[str, list[Ballot]]:
-    """The ballots of some electors by name, in the order `by_time`: those that were entered and are not
-    struck, also late ones.
+    """The ballots of some electors by name, in the order `by_time`: those that were entered in time and are
+    not struck. What is late is later than nothing.
     """
     # nothing is known of the clock of what came by no letter, or at a time that is not known
     clocks = "SELECT letter, known ->> 'behind' AS behind FROM letter WHERE known ->> 'arrived' IS NOT NULL"
-    joined = f"entered JOIN elector USING (elector) LEFT JOIN ({clocks}) USING (letter)"
-    columns = "name, time, CAST(line AS TEXT), behind IS NOT NULL AND NOT late, coalesce(behind, 0), envelope, late"
+    joined = f"valid JOIN elector USING (elector) LEFT JOIN ({clocks}) USING (letter)"
+    columns = "name, time, CAST(line AS TEXT), behind IS NOT NULL, coalesce(behind, 0), envelope"
     some, values = of_electors(elector_numbers(book, names).values())
-    words = (
-        f"SELECT {columns} FROM {joined} WHERE {VALID_OR_LATE} AND {some} ORDER BY time, envelope"
-    )
+    words = f"SELECT {columns} FROM {joined} WHERE {some} ORDER BY time, envelope"
     rows = book.rows(words, *values)
     return grouped((name, Ballot(from_text(time), *its)) for name, time, *its in rows)
 
@@ -474,26 +462,30 @@ def numbers(book: Book) -> Numbers:
     return Numbers(*book.rows(words)[0])
 
 
-def lines_that_came(book: Book) -> collections.Counter[bytes]:
-    """How often each line came in a file of lines that no `undo` took back."""
-    words = f"SELECT line, count(*) FROM entered WHERE {IN_FILES} GROUP BY line"
-    return collections.Counter(dict(book.rows(words)))
-
-
-def came_in_files(book: Book) -> dict[bytes, list[Envelope]]:
-    """The envelopes that came in files and that no `undo` took back, by their line; those that are
-    struck or late come last.
+def lines_that_came(book: Book, is_late: bool) -> collections.Counter[bytes]:
+    """How often each line came in a file of lines that no `undo` took back, for lines that are late now,
+    or in time.
     """
-    found = sorted(envelopes(book, IN_FILES), key=lambda one: one.is_late or one.is_struck)
+    words = f"SELECT line, count(*) FROM entered WHERE {IN_FILES} GROUP BY line"
+    return collections.Counter(dict(book.rows(words, is_late)))
+
+
+def came_in_files(book: Book, is_late: bool) -> dict[bytes, list[Envelope]]:
+    """The same as envelopes, by their line; those that are struck or late come last."""
+    found = sorted(envelopes(book, IN_FILES, is_late), key=lambda one: one.is_late or one.is_struck)
     return grouped((envelope.line, envelope) for envelope in found)
 
 
-def later_ones(book: Book, late: Sequence[int]) -> list[tuple[int, int]]:
-    """The envelopes of late ballots that would replace a later one of their elector if they were entered
-    anew, each with that of it.
+def late_beside_others(book: Book) -> dict[bytes, int]:
+    """The lines of the late ballots whose electors have a ballot in time with another answer, each with
+    the envelope of this.
     """
-    its = (book.rows(LATER_ONES, json.dumps(late)) for _ in each_question_alone(book))
-    return [*dict.fromkeys(itertools.chain.from_iterable(its))]
+    return dict(row for _ in each_question_alone(book) for row in book.rows(BESIDE_OTHERS))
+
+
+def late_lines_over_others(book: Book) -> int:
+    """How many late lines were entered again since the last close in place of other ballots in time."""
+    return len({row for _ in each_question_alone(book) for row in book.rows(OVER_OTHERS)})
 
 
 def counting_envelopes(book: Book) -> dict[tuple[int, str], tuple[int, bytes]]:
@@ -569,12 +561,19 @@ def kept_digests(book: Book) -> set[tuple[str, bool]]:
     return {(str(digest), bool(is_parted_off)) for digest, is_parted_off in book.rows(words)}
 
 
-def records_since(book: Book, act: int, at: str | None = None) -> dict[int, str]:
-    """The records of the box that came since an act, from this address if one is given: the numbers of
-    their letters, and digests.
-    """
-    words = "SELECT letter, known ->> 'digest' FROM letter JOIN act USING (act) WHERE act > ? AND detail ->> '$.box.at' = coalesce(?, detail ->> '$.box.at')"
-    return dict(book.rows(words, act, at))
+class KeptRecord(NamedTuple):
+    """A record of the box that came: from which address, its digest, link and first line."""
+
+    at: str
+    digest: str
+    link: str
+    line: str
+
+
+def records_since(book: Book, act: int) -> list[KeptRecord]:
+    """The records of the box that came since an act."""
+    words = "SELECT detail ->> '$.box.at', known ->> 'digest', known ->> 'link', coalesce(known ->> '$.body.lines[0]', '') FROM letter JOIN act USING (act) WHERE act > ? AND detail ->> '$.box.at' IS NOT NULL"
+    return [KeptRecord(*row) for row in book.rows(words, act)]
 
 
 def source_of(book: Book, source: int) -> bytes:
@@ -583,7 +582,7 @@ def source_of(book: Book, source: int) -> bytes:
 
 def may_wait(book: Book) -> list[KeptLetter]:
     """The letters that are unsettled, or of which something may be left; and their copies."""
-    words = f"SELECT identity FROM letter_now WHERE state IN {UNSETTLED} OR letter IN ({BY_HAND})"
+    words = f"SELECT identity FROM letter_now WHERE state IN {UNSETTLED}"
     return kept_letters(book, f"identity IN ({words})")
 
 
@@ -596,9 +595,3 @@ def keep_letter(act: NewAct, where: str, data: bytes, identity: str, read_json: 
 
 def decide(act: NewAct, letter: int, state: str) -> None:
     act.insert("letter_state", letter=letter, state=state)
-
-
-def our_message_ids(book: Book) -> list[tuple[int, str, str]]:
-    """The Message-IDs of the letters that were written, each with its elector and its kind."""
-    words = "SELECT elector, json_extract(detail, '$.message_id') AS id, kind FROM sent WHERE state = 'written' AND id <> ''"
-    return book.rows(words)

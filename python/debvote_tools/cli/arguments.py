@@ -17,8 +17,8 @@ import re
 from typing import Any, NoReturn
 
 from debvote_tools import VERSION
-from debvote_tools.cli.faults import bad_words
-from debvote_tools.cli.console import LINE_ENDS, number_of, odd_sign
+from debvote_tools.cli.faults import Status, bad_words
+from debvote_tools.cli.console import LINE_ENDS, number_of, odd_sign, write
 
 # in characters; a reason is a sentence or some
 LONGEST_REASON = 2_000
@@ -66,6 +66,13 @@ class Acting(Options):
 class Parser(argparse.ArgumentParser):
     """Names a command that was perhaps meant by one that is misspelt."""
 
+    def _print_message(self, message: str, file: Any = None) -> None:
+        """Of help and version nobody may read more than the first lines."""
+        try:
+            write(file, message)
+        except OSError:
+            raise SystemExit(Status.BAD_OUTPUT) from None
+
     def error(self, message: str) -> NoReturn:
         if found := re.match(
             r"argument COMMAND: invalid choice: '(.*)' \(choose from '(.*)'\)", message
@@ -77,6 +84,8 @@ class Parser(argparse.ArgumentParser):
             message = f"there is no command {found[1]!r}" + "".join(
                 f"; did you mean {one}?" for one in near
             )
+        if message == "unrecognized arguments: --marked":
+            message = "--marked: it is always so now; leave it out"
         super().error(message)
 
 

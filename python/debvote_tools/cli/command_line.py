@@ -76,7 +76,7 @@ def main(program_folder: pathlib.Path, words: Sequence[str] | None = None) -> in
         # a command that changes nothing ends quietly if nobody reads on
         if isinstance(fault, console.OutputFailed) and fault.is_closed_pipe:
             if namespace.command in QUIET:
-                return 128 + signal.SIGPIPE
+                return fault.status
         for one in (fault, *fault.others):
             console.failed(
                 PROGRAM, one.after(election.done, namespace.arguments.nothing).words, one.status

@@ -17,7 +17,7 @@ import sys
 import textwrap
 import unicodedata
 from collections.abc import Callable, Iterable, Sequence
-from typing import TextIO
+from typing import IO, NoReturn
 
 from debvote_tools.cli.faults import Fault, Status
 from debvote_tools.text.times import offset_of
@@ -41,14 +41,24 @@ class OutputFailed(Fault):
         self.is_closed_pipe = is_closed_pipe
 
 
+# what the handler of a signal has raised that ends the program: within a query SQLite drops it
+ENDED = list[BaseException]()
+
+
 def prepare(*ending: signal.Signals) -> None:
     """Runs first. These signals end the program as an exit does, and a character that the terminal
     can't show must not.
     """
     for number in ending:
-        signal.signal(number, lambda number, _: sys.exit(128 + number))
+        signal.signal(number, end)
     if isinstance(sys.stdout, io.TextIOWrapper):
         sys.stdout.reconfigure(errors="backslashreplace")
+
+
+def end(number: int, _: object = None) -> NoReturn:
+    """The handler of a signal that ends the program."""
+    ENDED.append(SystemExit(128 + number))
+    raise ENDED[-1]
 
 
 def has_output() -> bool:
@@ -97,7 +107,7 @@ def tell_aside_as_it_is(text: str) -> None:
             write(sys.stderr, text)
 
 
-def write(output: TextIO, text: str) -> None:
+def write(output: IO[str], text: str) -> None:
     """Writes a text at once, or drops its rest: Python would try again at its end, and exit with a
     status of its own.
     """
@@ -208,6 +218,15 @@ WIDTH = 100
 def count_of(number: int, noun: str, plural: str | None = None) -> str:
     """A number with its noun, as `1 line` or `2 lines`."""
     return f"{number} {noun if number == 1 else plural or noun + 's'}"
+
+
+def in_runs(numbers: Iterable[int]) -> str:
+    """Numbers in their order, as `3-5, 7`."""
+    runs = []
+    for _, run in itertools.groupby(enumerate(numbers), lambda one: one[1] - one[0]):
+        ends = [number for _, number in run]
+        runs.append("-".join(map(str, dict.fromkeys((ends[0], ends[-1])))))
+    return ", ".join(runs)
 
 
 def listed(names: Sequence[str], most: int) -> str:

@@ -13,7 +13,7 @@ from debvote_tools.book.book import Book, Detail, DoneAct, NewAct
 from debvote_tools.book.change import carried_out
 from debvote_tools.book.election import Election, History
 from debvote_tools.book.queries import Envelope, NewEnvelope
-from debvote_tools.cli.console import count_of, shown_line, tell, tell_many
+from debvote_tools.cli.console import count_of, is_terminal, is_yes, shown_line, tell, tell_many
 from debvote_tools.cli.faults import Fault, bad_words, stop_at
 from debvote_tools.debvote import TABLE
 from debvote_tools.grouping import grouped
@@ -44,10 +44,12 @@ class Arguments(entering.Arguments):
     )
     box: bool = flag("Ask the web host for the ballots that electors sent by the page of the vote")
     look: bool = flag("Say what would be entered, and change nothing")
-    yes: bool = flag("With letters: enter the ballots without asking")
+    yes: bool = flag(
+        "With letters: enter the ballots without asking; with lines: ask of none that was late"
+    )
     force: bool = flag(
-        "Add them although most lines are not ballots, they look like a table, one is very long, an older ballot would replace a later "
-        "one, or (then with a reason) letters must be signed"
+        "Add them although most lines are not ballots, they look like a table, one is very long, an older or late ballot would replace "
+        "another one, or (then with a reason) letters must be signed"
     )
 
 
@@ -106,16 +108,33 @@ class NewLines:
     history: History = dataclasses.field(compare=False)
     timing: Sequence[DoneAct]
     files: Sequence[ComparedLines]
+    # those that were late, and would replace ballots in time, each in words
+    replacing: Mapping[CheckedLine, str]
 
     @property
     def lines(self) -> list[CheckedLine]:
         return [line for file in self.files for line in file.new]
 
 
-def new_lines(vote: Vote, files: Sequence[FileLines]) -> NewLines:
+def new_lines(vote: Vote, files: Sequence[FileLines], came_before_close: bool | None) -> NewLines:
     """It asks nothing of debvote, so it is found again within the act."""
     history = vote.history()
-    return NewLines(history, history.timing, compared_with_book(vote.book, files, history))
+    is_late = history.is_late(came_before_close)
+    compared = compared_with_book(vote.book, files, is_late)
+    lines = [line for file in compared for line in file.new]
+    replacing = entering.replaced_in_time(vote, lines, is_late)
+    return NewLines(history, history.timing, compared, replacing)
+
+
+def without_declined(new: NewLines, arguments: Arguments) -> NewLines:
+    """The same without the late lines of which somebody at a terminal says that they replace none."""
+    asked = () if arguments.force else new.replacing.items()
+    declined = [line for line, words in asked if not is_yes(f"{words}. Enter it?")]
+    files = [
+        dataclasses.replace(file, new=[line for line in file.new if line not in declined])
+        for file in new.files
+    ]
+    return dataclasses.replace(new, files=files)
 
 
 @dataclasses.dataclass(frozen=True, kw_only=True)
@@ -127,7 +146,8 @@ class Addition(Entry):
 
     def is_same_now(self) -> bool:
         """Else commands `desk` that go on could keep it from its act: it takes a while to plan."""
-        return new_lines(self.vote, self.files) == self.new
+        came_before_close = self.detail.get("came_before_close")
+        return new_lines(self.vote, self.files, came_before_close) == self.new
 
     def write(self, act: NewAct) -> None:
         """Keeps each file whole, and enters its lines."""
@@ -152,8 +172,10 @@ class Addition(Entry):
 
 
 def what_is_added(vote: Vote, files: Sequence[FileLines], arguments: Arguments) -> Addition:
-    new = new_lines(vote, files)
+    came_before_close = entering.came_before_close(vote.history(), arguments.came_before_close)
+    new = new_lines(vote, files, came_before_close)
     stop_at(list(faults_of_lines(vote, new, arguments)))
+    new = without_declined(new, arguments)
     if not new.lines:
         nothing = "There is nothing new, and nothing was added."
         shown = [*report_of_files(vote, new, (), ()), nothing]
@@ -163,7 +185,6 @@ def what_is_added(vote: Vote, files: Sequence[FileLines], arguments: Arguments) 
         "lines": len(new.lines),
         "passed_over": sum(that_came(line for line, _ in file.repeated) for file in new.files),
     }
-    came_before_close = entering.came_before_close(new.history, arguments.came_before_close)
     if came_before_close is not None:
         detail["came_before_close"] = came_before_close
     if vote.is_signed:
@@ -225,17 +246,18 @@ def is_right_as_it_came(line: CheckedLine) -> bool:
 
 
 def compared_with_book(
-    book: Book, files: Sequence[FileLines], history: History
+    book: Book, files: Sequence[FileLines], is_late: bool
 ) -> list[ComparedLines]:
-    """The files, each with its new lines and those that came before. If n copies of a line came in earlier files, its first
-    n copies in this file are duplicates, whether those were counted, refused, struck or late. Files
-    that an `undo` took back do not count. A file that goes in now is an earlier one for the next.
+    """The files, each with its new lines and those that came before. If n copies of a line came in
+    earlier files, its first n copies in this file are duplicates, whether those were counted, refused
+    or struck; or late, if what comes now is late, too. Files that an `undo` took back do not count. A
+    file that goes in now is an earlier one for the next.
     """
-    copies_before = queries.lines_that_came(book)
+    copies_before = queries.lines_that_came(book, is_late)
     is_known = any(line.as_entered in copies_before for file in files for line in file.lines)
     if not is_known and len(files) == 1:
         return [ComparedLines(**vars(files[0]), new=files[0].lines, repeated=())]
-    before = queries.came_in_files(book) if is_known else {}
+    before = queries.came_in_files(book, is_late) if is_known else {}
     counting = queries.counting_envelopes(book) if is_known else {}
     own = {
         envelope.number
@@ -257,7 +279,7 @@ def compared_with_book(
             # one of which a copy goes in now, too, counts
             its = before.get(line.as_entered, ())
             is_changed = len(its) == copies
-            change = change_since(line, its[nth], since, history) if is_changed else None
+            change = change_since(line, its[nth], since) if is_changed else None
             repeated.append((line, change))
         copies_before.update(map(AS_ENTERED, new))
         found.append(ComparedLines(**vars(file), new=new, repeated=repeated))
@@ -265,10 +287,7 @@ def compared_with_book(
 
 
 def change_since(
-    line: CheckedLine,
-    came: Envelope,
-    since: Mapping[tuple[int, str], tuple[int, bytes]],
-    history: History,
+    line: CheckedLine, came: Envelope, since: Mapping[tuple[int, str], tuple[int, bytes]]
 ) -> str | None:
     """Why a line that came in an envelope no longer counts, by what came `since` and counts, by elector
     and label; None if it does, or the same ballot does.
@@ -278,17 +297,18 @@ def change_since(
         number, part = since.get((came.elector or 0, label), (0, own))
         if became == "replaced" and part != own:
             return f"{line.voter} has voted since (envelope {number})"
-    if came.is_struck or (came.became == "late" and history.is_reopened):
+    if came.is_struck:
         return f"was {came.became} (envelope {came.number})"
     return None
 
 
 def look(vote: Vote, files: Sequence[FileLines], arguments: Arguments) -> None:
     """Says what would become of the lines, and stops if `add` would."""
+    came_before_close = arguments.came_before_close != "no"
     with vote.book.snapshot():
-        new = new_lines(vote, files)
+        new = new_lines(vote, files, came_before_close)
         counting, first = queries.what_counts(vote.book), queries.last_envelope(vote.book) + 1
-    is_late = new.history.is_late(arguments.came_before_close != "no")
+    is_late = new.history.is_late(came_before_close)
     lines = [(line.as_entered, line.why_refused) for line in new.lines]
     numbers = range(first, first + len(lines))
     replies = [*replies_to(lines, counting, is_late=is_late)]
@@ -310,6 +330,9 @@ def faults_of_lines(vote: Vote, new: NewLines, arguments: Arguments) -> Iterator
         yield Fault(new.files[0].name, words, cure)
     if arguments.force:
         return
+    # at a terminal each is asked about
+    for words in new.replacing.values() if arguments.yes or not is_terminal() else ():
+        yield Fault(None, words, f"take it out, or {FORCE}")
     for file in new.files:
         yield from odd_lines(vote, file)
     with_new_lines = [file for file in new.files if file.new]

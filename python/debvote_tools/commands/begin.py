@@ -234,6 +234,11 @@ def change_addresses(election: Election, history: History, changed: Mapping[Memb
         queries.put_electors(act, now)
         act.insert_all("sealed", "name, data", files.items())
     tell(*(f"{member.name}: {words}" for member, words in changed.items()))
+    if election.questions.is_secret:
+        write_slips(election, election.sealed())
+        tell(
+            f"Made {SLIPS} and {CODES} in {election.path(PRIVATE)} anew: a new address has a new mark."
+        )
     tell(f"{count_of(len(changed), 'elector')} changed; the result page says how many.")
     if files:
         write_made(election.path(CALL), {SCRIPT: files[BOX_SCRIPT]}, PUBLIC)
@@ -334,7 +339,7 @@ def check(election: Election, arguments: Options) -> None:
     if not questions.is_several:
         counts = f"The poll is in order: {len(questions[''].names)} options"
     tell(f"{counts}, {len(roll)} electors.")
-    tell_checked(found)
+    tell_checked(found, election.language)
     tell(*names_like_answers(questions, queries.electors(election.book), election.language))
     for label, poll in questions.items():
         quorum = quorum_words(poll.quorum, found.quorums[label])
@@ -451,5 +456,5 @@ def write_slips(election: Election, sealed: Sealed) -> None:
     electors, call = queries.electors(election.book), current_call(election, sealed=sealed)
     files = {SLIPS: slips(call, electors)}
     if not call.has_codes_on_roll:
-        files[CODES] = codes_csv(electors, is_several=call.questions.is_several)
+        files[CODES] = codes_csv(call, electors)
     write_made(election.path(PRIVATE), files, OWN)

@@ -13,7 +13,7 @@ from debvote_tools.book import queries
 from debvote_tools.book.book import ActName, Detail
 from debvote_tools.poll.call import call_files, call_letter, CallData, current_call, until_of
 from debvote_tools.cli.console import act_time, tell
-from debvote_tools.result.publication import agreed_texts, texts_of
+from debvote_tools.result.publication import agreed_texts
 from debvote_tools.commands.begin import CODES, SLIPS, demand_read, write_slips
 from debvote_tools.book.election import (
     CALL,
@@ -26,7 +26,13 @@ from debvote_tools.book.election import (
     Sealed,
 )
 from debvote_tools.files import OWN, PUBLIC, read_whole, write_made
-from debvote_tools.poll.draft import checked, letter_text_in, tell_checked
+from debvote_tools.poll.draft import (
+    checked,
+    faults_of_ballots,
+    letter_text_in,
+    tell_checked,
+    texts_of,
+)
 from debvote_tools.poll.announced import (
     demand_future,
     demand_web_address,
@@ -65,9 +71,6 @@ class Arguments(Acting):
         "URL", "The web address of the page for the call, and later for the result"
     )
     names: bool = flag("Say in the call that real names will be published with the result")
-    marked: bool = flag(
-        "Let a letter go in by itself only with the own mark of its elector, which letters to electors have"
-    )
     box: bool = flag(
         "Let electors vote by a click on the page: call/vote.php keeps the ballots on the web host until add --box"
     )
@@ -99,9 +102,6 @@ def call(election: Election, arguments: Arguments) -> None:
 def call_first(election: Election, arguments: Arguments) -> None:
     history, faults = election.history(), list[Fault]()
     said, is_on_roll = announced(arguments, history, faults), history.has_codes_on_roll
-    if is_on_roll and arguments.marked:
-        reason = "codes are on the roll, so no elector can be given an own mark"
-        faults.append(bad_words("--marked", reason, LEAVE_OUT))
     keyring: bytes | None = None
     with kept_in(faults):
         keyring = keyring_in(election, arguments.keyring)
@@ -118,7 +118,6 @@ def call_first(election: Election, arguments: Arguments) -> None:
     electors = queries.electors(election.book)
     said |= {
         "names": arguments.names,
-        "marked": arguments.marked,
         "box": arguments.box,
         "codes_on_roll": is_on_roll,
         "quorum_votes": found.quorums,
@@ -135,7 +134,7 @@ def call_first(election: Election, arguments: Arguments) -> None:
     with election.book.act("call", said, seen=history.last.number) as act:
         act.insert_all("sealed", "name, data", files.items())
         queries.put_electors(act, marked)
-    tell_checked(found)
+    tell_checked(found, election.language)
 
 
 def call_again(election: Election, arguments: Arguments) -> None:
@@ -151,6 +150,7 @@ def call_again(election: Election, arguments: Arguments) -> None:
     before = current_call(election, history).letter_text
     # after a close no letter begins with it
     letter_text = before if history.closes else letter_text_in(election.folder)
+    stop_at([*faults_of_ballots(election, election.questions, letter_text)])
     if not said and arguments.keyring is None and letter_text == before:
         return
     if history.is_closed:
@@ -282,7 +282,7 @@ def faults_in_secret(arguments: Arguments) -> Iterator[Fault]:
 def demand_no_change(
     election: Election, history: History, arguments: Arguments, said: Detail
 ) -> None:
-    flags = given(arguments, "names", "marked", "box")
+    flags = given(arguments, "names", "box")
     changed = [flag for flag in flags if not history.announced(flag.removeprefix("--"))]
     if said.get("to") not in (None, history.announced("to")):
         changed.append("--to")
@@ -346,8 +346,6 @@ def call_in_words(election: Election, data: CallData) -> Iterator[str]:
     yield from secrecy_in_words(data, election.path(PRIVATE) / SLIPS)
     yield f"Checksum of the {polls}: {data.questions.checksum}"
     yield f"Mark of the poll, at the end of each subject: {data.mark}"
-    if data.is_marked:
-        yield "A letter goes in by itself only with the own mark of its elector."
     if data.until is not None:
         yield f"End of the vote: {times.time_in_words(data.until)}"
     letter = folder / "call.txt"

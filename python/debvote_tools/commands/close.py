@@ -5,16 +5,21 @@ from collections.abc import Mapping
 
 from debvote_tools.cli.arguments import Acting, demand_reason, flag, has_reason
 from debvote_tools.text import times
+from debvote_tools.book import queries
 from debvote_tools.book.book import Detail, DoneAct
 from debvote_tools.book.change import Change, carried_out, terminal_question
 from debvote_tools.cli.console import act_time, count_of, tell
 from debvote_tools.book.election import LETTERS, Election, Fixed, History, fixed_by
 from debvote_tools.files import OWN, write_made
-from debvote_tools.inbox.stopping import other_votes_words, pending_letters, what_stops
+from debvote_tools.inbox.stopping import (
+    other_votes_words,
+    pending_letters,
+    taken_out_words,
+    what_stops,
+)
 from debvote_tools.result.publication import (
     Kept,
     closing_letter,
-    demand_kept,
     kept_of,
 )
 from debvote_tools.cli.faults import Fault, stop_at
@@ -89,6 +94,8 @@ def tell_closed(act: DoneAct) -> None:
     ):
         if number:
             tell(f"{count_of(number, 'letter')} that {when}")
+    if number := detail.get("replaced_in_time"):
+        tell(f"Late lines that replaced ballots in time: {number}; the result page says so.")
 
 
 @dataclasses.dataclass(frozen=True, eq=False)
@@ -105,11 +112,11 @@ class Closing(Change):
         raise Fault(None, "you did not say that this is all", cure)
 
 
-def came_last(history: History, lines: str) -> str:
-    """Which lines there are, when the last ones came, the end and the strikes: who has put back a
+def came_last(election: Election, history: History, lines: str) -> str:
+    """Which lines there are, when the last ones came, the end and what was taken out: who has put back a
     disk sees what is missing.
     """
-    undone = {act.detail["act"] for act in history.named("undo")}
+    undone = queries.undone_acts(election.book)
     # an asking may bring nothing
     last = {
         act.name == "desk": act_time(act.time)
@@ -118,11 +125,10 @@ def came_last(history: History, lines: str) -> str:
     }
     added, at_desks = (last.get(is_desk, "never") for is_desk in (False, True))
     end = times.time_in_words(history.until) if history.until else "not announced"
-    strikes = len(history.since_call("strike"))
     said = (
         f"Until now {lines} came in time. Added last: {added}. Entered last at a desk: {at_desks}."
     )
-    return f"{said} Strikes: {strikes}. End of the vote: {end}."
+    return f"{said} {taken_out_words(election, history)} End of the vote: {end}."
 
 
 def what_is_closed(election: Election, arguments: Arguments) -> Closing:
@@ -144,7 +150,7 @@ def what_is_closed(election: Election, arguments: Arguments) -> Closing:
         faults += stopping.values()
     stop_at(faults)
     kept = kept_of(election, history, election.questions)
-    fixed = {label: what_is_fixed(election, its) for label, its in kept.items()}
+    fixed = {label: what_is_fixed(its) for label, its in kept.items()}
     detail: Detail = {
         "questions": {label: of_one._asdict() for label, of_one in fixed.items()},
         "waiting": len(pending.arrived_in_time),
@@ -154,16 +160,16 @@ def what_is_closed(election: Election, arguments: Arguments) -> Closing:
     }
     if pending.arrived_in_time:
         detail["left"] = pending.arrived_in_time
+    if replaced := queries.late_lines_over_others(election.book):
+        detail["replaced_in_time"] = replaced
     if stopping:
         detail["because"] = demand_reason(arguments.because, "--force")
-    shown = [came_last(history, lines_in_words(fixed)), *other_votes_words(pending.other_votes)]
+    came = came_last(election, history, lines_in_words(fixed))
+    shown = [came, *other_votes_words(pending.other_votes)]
     return Closing("close", detail, shown=shown, question=terminal_question(ALL, arguments.yes))
 
 
-def what_is_fixed(election: Election, kept: Kept) -> Fixed:
-    """What the close fixes of a question. Stops if the book keeps other verdicts on its lines."""
-    found = election.debvote.findings(kept.poll.as_bytes(), kept.ballots)
-    said = [finding.line for finding in found.refused], found.voters
-    demand_kept(election, said, (kept.refused, kept.numbers.voters))
+def what_is_fixed(kept: Kept) -> Fixed:
+    """What the close fixes of a question."""
     seal = seal_line() if kept.poll.secret else ""
-    return Fixed(kept.numbers.lines, sealed_checksum(seal, kept.public), seal)
+    return Fixed(kept.lines, sealed_checksum(seal, kept.public), seal)

@@ -6,23 +6,21 @@ import re
 from collections.abc import Iterator, Mapping, Sequence
 
 from debvote_tools.book import outgoing, queries
-from debvote_tools.book.book import Book, Detail, DoneAct
+from debvote_tools.book.book import Book, DoneAct
 from debvote_tools.book.change import Change, carried_out, terminal_question
 from debvote_tools.book.election import Election, History
-from debvote_tools.book.queries import EnteredBallot, Envelope, NewEnvelope
-from debvote_tools.cli.arguments import Acting, demand_reason, flag, option, positional
-from debvote_tools.cli.console import act_time, count_of, shown_line, tell
-from debvote_tools.cli.faults import Fault, bad_words, stop_at
+from debvote_tools.book.queries import Envelope
+from debvote_tools.cli.arguments import Acting, demand_reason, flag, positional
+from debvote_tools.cli.console import act_time, count_of, listed, shown_line, tell
+from debvote_tools.cli.faults import Fault
 from debvote_tools.commands import held
+from debvote_tools.grouping import grouped
 from debvote_tools.inbox import letter_words
-from debvote_tools.inbox.entering import Entry
-from debvote_tools.inbox.fates import ANEW
-from debvote_tools.inbox.judging import judged, letters_now
+from debvote_tools.inbox.judging import letters_now
 from debvote_tools.inbox.lines import name_in
 from debvote_tools.inbox.rules import LetterCase
 from debvote_tools.inbox.taking import MOST_NAMED
 from debvote_tools.inbox.vote import envelope_words, standing_words, Vote
-from debvote_tools.text.ballots import differ
 from debvote_tools.text.times import now
 
 
@@ -36,8 +34,8 @@ class TakenBack(Change):
     """What an `undo` takes back, or would."""
 
     undone: DoneAct
-    # whether it takes back what came late, or was typed for a letter: --enter enters neither again
-    is_typed_or_late: bool
+    # whether it was typed for a letter: --enter does not enter it again
+    is_typed: bool
     # what it changes, in words: current ballots, told once; and letters and receipts
     ballots: Sequence[str]
     others: Sequence[str]
@@ -57,7 +55,7 @@ def undo(election: Election, arguments: UndoArguments) -> None:
     following = election.command("status")
     if queries.last_entering_act(book):
         following += f"; another {election.command('undo')} takes back the act before"
-    if change.letters and not change.is_typed_or_late:
+    if change.letters and not change.is_typed:
         enter = words_to_enter(vote, judged_after, change)
         does = "enters these letters again" if enter else "lists these letters"
         following += f"; {election.command('held', *enter)} {does}"
@@ -71,8 +69,8 @@ def what(act: DoneAct, numbers: Sequence[int]) -> str:
 
 
 def what_is_taken_back(vote: Vote, arguments: UndoArguments) -> TakenBack:
-    """The last act that entered lines of which one is not struck, and what changes. Of a `reopen` only
-    its lines are taken back: the vote stays open. Stops if there is none, or at a close.
+    """The last act that entered lines of which one is not struck, and what changes. Stops if there is
+    none, or at a close.
     """
     book, election = vote.book, vote.election
     with book.snapshot():
@@ -100,8 +98,7 @@ def what_is_taken_back(vote: Vote, arguments: UndoArguments) -> TakenBack:
         struck=struck,
         letters=dict.fromkeys(letters, queries.TAKEN_BACK),
         undone=act,
-        is_typed_or_late=act.name == "reopen"
-        or bool(queries.lines(book, "act = ? AND envelope IN typed", number)),
+        is_typed=bool(queries.lines(book, "act = ? AND envelope IN typed", number)),
         ballots=ballots,
         others=others,
     )
@@ -122,27 +119,13 @@ def what_else_changes(book: Book, struck: Sequence[int], letters: Sequence[int])
 def words_to_enter(vote: Vote, found: Mapping[int, LetterCase], change: TakenBack) -> list[str]:
     """What is typed after `held` to enter again what was taken back; empty if no one command does it."""
     numbers = [*change.letters]
-    [letter, *others] = [found[number] for number in numbers]
-    # lines are of one letter
-    its = [one for one in letter.entered if one.number in change.struck and not others]
-    lines = ",".join(dict.fromkeys(line_of(letter, one) for one in its))
-    for words in (list[str](), [lines]) if len(others) < MOST_NAMED else ():
-        enter = words or [held.THE_ONE]
-        how = held.Arguments(numbers=numbers, enter=enter, force=False, yes=True)
+    if len(numbers) <= MOST_NAMED:
+        ranges = [range(number, number + 1) for number in numbers]
+        how = held.Arguments(numbers=ranges, enter=True, force=False, yes=True)
         with contextlib.suppress(Fault):
             held.what_is_entered(vote, [*found.values()], how)
-            return [*map(str, numbers), "--enter", *words]
+            return [*map(str, numbers), "--enter"]
     return []
-
-
-def line_of(letter: LetterCase, ballot: EnteredBallot) -> str:
-    """The number of the first line of a letter that has the answers of a ballot; empty if none has."""
-    has_them = (
-        str(line.number)
-        for line in letter.lines_to_enter
-        if ballot.answers <= line.answers and not differ(ballot.line, line.as_entered)
-    )
-    return next(has_them, "")
 
 
 def demand_open(election: Election, history: History) -> None:
@@ -201,8 +184,10 @@ def what_is_struck(vote: Vote, arguments: StrikeArguments, because: str) -> Chan
 
 
 def in_words(envelope: Envelope, vote: Vote) -> str:
-    line = without_code(vote, envelope.line)
-    return f"envelope {envelope.number}{' (late)' if envelope.is_late else ''}: `{line}`"
+    # no code that nobody typed, nor one with a wrong digit
+    line = LIKE_A_CODE.sub(b"CODE", envelope.line) if vote.has_codes else envelope.line
+    late = " (late)" if envelope.is_late else ""
+    return f"envelope {envelope.number}{late}: `{shown_line(line)}`"
 
 
 def demand_envelope(vote: Vote, number: int) -> Envelope:
@@ -220,28 +205,11 @@ def demand_envelope(vote: Vote, number: int) -> Envelope:
         time = act_time(history.act(envelope.struck).time)
         words = f"envelope {number} is struck already, by act {envelope.struck} at {time}"
         raise Fault(None, words, f"see {vote.election.command('log')}")
-    if envelope.became == ANEW:
-        words = f"envelope {number} is late, and was entered anew as in time, which would count on"
-        raise Fault(None, words, "strike its new envelope, which show NAME lists")
     return envelope
-
-
-def without_code(vote: Vote, line: bytes) -> str:
-    """A line as it is shown: no code that nobody typed, nor one with a wrong digit."""
-    return shown_line(LIKE_A_CODE.sub(b"CODE", line) if vote.has_codes else line)
 
 
 # ---- reopen
 class ReopenArguments(Acting):
-    in_time: list[int] = option(
-        "NUMBER",
-        "Late envelopes whose ballots came before the first close: they are entered anew, and count",
-        type=int,
-        nargs="*",
-        action="extend",
-        default=[],
-    )
-    force: bool = flag("Enter them although their electors have later ballots that count")
     yes: bool = flag("Open it without asking")
 
 
@@ -249,55 +217,51 @@ def reopen(election: Election, arguments: ReopenArguments) -> None:
     """Open the vote again after a close, for ballots that came in time; the result page says so."""
     because = demand_reason(arguments.because, "reopen")
     book = election.book_for(arguments)
-    vote = Vote(election)
-    carried_out(book, lambda: what_is_reopened(vote, arguments, because))
-    early = ["--early"] if election.history().ends_after(now()) else []
-    close = election.command("close", *early)
-    if left := [str(envelope.number) for envelope in perhaps_in_time(vote)]:
-        again = election.command("reopen", "--in-time", *left, "--because", because)
-        tell(
-            f"Note: {count_of(len(left), 'line')} late; for those that came before the first close:",
-            f"  {close} && {again}",
-        )
-    tell("Of new ballots only those that arrived before the first close count: add and desk ask.")
-    tell(f"Next: {election.command('add', 'FILE')}, then {close}")
+    carried_out(book, lambda: what_is_reopened(election, arguments, because))
+    history = election.history()
+    closed = act_time(history.closes[-1].time)
+    early = ["--early"] if history.ends_after(now()) else []
+    tell(
+        f"The vote is open again; the close at {closed} stays in the log and on the result page.",
+        *late_words(Vote(election), history),
+        "Of new ballots only those that arrived before the first close count: add and desk ask.",
+        "What is late stays late: if it arrived before, enter it again, with add FILE --came-before-close yes or at a desk.",
+        f"Next: {election.command('add', 'FILE')}, then {election.command('close', *early)}",
+    )
 
 
-@dataclasses.dataclass(frozen=True, kw_only=True)
-class Reopening(Entry):
-    """Opens the vote, and enters late envelopes anew."""
-
-    offered: list[Envelope]
-
-    def words(self, numbers: range, replies: Sequence[str]) -> Iterator[str]:
-        closed = act_time(self.vote.election.history().closes[-1].time)
-        yield f"The vote is open again; the close at {closed} stays in the log and on the result page."
-        for number, envelope in zip(numbers, self.offered):
-            line = without_code(self.vote, envelope.line)
-            yield f"Envelope {number}, entered anew from late envelope {envelope.number}: {line}"
-
-
-def what_is_reopened(vote: Vote, arguments: ReopenArguments, because: str) -> Reopening:
-    demand_closed(vote.election, vote.election.history())
-    offered = chosen(vote, arguments.in_time)
-    detail: Detail = {"because": because, "in_time": [one.number for one in offered]}
-    if older := list(faults_of_older(vote, offered)):
-        stop_at([] if arguments.force else older)
-        detail["force"] = True
-    is_secret = vote.election.questions.is_secret
+def what_is_reopened(election: Election, arguments: ReopenArguments, because: str) -> Change:
+    demand_closed(election, election.history())
+    is_secret = election.questions.is_secret
     told = "Only the log tells this reason." if is_secret else "Everybody will read this reason."
     question = f"Open the vote again, because: {because}? {told}"
-    return Reopening(
-        "reopen",
-        detail,
-        question=terminal_question(question, arguments.yes),
-        vote=vote,
-        envelopes=[
-            NewEnvelope(one.line, one.place, one.source, one.letter, one.time, one.why_refused)
-            for one in offered
-        ],
-        offered=offered,
+    asked = terminal_question(question, arguments.yes)
+    return Change("reopen", {"because": because}, question=asked)
+
+
+def late_words(vote: Vote, history: History) -> Iterator[str]:
+    """The late ballots that may have come in time, of a desk or a file, or of a letter of before the first
+    close; and apart from them those whose electors have another ballot in time. Others that were entered
+    again are left out.
+    """
+    others = queries.late_beside_others(vote.book)
+    in_time = {*queries.lines_to_count(vote.book)}
+    found = grouped(
+        (
+            one.line in others,
+            str(one.number) if vote.has_codes else f"{one.number} `{shown_line(one.line)}`",
+        )
+        for one in queries.envelopes(vote.book, queries.LATE_BALLOTS)
+        if one.letter is None or one.time <= history.closes[0].time
+        if one.line in others or one.line not in in_time
     )
+    for is_beside, shown in sorted(found.items()):
+        what = (
+            "Late ballots of electors with another ballot in time, which they would replace"
+            if is_beside
+            else "Late ballots that may have come before the first close"
+        )
+        yield f"{what} ({len(shown)}): {listed(shown, MOST_NAMED)}"
 
 
 def demand_closed(election: Election, history: History) -> None:
@@ -308,41 +272,3 @@ def demand_closed(election: Election, history: History) -> None:
             "the published result shows the codes, so anybody could now vote in the name of others"
         )
         raise Fault(None, words, "hold the vote anew, with new codes")
-
-
-def perhaps_in_time(vote: Vote) -> list[Envelope]:
-    """The late envelopes that may have come in time: of a desk or a file, or of a letter that is not known
-    to have arrived after the first close.
-    """
-    late = queries.envelopes(vote.book, queries.LEFT_LATE)
-    kept = queries.kept_letters(vote.book, queries.OF_LEFT_LATE)
-    known = judged(vote, vote.election.history(), kept)
-    too_late = {letter.number for letter in known if letter.arrived_after_close}
-    return [envelope for envelope in late if envelope.letter not in too_late]
-
-
-def chosen(vote: Vote, numbers: Sequence[int]) -> list[Envelope]:
-    """The late envelopes that had come in time, as the secretary says, in the order of their times."""
-    late = {envelope.number: envelope for envelope in queries.envelopes(vote.book, queries.LATE)}
-    if unknown := [str(number) for number in numbers if number not in late]:
-        words = f"envelope {', '.join(unknown)} is not one of the late lines"
-        cure = "status says how many lines are late, and show NAME which"
-        raise bad_words("--in-time", words, cure)
-    in_time = {envelope.number for envelope in perhaps_in_time(vote)}
-    others = [number for number in numbers if number not in in_time]
-    again = [number for number in others if late[number].became == ANEW]
-    why = "is of a letter that arrived after the first close"
-    if again:
-        why = "was entered as in time by an earlier reopen"
-    if others:
-        words = f"envelope {', '.join(map(str, again or others))} {why}"
-        raise Fault("--in-time", words, "leave it out")
-    return sorted((late[number] for number in set(numbers)), key=queries.by_time)
-
-
-def faults_of_older(vote: Vote, offered: Sequence[Envelope]) -> Iterator[Fault]:
-    """A fault for each envelope that would replace a later ballot of its elector."""
-    cure = "leave it out; or, if it must count, repeat the command with --force"
-    for number, replaced in queries.later_ones(vote.book, [one.number for one in offered]):
-        words = f"envelope {number} would replace envelope {replaced}, a later ballot of the same elector"
-        yield Fault("--in-time", words, cure)

@@ -19,6 +19,7 @@ from debvote_tools.result.sheet import (
     named,
     publishing,
     Sheet,
+    unneeded_words,
 )
 
 
@@ -52,6 +53,7 @@ def count(election: Election, arguments: Arguments) -> int:
         # the sheet alone, so that it can go into a file
         above = "" if arguments.question or not label else f"Question {label}\n"
         tell_as_it_is(above + sheet.text)
+    tell_aside(*unneeded_words(castings, sheets))
     if pending.stopping:
         tell_aside(f"Note: {pending.why_they_stop}; they are in no count.")
     tell_aside(f"Next: {what_next(election, history, sheets, castings)}")

@@ -13,7 +13,7 @@ from debvote_tools.book.change import carried_out
 from debvote_tools.book.election import Election, History
 from debvote_tools.book.queries import Elector, NewEnvelope
 from debvote_tools.cli.console import shown_line, shown_text, tell, typed
-from debvote_tools.cli.arguments import option
+from debvote_tools.cli.arguments import flag, option
 from debvote_tools.cli.faults import Fault, Status, bad_words
 from debvote_tools.files import BALLOTS_LIMIT
 from debvote_tools.debvote import TABLE
@@ -45,6 +45,9 @@ class Arguments(entering.Arguments):
     question: str | None = option(
         "LABEL", "Of several questions the one that is answered: type the ballot without its label"
     )
+    force: bool = flag(
+        "From a pipe: enter also late ballots that came before the first close, and replace others in time"
+    )
 
 
 @dataclasses.dataclass(eq=False)
@@ -54,6 +57,7 @@ class Desk:
     vote: Vote
     # what --came-before-close says, and what was said of the ballots of this desk
     answer: str | None
+    is_forced: bool
     came_before_close: bool | None = None
     replies: list[str] = dataclasses.field(default_factory=list)
     next_line: int = 1
@@ -128,7 +132,11 @@ class Casting(Entry):
     what: str = "ballots to be reported"
 
     def is_same_now(self) -> bool:
-        """Whether nothing came of the elector of whom it is asked: else eight desks would ask without end."""
+        """Whether nothing came of the elector of whom it is asked: else eight desks would ask without end.
+        What comes from a pipe after a reopen is planned again: a late line may replace what came.
+        """
+        if not self.question and "came_before_close" in self.detail:
+            return False
         there = queries.envelope_states(self.vote.book, self.elector)
         return (self.vote.history().timing, there) == (self.timing, self.there)
 
@@ -148,28 +156,39 @@ class Casting(Entry):
 
 def what_is_cast(desk: Desk, lines: list[CheckedLine], elector: int | None, asks: bool) -> Casting:
     """Lines that are cast. If it asks, it is about one, whose refused answers are lines of their own."""
-    history, book = desk.vote.history(), desk.vote.book
+    vote = desk.vote
+    history = vote.history()
     desk.ask_if_reopened(history)
+    is_late = history.is_late(desk.came_before_close)
+    replacing = entering.replaced_in_time(vote, lines, is_late)
+    shown, asked = question(desk, lines, is_late, elector) if asks else ([], "")
+    if asks:
+        shown += replacing.values()
+    elif not desk.is_forced:
+        lines = [line for line in lines if line not in replacing]
+        shown = [
+            f"{words}; it was not entered (--force enters it)." for words in replacing.values()
+        ]
     detail: Detail = {"lines": len(lines)}
     if history.is_reopened:
         detail["came_before_close"] = desk.came_before_close
-    shown, asked = question(desk, lines, history, elector) if asks else ([], "")
     return Casting(
         "desk",
         detail,
         shown=shown,
         question=asked,
-        vote=desk.vote,
+        is_nothing=not lines,
+        vote=vote,
         envelopes=[
             NewEnvelope(one.as_entered, one.original.place, why_refused=one.why_refused)
             for one in lines
         ],
-        is_late=history.is_late(desk.came_before_close),
+        is_late=is_late,
         desk=desk,
         lines=lines,
         timing=history.timing,
         elector=elector,
-        there=queries.envelope_states(book, elector),
+        there=queries.envelope_states(vote.book, elector),
     )
 
 
@@ -186,7 +205,8 @@ def desk(election: Election, arguments: Arguments) -> None:
     if label and vote.poll is None:
         labels = ", ".join(vote.names.labels) or "none: this vote has one question"
         raise bad_words("--question", f"the labels are {labels}", "give one of them")
-    desk, history = Desk(vote, arguments.came_before_close), election.history()
+    desk = Desk(vote, arguments.came_before_close, arguments.force)
+    history = election.history()
     desk.notes = entering.late_notes(election, history, "what is entered")
     tell(*desk.notes)
     if desk.vote.is_signed:
@@ -333,7 +353,7 @@ def typed_parts(desk: Desk, line: bytes) -> tuple[str, str]:
 
 
 def question(
-    desk: Desk, lines: Sequence[CheckedLine], history: History, elector: int | None
+    desk: Desk, lines: Sequence[CheckedLine], is_late: bool, elector: int | None
 ) -> tuple[list[str], str]:
     """What a ballot would be, or why it or one of its answers would be refused; and what is asked."""
     shown = [*change_words(lines[0])]
@@ -345,7 +365,7 @@ def question(
             shown.append(desk.vote.in_words(line))
     if not (ballots := [line for line in lines if line.is_ballot]):
         return shown, "It would not count. Enter it anyway?"
-    if history.is_late(desk.came_before_close):
+    if is_late:
         shown.append("It is late, and will not count.")
     elif elector is not None:
         shown += earlier_words(desk.vote, ballots[0], elector)

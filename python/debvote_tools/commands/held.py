@@ -2,7 +2,7 @@
 
 import collections
 import itertools
-from collections.abc import Iterator, Mapping, Sequence, Set
+from collections.abc import Iterator, Sequence
 from typing import NamedTuple
 
 from debvote_tools.cli.arguments import Acting, flag, given, option, positional
@@ -10,42 +10,47 @@ from debvote_tools.book import queries
 from debvote_tools.book.book import ActName
 from debvote_tools.book.change import Change, carried_out, terminal_question
 from debvote_tools.book.election import Election, History
-from debvote_tools.book.queries import EnteredBallot
-from debvote_tools.cli.console import count_of, shown_line, shown_text, tell
+from debvote_tools.book.queries import Ballot, EnteredBallot
+from debvote_tools.cli.console import count_of, is_terminal, shown_line, shown_text, tell
 from debvote_tools.cli.faults import Fault, bad_words, kept_in, stop_at
 from debvote_tools.grouping import grouped
 from debvote_tools.inbox import letter_words
-from debvote_tools.inbox.letter_words import name_of, who_and_when, why
-from debvote_tools.inbox.judging import (
-    BallotsByElector,
-    Beside,
-    ballot_in,
-    ballots_in,
-    judged,
+from debvote_tools.inbox.letter_words import (
+    attachment_words,
+    name_of,
+    other_words,
+    who_and_when,
+    why,
 )
-from debvote_tools.inbox.reasons import Reason, for_secretary
+from debvote_tools.inbox.judging import BallotsByElector, Beside, ballot_in, ballots_in, judged
+from debvote_tools.inbox.reasons import for_secretary
 from debvote_tools.inbox.letter_lines import BallotLine
 from debvote_tools.inbox.rules import LetterCase, LetterOutcome, why_other_mark
 from debvote_tools.inbox.taking import LetterEntry, envelope_of
 from debvote_tools.inbox.lines import Line, lines_in
-from debvote_tools.inbox.vote import Vote, said_of
+from debvote_tools.inbox.vote import Vote
 from debvote_tools.inbox.stopping import other_votes_words
-from debvote_tools.text.ballots import answers_of, differ, without
+from debvote_tools.text.ballots import differ, without
 from debvote_tools.text.language import ENGLISH
 
-# what --enter has without lines
-THE_ONE = "one"
+
+FORCE = "if this ballot must count, repeat it with --force"
+
+
+def number(text: str) -> range:
+    """A number, or all from one to another, as `12-4000`."""
+    first, _, last = text.partition("-")
+    return range(int(first), int(last or first) + 1)
 
 
 class Arguments(Acting):
-    numbers: list[int] = positional("NUMBER", "The numbers of letters", type=int, nargs="*")
-    enter: list[str] | None = option(
-        "LINE,..",
-        "Enter these lines of a letter, by the numbers that held NUMBER shows; without LINE the one ballot of each letter",
-        nargs="?",
-        const=THE_ONE,
-        action="append",
+    numbers: list[range] = positional(
+        "NUMBER",
+        "The numbers of letters; with --set-aside also as 12-4000, of which those of one reason are meant",
+        type=number,
+        nargs="*",
     )
+    enter: bool = flag("Enter the one ballot of each letter")
     typed: list[str] | None = option(
         "LINE",
         "Enter this line as a ballot of the letter, with the letter's time; once for each of its electors",
@@ -55,8 +60,8 @@ class Arguments(Acting):
     set_aside: bool = flag("Set the letters aside: they are dealt with, and wait no longer")
     wait: bool = flag("Have the letters wait again")
     force: bool = flag(
-        "Enter the ballot although its elector has or may have voted since, the letter has the mark of another vote or call, its ballot was "
-        "typed or, with --as, nothing ties the elector to the letter"
+        "Enter the ballot of one letter although nothing ties it to its elector, the elector has or may have voted since, it has the mark of "
+        "another vote or call, or its ballot was typed"
     )
     yes: bool = flag("Enter the ballots without asking")
 
@@ -70,17 +75,14 @@ def held(election: Election, arguments: Arguments) -> None:
     vote = Vote(election)
     if arguments.set_aside or arguments.wait:
         carried_out(vote.book, lambda: what_is_decided(vote, arguments))
-    elif is_act:
-        typed = [BallotLine((), ballot) for ballot in typed_ballots(vote, arguments.typed or ())]
+    elif arguments.enter or arguments.typed:
+        typed = [BallotLine(0, ballot) for ballot in typed_ballots(vote, arguments.typed or ())]
         carried_out(vote.book, lambda: what_is_entered(vote, all_letters(vote), arguments, typed))
     found = all_letters(vote)
     pending = [letter for letter in found if letter.is_pending]
     named = chosen_letters(found, arguments.numbers)
     for letter in named:
-        if not is_act:
-            tell(*letter_words.whole(letter))
-        elif letter.reason and letter.reason.reason is Reason.NOT_ENTERED:
-            tell(f"{name_of(letter)} waits on; {for_secretary(letter.reason)}")
+        tell(*(left_words(vote, letter) if is_act else letter_words.whole(letter)))
     if not named:
         tell(*letter_words.table(pending))
         if aside := [
@@ -94,7 +96,7 @@ def held(election: Election, arguments: Arguments) -> None:
         return
     waiting = [letter for letter in named if letter.is_pending and not is_act]
     command = election.command("held", str((waiting or pending)[0].number))
-    how = "--enter LINE enters a line of it, --as LINE the ballot that you type, --set-aside sets it aside"
+    how = "--enter enters its ballot, --as LINE the ballot that you type, --set-aside sets it aside"
     tell(f"{letter_words.wait_words(len(pending))}.")
     tell(f"Next: {command} {'with' if waiting else 'shows one;'} {how}")
 
@@ -105,31 +107,60 @@ def demand_words(arguments: Arguments) -> bool:
     if len(chosen) > 1:
         cure = "give only one of --enter, --as, --set-aside and --wait"
         raise bad_words("held", "it does one thing at a time", cure, None)
-    takes_one = arguments.typed is not None or arguments.enter not in (None, [THE_ONE])
-    if takes_one and len(arguments.numbers) != 1:
-        name = "--enter" if arguments.typed is None else "--as"
-        cure = f"name one number before {name}"
-        raise bad_words(name, "a line is of one letter", cure)
+    if arguments.typed is not None and len(arguments.numbers) != 1:
+        raise bad_words("--as", "a line is of one letter", "name one number before --as")
     if chosen and not arguments.numbers:
         raise bad_words("held", "no letter is named", "name its number")
+    if not arguments.set_aside and any(len(its) != 1 for its in arguments.numbers):
+        raise bad_words("held", "only --set-aside takes several in a row", "name each number")
     return bool(chosen)
+
+
+def left_words(vote: Vote, letter: LetterCase) -> Iterator[str]:
+    """Which electors have no ballot of a letter that was entered, if it may have those of several."""
+    electors = {*letter.sharing, *(line.elector for line in letter.ballots)}
+    entered = {elector for elector, _ in letter.entered_answers}
+    if len(electors) > 1 and letter.outcome is LetterOutcome.ENTERED:
+        command = vote.election.command("held", str(letter.number), "--as")
+        for elector in sorted(electors - entered):
+            force = "" if letter.is_tied(elector) else " --force"
+            yield f"{elector} has no ballot of {name_of(letter)}; {command} LINE{force} enters one"
 
 
 def all_letters(vote: Vote) -> list[LetterCase]:
     return judged(vote, vote.election.history(), queries.kept_letters(vote.book))
 
 
-def chosen_letters(found: Sequence[LetterCase], numbers: Sequence[int]) -> list[LetterCase]:
+def chosen_letters(found: Sequence[LetterCase], numbers: Sequence[range]) -> list[LetterCase]:
+    """Those that are named by a number of their own."""
     by_number = {letter.number: letter for letter in found}
-    if unknown := [str(number) for number in numbers if number not in by_number]:
+    named = [its.start for its in numbers if len(its) == 1]
+    if unknown := [str(number) for number in named if number not in by_number]:
         words, cure = "there is no such letter", "held lists the letters that wait"
         raise bad_words(f"letter {', '.join(unknown)}", words, cure)
-    return [by_number[number] for number in dict.fromkeys(numbers)]
+    return [by_number[number] for number in dict.fromkeys(named)]
+
+
+def of_rows(found: Sequence[LetterCase], numbers: Sequence[range]) -> list[list[LetterCase]]:
+    """Those that wait among several in a row, by their reasons, in the order of the first of each."""
+    rows = [its for its in numbers if len(its) != 1]
+    within = [one for one in found if one.is_pending and any(one.number in its for its in rows)]
+    return [*grouped((one.reason and one.reason.reason, one) for one in within).values()]
 
 
 def what_is_decided(vote: Vote, arguments: Arguments) -> Change:
     """The act that sets letters aside, or has them wait again."""
-    chosen = chosen_letters(all_letters(vote), arguments.numbers)
+    found = all_letters(vote)
+    chosen = chosen_letters(found, arguments.numbers)
+    shown = list[str]()
+    if rows := of_rows(found, arguments.numbers):
+        chosen += rows[0]
+        others = sum(map(len, rows[1:]))
+        shown = [
+            f"{count_of(len(rows[0]), 'letter')} of one reason; of these numbers {others} wait on."
+        ]
+    if not chosen:
+        raise Fault("held", "none of these waits", "held lists the letters that wait")
     if entered := [letter for letter in chosen if letter.outcome is LetterOutcome.ENTERED]:
         cure = "strike takes out one envelope, undo takes back the last act"
         raise Fault(name_of(entered[0]), "its ballot was entered", cure)
@@ -138,6 +169,7 @@ def what_is_decided(vote: Vote, arguments: Arguments) -> Change:
     return Change(
         state,
         {"letters": numbers},
+        shown=shown,
         letters=dict.fromkeys(numbers, state),
     )
 
@@ -148,8 +180,6 @@ class Chosen(NamedTuple):
 
     letter: LetterCase
     lines: Sequence[BallotLine]
-    # the answers that are left out of what was typed, since their electors have later ones, as ballots
-    left_out: Sequence[str] = ()
 
     @property
     def again(self) -> list[EnteredBallot]:
@@ -158,19 +188,6 @@ class Chosen(NamedTuple):
         answers = (one for line in self.lines for one in line.answers)
         return [*dict.fromkeys(entered[one] for one in answers if one in entered)]
 
-    def left_of(self, line: BallotLine, its: Beside) -> tuple[str, Set[str], Set[str]]:
-        """A ballot without the answers to which its elector has later ones, and without those that were
-        entered; and the labels of both. What is typed is not entered yet if it says something else.
-        """
-        own = ballot_in(self.letter, line.as_entered)
-        entered, later = self.letter.entered_answers, its.answered_since(own)
-        done = {
-            label
-            for name, label in line.answers & entered.keys()
-            if line.number or not differ(line.as_entered, entered[name, label].line)
-        }
-        return without(line.as_entered, later | done), later, done - later
-
 
 def what_is_entered(
     vote: Vote, found: Sequence[LetterCase], arguments: Arguments, typed: Sequence[BallotLine] = ()
@@ -178,50 +195,48 @@ def what_is_entered(
     """The act that enters ballots of letters. Stops at all that stands against it; `undo` asks that, too."""
     history = vote.election.history()
     wanted = chosen_letters(found, arguments.numbers)
+    if arguments.force and len(wanted) > 1 and not vote.has_codes:
+        raise bad_words("--force", "it is for one letter", "name one number")
     chosen, faults = list[Chosen](), list[Fault]()
     for letter in sorted(wanted, key=lambda one: (one.time is None, one.time or one.number)):
         with kept_in(faults):
-            is_one = len(wanted) == 1
-            lines = typed or named_lines(letter, arguments.enter or [], is_one=is_one)
+            lines = typed or [the_ballot(letter)]
             demand_one_answer(letter, lines)
             chosen.append(Chosen(letter, lines))
-    electors = {line.elector for one in chosen for line in one.lines}
-    there = ballots_in(vote, electors)
-    chosen, said = without_answered(chosen, there)
+    there = ballots_in(vote, {line.elector for one in chosen for line in one.lines})
     faults += why_not_now(vote, history, chosen)
+    # of what was entered nothing more is said: no --force enters it again
+    not_entered = [one for one in chosen if not one.again]
     if not arguments.force:
-        # of what was entered nothing more is said: no --force enters it again
-        not_entered = [one for one in chosen if not one.again]
-        faults += why_not_unforced(not_entered, there)
+        faults += why_not_unforced(not_entered)
         faults += why_typed_again(vote, not_entered, found)
+    faults += why_not_beside(vote, not_entered, there, is_forced=arguments.force)
+    if not (typed or arguments.yes or is_terminal()):
+        faults += why_not_unseen(chosen)
     stop_at(faults)
     if len({would_be_late(history, one.letter) for one in chosen}) > 1:
         words = "some of these letters arrived before the first close, and some after it"
         raise Fault("--enter", words, "enter those that arrived before it apart")
-    return entry_of(vote, history, chosen, said, is_agreed=arguments.yes)
+    return entry_of(vote, history, chosen, is_agreed=arguments.yes)
 
 
 def entry_of(
-    vote: Vote, history: History, chosen: Sequence[Chosen], said: Sequence[str], *, is_agreed: bool
+    vote: Vote, history: History, chosen: Sequence[Chosen], *, is_agreed: bool
 ) -> LetterEntry:
-    """The act that enters these ballots."""
+    """The act that enters these ballots. Those of letters in which their senders wrote more are shown last."""
     lines = [(one.letter, line) for one in chosen for line in one.lines]
     numbers = [one.letter.number for one in chosen]
-    left_out = {str(one.letter.number): one.left_out for one in chosen if one.left_out}
+    plain, worded = (
+        [shown(vote, *one) for one in lines if bool(one[0].read.text.words) is has_words]
+        for has_words in (False, True)
+    )
     return LetterEntry(
         "enter",
         {
             "letters": numbers,
             "lines": [line.number for _, line in lines if line.number],
-            **({"left_out": left_out} if left_out else {}),
         },
-        shown=[
-            *(
-                f"{who_and_when(letter)}: {vote.ballot_in_words(line.as_entered)}\n  {why(letter, line.elector)}"
-                for letter, line in lines
-            ),
-            *said,
-        ],
+        shown=[*plain, *(["Read these:"] if worded else []), *worded],
         question=terminal_question(f"Enter {count_of(len(lines), 'ballot')}?", is_agreed),
         letters=dict.fromkeys(numbers, queries.ENTERED),
         vote=vote,
@@ -230,28 +245,12 @@ def entry_of(
     )
 
 
-def without_answered(
-    chosen: Sequence[Chosen], by_elector: BallotsByElector
-) -> tuple[list[Chosen], list[str]]:
-    """The ballots without the answers that are left out, unless none is left; and what is said of these."""
-    found, said = list[Chosen](), list[str]()
-    for one in chosen:
-        kept, left_out = list[BallotLine](), list[str]()
-        for line in one.lines:
-            left, later, done = one.left_of(line, by_elector[line.elector])
-            kept.append(BallotLine(line.numbers, left or line.as_entered))
-            whys = {f"{line.elector} has a later answer": later, "it was entered": done}
-            said += (
-                f"Left out of {name_of(one.letter)}: {ENGLISH.joined(sorted(labels))}, since {why}"
-                for why, labels in whys.items()
-                if labels and left
-            )
-            # no line of the letter has what was typed
-            if later and left and not line.number:
-                others = answers_of(line.as_entered).keys() - later
-                left_out.append(without(line.as_entered, others))
-        found.append(one._replace(lines=kept, left_out=left_out))
-    return found, said
+def shown(vote: Vote, letter: LetterCase, line: BallotLine) -> str:
+    """A ballot of a letter, and all that one has to know of the letter to decide of it."""
+    subject = shown_text(letter.read.subject)
+    said = [f"subject: {subject}", *other_words(letter), *attachment_words(letter)]
+    below = (f"\n  {words}" for words in (why(letter, line.elector), *said))
+    return f"{who_and_when(letter)}: {vote.ballot_in_words(line.as_entered)}{''.join(below)}"
 
 
 def would_be_late(history: History, letter: LetterCase) -> bool:
@@ -280,47 +279,18 @@ def ballot_of(vote: Vote, text: str, lines: Sequence[Line]) -> str:
         *_, line = vote.checked_lines(lines)
         if (finding := line.lasting) is None:
             return line.as_entered.decode("ascii")
-        answer = line.why_unclear or said_of(finding)
+        answer = line.why_unclear or finding.verdict
     shown = shown_line(text.encode("utf-8", "backslashreplace"))
     raise Fault("--as", f"`{shown}` is no ballot of this poll: {answer}", vote.right_words())
 
 
-def named_lines(letter: LetterCase, enter: Sequence[str], *, is_one: bool) -> list[BallotLine]:
-    """The ballots of a letter to enter, which is one alone or one of several: the lines that were
-    named, or its only one.
-    """
-    name = name_of(letter)
-    lines = letter.lines_to_enter
-    texts = [text.strip() for text in ",".join(enter).split(",")]
-    if is_the_one := texts == [THE_ONE]:
-        lines = tuple(line for line in lines if letter.left_in(line.as_entered)) or lines
-    there = grouped((str(line.number), line) for line in lines)
-    if is_the_one:
-        demand_one_line(letter, there, is_one=is_one)
-        texts = [*there][:1]
-    if wrong := [text for text in texts if text not in there]:
-        can = f"these lines are: {', '.join(sorted(there, key=int))}" if there else ""
-        words = f"line {shown_text(wrong[0])} of {name} is not a ballot of this poll"
-        cure = "if you know which ballot is meant, type it with --as LINE"
-        raise Fault("--enter", words, can or cure)
-    if unclear := [text for text in texts if len(there[text]) > 1]:
-        electors = ENGLISH.joined([line.elector for line in there[unclear[0]]])
-        words = f"line {unclear[0]} has the name of {electors}"
-        raise Fault(name, words, "if you know whose it is, type it with --as LINE")
-    return [line for text in texts for line in there[text]]
-
-
-def demand_one_line(
-    letter: LetterCase, there: Mapping[str, Sequence[BallotLine]], *, is_one: bool
-) -> None:
-    """Stops if a letter has several lines that differ, or none, that can be entered."""
-    name = name_of(letter)
-    if len(there) != 1 and len({line.as_entered for its in there.values() for line in its}) != 1:
-        words = f"it has {count_of(len(there), 'line')} that can be entered"
-        cure = "name its lines with --enter LINE, or type the ballot with --as LINE"
-        raise Fault(name, words, cure)
-    if not is_one and Reason.WORD_ALONE in letter.offered.values():
-        raise Fault(name, "it has a word without a name", "enter it by a command of its own")
+def the_ballot(letter: LetterCase) -> BallotLine:
+    if letter.ballot is not None and letter.can_be_entered:
+        return letter.ballot
+    count = count_of(len(letter.ballots), "ballot")
+    more = ", and other lines that look like answers" if letter.has_more_answers else ""
+    cure = "type the ballot that is meant with --as LINE"
+    raise Fault(name_of(letter), f"it has {count}{more}", cure)
 
 
 def demand_one_answer(letter: LetterCase, lines: Sequence[BallotLine]) -> None:
@@ -342,11 +312,8 @@ def why_not_now(vote: Vote, history: History, chosen: Sequence[Chosen]) -> Itera
             words = f"its ballot of {ENGLISH.joined([*electors])} was entered"
             cure = what_then(vote, letter, one.lines, again)
             # who reads that there is nothing to do takes it for one that counts
-            if late := {str(ballot.number): None for ballot in again if ballot.is_late}:
+            if any(ballot.is_late for ballot in again):
                 words = f"{words}, and is late"
-            if late and not letter.arrived_after_close:
-                reopen = vote.election.command("reopen", "--in-time", *late, "--because", "TEXT")
-                cure = f"if it came before the first close, have the vote closed, then run {reopen}"
             yield Fault(name, words, cure)
         elif letter.outcome is LetterOutcome.COPY:
             cure = "to enter its ballot once more, have the letter wait first with --wait"
@@ -370,37 +337,61 @@ def what_then(
             return f"the vote is closed, and its ballots stay; if this one is wrong, see {vote.election.command('reopen')}"
         strike = vote.election.command("strike", str(other.number), "--because", "TEXT")
         return f"to enter another one in its place, run {strike} first"
-    if letter.left:
-        return f"for what is left of it see {vote.election.command('held', str(letter.number))}"
     return "there is nothing to do"
 
 
-def why_not_unforced(chosen: Sequence[Chosen], by_elector: BallotsByElector) -> Iterator[Fault]:
-    """The letter has the mark of another vote or call; nothing ties the elector of a typed ballot to it; or the
-    elector has or may have a later ballot, or another one of its time, also by a letter that is entered before it.
-    """
-    cure = "if this ballot must count, repeat it with --force"
-    for letter, lines, *_ in chosen:
-        name = name_of(letter)
+def why_not_unforced(chosen: Sequence[Chosen]) -> Iterator[Fault]:
+    """The letter has the mark of another vote or call, or nothing ties it to the elector of a ballot."""
+    for one in chosen:
+        letter, name = one.letter, name_of(one.letter)
         if why_other := why_other_mark(letter):
             words, _, advice = for_secretary(why_other).partition("; ")
-            yield Fault(name, words, f"{advice}; {cure}")
-        tied = {*letter.electors, *letter.sharing, letter.marked_elector}
+            yield Fault(name, words, f"{advice}; {FORCE}")
+        for line in one.lines:
+            if not letter.is_tied(line.elector):
+                words = f"its sender and its subject do not show that it is of {line.elector}"
+                yield Fault(name, words, f"check who sent it; {FORCE}")
+
+
+def why_not_beside(
+    vote: Vote, chosen: Sequence[Chosen], by_elector: BallotsByElector, *, is_forced: bool
+) -> Iterator[Fault]:
+    """The elector has a later ballot, or may have, or another one of its time, also by a letter that is
+    entered before it; to some of its answers alone, no --force enters it.
+    """
+    for letter, lines in chosen:
+        name = name_of(letter)
         for line in lines:
             own, its = ballot_in(letter, line.as_entered), by_elector[line.elector]
-            if not line.number and line.elector not in tied:
-                words = f"neither its sender nor a line of {name} is of {line.elector}"
-                yield Fault("--as", words, f"check the name; {cure}")
-            if has_voted := its.has_voted_since(own):
-                yield Fault(name, "its elector has voted since", cure)
-            elif has_voted is not None:
-                off = "as the clock of the web host was off"
-                why_unsure = "as nobody knows when it arrived" if letter.time is None else off
-                yield Fault(name, f"its elector may have voted since, {why_unsure}", cure)
-            elif its.has_other_at_once(own):
-                yield Fault(name, "another ballot of its elector has the same time", cure)
+            later = its.later(own)
+            if later and (left := without(line.as_entered, later)):
+                answers = ENGLISH.joined(sorted(later))
+                words = f"its elector has later answers to {answers}"
+                cure = vote.election.command("held", str(letter.number), "--as", left)
+                yield Fault(name, words, f"enter the others: {cure}")
+            elif not is_forced and (words := why_unsure(letter, its, own)):
+                yield Fault(name, words, FORCE)
         for line in lines:
             by_elector[line.elector].add(ballot_in(letter, line.as_entered))
+
+
+def why_unsure(letter: LetterCase, its: Beside, own: Ballot) -> str:
+    """Why a ballot beside others of its elector is entered by force alone; empty if it is not."""
+    has_voted = its.has_voted_since(own)
+    if has_voted:
+        return "its elector has voted since"
+    if has_voted is not None:
+        off = "as the clock of the web host was off"
+        return f"its elector may have voted since, {off if letter.time else 'as nobody knows when it arrived'}"
+    return "another ballot of its elector has the same time" if its.has_other_at_once(own) else ""
+
+
+def why_not_unseen(chosen: Sequence[Chosen]) -> Iterator[Fault]:
+    """Their senders wrote more, which nobody is shown."""
+    for one in chosen:
+        for words in other_words(one.letter):
+            cure = "look at it, then run it at a terminal, or agree with --yes"
+            yield Fault(name_of(one.letter), f"its sender wrote more, {words}", cure)
 
 
 def why_typed_again(

@@ -36,7 +36,7 @@ from debvote_tools.inbox import letter_words
 from debvote_tools.inbox.asked import asked_last, asked_words, unasked_fault
 from debvote_tools.inbox.fates import Fate, fates_of
 from debvote_tools.inbox.lines import has_code
-from debvote_tools.inbox.stopping import Pending, pending_letters
+from debvote_tools.inbox.stopping import Pending, pending_letters, taken_out_words
 from debvote_tools.inbox.vote import IS_CODE, Vote, envelope_words
 from debvote_tools.outbox.reached import unreached_and_printed
 from debvote_tools.poll.questions import Questions, place_of
@@ -79,6 +79,8 @@ def state_of(election: Election, history: History) -> tuple[State, list[Envelope
         "electors": len(electors),
         **numbers._asdict(),
         "late": len(queries.lines(book, queries.LATE)),
+        "struck": len(history.since_call("strike")),
+        "taken_back": len(queries.lost(book)),
         "waiting": pending.count,
         "stopping": pending.stopping,
         "without_ballot": None
@@ -142,8 +144,10 @@ def state_words(
     election: Election, history: History, state: State, refused: list[Envelope]
 ) -> Iterator[str]:
     yield f"Lines: {state['lines']} ({state['valid']} valid, {state['refused']} refused)"
-    if left := queries.lines(election.book, queries.LEFT_LATE):
-        yield f"Late, and not counted: {len(left)}"
+    if state["late"]:
+        yield f"Late, and not counted: {state['late']}"
+    if state["struck"] or state["taken_back"]:
+        yield taken_out_words(election, history)
     yield f"Electors with a valid ballot: {state['voters']} of {state['electors']}"
     yield from asked_words(history)
     yield from named("Electors without a ballot", state["without_ballot"])
@@ -209,7 +213,8 @@ def show(election: Election, arguments: ShowArguments) -> None:
     # nobody knows whose code it is
     tell(elector.name if vote.has_codes else f"{elector.name}{who.rstrip(': ')}")
     fates = fates_of(election, history, elector)[elector.name]
-    tell(*(f"  {line}" for one in fates for line in fate_words(vote, history, one)))
+    came = [one.envelope for one in fates if one.envelope]
+    tell(*(f"  {line}" for one in fates for line in fate_words(vote, history, one, came)))
     current = queries.what_counts(election.book, {elector.number}).get(elector.name)
     line = f"{elector.name} {current}: " if current and vote.questions.is_several else ""
     said = vote.answers_in_words(current) if current else "none"
@@ -237,7 +242,7 @@ def elector_named(election: Election, vote: Vote, name: str) -> queries.Elector:
     raise Fault("show", f"no {what} on the roll is `{shown_text(name)}`", cure, done=None)
 
 
-def fate_words(vote: Vote, history: History, fate: Fate) -> Iterator[str]:
+def fate_words(vote: Vote, history: History, fate: Fate, came: Sequence[Envelope]) -> Iterator[str]:
     envelope, letter = fate.envelope, fate.letter
     if letter is not None:
         if letter.is_pending:
@@ -246,7 +251,10 @@ def fate_words(vote: Vote, history: History, fate: Fate) -> Iterator[str]:
             yield f"{letter_words.who_and_when(letter)}: {letter_words.why(letter)}"
     if envelope is not None:
         said = vote.answers_in_words(fate.answers) or refused_line(vote, envelope)
-        marks = ["late"] if envelope.is_late else []
+        again = [one for one in came if one.line == envelope.line and one.number > envelope.number]
+        marks = list[str]()
+        if envelope.is_late:
+            marks = ["late", *(f"entered again as {one.number}: {one.became}" for one in again)]
         marks += [f"{label} replaced" for label in fate.replaced]
         if envelope.struck is not None:
             act = history.act(envelope.struck)

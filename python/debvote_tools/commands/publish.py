@@ -2,6 +2,7 @@
 
 import dataclasses
 import datetime
+import functools
 import itertools
 import os
 import pathlib
@@ -10,7 +11,7 @@ from collections.abc import Collection, Mapping
 from debvote_tools.cli.arguments import Acting, demand_reason, flag, option, positional
 from debvote_tools.text import times
 from debvote_tools.book.book import Detail, DoneAct, Overtaken
-from debvote_tools.cli.console import act_time, odd_sign, tell
+from debvote_tools.cli.console import act_time, odd_sign, tell, tell_aside
 from debvote_tools.book import queries
 from debvote_tools.book.election import (
     BOX_KEY,
@@ -22,6 +23,7 @@ from debvote_tools.book.election import (
     Election,
     History,
 )
+from debvote_tools.poll.draft import texts_of
 from debvote_tools.poll.box import SCRIPT, records_file
 from debvote_tools.poll.questions import Questions
 from debvote_tools.files import (
@@ -30,6 +32,7 @@ from debvote_tools.files import (
     locked,
     read_text,
     real_place,
+    sha256_of,
     uninterrupted,
     write_made,
 )
@@ -42,7 +45,9 @@ from debvote_tools.result.sheet import (
     Castings,
     castings_in,
     demand_countable,
+    outcome_as_data,
     publishing,
+    unneeded_words,
 )
 from debvote_tools.result.facts import Facts, Outcome, PublishedWords
 from debvote_tools.result.file_names import BALLOTS, CHECKSUMS, PAGE, POLL
@@ -101,49 +106,83 @@ def publish(election: Election, arguments: Arguments) -> int:
     history, questions = election.history(), election.questions
     demand_countable(election, history)
     target = pathlib.Path(arguments.target) if arguments.target else election.path(RESULT)
-    given = published_words(arguments, questions)
+    given = published_words(arguments, questions, election.called(history))
     demand_place(election, target, history)
-    before = history.last_publication
-    again = before if given == PublishedWords(is_forced=arguments.force) else None
-    words = given if again is None else PublishedWords(**again.detail["words"])
+    last = history.last_publication
+    is_bare = given == PublishedWords(is_forced=arguments.force)
+    words = PublishedWords(**last.detail["words"]) if last and is_bare else given
+    again = last if last and dataclasses.asdict(words) == last.detail["words"] else None
+    make = functools.partial(filled_in_place, election, arguments, target, words, again)
+    is_new = again is None
+    try:
+        filled = make(is_new=is_new)
+    except WouldDiffer:
+        if is_bare and not arguments.force:
+            raise
+        # it tells the last one as an earlier one
+        is_new = True
+        filled = make(is_new=is_new)
+    tell_published(election, filled.outcomes, target, is_new=is_new)
+    sheets = {label: one.sheet for label, one in filled.outcomes.items()}
+    tell_aside(*unneeded_words(words.castings, sheets))
+    return max(sheet.status for sheet in sheets.values())
+
+
+def filled_in_place(
+    election: Election,
+    arguments: Arguments,
+    target: pathlib.Path,
+    words: PublishedWords,
+    again: DoneAct | None,
+    *,
+    is_new: bool,
+) -> folder.Filled:
+    """The folder in its place: as a publication of its own, which is an act; or as it was published last,
+    with the same words. Raises `WouldDiffer` if it would be another one now.
+    """
+    history = election.history()
     pending = pending_letters(election, history) if history.is_closed else Pending()
-    facts = publication.facts_of(election, words, pending)
-    is_forced = bool(given.is_forced and given.because)
+    facts = publication.facts_of(election, words, pending, None if is_new else again)
     # the folder is whole and counted before the act, and takes its place after the act: so a kill leaves
     # no folder that the book does not know
     with folder.beside(target) as new:
-        known = again.detail["doubts"] if again else ()
         filled = folder.filled(
-            new.folder, facts, election.program_folder, is_forced=is_forced, known=known
+            new.folder,
+            facts,
+            election.program_folder,
+            is_forced=bool(arguments.force and arguments.because),
+            known=again.detail["doubts"] if again else (),
         )
+        detail = detail_of(words, filled, pending)
+        if again and not is_new and dict(detail, agreed=0) != dict(again.detail, agreed=0):
+            raise WouldDiffer(again)
         # nobody is asked about a result that cannot be published
-        agreed = agreed_in_secret(history, questions, facts.values(), is_agreed=arguments.yes)
-        detail = detail_of(words, filled)
-        if pending.arrived_in_time:
-            detail["left"] = pending.arrived_in_time
-        is_new = before is None or dict(before.detail, agreed=agreed) != dict(detail, agreed=agreed)
-        if again is not None and is_new and not arguments.force:
-            raise would_differ(again)
-        if agreed:
+        if agreed := agreed_in_secret(
+            history, election.questions, facts.values(), is_agreed=arguments.yes
+        ):
             detail["agreed"] = agreed
         put_in_place(election, history, new, filled.letter, target, detail if is_new else None)
-    tell_published(election, filled.outcomes, detail["casting"], target, is_new=is_new)
-    return max(one.sheet.status for one in filled.outcomes.values())
+    return filled
 
 
-def detail_of(words: PublishedWords, filled: folder.Filled) -> Detail:
-    """The detail of the act, with the checksums that the letter of the result names; and the casting
-    votes that decide.
+def detail_of(words: PublishedWords, filled: folder.Filled, pending: Pending) -> Detail:
+    """The detail of the act: how each question ended, with the casting votes that decide, and the
+    checksums that letters name.
     """
-    ended, checksums = filled.outcomes.items(), filled.checksums.items()
-    return {
+    checksums, ended = filled.checksums.items(), filled.outcomes.items()
+    detail = {
         "words": dataclasses.asdict(words),
         "casting": {
             label: words.castings[label] for label, one in ended if one.sheet.is_by_casting
         },
+        "ended": {
+            label: outcome_as_data(one.sheet) | {"sheet": sha256_of(one.sheet.text.encode())}
+            for label, one in ended
+        },
         "checksums": {place: its for place, its in checksums if place.endswith(NAMED)},
         "doubts": [doubt.as_data() for doubt in filled.doubts],
     }
+    return detail | ({"left": pending.arrived_in_time} if pending.arrived_in_time else {})
 
 
 def put_in_place(
@@ -172,14 +211,9 @@ def put_in_place(
 
 
 def tell_published(
-    election: Election,
-    outcomes: Mapping[str, Outcome],
-    castings: Castings,
-    target: pathlib.Path,
-    *,
-    is_new: bool,
+    election: Election, outcomes: Mapping[str, Outcome], target: pathlib.Path, *, is_new: bool
 ) -> None:
-    """Tells what was published, with these casting votes, and what comes next."""
+    """Tells what was published, and what comes next."""
     as_before = "" if is_new else ", as it was published before; nothing was changed in the book"
     for label, one in outcomes.items():
         tell(f"{label and f'{label}: '}{one.sheet.last_line}", one.verified)
@@ -191,6 +225,7 @@ def tell_published(
         tell(f"Next: {election.command('close')}, then {later}")
         return
     if tied := [label for label, one in outcomes.items() if one.sheet.winner is None]:
+        castings = history.publications[-1].detail["casting"]
         ask = "it is a tie: ask for the casting vote, and then give its option, its holder and its day"
         # the next result has the casting votes of its own command alone
         tell(f"Next: {ask}: {publishing(election, {**castings, **dict.fromkeys(tied, 'NAME')})}")
@@ -232,17 +267,18 @@ def other_place(target_folder: pathlib.Path) -> pathlib.Path:
     return next(other for other in others if not os.path.lexists(other))
 
 
-def would_differ(last: DoneAct) -> Fault:
-    words = (
-        f"made again, the result would differ from the one that was published (act {last.number})"
-    )
-    why = "another version of a program makes it, or more was done since that the page tells"
-    cure = "leave it as it is; or publish it once more, with a letter of its own: --force"
-    return Fault(None, f"{words}: {why}", cure)
+class WouldDiffer(Fault):
+    """Made again, a result would be another one than was published."""
+
+    def __init__(self, last: DoneAct) -> None:
+        words = f"made again, the result would differ from the one that was published (act {last.number})"
+        why = "another version of a program makes it, or more was done since that the page tells"
+        cure = "leave it as it is; or publish it once more, with a letter of its own: --force"
+        super().__init__(None, f"{words}: {why}", cure)
 
 
 # ---- words of those who publish
-def published_words(arguments: Arguments, questions: Questions) -> PublishedWords:
+def published_words(arguments: Arguments, questions: Questions, call: DoneAct) -> PublishedWords:
     """What the command line says, checked. Stops at all that is wrong."""
     faults, number = list[Fault](), len(arguments.casting or ())
     castings: Castings = {}
@@ -255,7 +291,7 @@ def published_words(arguments: Arguments, questions: Questions) -> PublishedWord
     with kept_in(faults):
         by = [*map(holder_in, said_of_each(number, "--cast-by", by))]
     with kept_in(faults):
-        on = [*map(day_in, said_of_each(number, "--cast-on", on))]
+        on = [day_in(day, call) for day in said_of_each(number, "--cast-on", on)]
     with kept_in(faults):
         if reason is not None:
             reason = demand_reason(reason, "--force", has_paragraphs=True)
@@ -299,15 +335,17 @@ def holder_in(by: str) -> str:
     return by.strip()
 
 
-def day_in(on: str) -> str:
-    """The day of a casting vote."""
+def day_in(on: str, call: DoneAct) -> str:
+    """The day of a casting vote, from that of the call on, by the zone of this computer."""
     try:
         day = datetime.date.fromisoformat(on)
     except ValueError:
         raise bad_words("--cast-on", f"`{on}` is not a day", "write it as 2026-12-05") from None
-    if day > times.now().astimezone().date():
+    days = [time.astimezone().date() for time in (call.time, times.now())]
+    if not days[0] <= day <= days[1]:
+        where = "in the future" if day > days[1] else f"before the call, which was on {days[0]}"
         cure = "write the day on which it was given"
-        raise bad_words("--cast-on", f"{day} is in the future", cure)
+        raise bad_words("--cast-on", f"{day} is {where}", cure)
     return day.isoformat()
 
 
@@ -321,7 +359,7 @@ def agreed_in_secret(
         return []
     # these are the same for each
     words, acts = next((of_one.words, of_one.acts) for of_one in facts)
-    texts = publication.texts_of(questions)
+    texts = texts_of(questions)
     texts |= {words.about or "": "--about", words.because or "": "--because"}
     texts |= {
         by: f"--cast-by{label and f' of question {label}'}" for label, by in words.cast_by.items()

@@ -4,26 +4,27 @@ becomes of them is decided elsewhere.
 
 import collections
 import contextlib
+import dataclasses
 import datetime
 import http.client
 import re
 import ssl
 import urllib.parse
-from collections.abc import Iterator
+from collections.abc import Iterator, Sequence
 from typing import NamedTuple
 
 from debvote_tools.book import queries
-from debvote_tools.book.book import Detail
+from debvote_tools.book.book import Book, Detail
 from debvote_tools.book.election import BOX_KEY
+from debvote_tools.book.queries import KeptRecord
 from debvote_tools.cli.console import count_of, shown_text
 from debvote_tools.cli.faults import Fault, bad_words
-from debvote_tools.grouping import grouped
 from debvote_tools.inbox.asked import has_list_of_now, last_box
 from debvote_tools.inbox.letter import YEAR
 from debvote_tools.inbox.mailbox import BEGIN, RawLetter
 from debvote_tools.inbox.vote import Vote
 from debvote_tools.patience import within
-from debvote_tools.poll.box import SCRIPT, asking_word, third_part, script_address
+from debvote_tools.poll.box import SCRIPT, asking_word, links_of, script_address
 from debvote_tools.text import times
 
 # in seconds and in bytes: how long an answer may take and be
@@ -36,6 +37,9 @@ HEAD = re.compile(
 END = b"\n-- \n\n"
 # what a request may begin with, and an answer to one with another word
 FIELD, UNKNOWN = b"box=", b"unknown: "
+# what the firewall of a web host may answer, which takes lines for the name of a field, and lets no
+# such name pass
+REFUSED = (http.HTTPStatus.FORBIDDEN, http.HTTPStatus.NOT_ACCEPTABLE)
 
 # as the page sends a ballot: many web hosts refuse other kinds, and who says not what it is
 FIELDS = {
@@ -49,13 +53,13 @@ UPLOAD = f"upload {SCRIPT} of the folder call to where PHP 8.1 or later runs and
 
 # in seconds: how far the clock of the box may be from ours unsaid
 MOST_OFF = 60
-# how many records of one link are kept, as many as the script takes, and of one name by links that
-# this book did not make
+# how many records of one link are kept in all, as many as the script takes, and of one name by links
+# that this book did not make
 MOST = 20
 
 # a record as the script writes it, with its letter, its link and its name
 RECORD = re.compile(
-    rb"From [^\n]+\n(Received: by box; [^\n]+\nX-Link: ([2-9a-hj-km-np-z]{16})\nFrom: box@page\.invalid\nSubject: \[[0-9a-f]{16}\]\n"
+    rb"From [^\n]+\n(Received: by box; [^\n]+\nX-Link: ([2-9a-hj-km-np-z]{16})\n(?:X-Page: [0-9a-f]{16}\n)?From: box@page\.invalid\nSubject: \[[0-9a-f]{16}\]\n"
     rb"Message-ID: <[0-9a-f]{32}@page\.invalid>\n\n([a-z0-9.-]{1,32}) [A-Z0-9, -]+\n-- \n)\n"
 )
 
@@ -89,8 +93,7 @@ def ask(at: str | None, mark: str, word: str) -> Asked:
     address, begin = script_address(at), times.now()
     body = f"ask {word}\n".encode()
     answer = answer_of(address, body)
-    if answer.status == http.HTTPStatus.FORBIDDEN and not answer.body.startswith(UNKNOWN):
-        # the firewall of a web host may take lines for the name of a field, and let no such name pass
+    if answer.status in REFUSED and not answer.body.startswith(UNKNOWN):
         answer = answer_of(address, FIELD + body)
     demand_box(address, answer)
     head = HEAD.match(answer.body)
@@ -175,16 +178,17 @@ def asked_box(vote: Vote) -> tuple[list[RawLetter], Detail, list[str]]:
     if not history.announced("box"):
         cure = f"add files; see {vote.election.command('status')}"
         raise bad_words("--box", "the call was made without it", cure)
-    key, at = queries.sealed(book, BOX_KEY), history.announced("at")
+    at = history.announced("at")
+    asked = ask(at, vote.questions.mark, asking_word(queries.sealed(book, BOX_KEY)))
     # of another host neither the clock nor the records say anything of this one
-    asked, before = ask(at, vote.questions.mark, asking_word(key)), last_box(history, at)
-    letters, others = records_in(vote, asked, before, key)
-    kept = queries.records_since(book, vote.call.number, at)
+    before = last_box(history, at)
+    kept = queries.records_since(book, vote.call.number)
+    letters, others = records_in(vote, asked, before, kept)
     box: Detail = {
         "at": at,
         "time": asked.time.isoformat(),
         "records": len(letters),
-        "gone": len({*kept.values()} - {raw.digest for raw in letters}),
+        "gone": len({one.digest for one in kept if one.at == at} - {raw.digest for raw in letters}),
         "others": others,
         "behind": asked.behind,
         "list": asked.list_digest,
@@ -212,24 +216,41 @@ def box_words(box: Detail, before: Detail) -> Iterator[str]:
         yield f"Note: {others}, passed over. The page sends none: ask who keeps the web host."
 
 
-def records_in(vote: Vote, asked: Asked, before: Detail, key: bytes) -> tuple[list[RawLetter], int]:
-    """The records as letters, and how many there are beside them. Between two askings the clock was
-    off by as much as in the one where it was off by more.
+def records_in(
+    vote: Vote, asked: Asked, before: Detail, kept: Sequence[KeptRecord]
+) -> tuple[list[RawLetter], int]:
+    """The records as letters, and how many there are beside them: of no elector, or above the most that
+    are kept, also with those that came before.
     """
-    owns = grouped((name, own) for own, name in queries.own_marks(vote.book).items())
-    behind = max(asked.behind, before.get("behind", 0), key=abs)
-    off = behind if abs(behind) > MOST_OFF else 0
-    earlier = datetime.datetime.fromisoformat(before["time"]) if before else None
-    counts, letters = collections.Counter[str](), list[RawLetter]()
+    counts = collections.Counter(whose(vote.book, one.link, one.line) for one in kept)
+    digests = {one.digest for one in kept}
+    letters = list[RawLetter]()
     parts = asked.records.split(END)[:-1]
-    for part in parts:
-        if (found := RECORD.fullmatch(part + END)) is None:
-            continue
-        data, link, name = found[1], found[2].decode(), found[3].decode()
-        links = (third_part(key, name, own) for own in owns.get(name, ()))
-        whose = link if link in links else name
-        counts[whose] += 1
-        if name in vote.names.roll and counts[whose] <= MOST:
-            where = f"box, record {len(letters) + 1}"
-            letters.append(RawLetter(where, data, link=link, asked_before=earlier, behind=off))
+    for found in filter(None, (RECORD.fullmatch(part + END) for part in parts)):
+        link, name = found[2].decode(), found[3].decode()
+        key = whose(vote.book, link, name)
+        where = f"box, record {len(letters) + 1}"
+        raw = clocked(RawLetter(where, found[1], link=link), asked, before, counts[key])
+        counts[key] += raw.digest not in digests
+        if name in vote.names.roll and counts[key] <= MOST:
+            letters.append(raw)
     return letters, len(parts) - len(letters)
+
+
+def clocked(raw: RawLetter, asked: Asked, before: Detail, count: int) -> RawLetter:
+    """A record with what its time is judged by. Between two askings the clock was off by as much as in the
+    one where it was off by more. Of those of a link, of which so many came before it, each has a second of
+    its own, also if they come in one.
+    """
+    behind = max(asked.behind, before.get("behind", 0), key=abs)
+    return dataclasses.replace(
+        raw,
+        asked_before=datetime.datetime.fromisoformat(before["time"]) if before else None,
+        behind=behind if abs(behind) > MOST_OFF else 0,
+        latest=asked.time + datetime.timedelta(seconds=count),
+    )
+
+
+def whose(book: Book, link: str, line: str) -> str:
+    """Of which records at most so many are kept: those of a link that this book made, or of a name."""
+    return link if link in links_of(book) else line.partition(" ")[0]

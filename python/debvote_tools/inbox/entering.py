@@ -10,10 +10,10 @@ from debvote_tools.book.election import Election, History
 from debvote_tools.book.queries import NewEnvelope
 from debvote_tools.cli import console
 from debvote_tools.cli.arguments import Acting, option
-from debvote_tools.cli.console import act_time, count_of
+from debvote_tools.cli.console import act_time, count_of, shown_line
 from debvote_tools.cli.faults import Fault, Status, bad_words
 from debvote_tools.files import BALLOTS_LIMIT, LINES_LIMIT
-from debvote_tools.inbox.vote import Vote, envelope_words, replies_to
+from debvote_tools.inbox.vote import CheckedLine, Vote, envelope_words, replies_to
 from debvote_tools.text.times import now, time_in_words
 
 CAME_BEFORE_CLOSE = "--came-before-close"
@@ -116,6 +116,24 @@ def came_before_close(history: History, answer: str | None) -> bool | None:
         words = "you did not say whether it came before the close"
         raise Fault(None, words, "run the command again")
     return said
+
+
+# ---- late lines that are entered again
+def replaced_in_time(
+    vote: Vote, lines: Iterable[CheckedLine], is_late: bool
+) -> dict[CheckedLine, str]:
+    """Of lines that are entered as in time, those that were late before, and would replace a ballot in time
+    that is another one: each in words. Somebody has to agree to each.
+    """
+    if is_late or not vote.history().is_reopened:
+        return {}
+    others = queries.late_beside_others(vote.book)
+    return {
+        line: f"{line.original.where}: `{shown_line(line.as_entered)}` was late before, and would "
+        f"replace envelope {others[line.as_entered]}, which came in time"
+        for line in lines
+        if line.as_entered in others
+    }
 
 
 def bad_ballots(where: object, reason: object, cure: str) -> Fault:

@@ -14,7 +14,7 @@ from debvote_tools.inbox.vote import Vote
 # what belongs to no elector has this in place of a name
 NOBODY = ""
 # of what became of envelopes, in the words of the view `fate`
-COUNTS, REFUSED, TAKEN_BACK, ANEW = "counts", "refused", "taken back", "entered anew"
+COUNTS, REFUSED, TAKEN_BACK = "counts", "refused", "taken back"
 
 
 class Fate(NamedTuple):

@@ -14,19 +14,16 @@ from debvote_tools.book import queries
 from debvote_tools.book.election import BOX_KEY, KEYRING, History
 from debvote_tools.book.queries import Ballot, KeptLetter
 from debvote_tools.grouping import grouped
-from debvote_tools.inbox.asked import WITH_LINKS
 from debvote_tools.inbox.letter import Body
 from debvote_tools.inbox.letter_lines import ReadLetter, from_json, read_letters
 from debvote_tools.inbox.mailbox import RawLetter
 from debvote_tools.inbox.reasons import Reason, ReasonWithValues
 from debvote_tools.inbox.rules import Circumstances, LetterCase, LetterOutcome
 from debvote_tools.inbox.vote import Vote
-from debvote_tools.poll.call import SUBJECT, call_letter, current_call
 from debvote_tools.text import times
 from debvote_tools.text.ballots import answers_of
-from debvote_tools.text.language import ENGLISH
 
-# what an act decided holds, whatever the rules say, unless part of what was entered is left
+# what an act decided holds, whatever the rules say
 DECIDED = {
     queries.ENTERED: (LetterOutcome.ENTERED, None),
     queries.SET_ASIDE: (LetterOutcome.SET_ASIDE, Reason.SET_ASIDE()),
@@ -89,12 +86,6 @@ class Beside:
             later = (one for one in its if is_asked_for(one) and not own.may_turn(one))
             found |= {label: one for one in itertools.islice(later, 1)}
         return found
-
-    def answered_since(self, own: Ballot) -> Set[str]:
-        """The labels of the answers in a ballot of a letter to which there are later ones. They are left
-        out when it is entered, so none is for a late one, which counts for nothing.
-        """
-        return self.later(own, lambda one: not one.is_late).keys()
 
     def has_voted_since(self, own: Ballot) -> bool | None:
         """Whether it is sure that the elector has a later ballot than one in a letter, which answers one of
@@ -160,10 +151,8 @@ def judged(
     found, circumstances = read_kept(vote, kept), circumstances_now(vote, history)
     cases = [LetterCase(read, circumstances, letter) for read, letter in zip(found, kept)]
     entered = queries.entered_ballots(vote.book, [letter.number for letter in kept])
-    by_hand = queries.entered_by_hand(vote.book)
     for case in cases:
-        case.entered, case.is_by_hand = entered.get(case.number, ()), case.number in by_hand
-        case.left_out = by_hand.get(case.number, ())
+        case.entered = entered.get(case.number, ())
     cases += (LetterCase(read, circumstances) for read in previewed)
     names = {elector for case in cases for elector in case.electors}
     names.update(one.elector for case in cases for one in case.entered)
@@ -207,7 +196,7 @@ def checked_again(
 
 
 def ballots_in(vote: Vote, names: Collection[str]) -> BallotsByElector:
-    """The ballots of some electors that were entered and are not struck, also late ones."""
+    """The ballots of some electors that were entered in time and are not struck."""
     its_by_name = queries.ballots_of(vote.book, names).items()
     return BallotsByElector(Beside, {name: Beside(its) for name, its in its_by_name})
 
@@ -217,18 +206,11 @@ def circumstances_now(vote: Vote, history: History) -> Circumstances:
     election, call = vote.election, history.call
     assert call is not None
     public, electors = election.sealed().public, queries.electors(election.book)
-    names, ids = {one.number: one.name for one in electors}, queries.our_message_ids(election.book)
-    no_answers = {elector.who for elector in electors}
-    if vote.names.words or vote.names.labels:
-        letter = call_letter(current_call(election, history))
-        no_answers.update(map(str.strip, letter.splitlines()))
     return Circumstances(
         mark=public.mark,
         marks={election.sealed(act).public.mark for act in history.named("call")},
         own_marks=queries.own_marks(election.book),
-        subject=election.language.say(SUBJECT, title=public.name),
         electors={elector.name: elector for elector in electors},
-        is_marked=bool(history.announced("marked")),
         is_signed=vote.is_signed,
         tells_codes=vote.questions.is_secret and not vote.has_codes,
         called=call.time,
@@ -236,11 +218,7 @@ def circumstances_now(vote: Vote, history: History) -> Circumstances:
         first_close=history.closes[0].time if history.closes else None,
         is_closed=history.is_closed,
         now=times.now(),
-        our_ids=grouped((names[elector], one) for elector, one, _ in ids if elector in names),
         box_key=queries.sealed(election.book, BOX_KEY),
-        words=vote.names.words,
-        no_answers=no_answers,
-        asking_ids={one for _, one, kind in ids if kind in WITH_LINKS},
     )
 
 
@@ -252,9 +230,6 @@ def judge_all(cases: Iterable[LetterCase], by_elector: BallotsByElector) -> list
     """
     cases = sorted(cases, key=lambda case: (case.time is None, case.time or case.circumstances.now))
     for case in cases:
-        lines = (line.as_entered for line in (*case.ballots, *case.likely))
-        own = [ballot_in(case, line) for line in (*lines, *case.left_out)]
-        case.answered_since = {one.line: by_elector[one.elector].answered_since(one) for one in own}
         case.outcome, case.reason = (
             decided(case) if case.is_decided else (LetterOutcome.WAITS, case.first_broken_rule)
         )
@@ -274,20 +249,8 @@ def judge_all(cases: Iterable[LetterCase], by_elector: BallotsByElector) -> list
 
 
 def decided(case: LetterCase) -> Judgement:
-    """What becomes of a letter of which an act decided. One of which ballots were entered waits on if some
-    are left, whatever became of the others.
-    """
-    if not case.left or case.state not in (queries.ENTERED, queries.STRUCK):
-        return DECIDED[case.state]
-    having, labels = {one.elector for one in case.standing}, grouped(sorted(case.left))
-    names = [name for name in labels if name not in having]
-    rest = [f"a ballot of {ENGLISH.joined(names)}"] if names else []
-    rest += (
-        f"the answer of {name} to {ENGLISH.joined(labels[name])}"
-        for name in labels
-        if name in having
-    )
-    return LetterOutcome.WAITS, Reason.NOT_ENTERED(rest=ENGLISH.joined(rest))
+    """What becomes of a letter of which an act decided."""
+    return DECIDED[case.state]
 
 
 def ballot_in(case: LetterCase, ballot: str) -> Ballot:
@@ -298,12 +261,9 @@ def ballot_in(case: LetterCase, ballot: str) -> Ballot:
 
 def has_voted_since(case: LetterCase, elector: str, its: Beside) -> bool | None:
     """Whether it is sure that an elector of a letter has a later ballot; None if they have none. If answers
-    of theirs stand in the letter, it is one that answers one of the same questions. Of a letter of which
-    some are left only these are asked about.
+    of theirs stand in the letter, it is one that answers one of the same questions.
     """
-    lines = [line.as_entered for line in case.lines_to_enter if line.elector == elector]
-    if case.left and not (lines := [*filter(None, map(case.left_in, lines))]):
-        return None
+    lines = [line.as_entered for line in case.ballots if line.elector == elector]
     said = {its.has_voted_since(ballot_in(case, line)) for line in lines or [""]}
     return True in said or (False if False in said else None)
 
@@ -407,11 +367,12 @@ def outcome_of_copy(
     begin, end = sorted((original.time, case.time))
     # not what was typed for it, nor another line of it
     own = {one.number for one in original.entered}
-    for line in case.lines_to_enter:
-        its = by_elector[line.elector]
-        if between := its.first_other(line.as_entered, begin, end, own):
+    typed = (one.line for one in original.standing if one.is_typed)
+    for ballot in (*(line.as_entered for line in case.ballots), *typed):
+        elector = ballot.partition(" ")[0]
+        if between := by_elector[elector].first_other(ballot, begin, end, own):
             reason = Reason.CAME_BEFORE(
-                elector=line.elector, time=case.time, first=original.time, between=between.time
+                elector=elector, time=case.time, first=original.time, between=between.time
             )
             return LetterOutcome.WAITS, reason
     return LetterOutcome.COPY, None

@@ -12,19 +12,18 @@ import re
 import urllib.parse
 from collections.abc import Sequence
 
-from debvote_tools.inbox.html import read_html
+from debvote_tools.inbox import html
 from debvote_tools.inbox.mailbox import RawLetter
 from debvote_tools.inbox.mime import MAX_PARTS, Part, address_key
 from debvote_tools.inbox.reasons import Reason, ReasonWithValues
 from debvote_tools.poll.sealed import OWN_LENGTH, OWN_SIGNS, marks_in
 
-# in bytes: a text, and all texts of a letter
-MAX_TEXT, MAX_TEXTS = 262_144, 1_048_576
+# in bytes: a text
+MAX_TEXT = 262_144
 # in characters: what is read of a field of the head
 MAX_FIELD = 2_000
-# lines and HTML tags in all texts, and how many lines and bytes are shown of a letter with more
-MAX_LINES, SHOWN_LINES, SHOWN_BYTES = 10_000, 200, 100_000
-LINE_OR_MARK = b"\n\r\v\f\x1c\x1d\x1e<"
+# lines of a text
+MAX_LINES = 10_000
 
 # as IANA names them, and as programs do
 CHARSETS = re.compile(
@@ -44,9 +43,7 @@ AS_WINDOWS = {
 # other control characters but tab and line feed: some programs omit them, or end a line there
 CONTROL = re.compile("[\0-\x08\v\f\x0e-\x1f\x7f\x85\u2028\u2029]|\r(?!\n)")
 # mail servers write this field into the head of each letter
-RECEIVED = re.compile(r"received[ \t]*:", re.IGNORECASE)
-# the line above a signature, which ends a letter (RFC 3676, 4.3)
-END = "-- "
+RECEIVED = re.compile(rb"(?im)^received[ \t]*:")
 
 # the sender: an address in ASCII, perhaps with a name before it, or in a comment after it as old
 # programs wrote it, in any bytes (RFC 5322, 3.2.2 to 3.2.4 and 3.4)
@@ -55,8 +52,6 @@ ADDRESS = rf"{ATOM}(?:\.{ATOM})*@[\w-]+(?:\.[\w-]+)*"
 NAME = r"""(?:"(?:[ !#-\[\]-~\udc80-\udcff]|\\[ -~])*"|[\w!#$%&'*+/=?^`{|}~. \udc80-\udcff-])*"""
 COMMENT = r" *\([ !-'*-\[\]-~\udc80-\udcff]*\)"
 SENDER = re.compile(rf"{NAME}<({ADDRESS})>|({ADDRESS})(?:{COMMENT})?", re.ASCII)
-# in angle brackets (RFC 5322, 3.6.4), whatever its program writes there
-MESSAGE_ID = re.compile(r"<[!-;=?-~]{1,250}>")
 # the years of the times that mail and web servers write: far from them no clock could be set right and no
 # other zone be shown, so with another year it is no time
 YEAR = r"20\d\d"
@@ -89,18 +84,9 @@ MAX_RETURNED, RETURNED_PARTS, MAX_OWN = 131_072, 20, 20
 
 @dataclasses.dataclass(frozen=True)
 class Body:
-    """The text of a letter: its lines; the indices of those that are joined to others by
-    format=flowed; the other lines in all its parts, of which those are kept that may be ballots or
-    answers; and why it can't be read with certainty. Of HTML the first `plain_lines` have plain tags alone, and `first_other` is the
-    first other tag.
-    """
+    """The lines of the text of a letter, and why it can't be read with certainty."""
 
     lines: tuple[str, ...] = ()
-    flowing: tuple[int, ...] = ()
-    is_html: bool = False
-    plain_lines: int = 0
-    first_other: str = ""
-    other_lines: tuple[str, ...] = ()
     trouble: ReasonWithValues | None = None
 
 
@@ -123,15 +109,12 @@ class ParsedLetter:
     # and what that signs, since anybody can change the rest
     identity: str
     is_parted_off: bool
-    in_reply_to: str
     # the one address that it came from, in small letters, or empty; and the sender as it is shown
     sender: str
     shown_sender: str
     subject: str
     # the marks of votes in its subject, each with the own mark of an elector or ""
     marks: tuple[tuple[str, str], ...]
-    # whether its head names no letter that it answers
-    is_new: bool
     # by the mail server that received it last
     arrived: datetime.datetime | None
     # whether its head says that a program wrote it
@@ -149,6 +132,14 @@ class ParsedLetter:
     asked_before: datetime.datetime | None = None
     behind: int = 0
     is_fetched: bool = False
+    latest: datetime.datetime | None = None
+    # what the page posted with it
+    page: str = ""
+
+    @property
+    def needs_signature(self) -> bool:
+        """Whether it is of a vote in which letters have to be signed."""
+        return self.signature is not None or self.why_unsigned is not None
 
     @property
     def is_never_signed(self) -> bool:
@@ -160,11 +151,6 @@ class ParsedLetter:
     def is_slow(self) -> bool:
         """Whether gpgv did not answer about it."""
         return self.why_unsigned == Reason.SLOW_SIGNATURE()
-
-    @property
-    def shown_lines(self) -> tuple[str, ...]:
-        """The lines by number, from 1: those of its text, then those of other parts."""
-        return self.body.lines + self.body.other_lines
 
 
 def parse(raw: RawLetter) -> ParsedLetter:
@@ -179,8 +165,6 @@ def parse(raw: RawLetter) -> ParsedLetter:
         letter.note_trouble(Reason.RAW_NAME())
     body = body_of(letter)
     texts = (text for subject in subjects for text in (decoded(subject), subject))
-    answered = letter.values("in-reply-to")
-    has_id = len(answered) == 1 and MESSAGE_ID.fullmatch(answered[0])
     fields = (f"{name}:{value[:MAX_FIELD]}" for name, value in letter.fields)
     is_automatic = any(map(AUTOMATIC.match, fields))
     return ParsedLetter(
@@ -188,12 +172,10 @@ def parse(raw: RawLetter) -> ParsedLetter:
         digest=raw.digest,
         identity=identity_of(letter, sender or " ".join(senders), body),
         is_parted_off=raw.is_parted_off,
-        in_reply_to=answered[0] if has_id else "",
         sender=sender,
         shown_sender=", ".join(map(decoded, senders)),
         subject="; ".join(map(decoded, subjects)),
         marks=tuple(dict.fromkeys(mark for text in texts for mark in marks_in(text))),
-        is_new=not (answered or letter.values("references")),
         arrived=arrival_of(letter.value("received")),
         is_automatic=is_automatic,
         returned=returned_in(raw.data[:MAX_RETURNED], sender)
@@ -205,6 +187,8 @@ def parse(raw: RawLetter) -> ParsedLetter:
         asked_before=raw.asked_before,
         behind=raw.behind,
         is_fetched=raw.is_fetched,
+        latest=raw.latest,
+        page=decoded(letter.value("x-page")),
     )
 
 
@@ -298,41 +282,72 @@ def identity_of(letter: Part, sender: str, body: Body) -> str:
 
 # ---- the body
 def body_of(letter: Part) -> Body:
-    """The text of a letter, and the other lines of all its parts."""
+    """The one plain text of a letter, or what is shown of another letter."""
     parts = list(itertools.islice(letter.walk(), MAX_PARTS))
     if len(parts) == MAX_PARTS:
         letter.note_trouble(Reason.TOO_MANY_PARTS())
-    texts = [part for part in parts if part.kind.startswith("text/")]
-    lengths = [len(part.body_bytes) for part in texts] + [len(part.around) for part in parts]
-    is_long = letter.note_too_long(max(lengths, default=0), "bytes in a text", MAX_TEXT)
-    if is_long or letter.note_too_long(sum(lengths), "bytes in all its texts", MAX_TEXTS):
-        return Body(trouble=letter.trouble)
-    payloads = [part.payload for part in texts]
-    count = sum(len(data) - len(data.translate(None, LINE_OR_MARK)) for data in payloads)
-    if letter.note_too_long(count, "lines and marks", MAX_LINES):
-        shown = lines_of(payloads[0][:SHOWN_BYTES])[:SHOWN_LINES]
-        return Body(tuple(shown), trouble=letter.trouble)
-    first = texts[0] if texts else letter
-    is_html_alone = first.kind == "text/html" and len(texts) == 1
-    if not first.is_shown or not (first.kind == "text/plain" or is_html_alone):
+    if letter.fields and RECEIVED.search(letter.body_bytes):
+        letter.note_trouble(Reason.PARTED_OFF())
+    first = the_text(parts)
+    if first.note_too_long(len(first.body_bytes), "bytes in a text", MAX_TEXT):
+        return Body(trouble=first.trouble)
+    text = text_in(first)
+    if first.kind == "text/html":
+        text, is_odd = html.read_page(text)
+        if is_odd:
+            first.note_ambiguous("what may be crossed out or hidden in its HTML")
+    lines = text.rstrip("\r\n").splitlines()
+    first.note_too_long(len(lines), "lines", MAX_LINES)
+    # that it is HTML is the last trouble, since such a letter can be entered
+    troubles = [part.trouble for part in parts if part.trouble is not None]
+    if not troubles and first.kind == "text/html":
+        troubles.append(Reason.HTML_ALONE())
+    return Body(tuple(lines[:MAX_LINES]), next(iter(troubles), None))
+
+
+def the_text(parts: Sequence[Part]) -> Part:
+    """The part whose text is shown: the plain one, alone or beside its own HTML, or HTML alone. Of others the
+    first has that there is no such one as its trouble.
+    """
+    texts = [part for part in parts if part.kind.startswith(("text/", "message/"))]
+    plain = [part for part in texts if part.kind == "text/plain" and part.is_shown]
+    kinds = [part.kind if part.is_shown else "" for part in texts]
+    first = next(iter(plain or texts), parts[0])
+    are_both = kinds == ["text/plain", "text/html"] and are_alternatives(parts, texts)
+    if not (are_both or kinds in (["text/plain"], ["text/html"])):
         first.note_trouble(Reason.NO_PLAIN_TEXT())
-    read = [text_of(part, is_first=part is first) for part in texts]
-    text = read[0] if read else Body()
-    # no program shows text around the parts, but it may be a letter that the mailbox did not
-    # separate; so may text below an encoded one
-    around = [line for part in parts for line in lines_of(part.around)]
-    below = lines_of(first.body_bytes)
-    trouble = next(filter(None, (part.trouble for part in parts)), None)
-    if letter.fields and any(
-        map(RECEIVED.match, (*text.lines, *text.other_lines, *around, *below))
-    ):
-        trouble = Reason.PARTED_OFF()
-    lines = [line for other in read[1:] for line in other.lines]
-    lines += [line for one in read for line in one.other_lines] + around
-    own = {" ".join(line.split()) for line in text.lines}
-    others = dict.fromkeys(" ".join(line.split()) for line in lines)
-    other_lines = tuple(line for line in others if line not in own)
-    return dataclasses.replace(text, other_lines=other_lines, trouble=trouble)
+    return first
+
+
+def are_alternatives(parts: Sequence[Part], texts: Sequence[Part]) -> bool:
+    """Whether these are the texts of one multipart/alternative: the first is right below it, and the other, too,
+    or within another part of it.
+    """
+    first, last = map(parts.index, texts)
+    return any(
+        above.kind == "multipart/alternative"
+        and above.depth + 1 == texts[0].depth
+        and all(part.depth > above.depth for part in parts[place + 1 : last + 1])
+        for place, above in enumerate(parts[:first])
+    )
+
+
+def text_in(part: Part) -> str:
+    """The text of a part, as its character set has it."""
+    charset = part.parameters.get("charset", "")
+    named = charset or "us-ascii"
+    try:
+        if not CHARSETS.fullmatch(named):
+            raise LookupError
+        part.payload.decode(named)
+    except (UnicodeDecodeError, LookupError):
+        part.note_trouble(Reason.CHARSET(charset=named))
+    if part.is_cut:
+        part.note_trouble(Reason.CUT())
+    text = decoded_bytes(part.payload, charset or "utf-8").removeprefix("\ufeff")
+    if odd := CONTROL.search(text):
+        part.note_trouble(Reason.CONTROL(character=f"U+{ord(odd[0]):04X}"))
+    return text
 
 
 def attachments_of(letter: Part) -> tuple[str, ...]:
@@ -346,77 +361,3 @@ def attachments_of(letter: Part) -> tuple[str, ...]:
             name = FILE_NAME.search(head[:MAX_FIELD])
             names.append(urllib.parse.unquote(decoded(name[1].strip('"'))) if name else part.kind)
     return tuple(names)
-
-
-def lines_of(data: bytes) -> list[str]:
-    return decoded_bytes(data, "utf-8").splitlines()
-
-
-def is_quoted(line: str) -> bool:
-    return line.lstrip().startswith(">")
-
-
-def without_quote_signs(line: str) -> str:
-    """A line without the marks of a quotation before it."""
-    return line.lstrip("> \t\u00a0")
-
-
-def text_of(part: Part, *, is_first: bool) -> Body:
-    """The lines of a part as far as they can be read, and what else in it may be lines."""
-    charset = part.parameters.get("charset", "")
-    named = charset or "us-ascii"
-    try:
-        if not CHARSETS.fullmatch(named):
-            raise LookupError
-        if is_first:
-            part.payload.decode(named)
-    except (UnicodeDecodeError, LookupError):
-        part.note_trouble(Reason.CHARSET(charset=named))
-    if is_first and part.is_cut:
-        part.note_trouble(Reason.CUT())
-    text = decoded_bytes(part.payload, charset or "utf-8").removeprefix("\ufeff")
-    if odd := CONTROL.search(text):
-        part.note_trouble(Reason.CONTROL(character=f"U+{ord(odd[0]):04X}"))
-    # other kinds of text may be shown as HTML, too
-    html = read_html("" if part.kind == "text/plain" else text)
-    if part.kind == "text/html":
-        return Body(
-            tuple(html.lines),
-            is_html=True,
-            plain_lines=html.plain_lines,
-            first_other=html.first_other,
-            other_lines=tuple(html.pieces),
-        )
-    lines = text.rstrip("\r\n").splitlines()
-    flow = part.parameters.get("format", "fixed").lower()
-    delsp = part.parameters.get("delsp", "no").lower()
-    if flow not in ("fixed", "flowed") or delsp not in ("no", "yes"):
-        part.note_ambiguous("content-type")
-    flowing, whole = joined(lines, deletes_space=delsp == "yes") if flow == "flowed" else ([], [])
-    others = (*whole, *html.lines, *html.pieces)
-    return Body(tuple(lines), tuple(flowing), other_lines=others)
-
-
-def joined(lines: Sequence[str], *, deletes_space: bool) -> tuple[list[int], list[str]]:
-    """Joins format=flowed lines: a line that ends with a space continues in the next line of the
-    same quote depth. Returns the indices of the lines that are joined to others, and the joined
-    texts. An empty line that continues another parts no paragraphs.
-    """
-    # of each text what it has of each line
-    texts, flowing = list[dict[int, str]](), list[int]()
-    depth, goes_on = -1, False
-    for index, line in enumerate(lines):
-        bare = line.lstrip(">")
-        own_depth = len(line) - len(bare)
-        bare = bare.removeprefix(" ")
-        continues = goes_on and own_depth == depth and bare != END
-        depth, goes_on = own_depth, bare.endswith(" ") and bare != END
-        if continues and not bare:
-            flowing.append(index)
-            continue
-        if not continues:
-            texts.append({})
-            bare = f"> {bare}" if own_depth else bare
-        texts[-1][index] = bare[:-1] if deletes_space and goes_on else bare
-    several = [text for text in texts if len(text) > 1]
-    return [*flowing, *itertools.chain(*several)], ["".join(text.values()) for text in several]

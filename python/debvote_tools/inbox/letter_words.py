@@ -3,49 +3,26 @@ line.
 """
 
 import itertools
-import re
 from collections.abc import Collection, Iterator, Mapping, Sequence
 
-from debvote_tools.cli.console import act_time, count_of, listed, shown_line, shown_text
-from debvote_tools.inbox.letter import is_quoted
-from debvote_tools.inbox.letter_lines import Near
-from debvote_tools.inbox.rules import LetterCase, LetterOutcome, above_end
+from debvote_tools.cli.console import (
+    act_time,
+    count_of,
+    cut,
+    listed,
+    seen,
+    shown_line,
+    shown_text,
+)
+from debvote_tools.inbox.letter_text import MAX_WORDS
+from debvote_tools.inbox.rules import LetterCase, LetterOutcome
 from debvote_tools.inbox.reasons import for_secretary
 from debvote_tools.inbox.vote import IS_CODE, Vote
-from debvote_tools.text.ballots import without
 from debvote_tools.text.language import ENGLISH
 
-# how many attachments are named
-MAX_ATTACHMENTS = 5
-READ_THESE = "Read these: they have other words, or more to look at."
-
-# the head of a letter that Outlook quotes below an answer: a line, or the fields of its head
-ORIGINAL = re.compile(
-    r"-{3,} *(?:original|urspr|weiterge|forward|message d|mensaje)", re.IGNORECASE
-)
-FROM, SUBJECT = (
-    re.compile(rf"\W*(?:{names})\W*:", re.IGNORECASE)
-    for names in ("from|von|de", "subject|betreff|objet|asunto")
-)
-# how far below the sender the subject is in such a head
-HEAD = 6
-
-# a line that says nothing of the vote begins with one of these words, and has no others but names;
-# or a telephone adds it
-USUAL = frozenset(
-    "dear hello hi hey good morning day afternoon evening all both everyone everybody there and best kind warm many with regards "
-    "wishes greetings thanks thank you yours sincerely faithfully truly cheers hallo liebe lieber guten tag morgen abend moin servus sehr "
-    "geehrte geehrter alle zusammen und mit vielen viele besten beste herzlichen herzliche freundlichen freundliche schöne grüße grüßen "
-    "gruß gruss grüsse grüssen mfg lg vg danke dank bonjour bonsoir salut cher chère chers chères tous toutes et bien à vous cordialement "
-    "amicalement merci beaucoup salutations bientôt hola buenos buenas días tardes noches estimado estimada estimados querido querida "
-    "queridos todos todas y un muchas gracias saludo saludos cordiales cordial atentamente abrazo".split()
-)
-MOST_USUAL, WORD = 8, re.compile(r"[^\W\d_]+|\d+")
-TELEPHONE = re.compile(
-    r"(?:sent|gesendet|envoyé|enviado|von meinem|diese nachricht wurde|get outlook|outlook für|obtener outlook)\b[\w .-]{0,60}"
-    r"(?:phone|pad|android|ios|samsung|galaxy|outlook|mail|gmx|web\.de|handy|telefon|téléphone|móvil|mobil)[\w .-]{0,60}",
-    re.IGNORECASE,
-)
+# how many attachments are named; in characters, what is listed of what else a sender wrote; and how many
+# lines of a quotation are shown
+MAX_ATTACHMENTS, MAX_LISTED, MAX_QUOTED = 5, 60, 100
 
 
 def who_and_when(letter: LetterCase) -> str:
@@ -68,28 +45,23 @@ def arrival_of(letter: LetterCase) -> str:
 
 # ---- what goes in
 def going_in_words(letters: Sequence[LetterCase], vote: Vote) -> Iterator[str]:
-    """One line a letter: whose ballot it is, and how it is read. The last have more to look at."""
-    said = [(ballot_words(letter, vote), more_words(letter)) for letter in letters]
-    yield from (words for words, more in said if not more)
-    if any(more for _, more in said):
-        yield READ_THESE
-    yield from (f"{words}; {'; '.join(more)}" for words, more in said if more)
+    """One line a letter: whose ballot it is, and how it is read."""
+    for letter in letters:
+        yield "; ".join([ballot_words(letter, vote), *more_words(letter)])
 
 
 def ballot_words(letter: LetterCase, vote: Vote) -> str:
     line = letter.sole_ballot
-    written = " ".join(letter.read.shown_lines[number - 1].strip() for number in line.numbers)
-    as_written = "" if written == line.as_entered else f", written `{shown_line(written.encode())}`"
+    is_same = line.written == line.as_entered
+    as_written = "" if is_same else f", written `{shown_line(line.written.encode())}`"
     answers = vote.answers_in_words(line.as_entered.partition(" ")[2])
     return f"{line.elector} ({name_of(letter)}{as_written}): {answers}"
 
 
 def more_words(letter: LetterCase) -> list[str]:
     """What else there is to look at in a letter."""
-    found = [f"other words: {words}"] if (words := other_words(letter)) else []
-    if letter.shared_with:
-        found.append(f"same address: {', '.join(letter.shared_with)}")
-    return [*found, *(f"line {number}{IS_CODE}" for number in letter.code_lines)]
+    shared = [f"same address: {', '.join(letter.shared_with)}"] if letter.shared_with else []
+    return [*shared, *(f"line {number}{IS_CODE}" for number in letter.code_lines)]
 
 
 # ---- what waits
@@ -126,8 +98,15 @@ def judged_anew(
 
 
 def why_words(letter: LetterCase) -> list[str]:
-    """Why a letter waits, lines that may be ballots, and what else there is to look at."""
-    return [why(letter), *near_words(letter), *more_words(letter), *attachment_words(letter)]
+    """Why a letter waits, its ballots, and what else there is to look at."""
+    others = other_words(letter, MAX_LISTED), more_words(letter), attachment_words(letter)
+    return [why(letter), *near_words(letter), *itertools.chain.from_iterable(others)]
+
+
+def other_words(letter: LetterCase, most: int = MAX_WORDS) -> Iterator[str]:
+    """What its sender wrote besides greetings and ballots, as far as it is shown."""
+    if words := cut(letter.read.text.words, most):
+        yield f"written: {''.join(map(seen, words))}"
 
 
 def attachment_words(letter: LetterCase) -> Iterator[str]:
@@ -151,19 +130,9 @@ def why(letter: LetterCase, elector: str = "") -> str:
 
 
 def near_words(letter: LetterCase) -> Iterator[str]:
-    for line in letter.lines_to_enter:
-        # of a letter that does not wait they say how it was read
-        if letter.is_pending and line.answers <= letter.entered_answers.keys():
-            continue
-        left = without(line.as_entered, letter.answered_since[line.as_entered]) or line.as_entered
-        if shown := letter.left_in(line.as_entered) if letter.left else left:
-            yield f"line {line.number}: {shown}"
-    for typed in filter(None, map(letter.left_in, letter.left_out)):
-        yield f"left out of what was typed: {typed}"
-    for near in letter.near:
-        within = ", within other words" if near.is_within else ""
-        why = near.answer or "a ballot, but not alone on its line"
-        yield f"line {near.number}, `{shown_text(near.ballot)}`{within}: {why}"
+    yield from (f"line {line.number}: {line.as_entered}" for line in letter.ballots)
+    for line in letter.refused:
+        yield f"line {line.number}, ranks {shown_text(line.ranks)}: {line.answer}"
 
 
 def went_in_words(letters: Sequence[LetterCase], entered: int) -> str:
@@ -179,21 +148,16 @@ def wait_words(number: int) -> str:
 
 # ---- a letter line by line
 def whole(letter: LetterCase) -> Iterator[str]:
-    """A letter line by line, each with the number by which it can be entered. What it quotes of our
-    letters is left out, but for lines that may be ballots.
-    """
+    """What its sender wrote, line by line, and below it what the letter quotes."""
     yield who_and_when(letter)
     yield f"  subject: {shown_text(letter.read.subject)}"
-    lines = letter.read.shown_lines
-    hidden = {index + 1 for index in quoted_of_ours(letter)} - letter.other_answers
-    for is_hidden, its in itertools.groupby(range(1, len(lines) + 1), hidden.__contains__):
-        numbers = list(its)
-        if is_hidden:
-            count = count_of(len(numbers), "line")
-            yield f"      .. {count} of a letter of ours, which it quotes"
-            continue
-        for number in numbers:
-            yield f"{number:4}  {shown_line(lines[number - 1].encode())}"
+    lines, quoted = letter.read.body.lines, sorted(letter.read.text.quoted)
+    yield from numbered(lines, sorted({*range(len(lines))}.difference(quoted)))
+    if quoted:
+        yield "Quoted:"
+        yield from numbered(lines, quoted[:MAX_QUOTED])
+    if len(quoted) > MAX_QUOTED:
+        yield f"      and {count_of(len(quoted) - MAX_QUOTED, 'more line')}"
     if letter.outcome is LetterOutcome.ENTERED:
         yield "It was entered."
     elif letter.reason is not None:
@@ -203,72 +167,6 @@ def whole(letter: LetterCase) -> Iterator[str]:
     yield from (f"  line {number}{IS_CODE}" for number in letter.code_lines)
 
 
-def quotations(lines: Sequence[str]) -> Iterator[range]:
-    """The quotations in a letter, by the indices of their lines: those that begin with >, with the
-    head above them, as `On Monday Anna wrote:`; and all below the head that Outlook puts there.
-    """
-    quoted: list[int] = []
-    # the line after the last ends a quotation, too
-    for index, line in enumerate((*lines, "end")):
-        head = (
-            ORIGINAL.match(line)
-            or FROM.match(line)
-            and any(map(SUBJECT.match, lines[index + 1 : index + HEAD]))
-        )
-        if is_quoted(line):
-            quoted.append(index)
-        elif quoted and line.strip():
-            yield range(above(lines, quoted[0]), quoted[-1] + 1)
-            quoted = []
-        if head:
-            yield range(index, len(lines))
-            return
-
-
-def above(lines: Sequence[str], first: int) -> int:
-    """Where the head of a quotation begins: one line or two, the last of which ends in a colon."""
-    index = next((at for at in reversed(range(first)) if lines[at].strip()), -1)
-    if index < 0 or not lines[index].rstrip().endswith(":"):
-        return first
-    return index - (index > 0 and lines[index - 1][:1].isupper())
-
-
-def quoted_of_ours(letter: LetterCase) -> set[int]:
-    """The indices of the lines of our letters that a letter quotes, but for those that may be
-    ballots: it answers one of ours, or the quotation has the mark of the poll.
-    """
-    lines, circumstances = letter.read.body.lines, letter.circumstances
-    is_reply = letter.read.in_reply_to in circumstances.all_our_ids
-    shown = indices_of_ballots(letter, letter.near)
-    return {
-        index
-        for quotation in quotations(lines)
-        if is_reply or any(circumstances.mark in lines[index] for index in quotation)
-        for index in quotation
-        if index not in shown
-    }
-
-
-def indices_of_ballots(letter: LetterCase, near: Sequence[Near]) -> set[int]:
-    """The indices of the lines that can be entered, and of those near to a ballot."""
-    numbers = {one for line in letter.lines_to_enter for one in line.numbers}
-    return {number - 1 for number in (*numbers, *(one.number for one in near))}
-
-
-def other_words(letter: LetterCase) -> str:
-    """What the sender's own words begin with, without greetings and what a telephone adds."""
-    lines, left_out = letter.read.body.lines, quoted_of_ours(letter)
-    left_out.update(*(one for one in quotations(lines) if is_quoted(lines[one[-1]])))
-    left_out |= indices_of_ballots(letter, [near for near in letter.near if not near.is_within])
-    names = set(WORD.findall(letter.read.shown_sender.partition("<")[0].casefold()))
-
-    def says_something(line: str) -> bool:
-        first, *others = words = WORD.findall(line) or [""]
-        if letter.circumstances.passes_over(line) or names.issuperset(map(str.casefold, words)):
-            return False
-        is_usual = first.lower() in USUAL and len(words) <= MOST_USUAL
-        is_usual &= all(word.lower() in USUAL or word.istitle() for word in others)
-        return words != [""] and not is_usual and not TELEPHONE.fullmatch(line)
-
-    own = (line for index, line in enumerate(lines[: above_end(lines)]) if index not in left_out)
-    return shown_text(" ".join(filter(says_something, map(str.strip, own))))
+def numbered(lines: Sequence[str], places: Sequence[int]) -> Iterator[str]:
+    for place in places:
+        yield f"{place + 1:4}  {shown_line(lines[place].encode())}"

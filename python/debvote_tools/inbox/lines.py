@@ -19,10 +19,14 @@ import unicodedata
 from collections.abc import Iterable, Mapping
 from typing import NamedTuple
 
+from debvote_tools.book.queries import Elector
 from debvote_tools.grouping import grouped
 from debvote_tools.poll.plain_names import without_accents
+from debvote_tools.poll.questions import Questions
 from debvote_tools.poll.sealed import OWN_LENGTH, OWN_SIGNS
+from debvote_tools.text.answers import DASHES
 from debvote_tools.text.ballots import answers_text
+from debvote_tools.text.language import Language
 from debvote_tools.text.motions import Words, with_ranks
 
 MARK, BLANKS = codecs.BOM_UTF8, b" \t"
@@ -32,12 +36,15 @@ NOTHING_TO_REPAIR = re.compile(rb"[a-z0-9.-]+(?: [0-9-][0-9,-]*|(?: [A-Z] [0-9-]
 # what can be a name on a roll, at the start of a line
 NAME = re.compile(rb"[a-z0-9.-]+")
 
+# in characters: the longest name, as people write it
+MAX_NAME = 100
 # what parts the words of a name, and what each name on a roll has
 NO_NAME, LATIN = re.compile(r"(?:[^\w.-]|[_\u02b0-\u02ff])+"), re.compile("[a-z0-9]")
 # the ranks of a ballot; and a name as people write it, with letters of any script, and ranks
 ONE_RANK = "(?:-|[1-9][0-9]?)"
 RANKS = rf"{ONE_RANK}(?:,{ONE_RANK})*"
-WRITTEN_NAME = r"[^\W_](?:[\w .'\u2019-]*[^\W_])?"
+LETTER = r"[^\W_\u02b0-\u02ff]"
+WRITTEN_NAME = rf"{LETTER}(?:(?:{LETTER}|[_ .'\u2019-])*{LETTER})?"
 RIGHT_ANSWERS = re.compile(rf"([a-z0-9.-]+)((?: [A-Z] {RANKS})+)")
 NAMED = re.compile(rf"({WRITTEN_NAME})(?:\s*:\s*|\s+)({RANKS})")
 
@@ -51,7 +58,6 @@ TYPED_CODE, TYPED_ON_ROLL = (
 
 # no-break spaces as blanks
 NO_BREAK = str.maketrans("\u00a0\u202f", "  ")
-DASHES = "\u2010\u2011\u2012\u2013\u2014\u2212"
 # pairs of quotation marks: the one before a line, and the one after it
 QUOTES = (
     *('""', "''", "``"),
@@ -119,9 +125,19 @@ class Names:
     longest_line: int
     # those of motions
     words: Words
+    # what looks like an answer, wherever it stands in a line; nothing where no letter is read
+    answers: re.Pattern[str] = re.compile("(?!)")
     # of several questions, and of those of them that are motions; none if there is one
     labels: tuple[str, ...] = ()
     motions: tuple[str, ...] = ()
+
+    @functools.cached_property
+    def label_at_start(self) -> re.Pattern[str] | None:
+        """What begins with a label that has a sign, a rank or a word behind it; None if there is one question."""
+        labels, sign = "".join(self.labels), r"\s*[^\w\s]"
+        capital = rf"[{labels}](?:{sign}|\s+[^\W_])"
+        small = rf"[{labels.lower()}](?:{sign}|\s+[\d{DASHES}-])"
+        return re.compile(rf"\W*(?:{capital}|{small})") if labels else None
 
     @functools.cached_property
     def electors_by_real_name(self) -> dict[str, list[str]]:
@@ -206,9 +222,27 @@ class Names:
         """A name as `roll` makes one from it, but whole: `roll` cuts a long name, and omits letters of
         other scripts, where other words may have been. Signs in place of an apostrophe are no letters.
         """
+        # one sign may have 18 letters, and of 1,300 such lines each takes a while
+        if len(name) > MAX_NAME or len(unicodedata.normalize("NFKC", name)) > MAX_NAME:
+            return set()
         plain = (without_accents(name, language).lower() for language in (self.language, ""))
         folds = {NO_NAME.sub("-", one).strip("-") for one in plain}
         return {fold for fold in folds if LATIN.search(fold)}
+
+
+def names_of(questions: Questions, electors: Iterable[Elector], language: Language) -> Names:
+    """What the lines of an election are read by. Codes on the roll are nobody's names."""
+    labels = tuple(filter(None, questions))
+    return Names(
+        frozenset(questions.roll),
+        language.code,
+        {elector.name: elector.who for elector in electors},
+        questions.longest_line,
+        questions.words(language),
+        questions.answers(language),
+        labels,
+        tuple(label for label in labels if questions[label].motion),
+    )
 
 
 def lines_in(data: bytes, name: str, longest: int, first: int = 1) -> list[Line]:

@@ -97,6 +97,8 @@ class RawLetter:
     link: str = ""
     asked_before: datetime.datetime | None = None
     behind: int = 0
+    # the latest time that it can have, as the box was asked then
+    latest: datetime.datetime | None = None
     # whether it is a record that was fetched with the file of the box
     is_fetched: bool = False
 

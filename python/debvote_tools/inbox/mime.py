@@ -82,6 +82,8 @@ class Part:
 
     def __init__(self, data: bytes, *, is_shown: bool = True) -> None:
         self.trouble: ReasonWithValues | None = None
+        # in how many other parts it is, once these were walked through
+        self.depth = 0
         end = END_OF_HEAD.search(data, 0, MAX_HEAD)
         head = data[: MAX_HEAD if end is None else end.start()]
         self.body_bytes = b"" if end is None else data[end.end() :]
@@ -181,6 +183,7 @@ class Part:
 
     def walk(self, depth: int = 0) -> Iterator["Part"]:
         """Yields it and all parts in it."""
+        self.depth = depth
         if self.inner and depth == MAX_DEPTH:
             self.note_trouble(Reason.TOO_MANY_PARTS())
         yield self

@@ -19,7 +19,7 @@ UNCERTAIN = "The reason: its head or its parts can't be read with certainty. Sen
 # what became of it says so already
 LOOKED_AT = ""
 SIGNATURE_UNREAD = "The reason: its signature can't be checked."
-ALONE = "The reason: the ballot is not the first line of it. Send the ballot alone, in a letter of its own."
+ALONE = "The reason: there is more in it than a ballot. Answer this letter, write your ballot on top, and nothing else."
 OTHER_ADDRESS = "The reason: the list of members has another address for the name on the ballot."
 NO_BALLOT_IN_IT = "The reason: no line of it is a ballot of this vote."
 NO_MARK_IN_IT = "The reason: its subject has no mark of this vote. Answer a letter of this vote: its subject has the mark."
@@ -45,7 +45,6 @@ class Reason(enum.Enum):
     # (`told_of` in `outbox/due.py`)
     TAKEN_BACK = "its ballot was taken back", LOOKED_AT
     PUT_BACK = "it was put back to wait", LOOKED_AT
-    NOT_ENTERED = "not entered yet: {rest}", LOOKED_AT
     SET_ASIDE = "it was set aside", "The reason: the secretary has looked at it, and set it aside."
     STRUCK = "its ballot was struck", "The reason: the secretary has taken its ballot out again."
     # it can't be read with certainty
@@ -61,11 +60,11 @@ class Reason(enum.Enum):
         "The reason: the name of its sender is not encoded. Send it with a name without accents, or by another program.",
     )
     ENCRYPTED = "it is encrypted", UNCERTAIN
-    NO_PLAIN_TEXT = "it does not begin with plain text, and is not HTML alone", UNCERTAIN
+    NO_PLAIN_TEXT = "it has not exactly one plain text, alone or beside its own HTML", UNCERTAIN
+    HTML_ALONE = "it has its text as HTML alone", UNCERTAIN
     CHARSET = "its text is not plain text in the character set that it names: {charset}", UNCERTAIN
     CUT = "its text ends in the middle of a line, so it may have been cut off", UNCERTAIN
     CONTROL = "it has a character that mail programs show in different ways: {character}", UNCERTAIN
-    HTML = "it is HTML that may look different from its text: {element}", UNCERTAIN
     AUTOMATIC = (
         "a program wrote it, as an out-of-office reply or a letter that came back",
         LOOKED_AT,
@@ -84,7 +83,10 @@ class Reason(enum.Enum):
         "it arrived after the vote was closed, {close}",
         "The reason: it arrived after the vote was closed.",
     )
-    IN_THE_FUTURE = "it arrived later than the clock of this computer says", LOOKED_AT
+    IN_THE_FUTURE = (
+        "it arrived later than the clock of this computer says, or that of the web host when it was asked",
+        LOOKED_AT,
+    )
     CLOSED = (
         "the vote is closed: to enter it, reopen",
         "The reason: it arrived in time, but was not entered before the vote was closed.",
@@ -100,6 +102,10 @@ class Reason(enum.Enum):
         "it came from {sender}, which is not the address of {elector} in the list of members, but its subject has the own mark of {elector}",
         OTHER_ADDRESS,
     )
+    OLD_OWN_MARK = (
+        "its subject has the own mark that {elector} had until {until}",
+        "The reason: its subject ends with an own mark that you no longer have, as after a change of your address. Answer the newest letter of this vote to you.",
+    )
     NO_OWN_MARK = (
         "its subject lacks the own mark of {elector}, so anybody may have sent it",
         "The reason: its subject does not end with your own mark. Answer a letter of this vote to you, or use the link in it.",
@@ -108,6 +114,10 @@ class Reason(enum.Enum):
     OTHER_LINK = (
         "it came by the page of the vote with a link that is not that of {elector} now: a new address or a new call makes a new one, and a book that was put back lacks some",
         LOOKED_AT,
+    )
+    OTHER_PAGE = (
+        "it does not say that it came by the page of this call, and another page may have shown other options; look whether its options were the same",
+        "The reason: it came by an older page of the vote. To vote, open the link in the newest letter of this vote.",
     )
     FETCHED = (
         "it is in the file of the box, which others may have changed: run add --box, or enter it if the box does not answer",
@@ -127,44 +137,12 @@ class Reason(enum.Enum):
     )
     # where the ballot is
     NO_BALLOT = "no ballot found", NO_BALLOT_IN_IT
-    NO_NAME = "the ranks have no name before them", NO_BALLOT_IN_IT
-    REAL_NAME = (
-        "the name is not written as on the roll, and whose it is does not have the sender's address alone",
-        "The reason: the name is not written as in this vote. Write it as in a letter of this vote to you.",
-    )
-    NO_COMMAS = "the ranks have blanks between them, and no commas", NO_BALLOT_IN_IT
-    WORD = "a word is in place of the ranks", LOOKED_AT
-    WORD_ALONE = "a word is in place of the ballot, without a name", LOOKED_AT
-    FILLED_IN = (
-        "the line of our letter is filled in where it is quoted, or strokes are left in it",
+    NOT_ALONE = "line {number} is a ballot, and there are other lines", ALONE
+    ANSWER_BELOW = (
+        "line {number} is a ballot, and a line of a quotation or a signature looks like an answer",
         ALONE,
     )
-    ELSEWHERE = (
-        "line {number} is a ballot, but is below the end of the text, or in another part",
-        ALONE,
-    )
-    QUOTED = (
-        "a line that begins with > is next to the ballot, or above it although the letter answers none of ours",
-        ALONE,
-    )
-    NOT_FIRST = "line {number} is not a greeting, and is above the ballot or next to it", ALONE
-    MUCH_ABOVE = "there is more than a greeting above the ballot", ALONE
-    MUCH_QUOTED = (
-        "there is more above the quotation than its head: two lines, the last with a colon at its end",
-        ALONE,
-    )
-    HIGH_RANK = "line {number} has a rank above {options}, the number of options", NO_BALLOT_IN_IT
-    JOINED = (
-        "its lines are marked as belonging together, and joined they make another ballot or none",
-        ALONE,
-    )
-    # other ballots
-    TWO_BALLOTS = "two different ballots", "The reason: it has two ballots that differ."
-    ANOTHER_ANSWER = "line {number} may be an answer, and belongs to no ballot", LOOKED_AT
-    SEVERAL_ELECTORS = (
-        "ballots of several electors: {electors}",
-        "The reason: it has ballots of several electors.",
-    )
+    SEVERAL = "several lines of it are ballots", ALONE
     # which vote it is about
     NO_SUBJECT_MARK = (
         "its subject has no mark of this vote, [{mark}], or one that is cut off or changed; if it is about this vote, enter it",

@@ -12,6 +12,7 @@ from collections.abc import Iterable, Iterator, Sequence
 from debvote_tools.book import queries
 from debvote_tools.book.book import DoneAct
 from debvote_tools.book.election import Election, History
+from debvote_tools.cli.console import in_runs
 from debvote_tools.cli.faults import Fault
 from debvote_tools.inbox.asked import unasked_fault
 
@@ -102,6 +103,16 @@ def pending_letters(election: Election, history: History) -> Pending:
 
 def left_by(acts: Iterable[DoneAct]) -> set[int]:
     return {number for act in acts for number in act.detail.get("left", [])}
+
+
+def taken_out_words(election: Election, history: History) -> str:
+    """How many lines count no more that were told as entered, by whatever command they went."""
+    lost = [one.number for one in queries.lost(election.book)]
+    which = f" (envelopes {in_runs(lost)})" if lost and not election.questions.is_secret else ""
+    strikes = len(history.since_call("strike"))
+    return (
+        f"Strikes: {strikes}. Taken back, and not entered again as they were: {len(lost)}{which}."
+    )
 
 
 def other_votes_words(marks: Iterable[str]) -> Iterator[str]:

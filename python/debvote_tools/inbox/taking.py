@@ -176,6 +176,9 @@ def tell_next(change: GoingIn) -> None:
     following = election.command("status")
     if any(letter.outcome is LetterOutcome.WAITS for letter in change.found):
         following = f"{election.command('held')}, which lists the letters that wait"
+    if offered := [str(letter.number) for letter in change.found if letter.is_offered]:
+        enter = election.command("held", *offered, "--enter")
+        following = f"{enter}, which shows these ballots and asks; {following}"
     if not election.history().is_closed and queries.last_entering_act(election.book):
         following += f"; {election.command('undo')} takes back what was entered last"
     tell(f"Next: {following}")

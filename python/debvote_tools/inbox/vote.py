@@ -9,7 +9,7 @@ from typing import NamedTuple
 
 from debvote_tools.book import queries
 from debvote_tools.book.election import Election, History
-from debvote_tools.cli.console import LEAVING_OUT, count_of, shown_line
+from debvote_tools.cli.console import LEAVING_OUT, count_of, in_runs, shown_line
 from debvote_tools.cli.faults import Fault
 from debvote_tools.debvote import Finding, Findings
 from debvote_tools.files import BALLOTS_LIMIT, LINES_LIMIT
@@ -20,6 +20,7 @@ from debvote_tools.inbox.lines import (
     Names,
     has_code,
     name_in,
+    names_of,
     with_small_name,
 )
 from debvote_tools.poll.box import without_links
@@ -78,7 +79,7 @@ class CheckedLine(NamedTuple):
     @property
     def why_refused(self) -> str | None:
         """What the book keeps of what debvote says, without its remark on other lines."""
-        return None if self.finding is None else said_of(self.finding)
+        return None if self.finding is None else self.finding.verdict
 
     @property
     def voter(self) -> str:
@@ -123,15 +124,8 @@ class Vote:
 
     @functools.cached_property
     def names(self) -> Names:
-        """Codes of the roll are nobody's names."""
         electors = () if self.has_codes else queries.electors(self.book)
-        real_names = {elector.name: elector.who for elector in electors}
-        questions, language = self.questions, self.election.language
-        labels = tuple(filter(None, questions))
-        motions = tuple(label for label in labels if questions[label].motion)
-        longest, words = questions.longest_line, questions.words(language)
-        roll = frozenset(questions.roll)
-        return Names(roll, language.code, real_names, longest, words, labels, motions)
+        return names_of(self.questions, electors, self.election.language)
 
     def as_meant(self, line: Line) -> tuple[bytes, list[str]]:
         """A line as it was repaired, with the name on the roll of the elector who is meant by its name, and
@@ -232,7 +226,7 @@ class Vote:
         it remarks on other lines is left out.
         """
         refused = self.refusals(lines)
-        return {line: next(map(said_of, refused[line].values()), None) for line in lines}
+        return {line: next((one.verdict for one in refused[line].values()), None) for line in lines}
 
     def refusals(self, lines: Sequence[bytes]) -> Mapping[bytes, Mapping[str, Finding]]:
         """Why debvote refuses answers in lines, by the labels of their questions; nothing of a ballot. It
@@ -368,17 +362,9 @@ def replies_to(
         there.update(ranks_by_label(answers))
 
 
-def said_of(finding: Finding) -> str:
-    return f"{finding.word}: {finding._replace(remark='').hint}"
-
-
 def envelope_words(numbers: Collection[int]) -> str:
     """Some envelopes, in their order, as `envelope 3` or `envelopes 3-5, 7`."""
-    runs = []
-    for _, run in itertools.groupby(enumerate(numbers), lambda one: one[1] - one[0]):
-        ends = [number for _, number in run]
-        runs.append("-".join(map(str, dict.fromkeys((ends[0], ends[-1])))))
-    return f"envelope{'s' * (len(numbers) != 1)} {', '.join(runs)}"
+    return f"envelope{'s' * (len(numbers) != 1)} {in_runs(numbers)}"
 
 
 def in_parts(lines: Sequence[bytes]) -> Iterator[list[bytes]]:

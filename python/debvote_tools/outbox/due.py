@@ -12,11 +12,11 @@ from debvote_tools.book.outgoing import TAKEN, WRITTEN, About, OutgoingLetter
 from debvote_tools.cli.arguments import demand_reason, has_reason
 from debvote_tools.cli.faults import Fault, bad_words, stop_at
 from debvote_tools.inbox.asked import unasked_fault
-from debvote_tools.inbox.fates import ANEW, COUNTS, NOBODY, Fate, fates_of
+from debvote_tools.inbox.fates import COUNTS, NOBODY, Fate, fates_of
 from debvote_tools.inbox.rules import LetterOutcome
 from debvote_tools.inbox.stopping import pending_letters, what_stops
 from debvote_tools.outbox.reached import NO_LETTER, page_since, unreached_and_printed, unreached
-from debvote_tools.outbox.words import Composer, Said
+from debvote_tools.outbox.words import CORRECTED, Composer, Said
 from debvote_tools.poll.announced import address_in
 from debvote_tools.poll.call import CallData, current_call
 from debvote_tools.result.publication import closing_letter
@@ -205,7 +205,7 @@ def call_data_of(
     if not has_reason(because):
         raise fault
     reason = demand_reason(because, "--force")
-    without_box = dataclasses.replace(call, has_box=False, is_without_box=True)
+    without_box = dataclasses.replace(call, box_key=b"", is_without_box=True)
     return without_box, {"because": reason}
 
 
@@ -366,6 +366,9 @@ def results_due(run: Run) -> LettersDue:
     # since the close no other ballot counts than in the publication
     fates = fates_of(run.election, run.history)
     counting = queries.what_counts(run.election.book)
+    ended = [act.detail.get("ended") for act in run.history.since_call("publish")]
+    is_corrected = any(one != ended[-1] for one in ended)
+    subject = run.composer.subject(run.kind, CORRECTED if is_corrected else "")
 
     return to_each(
         run,
@@ -376,21 +379,20 @@ def results_due(run: Run) -> LettersDue:
             answers=counting.get(elector.name),
             fates=told_of(fates[elector.name]).values(),
             letter=letter,
-        ),
+        )._replace(subject=subject),
     )
 
 
 # ---- what electors are told
 def is_told(fate: Fate) -> bool:
-    """Whether an elector is told of something that came. A copy is the letter that it copies; of what was
-    entered anew the new envelope tells. One from
+    """Whether an elector is told of something that came. A copy is the letter that it copies. One from
     which ballots were entered is told to those whom it names: `told_of` leaves out those who have one of
     these. A program that answers by itself would answer; and a letter of ours that came back has the name
     of its elector.
     """
     letter = fate.letter
     if letter is None:
-        return fate.became != ANEW
+        return True
     if letter.is_automatic and (fate.is_own or not letter.ballots):
         return False
     if fate.became is LetterOutcome.ENTERED:

@@ -17,7 +17,7 @@ import shutil
 from collections.abc import Iterator, Mapping, Sequence
 
 from debvote_tools.book.outgoing import OutgoingLetter
-from debvote_tools.files import TEMPORARY, naming, sync_folder, temporary_folder
+from debvote_tools.files import naming, remove_left_in, sync_folder, temporary_folder
 from debvote_tools.outbox.due import LettersDue
 from debvote_tools.outbox.words import PACKAGE
 from debvote_tools.text.rendering import one_line, render_page, resources
@@ -145,12 +145,11 @@ def in_place(files: Mapping[str, bytes], place: pathlib.Path) -> Iterator[None]:
     """Puts the files into their folder, whole, while the caller, who holds the lock, notes them. If
     that fails, the folder is as it was.
     """
+    remove_left_in(place.parent)
     if not files:
         yield
         return
     make_own(place.parent)
-    for left in place.parent.glob(f"{TEMPORARY}*"):
-        shutil.rmtree(left)
     made, before = temporary_folder(place.parent), temporary_folder(place.parent)
     try:
         with naming(place):

@@ -1,15 +1,14 @@
 """What letters to electors say. Nothing is asked here, and nothing is written.
 
-No line reads as a ballot, however a mail program breaks it. The right line has gaps in place of
-ranks, a ballot that came is in round brackets, and lines of the secretary's that would read as one
-have a bar before them. So whoever answers a letter and quotes it does not vote by the quotation.
+No line looks like an answer, however a mail program breaks it: the right line has gaps in place of
+ranks, a ballot that came is said in words, and no line that came is repeated. So an answer that quotes
+a letter goes in.
 """
 
 import dataclasses
 import datetime
 import functools
-import re
-from collections.abc import Iterator, Mapping, Sequence, Set
+from collections.abc import Iterator, Sequence
 from typing import NamedTuple
 
 from debvote_tools.book.queries import Elector
@@ -28,9 +27,6 @@ PACKAGE = "debvote_tools.outbox"
 # how many lines two sides of A4 have, as letter.css prints them
 TWO_SIDES = 112
 
-# a refused line that a letter quotes: a name, and what has no words, since anybody may have written it
-QUOTED = re.compile(rb"[A-Za-z0-9.-]{1,32}[0-9 ,;:._-]{0,100}")
-
 # the letters that go out, as the command and the book name them, with their subjects
 SUBJECTS = marked(
     {
@@ -42,11 +38,12 @@ SUBJECTS = marked(
     }
 )
 # in place of that of the call: if it said an end, and if not
+CORRECTED = marked("Corrected result: {title}")
 EXTENSION, END_SAID = marked("Vote ends later: {title}"), marked("When the vote ends: {title}")
 
 
 # what became of a ballot, as the view `fate` says
-OF_BALLOT: Mapping[str | LetterOutcome, str] = marked(
+OF_BALLOT: dict[str | LetterOutcome, str] = marked(
     {
         COUNTS: "Your ballot of {time} has arrived. It counts unless you send a later one.",
         "replaced": "Your ballot of {time} has arrived. Another ballot of yours, which was entered after it, counts instead.",
@@ -56,12 +53,15 @@ OF_BALLOT: Mapping[str | LetterOutcome, str] = marked(
         REFUSED: "A line with your name has arrived ({time}). It is not a valid ballot of this vote, so it does not count.",
     }
 )
-AT_THE_END = marked("Your ballot of {time} has arrived, and it counts.")
+AT_THE_END: dict[str | LetterOutcome, str] = marked(
+    {
+        COUNTS: "Your ballot of {time} has arrived, and it counts.",
+        TAKEN_BACK: "Your ballot of {time} was entered, and the secretary has taken it back. It does not count.",
+    }
+)
 NOT_ALL = marked(
     "These of its answers do not count; others of yours, which were entered after them, count instead: {questions}."
 )
-LEFT_OUT = marked("These of its answers were not entered, since you had later ones: {questions}.")
-LEFT = marked("These of its answers are not entered yet: {questions}.")
 # what became of a letter: whether it came from an address of the elector, and whether nobody looks
 # at it any more
 OF_LETTER = marked(
@@ -126,9 +126,10 @@ class Composer:
     call_data: CallData
     is_over: bool
 
-    def subject(self, kind: str, *, is_extension: bool = False) -> str:
-        """The subject of a kind of letters, before the mark that ends it."""
-        questions, said = self.call_data.questions, SUBJECTS[kind]
+    def subject(self, kind: str, other: str = "", *, is_extension: bool = False) -> str:
+        """The subject of a kind of letters, or another one, before the mark that ends it."""
+        questions = self.call_data.questions
+        said = other or SUBJECTS[kind]
         if is_extension:
             said = EXTENSION if questions.deadline_time else END_SAID
         return self.call_data.language.say(said, title=one_line(questions.name))
@@ -182,13 +183,11 @@ class Composer:
             "elector": elector,
             "greeting": greeting,
             "said_of": self.said_of,
-            "quotation_of": self.quotation_of,
             "is_on_paper": is_on_paper(elector),
             # who has no address may not see the page, either
             "is_whole": call.at is None or is_on_paper(elector),
         }
-        text = render_letter(package, template, call.language, **own, **values)
-        return call.without_ballots(text)
+        return render_letter(package, template, call.language, **own, **values)
 
     def said_of(self, fate: Fate, name: str) -> str:
         """Says what became of something that came, with its time in the zone in which the end was
@@ -199,8 +198,7 @@ class Composer:
         zone = self.call_data.until.tzinfo if self.call_data.until else datetime.UTC
         letter = fate.letter
         if letter is None:
-            is_final = self.is_over and fate.became == COUNTS
-            said = AT_THE_END if is_final else OF_BALLOT[fate.became]
+            said = (OF_BALLOT | AT_THE_END if self.is_over else OF_BALLOT)[fate.became]
         # what is told of a letter is told to those of whom nothing was entered
         elif letter.standing and (fate.is_own or fate.became is LetterOutcome.ENTERED):
             said = OF_OTHERS[letter.is_pending]
@@ -217,8 +215,8 @@ class Composer:
                     line=line.number,
                     fault=fault,
                 )
-                for line in letter.near
-                for fault in faults(line.answer, name, language, is_within=line.is_within)
+                for line in letter.refused
+                for fault in faults(line.answer, name, language)
             )
             if reason := for_elector(letter.reason):
                 told = language.say(reason)
@@ -232,25 +230,14 @@ class Composer:
     def more_of(self, fate: Fate, name: str) -> Iterator[str]:
         """What of a ballot does not count, and how it came."""
         language, letter, envelope = self.call_data.language, fate.came_by, fate.envelope
-        answers: dict[str, Set[tuple[str, str]]]
-        answers = {NOT_ALL: {(name, label) for label in fate.replaced}}
-        if letter is not None and envelope is not None and not envelope.is_struck:
-            answers |= {LEFT_OUT: letter.not_entered - letter.left, LEFT: letter.left}
-        for said, its in answers.items():
-            if labels := sorted(label for one, label in its if one == name):
-                named = list(map(self.call_data.questions.titled, labels))
-                yield language.say(said, questions=language.joined(named))
+        if labels := fate.replaced:
+            named = list(map(self.call_data.questions.titled, labels))
+            yield language.say(NOT_ALL, questions=language.joined(named))
         if letter is not None and envelope is not None:
             if letter.read.link:
                 yield language.say("It came by the page of the vote.")
             if any(one.is_typed for one in letter.entered if one.number == envelope.number):
                 yield language.say("The secretary typed it, by a letter that came.")
-
-    def quotation_of(self, fate: Fate) -> str:
-        """A refused line behind a bar, with which it is no ballot; empty if it may have words."""
-        line = fate.envelope.line if fate.envelope and fate.why_refused is not None else b""
-        is_quoted = self.call_data.questions.is_several or QUOTED.fullmatch(line)
-        return f"|{line.decode()}" if line and is_quoted else ""
 
 
 def is_on_paper(elector: Elector) -> bool:

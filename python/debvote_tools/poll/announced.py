@@ -122,4 +122,5 @@ def demand_web_address(text: str) -> None:
         pass
     example = "https://example.org/vote/, without a part after #"
     reason = f"it must be the address of a page, as {example}"
-    raise bad_words("--at", reason, "write it as a browser shows it")
+    cure = "write it so, with accents as %C3%BC, or in the name of a host as xn--bcher-kva.example"
+    raise bad_words("--at", reason, cure)

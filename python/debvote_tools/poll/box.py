@@ -26,6 +26,7 @@ from debvote_tools.text.rendering import resources
 SCRIPT, END_OF_CODE = "vote.php", b"\n__halt_compiler();\n"
 
 KEY_BYTES, LINK_LENGTH = 32, 16
+PAGE_DIGITS = 16
 
 # what is behind an own mark in a personal link, and what may be its third part alone
 BEHIND_OWN = re.compile(rf"((?:/|%2f){OWN}(?:/|%2f))\w+", re.IGNORECASE)
@@ -41,6 +42,9 @@ SENTENCES = marked(
     {
         "sending": "It is being sent ..",
         "received": "It has arrived, {time}. The secretary fetches it, and you get a receipt by e-mail that says how it was read. If none comes, or it says otherwise, tell the secretary.",
+        "late": "It has arrived, {time}, after {end}, the end that this page knows. If the vote was extended it may still count: you get a receipt by e-mail that says so. If none comes, tell the secretary.",
+        "changed": "The choice has been changed, and is not sent yet.",
+        "old": "It was not taken: this page is an older one. Load it again. If this comes again, answer your newest letter.",
         "unknown": "It was not taken: this page does not know your link. Open the newest letter of this vote, or send your ballot by e-mail.",
         "many": "It was not taken: too many ballots came by your link. Send your ballot by e-mail.",
         "lost": "It was not taken. Send your ballot by e-mail.",
@@ -50,13 +54,22 @@ SENTENCES = marked(
 
 
 # ---- the key, and what is made of it
-def new_key() -> bytes:
-    return secrets.token_bytes(KEY_BYTES)
+@functools.cache
+def key_of(book: Book) -> bytes:
+    """The key of a book, or a new one, which the first call with a box seals."""
+    return queries.sealed(book, BOX_KEY) or secrets.token_bytes(KEY_BYTES)
 
 
 def asking_word(key: bytes) -> str:
     """The word by which the box is asked."""
     return hmac.digest(key, b"ask", "sha256").hex()
+
+
+def page_of(key: bytes, mark: str) -> str:
+    """What the page of the poll with this mark posts with each ballot, so that a page of another call,
+    or of another book with this poll, is refused.
+    """
+    return sha256_of(hmac.digest(key, f"page {mark}".encode(), "sha256"))[:PAGE_DIGITS]
 
 
 def third_part(key: bytes, name: str, own: str) -> str:
@@ -72,7 +85,7 @@ def third_part(key: bytes, name: str, own: str) -> str:
 def links_of(book: Book) -> frozenset[str]:
     """The third parts of all personal links of a book."""
     key, owns = queries.sealed(book, BOX_KEY), queries.own_marks(book)
-    return frozenset(third_part(key, name, own) for own, name in owns.items())
+    return frozenset(third_part(key, its.elector, own) for own, its in owns.items())
 
 
 def without_links(book: Book, text: str) -> str:
@@ -94,8 +107,8 @@ def script_of(key: bytes, mark: str, owns: Mapping[str, str]) -> bytes:
         name: sha256_of(f"{mark} {name} {third_part(key, name, own)}".encode())
         for name, own in owns.items()
     }
-    rows = {mark: sha256_of(asking_word(key).encode())} | digests
-    lines = "".join(f"{name} {digest}\n" for name, digest in rows.items())
+    word = f"{sha256_of(asking_word(key).encode())} {page_of(key, mark)}"
+    lines = "".join(f"{name} {digest}\n" for name, digest in ({mark: word} | digests).items())
     return f"{resources('debvote_tools.poll', SCRIPT)}{lines}".encode()
 
 
@@ -103,7 +116,7 @@ def box_files(book: Book, mark: str, owns: Mapping[str, str]) -> dict[str, bytes
     """What is sealed of the box: its key, which is the same for each call, so that its file on the web
     host stays; and the script, if it is another one now.
     """
-    key = queries.sealed(book, BOX_KEY) or new_key()
+    key = key_of(book)
     files = {BOX_KEY: key, BOX_SCRIPT: script_of(key, mark, owns)}
     return {name: data for name, data in files.items() if data != queries.sealed(book, name)}
 

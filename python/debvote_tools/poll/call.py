@@ -5,19 +5,17 @@ import datetime
 import functools
 import re
 import urllib.parse
-from collections.abc import Callable, Collection, Iterable, Mapping
+from collections.abc import Callable, Iterable, Mapping
 from typing import Any
 
 from debvote_tools.book import queries
 from debvote_tools.book.book import Detail
-from debvote_tools.book.election import BOX_KEY, LETTER_TEXT, Election, History, Sealed
+from debvote_tools.book.election import LETTER_TEXT, Election, History, Sealed
 from debvote_tools.book.queries import Elector
 from debvote_tools.files import sha256_of
 from debvote_tools.text.language import Language, marked
-from debvote_tools.text.motions import Words
 from debvote_tools.text.rendering import render_letter, render_page, resources
 from debvote_tools.poll import box
-from debvote_tools.poll.plain_names import without_accents
 from debvote_tools.poll.questions import Questions
 from debvote_tools.poll.sealed import SealedPoll, in_brackets
 
@@ -67,10 +65,7 @@ class CallData:
     # the real names by the names on the roll; None if they will not be published
     real_names: Mapping[str, str] | None = None
     is_signed: bool = False
-    # a letter goes in by itself only with the own mark of its elector
-    is_marked: bool = False
-    # beside the page a script keeps the ballots that it sends; the key makes the links to it
-    has_box: bool = False
+    # beside the page a script keeps the ballots that it sends, if there is a key, which makes the links to it
     box_key: bytes = b""
     # it takes none now, as letters say
     is_without_box: bool = False
@@ -82,12 +77,20 @@ class CallData:
     has_codes_on_roll: bool = False
     # codes were given out with a call that was taken back
     has_lapsed_codes: bool = False
-    electors: Collection[Elector] = ()
 
     @property
     def is_by_name(self) -> bool:
         """Whether ballots are public under the names of their electors."""
         return not (self.has_aliases or self.has_codes_on_roll)
+
+    @property
+    def needs_own_mark(self) -> bool:
+        """Whether a letter to the address for ballots needs the own mark of its elector."""
+        return not (self.to is None or self.is_signed or self.has_codes_on_roll)
+
+    @property
+    def has_box(self) -> bool:
+        return self.box_key != b""
 
     @property
     def is_extended(self) -> bool:
@@ -115,6 +118,11 @@ class CallData:
         name, own = elector.name, elector.mark
         third = f"/{box.third_part(self.box_key, name, own)}" if self.has_box else ""
         return f"{self.at}#{name}/{own}{third}"
+
+    @property
+    def page(self) -> str:
+        """What this page posts with each ballot."""
+        return box.page_of(self.box_key, self.questions.mark)
 
     @property
     def mail_to(self) -> str:
@@ -149,31 +157,6 @@ class CallData:
         letter alone.
         """
         return "CODE" if self.has_codes_on_roll else "NAME"
-
-    @property
-    def words(self) -> Words:
-        """Those of motions."""
-        return self.questions.words(self.language)
-
-    def without_ballots(self, text: str) -> str:
-        """A letter of which no line reads as a ballot of an elector. The letter to all has its bars
-        by this rule, too: its lines are known in answers to the letters to each.
-        """
-        return self.questions.without_ballots(text, self.is_name, self.words)
-
-    def is_name(self, word: str) -> bool:
-        """Whether a word is a name on the roll, or ends one or a real name, in whatever case."""
-        return self.folded(word) in self.names
-
-    @functools.cached_property
-    def names(self) -> frozenset[str]:
-        names = (
-            (one.name, one.name.split("-")[-1], *one.who.split()[-1:]) for one in self.electors
-        )
-        return frozenset(self.folded(word) for words in names for word in words)
-
-    def folded(self, word: str) -> str:
-        return without_accents(word, self.language.code).lower()
 
     def form_of(self, name: str) -> list[str]:
         """A ballot with gaps in place of the ranks, where an elector is to write them: one line, or the
@@ -212,7 +195,7 @@ def call_letter(call: CallData, *, is_extension: bool = False) -> str:
     """The letter of the call to all, with a gap in place of a name; or that about a later end: the
     old one, the new one, and that all else is as it was.
     """
-    text = render_letter(
+    return render_letter(
         PACKAGE,
         "call.txt",
         call.language,
@@ -224,7 +207,6 @@ def call_letter(call: CallData, *, is_extension: bool = False) -> str:
         is_on_paper=False,
         is_titled=False,
     )
-    return call.without_ballots(text)
 
 
 def call_page(call: CallData) -> bytes:
@@ -268,7 +250,6 @@ def current_call(
 ) -> CallData:
     """What the page and the letter say as it is now, and with what an act would say or seal."""
     now, saying, sealed = history or election.history(), said or {}, sealed or election.sealed()
-    electors = queries.electors(election.book)
 
     def value_of(key: str) -> Any:
         return saying.get(key) or now.announced(key)
@@ -280,18 +261,15 @@ def current_call(
         until=until_of(saying) or now.until,
         to=value_of("to"),
         at=value_of("at"),
-        real_names={elector.name: elector.who for elector in electors}
+        real_names={elector.name: elector.who for elector in queries.electors(election.book)}
         if value_of("names")
         else None,
         is_signed=bool(value_of("signed")),
-        is_marked=bool(value_of("marked")),
-        has_box=bool(value_of("box")),
-        box_key=queries.sealed(election.book, BOX_KEY),
+        box_key=box.key_of(election.book) if value_of("box") else b"",
         letter_text=queries.sealed(election.book, LETTER_TEXT).decode(),
         has_aliases=sealed.is_aliased,
         has_codes_on_roll=now.has_codes_on_roll,
         has_lapsed_codes=any(act.detail.get("codes") for act in now.named("take back")),
-        electors=electors,
     )
 
 

@@ -15,6 +15,8 @@ from debvote_tools.cli.console import LINE_ENDS, count_of, shown_text, tell, tel
 from debvote_tools.book.election import LETTER_TEXT, POLLS, TEXTS, Election
 from debvote_tools.cli.faults import Fault, Status, bad_words, kept_in, stop_at
 from debvote_tools.files import POLL_LIMIT, read_text, read_whole
+from debvote_tools.inbox.letter_text import reading_of
+from debvote_tools.inbox.lines import names_of
 from debvote_tools.poll.plain_names import bad_options, bad_title, plain_options, plain_title
 from debvote_tools.poll.questions import (
     LABELS,
@@ -26,6 +28,7 @@ from debvote_tools.poll.questions import (
 )
 from debvote_tools.poll.sealed import KEYS, SealedPoll, is_set, plain_form
 from debvote_tools.result.sheet import sheet_in
+from debvote_tools.text.language import Language
 from debvote_tools.text.motions import ABSTAIN, NO, YES, first_word, words_of
 
 # the file that `new` writes, with its explanations
@@ -322,6 +325,7 @@ def checked(election: Election, **announced: object) -> Checked:
     }
     motions = [label for label, draft in drafts.items() if draft.says("motion")]
     questions = read_questions(polls, motions, title)
+    stop_at([*faults_of_ballots(election, questions, letter_text)])
     has_codes = election.history().has_codes_on_roll or all(one.code for one in electors)
     return Checked(questions, quorums, letter_text, questions.is_secret and not has_codes)
 
@@ -336,7 +340,48 @@ def faults_by_debvote(election: Election, file: pathlib.Path, poll_bytes: bytes)
             yield bad_poll(file, line.removeprefix("poll: "), BY_EDITOR)
 
 
-def tell_checked(found: Checked) -> None:
+# ---- what letters quote
+def texts_of(questions: Questions) -> dict[str, str]:
+    """The files of the texts of the options, by these texts."""
+    return {
+        text: f"{TEXTS}/{place_of(label, f'{number}.txt')}"
+        for label, poll in questions.items()
+        for number, text in enumerate(poll.explanations, start=1)
+    }
+
+
+def like_answers(
+    questions: Questions, letter_text: str, language: Language
+) -> list[tuple[str, str]]:
+    """What letters have of the secretary's words that looks like an answer: titles, options and lines
+    of texts, each behind its file, and the number of its line.
+    """
+    found = [(f"{POLLS}/{TITLE_FILE}", questions.title)]
+    for label, poll in questions.items():
+        file, before = (f"{POLLS}/{label}.toml", f"{label}: ") if label else (POLL_FILE, "")
+        found += [(file, f"{before}{poll.name}"), *((file, name) for name in poll.names)]
+    for text, file in {**texts_of(questions), letter_text: LETTER_TEXT}.items():
+        lines = enumerate(text.splitlines(), start=1)
+        found += [(f"{file}:{number}", line) for number, line in lines]
+    answers = questions.answers(language)
+    return [(place, text) for place, text in found if answers.search(text)]
+
+
+def faults_of_ballots(
+    election: Election, questions: Questions, letter_text: str
+) -> Iterator[Fault]:
+    """Those that read as ballots: an elector may send one back."""
+    names = names_of(questions, queries.electors(election.book), election.language)
+    for text, file in {**texts_of(questions), letter_text: LETTER_TEXT}.items():
+        lines = text.splitlines()
+        for ballot in reading_of(lines, names).ballots:
+            reason = f"`{shown_text(lines[ballot.number - 1])}` reads as a ballot"
+            yield bad_words(
+                f"{file}:{ballot.number}", reason, f"write it in another way{THEN}", None
+            )
+
+
+def tell_checked(found: Checked, language: Language) -> None:
     tell(f"Title: {found.questions.name}")
     for label, poll in found.questions.items():
         tell(*poll_in_words(label, poll))
@@ -347,6 +392,9 @@ def tell_checked(found: Checked) -> None:
     if long := [str(number) for number, line in enumerate(own, 1) if len(line) > LONGEST_LINE]:
         why = f"have more than {LONGEST_LINE} characters, so mail programs may break them"
         tell(f"Note: these lines of {LETTER_TEXT} {why}: {', '.join(long)}")
+    if like := like_answers(found.questions, found.letter_text, language):
+        tell("Note: these look like answers, and letters that quote one of them wait:")
+        tell(*(f"  {place}: {shown_text(text)}" for place, text in like))
 
 
 def poll_in_words(label: str, poll: SealedPoll) -> Iterator[str]:

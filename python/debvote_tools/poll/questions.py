@@ -2,12 +2,14 @@
 
 import functools
 import pathlib
+import re
 import textwrap
 from collections.abc import Callable, Collection, Mapping
 
 from debvote_tools.files import sha256_of
 from debvote_tools.poll.sealed import SealedPoll, read_plain
-from debvote_tools.text.ballots import ballots_in_words, line_of, ranks_by_label, without_ballots
+from debvote_tools.text.answers import answer_pattern
+from debvote_tools.text.ballots import ballots_in_words, line_of, ranks_by_label
 from debvote_tools.text.language import ENGLISH, Language
 from debvote_tools.text.motions import Words, words_of
 
@@ -69,25 +71,14 @@ class Questions(dict[str, SealedPoll]):
         }
         return line_of(name, answers)
 
-    def in_brackets(self, ballot: str) -> str:
-        """A ballot as letters repeat it: wherever a line of it is broken, none reads as a ballot."""
-        name, _, answers = ballot.partition(" ")
-        parts = (f"({label} {ranks})" for label, ranks in ranks_by_label(answers).items())
-        return " ".join([name, *parts]) if self.is_several else f"({ballot})"
-
     def words(self, language: Language) -> Words:
         """The words by which motions may be answered; none if no question is one."""
         return words_of(language.code, motion=any(poll.motion for poll in self.values()))
 
-    def without_ballots(self, text: str, is_name: Callable[[str], bool], words: Words) -> str:
-        """A text of which no line reads as a ballot, or as an answer with its label."""
-        for options in sorted({len(poll.names) for poll in self.values()}):
-            text = without_ballots(
-                text, options, lambda word: is_name(word) or word.upper() in self, words
-            )
-            # a line with one of these has its bar now
-            words = {}
-        return text
+    def answers(self, language: Language) -> re.Pattern[str]:
+        """What looks like an answer to one of them, wherever it stands in a line."""
+        fewest = min(len(poll.names) for poll in self.values())
+        return answer_pattern(fewest, "".join(self), frozenset(self.words(language)))
 
     def in_words(self, language: Language = ENGLISH) -> Callable[[str], str]:
         """Says ballots in words, from what each has behind the name; of several answers each behind label

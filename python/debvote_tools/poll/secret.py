@@ -65,16 +65,18 @@ def demand_no_code(name: str, data: bytes, codes: Collection[str]) -> None:
         raise Fault(None, words, "check the texts that you gave")
 
 
-def codes_csv(electors: Iterable[Elector], *, is_several: bool = False) -> bytes:
+def codes_csv(call: CallData, electors: Iterable[Elector]) -> bytes:
     """The table of the codes, for a spreadsheet or a mail merge. With several questions it has no
-    aliases: each elector has one for each.
+    aliases: each elector has one for each. The mark, which ends the subject of an answer, the call makes.
     """
     text = io.StringIO()
     table = csv.writer(text, lineterminator="\n")
-    heads = "name who mail code alias".split()[: 5 - is_several]
+    alias = [] if call.questions.is_several else ["alias"]
+    heads = ["name", "who", "mail", "code", *alias, "mark"]
     table.writerow(heads)
     for one in electors:
-        cells = one._asdict() | {"mail": " ".join(one.addresses)}
+        mark = call.mark_of(one.mark) if one.mark else ""
+        cells = one._asdict() | {"mail": " ".join(one.addresses), "mark": mark}
         table.writerow(harmless(cells[head]) for head in heads)
     return text.getvalue().encode()
 

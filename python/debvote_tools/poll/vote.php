@@ -1,9 +1,8 @@
 <?php
 // Keeps each ballot of the page beside it until the secretary asks. FORMATS has the protocol.
-// Each vote has the same code, as hosts keep it compiled. Below it are the mark of the poll and the digest of the word that asks,
-// then each elector and that of their link: nobody can vote by reading it.
+// Each vote has the same code, as hosts keep it compiled. Nobody can vote by reading what is below it.
 const LONGEST = 4000, PER_LINK = 20, AHEAD = 600, FULL = 30_000_000;
-const BALLOT = '/\A(?:box=)?(([a-z0-9.-]{1,32}) [A-Z0-9, -]+)\n([2-9a-hj-km-np-z]{16})\n([0-9a-f]{32})\n\z/';
+const BALLOT = '/\A(?:box=)?([0-9a-f]{16}) (([a-z0-9.-]{1,32}) [A-Z0-9, -]+)\n([2-9a-hj-km-np-z]{16})\n([0-9a-f]{32})\n\z/';
 // how the file begins, which no browser shows, and a record ends
 const HEAD = "<?php exit; ?>\n", END = "\n-- \n\n";
 const ISO = 'Y-m-d\TH:i:s\Z', ARRIVAL = 'D, d M Y H:i:s';
@@ -19,16 +18,17 @@ if (!is_callable('fsync')) answer(503, 'lost: fsync needs PHP 8.1');
 $body = file_get_contents('php://input', length: LONGEST + 1);
 if (strlen($body) > LONGEST) answer(413, 'bad: too long');
 $list = file_get_contents(__FILE__, offset: __COMPILER_HALT_OFFSET__ + 1);
-[$mark, $word] = explode(' ', strtok($list, "\n"));
+[$mark, $word, $page] = explode(' ', strtok($list, "\n"));
 if (preg_match('/\A(?:box=)?ask ([0-9a-f]{64})\n\z/', $body, $found)) {
     if (hash('sha256', $found[1]) !== $word) answer(403, 'unknown: another word');
     [, $whole, $time] = opened($word);
     answer(200, "box 1 $mark " . hash('sha256', $list) . gmdate(' ' . ISO, $time), substr($whole, strlen(HEAD)));
 }
 if (!preg_match(BALLOT, $body, $found)) answer(400, 'bad: no ballot');
-[, $line, $name, $link, $id] = $found;
+[, $shown, $line, $name, $link, $id] = $found;
+if ($shown !== $page) answer(409, 'old: another page');
 if (!str_contains($list, "\n$name " . hash('sha256', "$mark $name $link") . "\n")) answer(403, 'unknown: no such link');
-$rest = " +0000\nX-Link: $link\nFrom: box@page.invalid\nSubject: [$mark]\nMessage-ID: <$id@page.invalid>\n\n$line" . END;
+$rest = " +0000\nX-Link: $link\nX-Page: $page\nFrom: box@page.invalid\nSubject: [$mark]\nMessage-ID: <$id@page.invalid>\n\n$line" . END;
 answer(200, 'received ' . gmdate(ISO, kept($link, $id, $rest, ...opened($word))));
 
 function answer(int $status, string $line, string $records = ''): never

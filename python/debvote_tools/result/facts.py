@@ -115,17 +115,19 @@ class Act(Told):
     labels: Collection[str] | None = None
 
     def told_of(self, labels: Collection[str]) -> "Act":
-        """The same, as it is told of some questions: of several each after its label."""
+        """The same, as it is told of some questions: of several each before its label, in front of which
+        it would look like an answer.
+        """
         places = {
             key: ", ".join(
-                f"{label} {value[label]}" if len(labels) > 1 else str(value[label])
+                f"{value[label]} ({label})" if len(labels) > 1 else str(value[label])
                 for label in labels
             )
             if isinstance(value, dict)
             else value
             for key, value in self.places.items()
         }
-        return dataclasses.replace(self, places=places)
+        return dataclasses.replace(self, places=places, labels=labels)
 
 
 @dataclasses.dataclass(frozen=True)
@@ -146,10 +148,9 @@ class Facts:
     # vote was not closed, the labels of the questions that it answers
     acts: Sequence[Act] = ()
     labels_after_end: Sequence[Collection[str]] = ()
-    # the lines that were entered after the close: how many came late, without those that a reopen entered
-    # anew; and unless the vote is secret all, each with what became of it
+    # the lines that were entered after the close: how many; and unless the vote is secret all
     late_number: int = 0
-    late: Sequence[tuple[bytes, str]] | None = None
+    late: Sequence[bytes] | None = None
     # the letter of the last close, unless the vote was opened again: it has the checksum of other ballots
     closed: bytes | None = None
     # by the names on the roll, if they are published

@@ -344,9 +344,7 @@ def further_files(outcome: Outcome, picture: bytes | None) -> dict[str, bytes]:
         file_names.DATA: result_json(sheet, facts.poll, outcome.version).encode(),
         file_names.TABLE: votes_csv(sheet).encode(),
         file_names.PICTURE: picture,
-        file_names.LATE: None
-        if facts.late is None
-        else ballot_file(line for line, _ in facts.late),
+        file_names.LATE: None if facts.late is None else ballot_file(facts.late),
         file_names.CLOSED: facts.closed,
         file_names.SEAL: f"{facts.seal}\n".encode() if facts.seal else None,
     }

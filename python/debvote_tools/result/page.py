@@ -1,6 +1,7 @@
 """The pages and the letter of a result: what their templates are filled with."""
 
 import base64
+import functools
 import html
 import json
 import re
@@ -54,6 +55,8 @@ NAMES_LIMIT = 3_000_000
 # an option on the page: its number, which a style frames, and its name, which may be written from
 # right to left, and turns nothing around it
 NAMED = Markup("<i>{}</i>\u00a0<bdi>{}</bdi>")
+# where no list has the numbers
+NAME_ALONE = Markup("<bdi>{1}</bdi>")
 
 # in characters; where the names in a ballot come to more, paper has their numbers alone
 LONG_BALLOT = 200
@@ -102,9 +105,9 @@ def letter_of(outcomes: Mapping[str, Outcome], checksums: Mapping[str, str]) -> 
     ).encode()
 
 
-def named_in_html(poll: SealedPoll) -> dict[int, Markup]:
+def named_in_html(poll: SealedPoll, form: Markup = NAMED) -> dict[int, Markup]:
     """The options by their numbers, as parts of a sentence on a page."""
-    return {option: NAMED.format(option, name) for option, name in enumerate(poll.names, start=1)}
+    return {option: form.format(option, name) for option, name in enumerate(poll.names, start=1)}
 
 
 def page_with(
@@ -142,7 +145,7 @@ def front_page_of(outcomes: Mapping[str, Outcome]) -> bytes:
         style=resources(__package__, *STYLES, "front.css"),
         script=resources(__package__, *SCRIPTS),
         outcomes=outcomes,
-        named=named_in_html,
+        named=functools.partial(named_in_html, form=NAME_ALONE),
         are_folded=len(outcomes) > MOST_WHOLE,
     )
 
@@ -198,12 +201,8 @@ def ballots_on_page(outcome: Outcome) -> dict[str, Any]:
         have_names, shown = True, [html.escape(name) for name in poll.names]
     in_words_of = ballots_in_words(shown, language, poll.motion)
     lines = ballot_lines(facts.ballots)
-    # by their places in late.txt, which has those that were entered anew, too
-    late = (
-        (at, line, "")
-        for at, (line, became) in enumerate(facts.late or (), start=1)
-        if became == "late"
-    )
+    # by their places in late.txt
+    late = ((at, line, "") for at, line in enumerate(facts.late or (), start=1))
     refused = ((one.line, lines[one.line - 1], cause_of(one, language)) for one in outcome.refused)
     return {
         "standing": standing,

@@ -1,6 +1,6 @@
 """What is published of an election, from its book: the letter of the close, and the facts of a
-result. What the book has of the questions `close`, `count` and `publish` read in one way (`kept_of`);
-then each compares it with what it asks of debvote.
+result. What the book has of the questions `close`, `count` and `publish` read in one way, and compare
+it with what debvote says of each line (`kept_of`).
 """
 
 import itertools
@@ -9,8 +9,8 @@ from typing import Any, NamedTuple
 
 from debvote_tools.book import queries
 from debvote_tools.book.book import RESTORED, Book, Detail, DoneAct, as_text, from_text
-from debvote_tools.book.election import TEXTS, Election, History, fixed_by
-from debvote_tools.cli.console import is_terminal, is_yes, tell_aside
+from debvote_tools.book.election import Election, History, fixed_by
+from debvote_tools.cli.console import in_runs, is_terminal, is_yes, tell_aside
 from debvote_tools.cli.faults import Fault
 from debvote_tools.debvote import casting_words
 from debvote_tools.files import sha256_of
@@ -19,9 +19,9 @@ from debvote_tools.inbox.lines import name_in
 from debvote_tools.inbox.stopping import BOX, LETTERS, Pending, letters_cure, what_stops
 from debvote_tools.poll.call import current_call
 from debvote_tools.poll.secret import alias_in, aliased_ballots, sealed_checksum
-from debvote_tools.poll.questions import Questions, place_of
 from debvote_tools.poll.sealed import SealedPoll
 from debvote_tools.result.facts import Act, Doubt, Facts, PublishedWords
+from debvote_tools.result.file_names import CHECKSUMS
 from debvote_tools.result.sheet import Castings, Sheet, publishing, sheet_in
 from debvote_tools.text.ballots import ballot_file, in_normal_form
 from debvote_tools.text.language import language_of
@@ -37,18 +37,18 @@ class Kept(NamedTuple):
     # count, by alias
     ballots: bytes
     public: bytes
-    # what it keeps of debvote's verdicts: the numbers of a sheet, the places of the lines that are
-    # refused, and what counts of each elector
-    numbers: queries.Numbers
-    refused: list[int]
+    # how many these are; and debvote's verdicts, as the book keeps them: why it refuses lines, by their
+    # places, and what counts of each elector
+    lines: int
+    refused: dict[int, str]
     counting: dict[str, str]
-    # the lines that came late, each with what became of it
-    late: list[tuple[bytes, str]]
+    late: list[bytes]
 
 
 def kept_of(election: Election, history: History, labels: Iterable[str]) -> dict[str, Kept]:
     """What the book has of these questions. Stops if an envelope is not kept for the elector whose name
-    its line begins with, and if ballots are not those that the close has fixed.
+    its line begins with, if ballots are not those that the close has fixed, and if debvote, asked anew,
+    says another thing of a line than the book keeps of it.
     """
     book, polls, kept = election.book, election.questions, dict[str, Kept]()
     with book.snapshot():
@@ -63,6 +63,14 @@ def kept_of(election: Election, history: History, labels: Iterable[str]) -> dict
             if checksum != then:
                 words = f"the ballots have the checksum {checksum}, and the close recorded {then}"
                 raise Fault(None, words, KEEP)
+    for its in kept.values():
+        found = election.debvote.findings(its.poll.as_bytes(), its.ballots)
+        # where the roll has codes, none was offered
+        refused = [
+            one._replace(near=()) if history.has_codes_on_roll else one for one in found.refused
+        ]
+        said = {one.line: one.verdict for one in refused}, found.voters
+        demand_kept(election, said, (its.refused, len(its.counting)))
     return kept
 
 
@@ -70,17 +78,15 @@ def kept_of_question(book: Book, label: str, poll: SealedPoll) -> Kept:
     """What the book has of the question that is seen alone."""
     answered, counting = queries.answered_lines(book), queries.what_counts(book)
     ballots = ballot_file(line for line, _ in answered)
-    refused = [place for place, (_, why) in enumerate(answered, start=1) if why is not None]
-    lines, bad = len(answered), len(refused)
     aliases = {one.name: alias_in(label, one) for one in queries.electors(book)}
     return Kept(
         poll=poll,
         ballots=ballots,
         public=aliased_ballots(counting, aliases) if poll.secret else ballots,
-        numbers=queries.Numbers(lines, lines - bad, bad, len(counting)),
-        refused=refused,
+        lines=len(answered),
+        refused={place: why for place, (_, why) in enumerate(answered, start=1) if why is not None},
         counting=counting,
-        late=queries.late_lines(book),
+        late=queries.lines(book, queries.LATE),
     )
 
 
@@ -98,27 +104,24 @@ def demand_own_lines(book: Book, roll: Collection[str]) -> None:
 
 
 def demand_kept(election: Election, said: object, kept: object) -> None:
-    """Stops if debvote, asked anew, says another thing of the lines than the book keeps of it."""
+    """Stops if debvote says another thing of the lines than the book keeps of it."""
     if said != kept:
         words = "debvote says of its lines another thing than it keeps: a verdict was changed, or another version of debvote judges"
         raise Fault(election.book.path, words, KEEP)
 
 
 def counted(election: Election, kept: Kept, casting: str | None) -> Sheet:
-    """What debvote counts of a question, with the option of the casting vote. Stops if the book keeps other
-    numbers.
-    """
+    """What debvote counts of a question, with the option of the casting vote."""
     task = "count", kept.poll.as_bytes(), kept.ballots
-    sheet = sheet_in(election.debvote.answer(*task, *casting_words(casting)).text)
-    numbers = queries.Numbers(sheet.lines, sheet.valid, sheet.refused, sheet.voters)
-    demand_kept(election, numbers, kept.numbers)
-    return sheet
+    return sheet_in(election.debvote.answer(*task, *casting_words(casting)).text)
 
 
 # ---- the facts
-def facts_of(election: Election, words: PublishedWords, pending: Pending) -> dict[str, Facts]:
-    """The facts of each question, by its label. Stops if debvote does not find the ballots as they are
-    kept.
+def facts_of(
+    election: Election, words: PublishedWords, pending: Pending, again: DoneAct | None
+) -> dict[str, Facts]:
+    """The facts of each question, by its label, of a new publication or of one that is made again. Stops
+    if debvote does not find the ballots as they are kept.
     """
     history, book = election.history(), election.book
     kept, call = kept_of(election, history, election.questions), current_call(election, history)
@@ -127,7 +130,7 @@ def facts_of(election: Election, words: PublishedWords, pending: Pending) -> dic
         "words": words,
         "language": election.language if words.language is None else language_of(words.language),
         "days": [act.time.astimezone(history.zone).date() for act in days],
-        "acts": acts_of(book, history, is_secret=public.is_secret),
+        "acts": acts_of(book, history, again, is_secret=public.is_secret),
         "labels_after_end": labels_after_end(book, history),
         "closed": closing_letter(election, history) if history.is_closed else None,
         "real_names": call.real_names or {},
@@ -148,7 +151,7 @@ def facts_of(election: Election, words: PublishedWords, pending: Pending) -> dic
                 "private": counted(election, its, words.castings.get(label)),
                 "compared": shown_by_comparison(election, history, label, its),
             }
-        late = sum(became == "late" for _, became in its.late)
+        late = len(its.late)
         found[label] = Facts(
             public[label], its.public, label=label, late_number=late, **own, **shared
         )
@@ -234,13 +237,13 @@ def doubts_of(
 
 
 # ---- what was done
-def acts_of(book: Book, history: History, *, is_secret: bool) -> list[Act]:
+def acts_of(book: Book, history: History, again: DoneAct | None, *, is_secret: bool) -> list[Act]:
     """What the pages tell, with its times in the zone in which the end was announced."""
-    # no publication: the same book has to make the same pages before its own act and after it
+    # the same book has to make the same pages before their own act and after it
     acts = [
         act._replace(time=act.time.astimezone(history.zone))
         for act in history.acts
-        if act.name != "publish"
+        if act.name != "publish" or again is None or act.number < again.number
     ]
     found = list[Act]()
     for before, act in itertools.pairwise(acts):
@@ -283,20 +286,34 @@ def acts_of_page(act: DoneAct, book: Book, history: History, *, is_secret: bool)
             yield Act(time, done, until)
         case "addresses":
             yield Act(time, "roll changed", {"number": detail["electors"]})
-        case "strike":
-            for one in queries.envelopes(book, "struck = ?", act.number):
-                done = "struck in secret" if is_secret else "struck"
-                yield Act(time, done, {"envelope": one.number}, reason, one.by_question)
+        case "strike" | "undo":
+            yield from taken_out(act, book, reason, is_secret=is_secret)
         case "close":
             yield Act(time, "closed", close_of(act, book, history), detail.get("because"))
         case "reopen":
             yield Act(time, "reopened", because=reason)
+        case "publish" if history.call and act.number > history.call.number:
+            ended = [*detail.get("ended", {}).items()]
+            checksum = detail["checksums"][CHECKSUMS]
+            yield Act(time, "published", {"checksum": checksum, "ended": ended})
         case "moved":
             noted, there = detail["noted"] and detail["noted"]["act"], detail["there"]["act"]
             places = {"noted": noted, "there": there}
             yield Act(time, how_moved(detail, history), places, detail["because"])
     if detail.get("keyring"):
         yield Act(time, "keyring")
+
+
+def taken_out(act: DoneAct, book: Book, reason: str | None, *, is_secret: bool) -> Iterator[Act]:
+    """The lines that an act took out: each of a `strike`, and of an `undo` those that did not come again."""
+    if act.name == "strike":
+        for one in queries.envelopes(book, "struck = ?", act.number):
+            done = "struck in secret" if is_secret else "struck"
+            yield Act(act.time, done, {"envelope": one.number}, reason, one.by_question)
+    elif lost := [one for one in queries.lost(book) if one.struck == act.number]:
+        done = "taken back in secret" if is_secret else "lines taken back"
+        numbers = {"envelopes": in_runs(one.number for one in lost), "number": len(lost)}
+        yield Act(act.time, done, numbers, labels={key for one in lost for key in one.by_question})
 
 
 def how_moved(detail: Detail, history: History) -> str:
@@ -311,13 +328,14 @@ def how_moved(detail: Detail, history: History) -> str:
 
 
 def close_of(act: DoneAct, book: Book, history: History) -> dict[str, Any]:
-    """What a close says, and how many lines in time came in or were struck since the one before."""
+    """What a close says, and how many lines in time came in or were taken out since the one before."""
     fixed = fixed_by(act).items()
     places: dict[str, Any] = {
         "lines": {label: its.lines for label, its in fixed},
         "checksum": {label: its.checksum for label, its in fixed},
         "came": None,
         "struck": None,
+        "replaced": act.detail.get("replaced_in_time"),
     }
     places |= {key: act.detail[key] for key in ("early", "waiting", "after_end")}
     earlier = [close.number for close in history.closes if close.number < act.number]
@@ -331,15 +349,6 @@ def close_of(act: DoneAct, book: Book, history: History) -> dict[str, Any]:
 
 
 # ---- texts that a secret vote makes public
-def texts_of(questions: Questions) -> dict[str, str]:
-    """The files of the texts of the options, by these texts."""
-    return {
-        text: f"{TEXTS}/{place_of(label, f'{number}.txt')}"
-        for label, poll in questions.items()
-        for number, text in enumerate(poll.explanations, start=1)
-    }
-
-
 def agreed_texts(history: History, texts: Mapping[str, str], *, is_agreed: bool) -> list[str]:
     """The checksums of the texts that are new, for the act that makes them public. Shows these,
     with where each is from, which two acts of one second share; and asks about them once, unless

@@ -231,7 +231,7 @@ def votes_csv(sheet: Sheet) -> str:
 # the words of the option --casting
 CASTING = (
     "NAME",
-    "The exact name of the option that the casting vote chooses in a tie; write --casting=NAME if the name begins with a hyphen. "
+    "The name of the option that the casting vote chooses in a tie, exactly as it is on the sheet or as people read it; write --casting=NAME if the name begins with a hyphen. "
     "Of several questions each tie has its own, with its label: B=NAME",
 )
 
@@ -248,7 +248,8 @@ def demand_countable(election: Election, history: History) -> None:
 
 def castings_in(given: Sequence[str] | None, questions: Questions) -> Castings:
     """What the options --casting say. Stops at one without its label, if there are several questions, at
-    a second one for a question, and at a name that is no option.
+    a second one for a question, and at a name that is no option, or that of two: each has a plain name,
+    and the one that people read.
     """
     castings: dict[str, str] = {}
     for text in given or ():
@@ -257,15 +258,25 @@ def castings_in(given: Sequence[str] | None, questions: Questions) -> Castings:
         if label not in questions:
             words, cure = "no question has this label", f"write it as {min(questions)}=NAME"
             raise bad_casting(text, words, f"{cure}; the labels are {', '.join(questions)}")
-        names = questions[label].plain_names
         if label in castings:
             words = f"{named(label)} has the casting vote {in_shell([castings[label]])} already"
             raise bad_casting(text, words, "give one of them")
-        if name not in names:
-            cure = f"give one of these names, exactly as written here: {in_shell(names)}"
-            raise bad_casting(text, "no option has this name", cure)
-        castings[label] = name
+        poll = questions[label]
+        meant = [one[0] for one in zip(poll.plain_names, poll.names) if name in one]
+        if len(meant) != 1:
+            words = f"{'two options have' if meant else 'no option has'} this name"
+            names = in_shell(meant or poll.plain_names)
+            cure = f"give one of these names, exactly as written here: {names}"
+            raise bad_casting(text, words, cure)
+        castings[label] = meant[0]
     return castings
+
+
+def unneeded_words(castings: Castings, sheets: Mapping[str, Sheet]) -> Iterator[str]:
+    """Notes about the casting votes at questions that are no tie."""
+    for label in castings.keys() & sheets.keys():
+        if len(sheets[label].left) == 1:
+            yield f"Note: {named(label)} is no tie, so no casting vote decides it; what --casting says of it is not told."
 
 
 def named(label: str) -> str:

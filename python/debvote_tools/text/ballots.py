@@ -1,5 +1,5 @@
 """Ballot files; a ballot in words, from its ranks as `standing` and the ballot file spell them, such as
-`1,2,-,3`; why a line is none; and texts of which no line reads as a ballot.
+`1,2,-,3`; why a line is none.
 """
 
 import functools
@@ -9,7 +9,7 @@ from collections.abc import Callable, Collection, Iterable, Iterator, Mapping, S
 
 from debvote_tools.grouping import grouped
 from debvote_tools.text.language import ENGLISH, Language, marked
-from debvote_tools.text.motions import Words, in_words, may_answer, with_ranks
+from debvote_tools.text.motions import in_words
 
 UNRANKED = "-"
 
@@ -144,17 +144,13 @@ def faults_of(
     name: str,
     language: Language,
     *,
-    is_within: bool = False,
     is_of_several: bool = False,
 ) -> Iterator[str]:
     """What is wrong with a line, which may have answers to several questions, by what debvote says of
     it; nothing if it is late. It names the elector if the name is known.
     """
-    if is_within:
-        yield language.say("It has a ballot within other words; the ballot has to be there alone.")
     if answer is None:
-        if not is_within:
-            yield language.say("It is a ballot.")
+        yield language.say("It is a ballot.")
     elif count := RANK_COUNT.match(answer):
         number, options = int(count[1]), count[2]
         yield language.say_number(
@@ -173,69 +169,5 @@ def faults_of(
             yield language.say("The name in it is not on the roll; yours is {name}.", name=name)
         else:
             yield language.say("The name in it is not on the roll.")
-    elif not is_within and not answer.startswith("late: "):
+    elif not answer.startswith("late: "):
         yield language.say("It is not written as a ballot is.")
-
-
-# ---- no line reads as a ballot
-# what repairs of a line take away or replace: blanks, dashes, and signs around names and ranks
-BLANK, DASH, SIGNS = r"[^\S\n]", "[\u2010-\u2014\u2212-]", r"[^\w\s(|\u2010-\u2014\u2212-]{0,4}"
-RANK = rf"\*{{0,3}}(?:(?<!\d)\d{{1,2}}(?!\d)|{DASH})\*{{0,3}}"
-
-
-@functools.cache
-def name_with_ranks(options: int) -> re.Pattern[str]:
-    """A word, and after it as many ranks as there are options, or more."""
-    ranks = rf"{RANK}(?:{BLANK}*[,;]{BLANK}*{RANK}){{{options - 1}}}"
-    name = rf"(?P<name>[^\W_](?:[\w.'\u2019-]*\w)?)"
-    return re.compile(rf"(?<!\S){SIGNS}{name}{SIGNS}(?:{BLANK}+|(?<=:)){SIGNS}{BLANK}*{ranks}")
-
-
-@functools.cache
-def ranks_alone(options: int) -> re.Pattern[str]:
-    """As many ranks as there are options: with a name they are offered as a ballot."""
-    return re.compile(
-        rf"{SIGNS}{RANK}(?:(?:{BLANK}*[,;]|{BLANK}){BLANK}*{RANK}){{{options - 1}}}{SIGNS}"
-    )
-
-
-# most letters of a run have the same lines
-@functools.lru_cache(maxsize=10_000)
-def may_read_as_ballot(line: str, options: int) -> bool:
-    enough = line.count(",") + line.count(";") >= options - 1
-    return enough and name_with_ranks(options).search(line) is not None
-
-
-def without_ballots(text: str, options: int, is_name: Callable[[str], bool], words: Words) -> str:
-    """The text, in which no line reads as a ballot of so many options, wherever it is broken at
-    blanks, or has their ranks alone; or in a motion a word alone or behind a name. Before a ballot in
-    a line, and before that line, there is a bar, and the ballot begins a line: `paper: ada 1,2`
-    becomes `|paper:` and `|ada 1,2`.
-    """
-
-    return "\n".join(barred(line, options, is_name, words) for line in text.split("\n"))
-
-
-def is_in_words(line: str, is_name: Callable[[str], bool], words: Words) -> bool:
-    """Whether a line is an answer in a word, alone or behind a name, which `Option 1` is not."""
-    ranked = with_ranks(line, words)
-    if ranked == line or not may_answer(line, words):
-        return False
-    *name, _ = ranked.split()
-    return not name or (not name[-1].isdigit() and is_name(name[-1]))
-
-
-def barred(line: str, options: int, is_name: Callable[[str], bool], words: Words) -> str:
-    bare = line.strip()
-    blanks = line[: len(line) - len(line.lstrip())]
-    if ranks_alone(options).fullmatch(bare) or is_in_words(bare, is_name, words):
-        return f"{blanks}|{bare}"
-    if not may_read_as_ballot(line, options):
-        return line
-    parts = name_with_ranks(options).sub(
-        lambda found: f"\n{found[0]}" if is_name(found["name"]) else found[0], line
-    )
-    if parts == line:
-        return line
-    its = (part.strip().removeprefix("|") for part in parts.split("\n"))
-    return "\n".join(f"{blanks}|{part}" for part in its if part)

@@ -22,9 +22,8 @@ Words = Mapping[str, str]
 
 # what ends a line: a word, after a colon or a blank, perhaps with a full stop or an exclamation mark
 END = re.compile(r"(?:^| ?: ?| )([^\W\d_]+) ?[.!]?$")
-# how many words a line has at most that may be an answer, and characters: a letter with many accents
-# takes long
-MOST_WORDS, MOST_CHARACTERS = 4, 500
+# in characters, what may end with a word: a text with many accents takes long
+MOST_CHARACTERS = 500
 
 COLON = marked("{before}: {after}")
 
@@ -53,13 +52,6 @@ def with_ranks(line: str, words: Words) -> str:
     found = END.search(text)
     ranks = words.get(found[1].lower()) if found else None
     return f"{text[: found.start()]} {ranks}".strip() if found and ranks else line
-
-
-def may_answer(line: str, words: Words) -> bool:
-    """Whether a line has one of the words, alone or with few others."""
-    bare = " ".join(line.split()) if words else ""
-    found = words_in(bare) if len(bare) <= MOST_CHARACTERS else []
-    return len(found) <= MOST_WORDS and not words.keys().isdisjoint(found)
 
 
 def in_words(names: Sequence[str], language: Language) -> list[str]:

@@ -9,9 +9,11 @@ import os
 import pathlib
 import re
 import shutil
+import signal
 import sqlite3
 import subprocess
 import sys
+import time
 from collections.abc import Sequence
 from unittest import mock
 
@@ -121,7 +123,7 @@ class Copies(BookTest):
         self.done("publish")
         self.assertIn("in which act 6 was the last", self.read("result/index.html").decode())
 
-    def test_a_path_in_any_bytes(self) -> None:
+    def test_another_place_whose_path_is_any_bytes(self) -> None:
         here, self.folder = self.folder, self.scratch / os.fsdecode(b"spring \xff")
         here.rename(self.folder)
         self.assert_stops("never seen this election in this folder", acting=ACTING[:2], reading=READING[:1])
@@ -165,13 +167,9 @@ class Copies(BookTest):
         self.assertIn("election.db: another file took its place while this command was running; act 4 (desk) was done: ", faults)
         self.assert_stops("older copy", acting=ACTING[:2], reading=READING[:1])
 
-    def test_another_place_or_computer(self) -> None:
-        before, self.state = self.state, self.scratch / "other state"
+    def test_another_computer(self) -> None:
+        self.state = self.scratch / "other state"
         self.assert_stops("never seen this election in this folder")
-        self.state, moved = before, self.scratch / "moved"
-        self.folder.rename(moved)
-        self.folder = moved
-        self.assert_stops("never seen this election in this folder", acting=ACTING[:2], reading=READING[:1])
 
     def test_two_computers_with_one_home(self) -> None:
         """Folder and home lie on a share: each computer has a note of its own, and an act names the computer that did it."""
@@ -528,13 +526,17 @@ class Rewritten(BookTest):
     def test_verdicts_are_those_of_debvote(self) -> None:
         """What the book keeps of debvote's verdicts is compared where others rely on it."""
         # the third line is refused, and replaces nothing
-        self.add("ben 1,2", "cleo 1,2,3,4")
+        self.add("ben 1,2", "cleo 1,2,3,4", "cleo 2,1,3,4", "cleo 1,2")
         wrong = "UPDATE envelope SET answer = 'bad rank count: ..' WHERE envelope = 1"
         for statement in (
             wrong,
             "UPDATE envelope SET answer = NULL WHERE envelope = 3",
             # two are exchanged: Ben loses his ballot, and nobody else gets one
             "UPDATE envelope SET answer = CASE envelope WHEN 4 THEN 'bad rank count: ..' END WHERE envelope IN (3, 4)",
+            # the reason is another one
+            "UPDATE envelope SET answer = answer || '.' WHERE envelope = 3",
+            # as many electors have a ballot, and each number of the sheet is the same
+            "UPDATE envelope SET answer = CASE envelope WHEN 5 THEN (SELECT answer FROM envelope WHERE envelope = 6) END WHERE envelope IN (5, 6)",
         ):
             self.assert_changed(statement, "debvote says of its lines another thing than it keeps")
         self.done("close")
@@ -596,6 +598,20 @@ class Rewritten(BookTest):
                         connection.execute(statement.format(table))
 
 
+# a query that never ends
+LONG = """import pathlib, signal, sys
+from debvote_tools.book.book import open_book
+from debvote_tools.cli import console
+console.prepare(signal.SIGTERM)
+book = open_book(pathlib.Path("election.db"))
+print(1, end="", flush=True)
+try:
+    book.rows("WITH RECURSIVE n (i) AS (SELECT 1 UNION ALL SELECT i + 1 FROM n) SELECT count(*) FROM n")
+except KeyboardInterrupt:
+    sys.exit(5)
+"""
+
+
 class OnTheDisk(BookTest):
     """What is brought to the disk, and in which order; an act that is cut off in its commit, or right after it."""
 
@@ -622,6 +638,21 @@ class OnTheDisk(BookTest):
                 self.assertEqual(done, 1)
                 said.append("nobody knows")
         self.assertEqual(set(said), {"done", "nothing", "nobody knows"})
+
+    def test_a_signal_within_a_query(self) -> None:
+        """It ends the program at once, as it does elsewhere."""
+        self.write("long.py", LONG)
+        for number, status in ((signal.SIGTERM, 128 + signal.SIGTERM), (signal.SIGINT, 5)):
+            run = subprocess.Popen([sys.executable, "long.py"], cwd=self.folder, stdout=subprocess.PIPE, env={**os.environ, "PYTHONPATH": str(elections.ROOT / "python")})
+            with run:
+                self.addCleanup(run.kill)
+                self.assertEqual(run.stdout.read(1), b"1")
+                time.sleep(0.1)
+                run.send_signal(number)
+                try:
+                    self.assertEqual(run.wait(20), status)
+                finally:
+                    run.kill()
 
     def test_interrupted_in_the_commit(self) -> None:
         """What is done is reported: the signal comes when SQLite removes the journal."""
@@ -699,7 +730,7 @@ class Places(BookTest):
         with sqlite3.connect(self.book) as connection:
             connection.execute(f"PRAGMA application_id = {0x64627674}")
             connection.execute("PRAGMA user_version = 2")
-        self.assert_fault(self.election("status"), 2, "it is a book (version 2), and this program writes version 5")
+        self.assert_fault(self.election("status"), 2, "it is a book (version 2), and this program writes version 6")
         # a book of 2.0.0 is refused by name, and not opened: what a command that was cut off left stays, too
         with contextlib.closing(sqlite3.connect(self.book)) as connection:
             connection.execute("PRAGMA user_version = 3")

@@ -9,12 +9,7 @@ from debvote_tools.book.book import NAME, Book, connected, create, open_book
 
 LINES = [(b"ada A 1,2 C 2,1,3", None), (b"ben A 2,1", None), (b"ada C 1,1,1", None), (b"ben C 1,2", "bad rank count: ..")]
 
-SEEN = {
-    "": [line for line, _ in LINES],
-    "A": [b"ada 1,2", b"ben 2,1"],
-    "B": [],
-    "C": [b"ada 2,1,3", b"ada 1,1,1", b"ben 1,2"],
-}
+SEEN = {"": [line for line, _ in LINES], "A": [b"ada 1,2", b"ben 2,1"], "B": [], "C": [b"ada 2,1,3", b"ada 1,1,1", b"ben 1,2"]}
 
 
 @pytest.fixture

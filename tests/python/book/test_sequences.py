@@ -53,15 +53,23 @@ class Line:
 
 @dataclasses.dataclass
 class Letter:
-    """A letter of the model. None goes in by itself; one with `ranks` has one ballot."""
+    """A letter of the model, with the own mark of its elector. None goes in by itself: one with `ranks` has one ballot and more words."""
 
     elector: str
     ranks: str
-    is_taken_back: bool = False
-    waits: bool = True
-    # the envelopes of it that no undo took back, and those of them that the secretary typed
+    # what the last act decided of it
+    state: str = ""
+    # the envelopes of it that no undo took back; and whether the last ballot of an elector was typed, also if it was
     entered: list[int] = dataclasses.field(default_factory=list)
-    typed: list[int] = dataclasses.field(default_factory=list)
+    is_typed: dict[str, bool] = dataclasses.field(default_factory=dict)
+
+    @property
+    def ballot(self) -> str:
+        return f"{self.elector} {self.ranks}"
+
+    @property
+    def waits(self) -> bool:
+        return self.state in ("", "taken back", "waits again")
 
     @property
     def electors(self) -> list[str]:
@@ -76,8 +84,6 @@ class Model:
     lines: list[Line] = dataclasses.field(default_factory=list)
     letters: list[Letter] = dataclasses.field(default_factory=list)
     entered: list[list[int]] = dataclasses.field(default_factory=list)
-    # the late lines that a reopen entered anew, by the numbers of their new envelopes
-    anew: dict[int, int] = dataclasses.field(default_factory=dict)
     is_closed: bool = False
     is_reopened: bool = False
 
@@ -86,17 +92,15 @@ class Model:
         self.entered.append([*range(len(self.lines) + 1, len(self.lines) + len(texts) + 1)])
         self.lines += [Line(text, is_late, letter=letter, is_of_file=from_file) for text, letter in zip(texts, letters or [None] * len(texts))]
 
-    @property
-    def came(self) -> collections.Counter:
-        """How often each line came in files, also if it was struck: one that was entered anew came once."""
-        known = {*self.anew.values()}
-        came = (line for number, line in enumerate(self.lines, start=1) if line.is_of_file and number not in known)
-        return collections.Counter(line.text for line in came if not line.is_undone)
+    def came(self, is_late: bool) -> collections.Counter:
+        """How often each line came in files, also if it was struck; to one that is in time a late one did not come."""
+        came = (line for line in self.lines if line.is_of_file and not line.is_undone)
+        return collections.Counter(line.text for line in came if is_late or not line.is_late or line.is_struck)
 
-    def new_of(self, texts: list[str]) -> list[str]:
+    def new_of(self, texts: list[str], is_late: bool) -> list[str]:
         """Which lines of a file did not come before."""
         seen: collections.Counter = collections.Counter()
-        came, new = self.came, []
+        came, new = self.came(is_late), []
         for text in texts:
             seen[text] += 1
             if seen[text] > came[text]:
@@ -113,24 +117,17 @@ class Model:
             if line.letter is not None:
                 letter = self.letters[line.letter - 1]
                 letter.entered.remove(number)
-                letter.typed = [one for one in letter.typed if one != number]
-                letter.is_taken_back = letter.waits = True
+                letter.state = "taken back"
             line.is_struck = line.is_undone = True
-            self.anew.pop(number, None)
 
     def enter_letters(self, ballots: list[tuple[int, str]], *, is_typed: bool = False) -> None:
-        """One act that enters these ballots of letters, in their order; all arrived before any close. A letter waits until each who has a
-        ballot in it has one entered, and each who has its address, if one of them was typed.
-        """
+        """One act that enters these ballots of letters, in their order; all arrived before any close. Each letter is dealt with as a whole."""
         self.enter([text for _, text in ballots], is_late=False, from_file=False, letters=[number for number, _ in ballots])
         for envelope, (number, _) in zip(self.entered[-1], ballots):
             letter = self.letters[number - 1]
             letter.entered.append(envelope)
-            letter.typed += [envelope] * is_typed
-        for letter in (self.letters[number - 1] for number, _ in ballots):
-            wanted = {*([letter.elector] if letter.ranks else []), *(letter.electors if letter.typed else [])}
-            letter.waits = not wanted <= {self.elector_of(envelope) for envelope in letter.entered}
-            letter.is_taken_back = False
+            letter.is_typed[self.elector_of(envelope)] = is_typed
+            letter.state = "entered"
 
     def elector_of(self, envelope: int) -> str:
         return self.lines[envelope - 1].text.split()[0]
@@ -146,6 +143,12 @@ class Model:
         if self.is_closed:
             return []
         return [number for number in self.waiting if self.letters[number - 1].ranks and self.letters[number - 1].elector in self.without_ballot(number)]
+
+    def needs_force(self, number: int) -> bool:
+        """Whether the elector of a letter has a later ballot, or had one that was typed for it."""
+        letter = self.letters[number - 1]
+        later = (line for line in self.lines if not (line.is_struck or line.is_late) and (line.letter is None or line.letter > number))
+        return letter.is_typed.get(letter.elector, False) or any(line.text in (f"{letter.elector} {ranks}" for ranks in RANKS) for line in later)
 
     @property
     def waiting(self) -> list[int]:
@@ -171,8 +174,8 @@ class SequencesTest(LettersTest):
     # ------------------------------------------------------------ the steps
     def step(self, model: Model, chance: random.Random) -> Step:
         """A command that can be given now, with what it does."""
-        steps = [self.adding] * 4 + [self.desk] * 3 + [self.mailing, self.entering] * 2 + [self.typing] * 4
-        steps += [self.undoing, self.striking, self.closing, self.reopening, self.bringing_back]
+        steps = [self.adding] * 4 + [self.desk] * 3 + [self.mailing, self.entering, self.deciding] * 2 + [self.typing] * 4
+        steps += [self.undoing, self.striking, self.closing, self.reopening]
         while True:
             after = copy.deepcopy(model)
             step = chance.choice(steps)(after, chance)
@@ -196,7 +199,7 @@ class SequencesTest(LettersTest):
         words, is_late = self.came_words(model, chance)
         texts = self.texts(chance, 8)
         self.write("file", "".join(f"{text}\n" for text in texts))
-        new = model.new_of(texts)
+        new = model.new_of(texts, is_late)
         if new:
             model.enter(new, is_late=is_late, from_file=True)
         return Step(["add", "--yes", "--force", *words, "file"], None, [model])
@@ -206,37 +209,42 @@ class SequencesTest(LettersTest):
         texts = self.texts(chance, 3)
         # lines that come together are one act
         model.enter(texts, is_late=is_late, from_file=False)
-        return Step(["desk", *words], "".join(f"{text}\n" for text in texts), [model])
+        return Step(["desk", "--force", *words], "".join(f"{text}\n" for text in texts), [model])
 
     def mailing(self, model: Model, chance: random.Random) -> Step:
-        """Letters that wait: a colon is above the ballot, or there is none. Each has a second of its own."""
+        """Letters that wait: other words are above the ballot, or there is none. Each has a second of its own."""
         box = ""
         for number in range(len(model.letters) + 1, len(model.letters) + chance.randint(1, 3) + 1):
             letter = Letter(chance.choice([*elections.NAMES, *COUPLE * 4]), chance.choice([*RANKS, ""]))
-            text = f"My ballot:\n\n{letter.elector} {letter.ranks}" if letter.ranks else "I am for the lake."
+            text = f"My ballot:\n\n{letter.ballot}" if letter.ranks else "I am for the lake."
             time = f"Mon, 23 Nov 2026 10:{number // 60:02}:{number % 60:02} +0000"
-            head = f"Received: from a by b; {time}\nFrom: {letter.electors[0]}@club.example\nMessage-ID: <{number}@mail.example>\n"
+            subject = f"My ballot [{elections.ANY_MARK}-{elections.any_own(letter.elector)}]"
+            head = f"Received: from a by b; {time}\nFrom: {letter.electors[0]}@club.example\nSubject: {subject}\nMessage-ID: <{number}@mail.example>\n"
             box += f"From x@club.example Mon Nov 23 10:00:00 2026\n{head}\n{text}\n\n"
             model.letters.append(letter)
         self.write("box", box)
         return Step(["add", "--yes", "box"], None, [model])
 
     def entering(self, model: Model, chance: random.Random) -> Step | None:
-        """The one ballot of each of some letters."""
+        """The one ballot of each of some letters; by force of one alone."""
         numbers = model.with_a_ballot()
-        chosen = chance.sample(numbers, chance.randint(0, len(numbers)))
-        if not chosen:
-            return None
-        model.enter_letters([(number, self.ballot(model, number)) for number in sorted(chosen)])
-        return Step(["held", *map(str, chosen), "--enter", "--force"], None, [model])
-
-    def bringing_back(self, model: Model, chance: random.Random) -> Step | None:
-        """All letters that were taken back, and have one ballot."""
-        numbers = [number for number in model.with_a_ballot() if model.letters[number - 1].is_taken_back]
         if not numbers:
             return None
-        model.enter_letters([(number, self.ballot(model, number)) for number in numbers])
-        return Step(["held", *map(str, numbers), "--enter", "--force"], None, [model])
+        chosen = chance.sample(numbers, chance.randint(1, len(numbers)))
+        force = ["--force"] if len(chosen) == 1 and chance.random() < 0.7 else []
+        if force or not any(map(model.needs_force, chosen)):
+            model.enter_letters([(number, model.letters[number - 1].ballot) for number in sorted(chosen)])
+        return Step(["held", *map(str, chosen), "--enter", "--yes", *force], None, [model])
+
+    def deciding(self, model: Model, chance: random.Random) -> Step | None:
+        """Some letters are set aside, or wait again; none of which a ballot is entered."""
+        numbers = [number for number, letter in enumerate(model.letters, start=1) if letter.state != "entered"]
+        if not numbers:
+            return None
+        chosen, (word, state) = chance.sample(numbers, min(2, len(numbers))), chance.choice([("--set-aside", "set aside"), ("--wait", "waits again")])
+        for number in chosen:
+            model.letters[number - 1].state = state
+        return Step(["held", *map(str, chosen), word], None, [model])
 
     def typing(self, model: Model, chance: random.Random) -> Step | None:
         """What was read in a letter: the ballots of one or of both who sent it, also after it went in."""
@@ -250,10 +258,6 @@ class SequencesTest(LettersTest):
         words = [word for ballot in ballots for word in ("--as", ballot)]
         return Step(["held", str(number), *words, "--force"], None, [model])
 
-    def ballot(self, model: Model, number: int) -> str:
-        letter = model.letters[number - 1]
-        return f"{letter.elector} {letter.ranks}"
-
     def undoing(self, model: Model, chance: random.Random) -> Step | None:
         if model.is_closed or all(line.is_struck for line in model.lines):
             return None
@@ -266,6 +270,9 @@ class SequencesTest(LettersTest):
             return None
         number = chance.choice(left)
         model.lines[number - 1].is_struck = True
+        letter = model.lines[number - 1].letter
+        if letter is not None and model.letters[letter - 1].state == "entered":
+            model.letters[letter - 1].state = "struck"
         return Step(["strike", str(number), "--because", "it was taken down wrongly"], None, [model])
 
     def closing(self, model: Model, chance: random.Random) -> Step | None:
@@ -277,20 +284,8 @@ class SequencesTest(LettersTest):
     def reopening(self, model: Model, chance: random.Random) -> Step | None:
         if not model.is_closed:
             return None
-        late = [number for number, line in enumerate(model.lines, start=1) if line.is_late and not line.is_struck]
-        late = [number for number in late if number not in model.anew.values()]
-        numbers = chance.sample(late, chance.randint(0, len(late)))
-        if numbers:
-            # they go in in the order of their times, however they are named: letters came before all acts
-            ordered = sorted(numbers, key=lambda number: (model.lines[number - 1].letter or len(model.letters) + 1, number))
-            model.anew |= {len(model.lines) + index: number for index, number in enumerate(ordered, start=1)}
-            lines = [model.lines[number - 1] for number in ordered]
-            model.enter([line.text for line in lines], is_late=False, from_file=False, letters=[line.letter for line in lines])
-            for new, line in zip(model.entered[-1], lines):
-                model.lines[new - 1].is_of_file = line.is_of_file
         model.is_closed, model.is_reopened = False, True
-        words = ["--force", "--in-time", *map(str, numbers)] if numbers else []
-        return Step(["reopen", "--because", "a letter was forgotten", *words], None, [model])
+        return Step(["reopen", "--because", "a letter was forgotten"], None, [model])
 
     # ------------------------------------------------------------ how they are run
     def run_step(self, step: Step, chance: random.Random) -> tuple[Model, bool]:

@@ -21,6 +21,9 @@ SECOND = "Sunday, 6 December 2026, 18:00 (UTC+01:00)"
 class CallTest(elections.ElectionTest):
     call_words = None
 
+    def marks(self) -> dict[str, str]:
+        return dict(self.rows("SELECT name, mark FROM elector_state JOIN elector USING (elector) ORDER BY elector_state.rowid"))
+
     def setUp(self) -> None:
         super().setUp()
         self.set_clock("2026-11-27T09:00:00+00:00")
@@ -37,8 +40,9 @@ class Open(CallTest):
         self.assertEqual(modes, dict.fromkeys(["SHA256SUMS", "call.txt", "index.html", "poll.toml"], 0o644))
         poll = read_plain(self.read("call/poll.toml"))
         self.assertEqual((poll.deadline, poll.address, list(poll.roll)), ("2026-12-04T18:00:00+01:00", "vote@club.example", elections.NAMES))
+        self.assertIn(f"[{poll.checksum[:16]}]", ended.output)
         for text in (ended.output, self.texts()):
-            for part in (hashlib.sha256(self.read("call/poll.toml")).hexdigest(), f"[{poll.checksum[:16]}]", FIRST):
+            for part in (hashlib.sha256(self.read("call/poll.toml")).hexdigest(), FIRST):
                 self.assertIn(part, text)
         subprocess.run(["sha256sum", "--quiet", "-c", "SHA256SUMS"], cwd=self.folder / "call", check=True)
         # made again it is the same, and no act
@@ -147,9 +151,6 @@ class Again(CallTest):
 class Letters(CallTest):
     """What letters to electors are told by the call: a name to come from, own marks, and a text of the secretary."""
 
-    def marks(self) -> dict[str, str]:
-        return dict(self.rows("SELECT name, mark FROM elector_state JOIN elector USING (elector) ORDER BY elector_state.rowid"))
-
     def announced(self, key: str) -> object:
         """What the last call that says it says of this."""
         details = [json.loads(detail) for detail, in self.rows("SELECT detail FROM act ORDER BY act DESC")]
@@ -193,22 +194,19 @@ class Letters(CallTest):
         self.assertEqual([name for name in before if before[name] != after[name]], ["ada"])
         self.assertRegex(after["ada"], "^[2-9a-z]{10}$")
 
-    def test_with_marks_alone(self) -> None:
-        told = self.done("call", *UNTIL, "--to", "vote@club.example", "--at", "https://club.example/vote/", "--marked").output
-        self.assertIn("A letter goes in by itself only with the own mark of its elector.\n", told)
-        self.done("call", "--marked", "--until", "2026-12-05 18:00")
-        self.assertIs(self.announced("marked"), True)
-        # a letter with the mark of the poll alone would wait
+    def test_what_is_said_of_the_own_mark(self) -> None:
+        self.done("call", *UNTIL, "--to", "vote@club.example", "--at", "https://club.example/vote/")
+        self.done("call", "--until", "2026-12-05 18:00")
         for name in ("call/index.html", "call/call.txt", "letters/extension.txt"):
             text = " ".join(self.read(name).decode().split())
             self.assertIn("Open the link in your letter, or answer that letter: then the subject has your own mark", text, name)
             self.assertNotIn("in a letter whose subject ends with", text, name)
         self.done("call", "--take-back")
         self.done("call", *UNTIL, "--to", "vote@club.example")
-        self.assertNotIn("your own mark", " ".join(self.texts().split()))
         # no code was given out with a call of an open vote
         self.assertNotIn("An earlier call", " ".join(self.texts().split()))
-        self.assert_fault(self.election("call", "--marked"), 9, "--marked: the call was made without it", "--take-back")
+        gone = self.election("call", "--marked")
+        self.assertEqual((gone.status, gone.faults.splitlines()[-1]), (2, "debvote-election: error: --marked: it is always so now; leave it out"))
 
     def test_the_text_is_sealed_by_each_call(self) -> None:
         self.write("letter.txt", "x" * 78 + "\n" + "y" * 79 + "\n")
@@ -267,7 +265,7 @@ class Secret(CallTest):
 
     def table(self) -> list[list[str]]:
         """The rows of the table of codes: name, who, address, code, alias."""
-        return [line.split(",") for line in self.read("private/codes.csv").decode().splitlines()[1:]]
+        return [line.split(",")[:5] for line in self.read("private/codes.csv").decode().splitlines()[1:]]
 
     def test_each_elector_has_a_code_of_their_own(self) -> None:
         self.assert_fault(self.election("call"), 9, "electors have no codes", "debvote-election codes")
@@ -308,6 +306,22 @@ class Secret(CallTest):
         self.assertIn("Made 1 code.", self.done("codes").output)
         self.assertEqual(self.table()[:-1], before)
 
+    def test_the_table_has_the_own_marks_of_the_call(self) -> None:
+        """Each whole, for the subject of who answers; a new address makes a new one, and table and slips anew."""
+
+        def marks() -> list[str]:
+            return [line.rpartition(",")[2] for line in self.read("private/codes.csv").decode().splitlines()[1:]]
+
+        self.done("codes")
+        self.assertEqual(marks(), [""] * len(elections.NAMES))
+        self.done("call", *UNTIL, "--to", "vote@club.example")
+        before, poll = marks(), hashlib.sha256(self.read("call/poll.toml")).hexdigest()[:16]
+        self.assertEqual(before, [f"[{poll}-{own}]" for own, in self.rows("SELECT mark FROM elector_now ORDER BY position")])
+        self.write("members.csv", elections.members_of(elections.NAMES).replace("ada@", "ada@new."))
+        self.assertIn("\nMade slips.html and codes.csv in private anew: a new address has a new mark.\n", self.done("roll", "--yes").output)
+        self.assertEqual([one == other for one, other in zip(before, marks())], [False, *[True] * (len(before) - 1)])
+        self.assertIn(marks()[0], self.read("private/slips.html").decode())
+
     def test_what_a_killed_run_left_is_taken_away(self) -> None:
         self.done("codes")
         private = self.folder / "private"
@@ -345,7 +359,6 @@ class Secret(CallTest):
 
     def test_codes_on_the_roll(self) -> None:
         self.done("codes", "--on-roll")
-        self.assert_fault(self.election("call", "--marked"), 2, "--marked: codes are on the roll", "leave it out")
         for status in (self.done("status").output, self.done("status", "--json").output):
             self.assertNotRegex(status.rpartition("digest")[0], r"[2-9a-hjkmnp-z]{10}")
         self.assertEqual([file.name for file in (self.folder / "private").iterdir()], ["slips.html"])
@@ -382,7 +395,12 @@ class Secret(CallTest):
         """Two published rolls tell nothing about an elector who was added in between."""
         self.called()
         slip, aliases = self.read("private/slips.html").decode(), self.published_codes()
-        self.assertIn(f"<b>[{read_plain(self.read('call/poll.toml')).checksum[:16]}]</b>", slip)
+        subject = rf"<b>\[{read_plain(self.read('call/poll.toml')).checksum[:16]}-(\w{{10}})\]</b>"
+        self.assertEqual(re.findall(subject, slip), [*self.marks().values()])
+        # a new address makes a new mark
+        self.write("members.csv", elections.members_of(elections.NAMES).replace("ada@club", "ada@new"))
+        self.done("roll", "--yes")
+        self.assertEqual(re.findall(subject, self.read("private/slips.html").decode()), [*self.marks().values()])
         self.assertNotIn(" is void", slip + self.texts())
         said = r"All 9 codes are void(?s:.*)\nNext: put right what was wrong, then run debvote-election codes\n"
         self.assertRegex(self.done("call", "--take-back").output, said)

@@ -35,9 +35,18 @@ class Close(LettersTest):
         self.assertIn("Nothing was changed", self.done("close").output)
         self.assertEqual((self.read("letters/closed.txt").decode(), self.done("log").output.splitlines()[:-2]), (letter, log.splitlines()))
         self.assertEqual(self.exported(), (before, "ada 4,3,2,1\n"))
-        wanted = {"stage": "closed", "electors": 9, "lines": 3, "valid": 2, "refused": 1, "late": 1, "voters": 2, "waiting": 0}
+        wanted = {"stage": "closed", "electors": 9, "lines": 3, "valid": 2, "refused": 1, "late": 1, "voters": 2, "struck": 0, "taken_back": 0, "waiting": 0}
         wanted |= {"stopping": [], "box": None, "not_reached": {}, "printed": []}
         self.assertEqual({key: value for key, value in self.numbers().items() if key not in ("act", "digest", "without_ballot")}, wanted)
+
+    def test_what_a_killed_run_has_left(self) -> None:
+        """Each folder that is made from the book, the next run that makes it rids of files and folders of a run that was killed."""
+        self.add_lines("ada 1,2,3,4")
+        for words, folder in ((("close",), "letters"), (("letters", "receipts"), "letters/receipts"), (("letters", "receipts"), "letters/receipts"), (("publish",), "letters")):
+            (self.folder / folder / ".debvote-folder" / "x").mkdir(parents=True)
+            self.write(f"{folder}/.debvote-file", "half")
+            self.done(*words)
+            self.assertEqual([str(left) for left in self.folder.rglob(".debvote-*")], [], words)
 
     def test_the_end(self) -> None:
         """A later call announced it, in another zone than that in which the book keeps times. A line that comes after it still counts; one of
@@ -137,7 +146,7 @@ class Asked(LettersTest):
         # the second of the end is not early
         self.set_clock("2026-12-02T20:00:00+00:00")
         last = "Added last: 2026-12-01 17:00:00 UTC. Entered last at a desk: 2026-12-02 18:30:00 UTC. "
-        last += "Strikes: 1. End of the vote: Wednesday, 2 December 2026, 20:00 (UTC)."
+        last += "Strikes: 1. Taken back, and not entered again as they were: 1 (envelopes 4). End of the vote: Wednesday, 2 December 2026, 20:00 (UTC)."
         asked = "Is that all? It is if the mailbox was added just now, all paper is entered, and no desk is open."
         for answer in ("n\n", "\x04"):
             terminal = Terminal(self, "close")
@@ -173,7 +182,8 @@ class Asked(LettersTest):
             self.done(*words, given="ada 1,2,3,4\n")
             self.done("undo", "--yes")
         output, status = Terminal(self, "close", "--yes").end()
-        said = "Until now 0 lines came in time. Added last: never. Entered last at a desk: never. Strikes: 0. End of the vote: not announced."
+        said = "Until now 0 lines came in time. Added last: never. Entered last at a desk: never. "
+        said += "Strikes: 0. Taken back, and not entered again as they were: 2 (envelopes 1-2). End of the vote: not announced."
         self.assertEqual((status, said in output, "[y/n]" in output), (0, True, False))
 
 
@@ -185,8 +195,8 @@ class Reopen(LettersTest):
         self.add_lines("ben 1,2,3,4", "cleo 2,1,3,4")
 
     def test_what_had_come_in_time(self) -> None:
-        ended = self.done("reopen", "--because", "a letter was forgotten", "--in-time", "3")
-        self.assertIn("Envelope 4, entered anew from late envelope 3: cleo 2,1,3,4", ended.output)
+        self.done("reopen", "--because", "a letter was forgotten")
+        self.add_lines("cleo 2,1,3,4", words=("--came-before-close", "yes"))
         self.assertEqual(self.exported(), ("ada 1,2,3,4\ncleo 2,1,3,4\n", "ben 1,2,3,4\ncleo 2,1,3,4\n"))
         self.assertEqual(self.election("add", given="dan 1,2,3,4\n").status, 9)
         for line, answer in (("dan 1,2,3,4", "yes"), ("eve 1,2,3,4", "no")):
@@ -198,19 +208,18 @@ class Reopen(LettersTest):
         for said in ("Closed: 3 lines came in time", "with 3 lines in time. Nothing was changed"):
             self.assertRegex(self.done("close").output, rf"{said}(?s:.*)\nChecksum of the ballots: {checksum}\n")
         self.assertIn("3 lines came in time", self.read("letters/closed.txt").decode())
-        # the line that was entered anew did not come late, though it stays in the file
+        # what was late stays late
         self.done("publish")
         self.assertEqual(self.read("result/late.txt").decode().count("\n"), 3)
-        self.assertIn("2 came late.", self.read("letters/result.txt").decode())
-        self.assertIn("<li><b>2</b> came late</li>", self.read("result/index.html").decode())
+        self.assertIn("3 came late.", self.read("letters/result.txt").decode())
+        self.assertIn("<li><b>3</b> came late</li>", self.read("result/index.html").decode())
 
     def test_a_result_before_the_last_close_is_not_the_result(self) -> None:
         self.assertRegex(self.done("status").output, r"\nClosed: at [^\n]* UTC\nQuorum")
         self.done("publish")
         self.assertEqual(self.numbers()["stage"], "published")
         self.assertTrue(self.done("status").output.endswith(", then debvote-election letters result\n"))
-        for words, said in (((), "reason"), (("--because", "x", "--in-time", "1"), "envelope 1 is not one of the late lines")):
-            self.assert_fault(self.election("reopen", *words), 2, said)
+        self.assert_fault(self.election("reopen"), 2, "reason")
         self.done("reopen", "--because", "x")
         self.assert_fault(self.election("reopen", "--because", "x"), 9, "not closed")
         self.assertEqual(self.numbers()["stage"], "called")

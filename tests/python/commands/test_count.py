@@ -1,6 +1,13 @@
 """`count`: the sheet alone, and what to do with it."""
 
 import os
+import subprocess
+import sys
+
+from debvote_tools.cli.faults import Fault
+from debvote_tools.poll.questions import Questions
+from debvote_tools.poll.sealed import SealedPoll
+from debvote_tools.result.sheet import castings_in
 
 from tests.support import elections
 
@@ -49,3 +56,29 @@ class Count(elections.ElectionTest):
         self.assert_fault(ended, 8, "--casting='At the lake': it has the casting vote Hall already; nothing was counted: give one of them")
         ended = self.election("count", "--casting", "Nowhere")
         self.assert_fault(ended, 8, "no option has this name", "'At the lake', Hall, 'Sell the house and meet there'")
+
+    def test_the_names_of_options(self) -> None:
+        """A casting vote is for a plain name, or for the name that people read; a text that is both, of two options, is neither."""
+        poll = SealedPoll("T", ("Groesse", "Option 2"), (1, 1), "None", 0, ("ada",), shown_options=("Gr\u00f6\u00dfe", "Groesse", "Keins"))
+        questions = Questions({"": poll})
+        given = ("Gr\u00f6\u00dfe", "Option 2", "Keins", "None")
+        self.assertEqual([castings_in([name], questions)[""] for name in given], ["Groesse", "Option 2", "None", "None"])
+        with self.assertRaises(Fault) as raised:
+            castings_in(["Groesse"], questions)
+        self.assertIn("two options have this name; nothing was changed: give one of these names, exactly as written here: Groesse, 'Option 2'", raised.exception.words)
+
+    def test_a_casting_vote_where_there_is_no_tie(self) -> None:
+        self.add("ada 1,2,4,3\n")
+        ended = self.election("count", "--casting", "At the lake")
+        note = "Note: it is no tie, so no casting vote decides it; what --casting says of it is not told.\n"
+        self.assertEqual((ended.status, ended.faults.partition("Next: ")[0]), (0, note))
+
+    def test_output_that_nobody_reads_to_its_end(self) -> None:
+        """It ends quietly, with the status of an output that failed, as that of debvote."""
+        env = elections.environment() | {"XDG_STATE_HOME": str(self.state)}
+        for words in ("--help", "add --help", "--version", "count", "status", "log"):
+            with subprocess.Popen(["true"], stdin=subprocess.PIPE) as other:
+                other.wait()
+                command = [sys.executable, elections.ELECTION, *words.split()]
+                ended = subprocess.run(command, stdout=other.stdin, stderr=subprocess.PIPE, cwd=self.folder, env=env)
+            self.assertEqual((ended.returncode, ended.stderr), (7, b""), words)

@@ -216,6 +216,8 @@ class NamesAreCompleted(TerminalTest):
 
 class WholeNames(TerminalTest):
     members = "who,name,mail\nAnna Meier,meier,\nAnna Meier-Huber,anna-meier-huber,\nBen Müller,ben-1,\nBen Müller,ben-2,\nMüller Ben,ben-3,\n"
+    # one has the name on the roll that is another's real name
+    members += "Maximilian Mayer,max,\nMax,max-2,\n"
 
     def test_they_come_before_parts(self) -> None:
         """That of one elector alone is that elector's; of those who have it one is chosen."""
@@ -228,16 +230,8 @@ class WholeNames(TerminalTest):
         listed = desk.after(f"Ben Müller {RANKS}\n", "for none: ")
         self.assertIn("` is part of 2 names:\n  1 ben-1 (Ben Müller)\n  2 ben-2 (Ben Müller)\n", listed)
         self.assertIn("\nben-2: At the lake, ", desk.after("2\n", CAST))
-        self.end(desk, "n\nq\n")
-
-
-class OneNameOfTwo(TerminalTest):
-    members = "who,name,mail\nMaximilian Mayer,max,\nMax,,m@club.example\n"
-
-    def test_it_is_asked_who_is_meant(self) -> None:
-        desk = self.at_terminal()
         listed = "` is part of 2 names:\n  1 max (Maximilian Mayer)\n  2 max-2 (Max)\n"
-        self.assertIn(listed, desk.after(f"Max {RANKS}\n", "for none: "))
+        self.assertIn(listed, desk.after(f"n\nMax {RANKS}\n", "for none: "))
         self.assertIn("\nmax-2: At the lake, ", desk.after("2\n", CAST))
         # as it stands on the roll it is that of one
         self.assertRegex(desk.after(f"n\nmax {RANKS}\n", CAST), "(?m)^(Ballot: )?max: At the lake, ")
@@ -313,14 +307,6 @@ class FromAPipe(CalledTest):
         self.told("add", given="".join(f"{name} {RANKS}\n{name} {OTHER_RANKS}\n" for name in self.names[:4]))
         replies = re.findall(r"(?m)^\d+ (counted|replaced)  (\w+): ", self.told("desk", given="".join(f"{name} {RANKS}\n" for name in self.names)))
         self.assertEqual(replies, [("replaced" if name in self.names[:4] else "counted", name) for name in self.names])
-
-    def test_after_reopen_it_wants_an_answer(self) -> None:
-        self.told("close")
-        self.told("reopen", "--because", "a bag was forgotten")
-        said = "and only what came before counts; nothing was entered: say whether this came before that close: --came-before-close yes"
-        self.assert_refused(("desk",), 9, "--came-before-close: ", said, given=f"ada {RANKS}\n")
-        for answer, reply in (("yes", "1 counted  ada: "), ("no", "2 late  ada: ")):
-            self.assertIn(reply, self.told("desk", "--came-before-close", answer, given=f"ada {RANKS}\n"))
 
     def test_an_interrupt_ends_it_as_q_does(self) -> None:
         desk = self.desk()

@@ -27,6 +27,7 @@ class Roll(RollTest):
         unsent = "Without an address (letters in their names wait, letters to them are printed): anna-meier"
         for part in ("  chloe: Chloé chloe@club.example\n", "3 names were proposed", unsent):
             self.assertIn(part, ended.output)
+        self.assertTrue(ended.output.endswith("\nNext: debvote-election check\n"), ended)
         self.assertEqual(self.read("members.csv").decode(), "who,mail\nChloé,chloe@club.example\nAnna Meier,\nØdegård,o@club.example\n")
         # again it is no act
         before = self.done("log").output
@@ -106,11 +107,12 @@ class AfterTheCall(RollTest):
         output = self.done("roll", "--yes").output
         for part in ("ada: address ada@club.example becomes new@club.example", "1 elector changed; the result page says how many"):
             self.assertIn(part, output)
+        self.assertTrue(output.endswith("\nNext: debvote-election letters call, for the new addresses\n"), output)
         self.assertEqual(self.on_roll(), elections.NAMES)
         # a key changes once
         self.roll(f"Ada,new@club.example,{'A' * 40}", *(f"{row}," for row in rows[1:]), head="who,mail,key")
         self.assertIn("1 elector changed", self.done("roll", "--yes").output)
-        self.assertIn("Nothing was changed", self.done("roll").output)
+        self.assertRegex(self.done("roll").output, r"Nothing was changed(?s:.*)\nNext: debvote-election status\n$")
 
     def test_each_change_is_asked_about(self) -> None:
         """And what another `roll` has changed meanwhile stays."""
@@ -181,11 +183,6 @@ class Check(RollTest):
                 self.assertEqual((ended.status, ended.output, bool(said.output)), (3, said.output, True))
                 words = "poll.toml: it can't be read as TOML, as said above; put it right with an editor, then run debvote-election check"
                 self.assertEqual(ended.faults, f"debvote-election: {words}\n")
-
-    def test_a_newer_toml_than_python_reads(self) -> None:
-        ended = self.check(elections.POLL + "a = {b = 1,\n}\n")
-        self.assertEqual((ended.status, ended.output), (3, ""))
-        self.assertIn("poll.toml: it can't be read as TOML 1.0: ", ended.faults)
 
     def test_secret(self) -> None:
         self.assertIn("Next: debvote-election codes", self.check(elections.POLL + "secret = true\n").output)

@@ -43,6 +43,17 @@ class Show(CalledTest):
             queries.add_envelopes(act, [queries.NewEnvelope(f"ada {RANKS}".encode(), time=time)], [self.elector("ada")], is_late=False)
         self.assertEqual(self.told("show", "ada").splitlines()[1], f"  envelope 8, {time:%Y-%m-%d %H:%M:%S} UTC: {LAKE}")
 
+    def test_what_became_of_a_late_line(self) -> None:
+        """It was entered again, and counts so, or was replaced since; another one was not."""
+        self.told("add", given=f"ada {RANKS}\nben {RANKS}\n")
+        self.told("close")
+        self.told("desk", given=f"ada {OTHER_RANKS}\nben 1,1,1,1\ncleo {RANKS}\n")
+        self.told("reopen", "--because", "they came in time")
+        self.told("add", "--came-before-close", "yes", "--force", given=f"ada {OTHER_RANKS}\ncleo {RANKS}\ncleo {OTHER_RANKS}\n")
+        self.assertIn(f"  envelope 3, TIME: {HALL} (late; entered again as 6: counts)", self.shown())
+        self.assertEqual([line for line in self.shown("ben") if "(late)" in line], [self.shown("ben")[2]])
+        self.assertIn(f"  envelope 5, TIME: {LAKE} (late; entered again as 7: replaced)", self.shown("cleo"))
+
     def test_who_is_meant(self) -> None:
         for name in ("Ada", "ADA", " ada "):
             self.assertEqual(self.shown(name)[0], "ada: Ada ada@club.example")

@@ -1,26 +1,24 @@
 """How often a command starts debvote: most never do, `publish` at most eight times."""
 
-import hashlib
 import os
 
 from debvote_tools.cli.command_line import COMMANDS
 
 from tests.support import elections
+from tests.support.letters import letter, mailbox
 
 COUNTED = elections.ROOT / "tests" / "support" / "counted"
 CALLED, TEN, ELEVEN = (f"2026-11-{time}:00:00+00:00" for time in ("20T09", "23T10", "24T11"))
 
 # how often it is started at most
-MOST = {"check": 2, "codes": 2, "call": 2, "add": 2, "desk": 2, "close": 1, "count": 1, "publish": 8}
+MOST = {"check": 2, "codes": 2, "call": 2, "add": 2, "desk": 2, "close": 1, "count": 2, "publish": 8}
 
 # right lines, some that are repaired, and some that are refused
-LINES = "\ufeffada 1,2,4,3\r\nben 1, 2, 3, 4\nBen 2;1;3;4\ncle 1,2,3,4\ndan 1,2\n\neve 1,2,3,4,5\n"
+LINES = "\ufeffada 1,2,4,3\r\nben 1, 2, 3, 4\nBen: 2,1,3,4\ncle 1,2,3,4\ndan 1,2\n\neve 1,2,3,4,5\n"
 
 
-def letter_of(number: int, name: str, text: str, mark: str, kind: str = "plain") -> str:
-    head = f"Received: from a by b; Mon, 23 Nov 2026 09:00:{number:02} +0000\nFrom: {name}@club.example\n"
-    more = f"Subject: Re: vote [{mark}]\nMessage-ID: <{number}@x>\nContent-Type: text/{kind}; charset=utf-8\n"
-    return f"From x Mon Nov 23 09:00:00 2026\n{head}{more}\n{text}\n\n"
+def letter_of(number: int, name: str, text: str, kind: str = "plain") -> bytes:
+    return letter(name, text, number=number, time=f"Mon, 23 Nov 2026 09:00:{number:02} +0000", kind=f"text/{kind}; charset=utf-8")
 
 
 class Starts(elections.ElectionTest):
@@ -60,28 +58,30 @@ class Starts(elections.ElectionTest):
             self.assertIn(ended.status, (0, 1) if command in ("count", "publish") else (0,), ended)
             self.assertLessEqual(len(counter.read_bytes()), self.questions * (MOST.get(command, 0) if most is None else most))
 
-    def mailbox(self) -> str:
-        mark = hashlib.sha256(self.read("call/poll.toml")).hexdigest()[:16]
+    def write_mail(self, *letters: bytes) -> None:
+        self.write("mail", elections.of_vote(self.folder, mailbox(*letters)))
+
+    def mails(self) -> list[bytes]:
         texts = [("ada", "Hello\n\nada 2,1,4,3"), ("ben", "ben 1,2,3,4\nben 2,1,3,4"), ("cleo", "1 2 3 4"), ("dan", "I vote:\ndann 1,2,3,4")]
         texts += [("eve", "eve 1, 2, 3, 4\n\nadieu")] * 2 + [("fay", "gus 1,2,3,4"), ("nobody", "hal 1,2")]
-        letters = [letter_of(number, name, text, mark) for number, (name, text) in enumerate(texts, start=1)]
-        return "".join([*letters, letter_of(20, "ida", "<p>ida 1,2,3,4</p>", mark, "html")])
+        letters = [letter_of(number, name, text) for number, (name, text) in enumerate(texts, start=1)]
+        return [*letters, letter_of(20, "ida", "<p>ida 1,2,3,4</p>", "html")]
 
     def votes(self) -> None:
         self.write("lines", LINES)
-        self.write("mail", self.mailbox())
+        self.write_mail(*self.mails())
         self.started("letters", "call")
         self.set_clock(TEN)
         self.each(["add --look lines", *["add --yes --force lines"] * 2])
         # all are repaired; or a table, of which nothing is
-        self.started("add", "-", given="Ada Lovelace: 1;2;3;4\nBen 1, 2, 3, 4\n")
+        self.started("add", "-", given="Ada: 1,2, 3,4\nBen 1, 2, 3, 4\n")
         self.started("add", "--force", "-", given="Name;a;b;c;d\nada 1,2,3,4\nBen 1, 2, 3, 4\n")
         # below a ballot no line is the head of a table
         for number in range(3):
             self.write(f"odd{number}", f"ada 1,2,3,4\nBen 1, 2, 3, {number + 1}\ncleo 1,2,{number},4\n")
         self.started("add", "odd0", "odd1", "odd2", most=2)
         self.each(["add --look mail", *["add --yes mail"] * 2])
-        self.each(["held", "held 2", "held 2 --enter 1 --force", "held 3 4 --set-aside"])
+        self.each(["held", "held 2", "held 1 --enter --force", "held 3 4 --set-aside"])
         self.started("held", "7", "--as", "fay 1,2,3,4", "--as", "gus 1,2,4,3", "--force", most=1)
         self.started("desk", given="ada 1,2,3,4\n")
         self.each(["show ada", "status", "status --json", "undo --yes", "log", "log --check", "strike 1 --because x"])
@@ -127,12 +127,12 @@ class Several(Starts):
             self.write(f"polls/{label}.toml", elections.POLL)
 
     def test_each_command(self) -> None:
-        self.write("lines", "ada A 1,2,3,4 B 4,3,2,1\nben a: 1;2;3;4\nBen B 1, 2, 3, 4\ncleo A 1,2 B 1,2,3,4\nzoe A 1,2,3,4\n")
-        mark = hashlib.sha256(self.read("call/polls.sha256")).hexdigest()[:16]
+        self.write("lines", "ada A 1,2,3,4 B 4,3,2,1\nben a: 1, 2,3,4\nBen B 1, 2, 3, 4\ncleo A 1,2 B 1,2,3,4\nzoe A 1,2,3,4\n")
         texts = [("ada", "ada\nA 2,1,3,4\n\nB 1,2,3,4"), ("dan", "A 1,2,3,4\nB 1,2,3,4"), ("eve", "eve A 1,2\nB 1,2,3,4"), ("fay", "gus B 1,2,3,4")]
-        self.write("mail", "".join(letter_of(number, name, text, mark) for number, (name, text) in enumerate(texts, start=1)))
+        self.write_mail(*(letter_of(number, name, text) for number, (name, text) in enumerate(texts, start=1)))
         self.set_clock(TEN)
-        self.each(["add --force lines", "add lines", "add --yes mail", "held", "held 2 --enter --force", "held 3 4 --set-aside"])
+        self.each(["add --force lines", "add lines", "add --yes mail", "held", "held 1 --enter --force", "held 3 4 --set-aside"])
+        self.started("held", "2", "--as", "dan A 1,2,3,4 B 1,2,3,4", most=1)
         self.started("desk", given="ida A 1,2,3,4\n")
         self.each(["show ada", "status", "undo --yes", "strike 1 --because x", "letters receipts"])
         self.set_clock(ELEVEN)

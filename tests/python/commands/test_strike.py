@@ -87,21 +87,16 @@ class AtATerminal(CalledTest):
         return output
 
     def test_it_asks(self) -> None:
-        """No answer, at the end of the input, is a no; another act changes nothing of it."""
+        """No answer, at the end of the input, is a no; another act changes nothing of it, but one that strikes it."""
+        self.assertNotIn("[y/n]", Terminal(self, "strike", "9", "--yes", *WHY).end()[0])
+        self.assert_fault(self.election("strike", 1, *WHY), 9, "there is no envelope 1; no ballot has come yet; ")
         self.told("add", given=f"ada {RANKS}\nben {RANKS}\n")
         before = self.last_act()
         for keys in ("n\n", "\x04"):
             self.assertIn(": you did not say yes; nothing was changed: ", self.end(self.asked(), keys, 9))
             self.assertEqual(self.last_act(), before)
-        terminal = self.asked()
+        first, second = self.asked(), self.asked()
         self.told("desk", given=f"cleo {RANKS}\n")
-        self.assertNotIn("[y/n]", self.end(terminal, "y\n", 0))
+        self.assertNotIn("[y/n]", self.end(first, "y\n", 0))
         self.assertEqual(self.lines(), [f"ben {RANKS}", f"cleo {RANKS}"])
-
-    def test_another_one_strikes_it_meanwhile(self) -> None:
-        self.assertNotIn("[y/n]", Terminal(self, "strike", "9", "--yes", *WHY).end()[0])
-        self.assert_fault(self.election("strike", 1, *WHY), 9, "there is no envelope 1; no ballot has come yet; ")
-        self.told("add", given=f"ada {RANKS}\n")
-        terminal = self.asked()
-        self.told("strike", "1", *WHY)
-        self.assertIn("envelope 1 is struck already", self.end(terminal, "y\n", 9))
+        self.assertIn("envelope 1 is struck already", self.end(second, "y\n", 9))

@@ -1,10 +1,13 @@
 """`undo`: the last act that entered lines is taken back, and nothing else."""
 
+import json
+
 from debvote_tools.book import queries
 from debvote_tools.inbox.letter_lines import to_json
 
-from tests.support import letters
+from tests.support import elections, letters
 from tests.support.called import HALL, LAKE, OTHER_RANKS, RANKS, CalledTest
+from tests.support.questions import QuestionsTest
 from tests.support.terminal import Terminal
 
 
@@ -41,16 +44,15 @@ class Undo(CalledTest):
         left = "  ada: no ballot is left\n  cleo: no ballot is left\n"
         self.assertRegex(self.told("undo"), rf"^Took back 2 lines \(act .*, envelopes 2, 4\)\.\n{left}Next: ")
         self.assertEqual([envelope.struck for envelope in self.envelopes()], [self.first_act + act for act in (3, 4, 2, 4)])
-
-    def test_an_act_of_which_nothing_stands(self) -> None:
-        """There is nothing of it to take back; what is taken back is what came before it."""
+        # of an act of which nothing stands there is nothing to take back, but what came before it
         self.told("add", given=f"ada {RANKS}\n")
         self.told("desk", given=f"ben {RANKS}\n")
-        self.told("strike", 2, "--because", "a test")
-        said = rf"^Took back 1 line \(act {self.first_act}: add of standard input, .*, envelope 1\)\.\n  ada: no ballot is left\n"
+        self.told("strike", 6, "--because", "a test")
+        said = rf"^Took back 1 line \(act {self.first_act + 5}: add of standard input, .*, envelope 5\)\.\n  ada: no ballot is left\n"
         self.assertRegex(self.told("undo"), said)
         self.told("desk", given=f"cleo {RANKS}\n")
-        self.told("strike", 3, "--because", "a test")
+        self.told("strike", 7, "--because", "a test")
+        self.assertEqual(self.lines(), [])
         self.assert_stops(self.election("undo"), self.last_act(), 9, "undo: there is nothing to take back; nothing was changed: ")
 
     def test_after_the_close_and_after_reopen(self) -> None:
@@ -66,6 +68,25 @@ class Undo(CalledTest):
         self.assertRegex(self.told("undo"), r"^Took back 1 line \(.*, envelope 2\)\.\nNext: ")
         self.assertEqual((self.lines(), self.late_lines()), ([f"ada {RANKS}"], []))
 
+    def test_what_is_not_entered_again_is_told(self) -> None:
+        """By status, close, page and letter; not what has come again with the same ranks, was refused, or was late."""
+        lines = [f"ada {RANKS}", f"ben {RANKS}", f"cleo {RANKS}", "dan 1,2"]
+        self.told("add", given="".join(f"{line}\n" for line in lines))
+        self.told("undo")
+        self.told("add", given=f"ada {RANKS}\nben {OTHER_RANKS}\n")
+        self.told("strike", 5, "--because", "a test")
+        said = "Strikes: 1. Taken back, and not entered again as they were: 3 (envelopes 1-3)."
+        self.assertIn(f"\n{said}\n", self.told("status"))
+        numbers = json.loads(self.told("status", "--json"))
+        self.assertEqual((numbers["struck"], numbers["taken_back"]), (1, 3))
+        self.told("desk", given=f"ada {RANKS}\n")
+        said = said.replace("3 (envelopes 1-3)", "2 (envelopes 2-3)")
+        self.assertIn(f" {said} End of the vote: ", self.told("close"))
+        self.election("publish")
+        said = "The secretary took back ballots that had been entered. Not entered again as they were: envelopes 2-3."
+        for name in ("letters/result.txt", "result/index.html"):
+            self.assertIn(said, " ".join(self.read(name).decode().split()), name)
+
     def test_letters_wait_as_taken_back(self) -> None:
         """An act that enters lines is known by its envelopes, whatever its name is."""
         with self.book.act("offer") as act:
@@ -80,6 +101,36 @@ class Undo(CalledTest):
         self.assertEqual(self.lines(), [])
         states = "SELECT letter, state FROM letter_state WHERE act = ? ORDER BY letter"
         self.assertEqual(self.book.rows(states, self.last_act()), [(1, "taken back"), (2, "taken back")])
+
+
+class Secret(CalledTest):
+    poll = f"{elections.POLL}secret = true\n"
+
+    def test_how_many_are_told_and_not_which(self) -> None:
+        self.told("add", given=f"ada {RANKS}\nben {RANKS}\ncleo {RANKS}\n")
+        self.told("undo")
+        self.told("add", given=f"ben {RANKS}\ncleo {OTHER_RANKS}\ndan {OTHER_RANKS}\n")
+        self.assertIn("\nStrikes: 0. Taken back, and not entered again as they were: 2.\n", self.told("status"))
+        self.assertIn(" Taken back, and not entered again as they were: 2. End", self.told("close"))
+        self.done("publish")
+        for name in ("letters/result.txt", "result/index.html"):
+            said = " ".join(self.read(name).decode().split())
+            self.assertIn("The secretary took back ballots that had been entered. Not entered again as they were: 2.", said, name)
+            self.assertNotIn("envelopes 1", said)
+
+
+class OfQuestions(QuestionsTest):
+    def test_each_question_for_itself(self) -> None:
+        """What is entered again in parts is entered again; each page tells what has an answer to its question."""
+        self.add_lines("ada A 1,2 B 1,2,3", "ben A 1,2 B 1,2,3", "cleo C 1,2,3,4")
+        self.told("undo")
+        self.add_lines("ada A 1,2", "ada B 1,2,3", "ben A 1,2 B 2,1,3", "cleo C 1,2,3,4")
+        self.assertIn(" not entered again as they were: 1 (envelopes 2).\n", self.told("status"))
+        self.told("close")
+        self.election("publish")
+        said = "Not entered again as they were: envelopes 2."
+        told = [said in " ".join(self.read(f"result/{label}/index.html").decode().split()) for label in "ABC"]
+        self.assertEqual(told, [False, True, False])
 
 
 class AtATerminal(CalledTest):

@@ -184,11 +184,10 @@ class Added(CalledTest):
         self.assertEqual(ended.status, 9)
 
     def test_more_lines_than_debvote_takes(self) -> None:
-        lines = [f"ada {a},{b},1,2" for a in range(1, 100) for b in range(1, 100)] * 10
+        lines = [f"ada {a},{b},1,2" for a in range(1, 100) for b in range(1, 100)] * 10 + [f"ben {RANKS}"] * 1_990
         replies = [line for line in self.told("add", given="\n".join(lines)).splitlines() if line[0].isdigit()]
-        self.assertEqual([int(line.split()[0]) for line in replies], list(range(1, 98_011)))
+        self.assertEqual([int(line.split()[0]) for line in replies], list(range(1, 100_001)))
         self.assertEqual(self.lines(), lines)
-        self.told("add", given=f"ben {RANKS}\n" * (100_000 - len(self.lines())))
         said = "with the new lines there would be 100001 lines and "
         limits = "; nothing was added: debvote takes at most 100000 lines and 33554432 bytes: add fewer"
         self.assert_refused(("add",), 4, said, limits, given=f"cleo {RANKS}\n")
@@ -246,6 +245,7 @@ class AfterTheEnd(CalledTest):
         self.act("reopen", {"because": "a bag was forgotten"})
         said = " and opened again, and only what came before counts; nothing was added: say whether this came before that close: "
         self.assert_refused(("add", "bag"), 9, "--came-before-close: the vote was closed at ", said)
+        self.assert_refused(("desk",), 9, "--came-before-close: the vote was closed at ", said.replace("added", "entered"), given=f"eve {RANKS}\n")
         self.assertIn("5 counted  cleo: ", self.told("add", "--came-before-close", "yes", "bag"))
         self.assertIn("6 late  dan: ", self.told("add", "--came-before-close", "no", given="dan 1,2,4,3\n"))
         self.assertEqual((self.lines()[2:], self.late_lines()[2:]), (["cleo 1,2,4,3"], ["dan 1,2,4,3"]))
@@ -254,7 +254,8 @@ class AfterTheEnd(CalledTest):
         self.assertIn("7 counted  dan: ", self.told("desk", "--came-before-close", "yes", given="dan 2,1,4,3\n"))
         # the announced end is of no matter any more
         for command, answer in itertools.product(("add", "desk"), ("yes", "no")):
-            self.assertNotIn("Note", self.told(command, "--came-before-close", answer, given="eve 1,2,4,3\neve 2,1,4,3\n"))
+            output = self.told(command, "--came-before-close", answer, given="eve 1,2,4,3\neve 2,1,4,3\n")
+            self.assertEqual(("Note" in output, " late  eve: " in output), (False, (command, answer) == ("desk", "no")))
 
 
 class NoBallots(CalledTest):

@@ -20,7 +20,7 @@ from debvote_tools.inbox.mailbox import NotRead, RawLetter, are_letters, letters
 from debvote_tools.poll.box import list_digest, script_of
 from debvote_tools.text import times
 
-from tests.support.elections import ElectionTest
+from tests.support.elections import ANY_MARK, ElectionTest
 from tests.support.letters import read_in
 from tests.support.web_host import ASK, END, FIRST, KEY, LINKS, MARK, NEEDS_PHP, OWNS, WORD
 from tests.support.web_host import BoxTest, Host, Liar, answered, ballot, firewall, passed_on, record
@@ -58,9 +58,7 @@ class Honest(BoxTest):
     def test_records_come_as_a_mailbox(self) -> None:
         host = self.host()
         self.assertEqual(ask(host.at, MARK, WORD)[1:], (0, list_digest(self.script), b""))
-        for number, (name, ranks) in enumerate(
-            (("ada", "1,2"), ("ben-lee", "2,1"), ("ada", "2,-")), start=1
-        ):
+        for number, (name, ranks) in enumerate((("ada", "1,2"), ("ben-lee", "2,1"), ("ada", "2,-")), start=1):
             self.assertEqual(host.send(ballot(name, ranks, number)).word, "received")
         before = times.now()
         asked = ask(f"{host.at}index.html", MARK, WORD)
@@ -68,43 +66,24 @@ class Honest(BoxTest):
         self.assertLessEqual(before, asked.time)
         self.assertEqual(asked.records, self.file.read_bytes().removeprefix(FIRST))
         letters = letters_of_file("box", asked.records)
-        self.assertEqual(
-            [(letter.is_parted_off, letter.why_not_read) for letter in letters], [(False, None)] * 3
-        )
+        self.assertEqual([(letter.is_parted_off, letter.why_not_read) for letter in letters], [(False, None)] * 3)
         read = [parse(letter) for letter in letters]
         self.assertEqual([letter.marks for letter in read], [((MARK, ""),)] * 3)
-        self.assertEqual(
-            [letter.body.lines[0] for letter in read], ["ada 1,2", "ben-lee 2,1", "ada 2,-"]
-        )
+        self.assertEqual([letter.body.lines[0] for letter in read], ["ada 1,2", "ben-lee 2,1", "ada 2,-"])
         self.assertEqual([letter.body.trouble for letter in read], [None] * 3)
         found = [email.message_from_bytes(letter.data) for letter in letters]
-        self.assertEqual(
-            [letter["X-Link"] for letter in found], [LINKS["ada"], LINKS["ben-lee"], LINKS["ada"]]
-        )
+        self.assertEqual([letter["X-Link"] for letter in found], [LINKS["ada"], LINKS["ben-lee"], LINKS["ada"]])
         # the last is in its own second, at the latest two after now
-        self.assertTrue(
-            all(letter.arrived and abs(letter.arrived - before) < HOUR for letter in read)
-        )
+        self.assertTrue(all(letter.arrived and abs(letter.arrived - before) < HOUR for letter in read))
         # the file itself, fetched from the host, has the same letters
-        self.assertEqual(
-            [letter.data for letter in letters_of_file("x", self.file.read_bytes())],
-            [letter.data for letter in letters],
-        )
+        self.assertEqual([letter.data for letter in letters_of_file("x", self.file.read_bytes())], [letter.data for letter in letters])
         self.assertTrue(are_letters(self.file.read_bytes()))
-        self.assertEqual(
-            [letter.data + b"\n" for letter in letters],
-            [
-                END.join([record.split(b"\n", 1)[1], b""])
-                for record in asked.records.split(END)[:-1]
-            ],
-        )
+        self.assertEqual([letter.data + b"\n" for letter in letters], [END.join([record.split(b"\n", 1)[1], b""]) for record in asked.records.split(END)[:-1]])
 
     def test_another_script_lies_there(self) -> None:
         test, host = AskingTest(), self.host()
         (self.folder / "vote.php").write_bytes(script_of(b"x" * 32, MARK, OWNS))
-        test.stopped(
-            host.at, "it answers 403: unknown: another word", "upload vote.php of the folder call"
-        )
+        test.stopped(host.at, "it answers 403: unknown: another word", "upload vote.php of the folder call")
         (self.folder / "vote.php").write_bytes(script_of(KEY, "f" * 16, OWNS))
         test.stopped(host.at, f"it is the box of another vote, [{'f' * 16}]")
         # an older list is told by its digest alone
@@ -120,32 +99,27 @@ class Honest(BoxTest):
 
     def test_php_that_does_not_run(self) -> None:
         with Liar(lambda request: [answered(self.script)]) as host:
-            AskingTest().stopped(
-                host.at,
-                "it shows the script as a text: PHP does not run there",
-                "take vote.php away",
-            )
+            AskingTest().stopped(host.at, "it shows the script as a text: PHP does not run there", "take vote.php away")
 
 
 class Fetched(ElectionTest):
     """The file of the box, fetched from the web host by hand: nobody knows whose the links are."""
 
-    def test_its_letters_wait_and_are_offered(self) -> None:
-        [mark] = {*re.findall(r"\[([0-9a-f]{16})\]", self.read("call/call.txt").decode())}
+    def test_its_letters_wait(self) -> None:
+        mark = self.of_this_vote(ANY_MARK.encode()).decode()
         arrived = (times.now() + datetime.timedelta(seconds=2)).isoformat()
-        records = [
-            record("ada", "ada 1,2,3,4", 1, arrived, mark),
-            record("ben", "ben 2,1,-,9", 2, arrived, mark),
-        ]
+        records = [record("ada", "ada 1,2,3,4", 1, arrived, mark), record("ben", "ben 2,1,-,9", 2, arrived, mark)]
         self.write("box.php", FIRST + "".join(records).encode())
         said = self.done("add", "--yes", "box.php").output
-        self.assertIn(
-            "it came by the page of the vote with a link that is not that of ada now", said
-        )
+        self.assertIn("it came by the page of the vote with a link that is not that of ada now", said)
         self.assertIn("0 ballots of letters went in; 2 letters wait.", said)
         self.assertEqual(said.count(f"{arrived[:10]} {arrived[11:19]} UTC"), 2)
         self.assertNotIn("X-Link", self.done("held", "1").output)
-        self.done("held", "1", "--enter", "1")
+        ended = self.election("held", "1", "--enter")
+        self.assertEqual((ended.status, ended.faults.count("repeat it with --force\n")), (9, 2), ended.faults)
+        for fault in ("it does not say that it came by the page of this call", "its sender and its subject do not show that it is of ada"):
+            self.assertIn(f"letter 1: {fault}", ended.faults)
+        self.done("held", "1", "--enter", "--force")
         self.assertEqual(self.done("export", "out").status, 0)
         self.assertEqual(self.read("out/ballots.txt"), b"ada 1,2,3,4\n")
 
@@ -193,11 +167,7 @@ class Addresses(AskingTest):
             "vote/",
         ):
             with self.subTest(at):
-                self.stopped(
-                    at,
-                    "--box: the page needs an address by https that ends in / or .html",
-                    status=Status.BAD_WORDS,
-                )
+                self.stopped(at, "--box: the page needs an address by https that ends in / or .html", status=Status.BAD_WORDS)
 
 
 class Dishonest(AskingTest):
@@ -209,47 +179,21 @@ class Dishonest(AskingTest):
         moved = answered(b"", 301, "Location: https://else.example/vote.php")
         for sent, *parts in (
             (moved, "it sends on to https://else.example/vote.php", "--at of call"),
-            (
-                answered(b"", 302, "Location: https://else.example/\x1b[31m"),
-                "it sends on to https://else.example/\\u001B[31m",
-            ),
+            (answered(b"", 302, "Location: https://else.example/\x1b[31m"), "it sends on to https://else.example/\\u001B[31m"),
             (answered(b"", 308), "it sends on to nowhere"),
-            (
-                answered(b"no\x1b[31m\nsuch  file", 404),
-                "it answers 404: no\\u001B[31m such file",
-                "upload vote.php",
-            ),
-            (
-                answered(b"<b>Fatal error</b>: x", 500),
-                "it answers 500: <b>Fatal error</b>: x",
-                "PHP 8.1 or later",
-            ),
-            (
-                answered(b"<?php\n// The box"),
-                "it shows the script as a text: PHP does not run there",
-            ),
+            (answered(b"no\x1b[31m\nsuch  file", 404), "it answers 404: no\\u001B[31m such file", "upload vote.php"),
+            (answered(b"<b>Fatal error</b>: x", 500), "it answers 500: <b>Fatal error</b>: x", "PHP 8.1 or later"),
+            (answered(b"<?php\n// The box"), "it shows the script as a text: PHP does not run there"),
             (answered(b"\r\n<?php\n", 405), "it shows the script as a text"),
-            (
-                answered(b"<!doctype html>" + b"x" * 9_000),
-                "it does not answer as a box: <!doctype html>xx",
-            ),
+            (answered(b"<!doctype html>" + b"x" * 9_000), "it does not answer as a box: <!doctype html>xx"),
             (answered(b""), "it does not answer as a box: "),
             (answered(b"\n" + good), "it does not answer as a box: box 1 "),
             (answered(good.replace(b"box 1", b"box 2")), "it does not answer as a box: box 2 "),
             (answered(good.replace(b"-", b"/")), "it does not answer as a box: "),
-            (
-                answered(re.sub(rb" 20\d\d-\d\d", b" 2026-13", good)),
-                "it does not answer as a box: ",
-            ),
+            (answered(re.sub(rb" 20\d\d-\d\d", b" 2026-13", good)), "it does not answer as a box: "),
             (answered(head(now, "f" * 16)), "it is the box of another vote, [ffffffffffffffff]"),
             # kept, such a time would stop each later command: no difference could be added to it
-            *(
-                (
-                    answered(re.sub(rb" 20\d\d-", f" {year}-".encode(), good)),
-                    "it does not answer as a box: box 1 ",
-                )
-                for year in ("0001", "1970", "2100", "9999")
-            ),
+            *((answered(re.sub(rb" 20\d\d-", f" {year}-".encode(), good)), "it does not answer as a box: box 1 ") for year in ("0001", "1970", "2100", "9999")),
             (answered(good, 201), "it answers 201: box 1 "),
             # an answer that was cut off, also where its length is not told
             (answered(good + RECORD)[:-1], "its answer was cut off", "run the command again"),
@@ -258,17 +202,11 @@ class Dishonest(AskingTest):
             (answered(good + b"x" + RECORD), "its answer was cut off"),
             (answered(good + RECORD[:-7]), "its answer was cut off"),
             (b"HTTP/1.1 200 OK\r\n\r\n" + good, "its answer was cut off"),
-            (
-                b"HTTP/1.1 200 OK\r\nTransfer-Encoding: chunked\r\n\r\n6\r\nbox 1 \r\n",
-                "its answer was cut off",
-            ),
+            (b"HTTP/1.1 200 OK\r\nTransfer-Encoding: chunked\r\n\r\n6\r\nbox 1 \r\n", "its answer was cut off"),
             (b"HTTP/1.1 200 OK\r\n", "its answer was cut off"),
             (b"220 mail.example \x1b[31m\r\n", "it does not answer: 220 mail.example \\u001B[31m"),
             (b"", "it does not answer: "),
-            (
-                b"HTTP/1.1 200 OK\r\nX: " + b"x" * 70_000,
-                "it does not answer: got more than 65536 bytes",
-            ),
+            (b"HTTP/1.1 200 OK\r\nX: " + b"x" * 70_000, "it does not answer: got more than 65536 bytes"),
         ):
             self.refuses([sent], *parts)
         with Liar(lambda request: []) as host:
@@ -280,13 +218,7 @@ class Dishonest(AskingTest):
 
     def test_a_whole_answer_in_pieces_is_taken(self) -> None:
         good = head(times.now()) + RECORD * 3
-        chunks = (
-            b"".join(
-                b"%x\r\n%b\r\n" % (len(part), part)
-                for part in (good[:50], good[50:300], good[300:])
-            )
-            + b"0\r\n\r\n"
-        )
+        chunks = b"".join(b"%x\r\n%b\r\n" % (len(part), part) for part in (good[:50], good[50:300], good[300:])) + b"0\r\n\r\n"
         for sent in (
             [answered(good)[place : place + 90] for place in range(0, 900, 90)],
             [b"HTTP/1.1 200 OK\r\nTransfer-Encoding: chunked\r\n\r\n", chunks],
@@ -297,22 +229,15 @@ class Dishonest(AskingTest):
 
     def test_the_word_goes_to_this_address_alone(self) -> None:
         with Liar(lambda request: [answered(head(times.now()))]) as other:
-            with Liar(
-                lambda request: [answered(b"", 307, f"Location: {other.at}vote.php")]
-            ) as host:
+            with Liar(lambda request: [answered(b"", 307, f"Location: {other.at}vote.php")]) as host:
                 self.stopped(host.at, f"it sends on to {other.at}vote.php")
                 [request] = host.requests
         self.assertEqual(other.requests, [])
-        self.assertTrue(
-            request.startswith(b"POST /vote.php HTTP/1.1\r\n")
-            and request.endswith(b"\r\n\r\n" + ASK)
-        )
+        self.assertTrue(request.startswith(b"POST /vote.php HTTP/1.1\r\n") and request.endswith(b"\r\n\r\n" + ASK))
         self.assertIn(b"\r\nContent-Type: application/x-www-form-urlencoded\r\n", request)
         self.assertNotIn(KEY.hex().encode(), request)
         # nor to a proxy that the environment names
-        with unittest.mock.patch.dict(
-            os.environ, {"http_proxy": other.at, "HTTP_PROXY": other.at, "all_proxy": other.at}
-        ):
+        with unittest.mock.patch.dict(os.environ, {"http_proxy": other.at, "HTTP_PROXY": other.at, "all_proxy": other.at}):
             with Liar(lambda request: [answered(head(times.now()))]) as host:
                 ask(host.at, MARK, WORD)
         self.assertEqual((other.requests, len(host.requests)), ([], 1))
@@ -329,20 +254,13 @@ class Dishonest(AskingTest):
         with unittest.mock.patch.object(box_records, "LONGEST_ANSWER", len(good + RECORD)):
             with Liar(lambda request: [answered(good + RECORD)]) as host:
                 self.assertEqual(ask(host.at, MARK, WORD).records, RECORD)
-            self.refuses(
-                [answered(good + RECORD * 2)], f"it answers more than {len(good + RECORD)} bytes"
-            )
+            self.refuses([answered(good + RECORD * 2)], f"it answers more than {len(good + RECORD)} bytes")
 
     def test_how_far_its_clock_is_off(self) -> None:
         """No more than is certain: the time that the answer took, before the host looked at its clock and
         after it, is no fault of the clock.
         """
-        for off, before, after, least, most in (
-            (0, 0, 1.2, 0, 0),
-            (0, 2.2, 0, 0, 0),
-            (180, 0, 1.2, -180, -120),
-            (-180, 0, 1.2, 120, 183),
-        ):
+        for off, before, after, least, most in ((0, 0, 1.2, 0, 0), (0, 2.2, 0, 0, 0), (180, 0, 1.2, -180, -120), (-180, 0, 1.2, 120, 183)):
 
             def lie(request: bytes) -> Iterable[bytes | float]:
                 yield before
@@ -401,9 +319,7 @@ class Lying(BoxTest):
         for name, change in {
             "drops": lambda body: body.replace(records[0], b""),
             "changes": lambda body: body.replace(b"ada 1,2", b"ada 2,1"),
-            "backdates": lambda body: body.replace(
-                b"Received: by box; ", b"Received: by box; Mon, 23 Nov 2026 10:00:00 +0000\nX: "
-            ),
+            "backdates": lambda body: body.replace(b"Received: by box; ", b"Received: by box; Mon, 23 Nov 2026 10:00:00 +0000\nX: "),
             "votes": lambda body: body + records[1].replace(b"2,1", b"1,2").replace(b"<00", b"<ff"),
         }.items():
             with self.subTest(name):
@@ -412,11 +328,12 @@ class Lying(BoxTest):
                 self.assertEqual(asked.records, change(body)[len(head(honest.time)) :])
                 self.assertEqual((asked.behind, asked.list_digest), (0, honest.list_digest))
         # it refuses what is no field of a form, like a web firewall
-        with Host(self.folder) as host, Liar(firewall(host)) as liar:
-            self.assertEqual(ask(liar.at, MARK, WORD).records, honest.records)
-            with self.assertRaisesRegex(Fault, "it answers 403: unknown: another word"):
-                ask(liar.at, MARK, "0" * 64)
-            self.assertEqual(len(liar.requests), 4)
+        for status in (403, 406):
+            with Host(self.folder) as host, Liar(firewall(host, status)) as liar:
+                self.assertEqual(ask(liar.at, MARK, WORD).records, honest.records)
+                with self.assertRaisesRegex(Fault, "it answers 403: unknown: another word"):
+                    ask(liar.at, MARK, "0" * 64)
+                self.assertEqual(len(liar.requests), 4)
         # an answer of an hour ago has the time of then
         old = head(honest.time - HOUR) + honest.records
         replayed = self.asked_by(lambda body: old)
@@ -431,25 +348,8 @@ class Certificates(AskingTest):
 
         def made(name: str, subject: str) -> ssl.SSLContext:
             key, certificate = place / f"{name}.key", place / f"{name}.pem"
-            words = [
-                "openssl",
-                "req",
-                "-x509",
-                "-newkey",
-                "rsa:2048",
-                "-nodes",
-                "-keyout",
-                key,
-                "-out",
-                certificate,
-                "-days",
-                "2",
-            ]
-            subprocess.run(
-                [*words, "-subj", "/CN=x", "-addext", f"subjectAltName={subject}"],
-                check=True,
-                capture_output=True,
-            )
+            words = ["openssl", "req", "-x509", "-newkey", "rsa:2048", "-nodes", "-keyout", key, "-out", certificate, "-days", "2"]
+            subprocess.run([*words, "-subj", "/CN=x", "-addext", f"subjectAltName={subject}"], check=True, capture_output=True)
             context = ssl.SSLContext(ssl.PROTOCOL_TLS_SERVER)
             context.load_cert_chain(certificate, key)
             return context
@@ -459,17 +359,11 @@ class Certificates(AskingTest):
 
         right, other = made("right", "IP:127.0.0.1"), made("other", "DNS:else.example")
         with Liar(lie, right) as host:
-            self.stopped(
-                host.at,
-                "its certificate is not right: self-signed certificate",
-                "the clock of this computer",
-            )
+            self.stopped(host.at, "its certificate is not right: self-signed certificate", "the clock of this computer")
             self.assertEqual(host.requests, [])
             with unittest.mock.patch.dict(os.environ, {"SSL_CERT_FILE": str(place / "right.pem")}):
                 self.assertEqual(ask(host.at, MARK, WORD).records, RECORD)
-        with Liar(lie, other) as host, unittest.mock.patch.dict(
-            os.environ, {"SSL_CERT_FILE": str(place / "other.pem")}
-        ):
+        with Liar(lie, other) as host, unittest.mock.patch.dict(os.environ, {"SSL_CERT_FILE": str(place / "other.pem")}):
             self.stopped(host.at, "its certificate is not right: IP address mismatch")
             self.assertEqual(host.requests, [])
         # a server without TLS

@@ -13,15 +13,17 @@ import unittest
 import zoneinfo
 from concurrent.futures import ThreadPoolExecutor
 
+from debvote_tools.book.election import Election
 from debvote_tools.inbox.judging import Ballot
 from debvote_tools.inbox.letter import ParsedLetter
 from debvote_tools.inbox.box_records import MOST
-from debvote_tools.poll.box import asking_word, third_part, list_digest
+from debvote_tools.poll.box import asking_word, list_digest, page_of, third_part
 from debvote_tools.poll.sealed import OWN_SIGNS
 
 from tests.support import at_browser, boxes, elections
 from tests.support.letters import OWN, at, judged, letter, mailbox, outcome, outcomes, parsed
-from tests.support.web_host import FIRST, NEEDS_PHP, Liar, ballot, passed_on, request_of, record
+from tests.support.program import PROGRAM
+from tests.support.web_host import FIRST, MARK, NEEDS_PHP, Liar, ballot, passed_on, request_of, record
 
 BERLIN = zoneinfo.ZoneInfo("Europe/Berlin")
 HTTPS = ("--at", "https://club.example/vote/")
@@ -37,27 +39,18 @@ class CallWithBox(elections.ElectionTest):
             (("--at", "http://club.example/vote/"), ["--box: the page needs"]),
             (("--at", "https://club.example/vote"), ["--box: the page needs"]),
             (("--at", "https://club.example/?a=/"), ["--box: the page needs"]),
-            (
-                ("--keyring", "x", "--at", "http://club.example/"),
-                ["--box: the page needs", "--box: letters have to be signed", "x: No such file"],
-            ),
+            (("--keyring", "x", "--at", "http://club.example/"), ["--box: the page needs", "--box: letters have to be signed", "x: No such file"]),
         ):
             with self.subTest(words=words):
                 ended = self.election("call", "--box", *words)
-                self.assertEqual(
-                    (ended.status, len(ended.faults.splitlines())), (2, len(parts)), ended
-                )
+                self.assertEqual((ended.status, len(ended.faults.splitlines())), (2, len(parts)), ended)
                 for part, line in zip(parts, ended.faults.splitlines()):
                     self.assertIn(part, line)
         self.assertEqual(self.contents(), before)
         self.write("poll.toml", "secret = true\n" + elections.POLL)
         self.done("codes")
         ended = self.election("call", "--box", "--keyring", "x")
-        for part in (
-            "needs an address",
-            "have to be signed",
-            "the vote is secret, and whoever keeps",
-        ):
+        for part in ("needs an address", "have to be signed", "the vote is secret, and whoever keeps"):
             self.assertIn(part, ended.faults)
 
     def test_the_folder_the_key_and_another_call(self) -> None:
@@ -70,10 +63,7 @@ class CallWithBox(elections.ElectionTest):
         self.assert_fault(self.election("call", "--keyring", "x"), 9, fault)
         self.assertIn("0 * * * * XDG_STATE_HOME=", ended.output)
         self.assertIn(f"debvote-election add --folder {self.folder} --box --yes", ended.output)
-        self.assertIn(
-            "upload the files of call to https://club.example/vote/, vote.php too, then run debvote-election add --box",
-            ended.output,
-        )
+        self.assertIn("upload the files of call to https://club.example/vote/, vote.php too, then run debvote-election add --box", ended.output)
         script = self.read("call/vote.php")
         self.assertNotIn(b"vote.php", self.read("call/SHA256SUMS"))
         [(key,)] = self.rows("SELECT data FROM sealed WHERE name = 'box key'")
@@ -85,24 +75,13 @@ class CallWithBox(elections.ElectionTest):
         self.assertEqual(self.read("call/vote.php"), script)
         self.done("call", *boxes.UNTIL)
         self.assertEqual(self.read("call/vote.php"), script)
-        self.assertEqual(
-            self.rows("SELECT count(*) FROM sealed WHERE name = 'call/vote.php'"), [(1,)]
-        )
+        self.assertEqual(self.rows("SELECT count(*) FROM sealed WHERE name = 'call/vote.php'"), [(1,)])
         # a new address makes another script, a new key for signatures none
-        self.write(
-            "members.csv", elections.members_of(elections.NAMES).replace("ben@club", "ben@new")
-        )
+        self.write("members.csv", elections.members_of(elections.NAMES).replace("ben@club", "ben@new"))
         ended = self.done("roll", "--yes")
-        self.assertIn(
-            "Upload call/vote.php again, since these electors have new links", ended.output
-        )
+        self.assertIn("Upload call/vote.php again, since these electors have new links", ended.output)
         self.assertNotEqual(self.read("call/vote.php"), script)
-        changed = [
-            old != new
-            for old, new in zip(
-                script.splitlines(), self.read("call/vote.php").splitlines(), strict=True
-            )
-        ]
+        changed = [old != new for old, new in zip(script.splitlines(), self.read("call/vote.php").splitlines(), strict=True)]
         self.assertEqual(sum(changed), 1)
         # taken back: without --box there is no script, with it the key is the same
         self.done("call", "--take-back")
@@ -113,9 +92,7 @@ class CallWithBox(elections.ElectionTest):
         self.assert_fault(self.election("add", "--box"), 2, "--box: the call was made without it")
         self.done("call", "--take-back")
         self.done("call", "--box", *HTTPS)
-        self.assertEqual(
-            self.rows("SELECT DISTINCT data FROM sealed WHERE name = 'box key'"), [(key,)]
-        )
+        self.assertEqual(self.rows("SELECT DISTINCT data FROM sealed WHERE name = 'box key'"), [(key,)])
         # the key is in nothing that leaves the book
         self.done("export", self.scratch / "out")
         files = [*self.folder.rglob("*"), *(self.scratch / "out").rglob("*")]
@@ -128,24 +105,13 @@ class CallWithBox(elections.ElectionTest):
 class Clicks(boxes.BoxElectionTest):
     def test_the_link_is_in_the_letters_to_its_elector_alone(self) -> None:
         self.begun()
-        files = {
-            file: file.read_bytes()
-            for file in self.folder.rglob("*")
-            if file.is_file() and file.name != "election.db"
-        }
+        files = {file: file.read_bytes() for file in self.folder.rglob("*") if file.is_file() and file.name != "election.db"}
         letters = {file: data for file, data in files.items() if file.suffix == ".eml"}
         self.assertEqual(len(letters), len(elections.NAMES))
         for file, data in letters.items():
             name, own, link = boxes.link_in(data)
             self.assertIn(f"-{own}]", data.partition(b"\n\n")[0].decode())
-            self.assertEqual(
-                [
-                    other
-                    for other, text in files.items()
-                    if link.encode() in text.replace(b"=\n", b"")
-                ],
-                [file],
-            )
+            self.assertEqual([other for other, text in files.items() if link.encode() in text.replace(b"=\n", b"")], [file])
             self.assertNotIn(link.encode(), data.partition(b"\n\n")[0])
 
     def test_clicks_letters_and_what_is_kept(self) -> None:
@@ -157,56 +123,38 @@ class Clicks(boxes.BoxElectionTest):
         # a look is no asking
         before = self.rows("SELECT * FROM act")
         ended = self.done("add", "--box", "--look")
-        self.assertIn(
-            "3 new letters; 0 came before.\n3 ballots of letters would go in; 0 letters wait.\nNothing was changed.",
-            ended.output,
-        )
+        self.assertIn("3 new letters; 0 came before.\n3 ballots of letters would go in; 0 letters wait.\nNothing was changed.", ended.output)
         self.assertIn("ben (box, record 2): ", ended.output)
         self.assertEqual(self.rows("SELECT * FROM act"), before)
         # letters wait for the secretary, and are not entered by what cron runs
-        box = mailbox(
-            self.of_this_vote(
-                letter(
-                    "cleo", "cleo 1,2,3,4\n", time=f"{time.strftime('%a, %d %b %Y %H:%M:%S')} +0000"
-                )
-            )
-        )
+        box = mailbox(self.of_this_vote(letter("cleo", "cleo 1,2,3,4\n", time=f"{time.strftime('%a, %d %b %Y %H:%M:%S')} +0000")))
         self.write("inbox.mbox", box)
         self.assertEqual(self.election("add", "inbox.mbox").status, 9)
         ended = self.done("add", "--box", "--yes")
         self.assertIn("The box has 3 records.\n3 new letters; 0 came before.\n", ended.output)
         self.assertNotIn("cleo", ended.output)
         self.assertEqual(self.standing(), {"ada": "4,3,2,1", "ben": "2,1,-,4"})
-        self.assertEqual(
-            self.done("add", "--box", "--yes").output.splitlines()[:2],
-            ["The box has 3 records.", "0 new letters; 3 came before."],
-        )
+        self.assertEqual(self.done("add", "--box", "--yes").output.splitlines()[:2], ["The box has 3 records.", "0 new letters; 3 came before."])
         first, second, third = self.boxes_kept()
-        self.assertEqual(
-            [(one["records"], one["gone"], one["others"]) for one in (first, second, third)],
-            [(0, 0, 0), (3, 0, 0), (3, 0, 0)],
-        )
+        self.assertEqual([(one["records"], one["gone"], one["others"]) for one in (first, second, third)], [(0, 0, 0), (3, 0, 0), (3, 0, 0)])
         self.assertEqual(first["list"], list_digest(self.read("call/vote.php")))
         # taken back, and asked again: that waits for whoever took it back
         self.done("undo")
         self.done("add", "--box", "--yes")
         self.assertEqual(self.standing(), {})
-        self.done("held", "1", "2", "3", "--enter", "--force")
-        self.assertEqual(self.standing()["ben"], "2,1,-,4")
+        # two of one elector may be of one second, so each is named apart
+        for number in ("2", "3", "4"):
+            self.done("held", number, "--enter", "--force")
+        self.assertEqual(self.standing(), {"ada": "4,3,2,1", "ben": "2,1,-,4"})
 
     def test_a_link_that_a_new_one_has_replaced_waits_and_both_addresses_are_told(self) -> None:
         links = self.begun()
-        self.write(
-            "members.csv", elections.members_of(elections.NAMES).replace("ada@club", "ada@new")
-        )
+        self.write("members.csv", elections.members_of(elections.NAMES).replace("ada@club", "ada@new"))
         self.done("roll", "--yes")
         # the host has the older list
         self.click("ada", "1,2,3,4", links["ada"])
         ended = self.done("add", "--box", "--yes")
-        self.assertIn(
-            "Note: the web host has another vote.php than the folder call, as an older one: upload that of the folder",
-            ended.output,
-        )
+        self.assertIn("Note: the web host has another vote.php than the folder call, as an older one: upload that of the folder", ended.output)
         self.assertIn("with a link that is not that of ada now", ended.output)
         self.assertEqual(self.standing(), {})
         self.done("letters", "receipts")
@@ -217,7 +165,7 @@ class Clicks(boxes.BoxElectionTest):
         self.done("letters", "call")
         new = self.links()
         self.assertNotEqual(new["ada"], links["ada"])
-        self.assertEqual(self.host.send(ballot("ada", "1,2,3,4", 999, links["ada"])).status, 403)
+        self.assertEqual(self.sent("ada", "1,2,3,4", links["ada"], 999).status, 403)
         self.click("ada", "2,1,3,4", new["ada"])
         self.done("add", "--box", "--yes")
         self.assertEqual(self.standing(), {"ada": "2,1,3,4"})
@@ -228,9 +176,7 @@ class Clicks(boxes.BoxElectionTest):
         self.click("ben", "1,2,3,4", links["ben"])
         self.done("add", "--box", "--yes")
         self.done("backup", self.scratch / "copy.db")
-        self.write(
-            "members.csv", elections.members_of(elections.NAMES).replace("ada@club", "ada@new")
-        )
+        self.write("members.csv", elections.members_of(elections.NAMES).replace("ada@club", "ada@new"))
         self.done("roll", "--yes")
         self.upload()
         self.done("add", "--box")
@@ -244,7 +190,10 @@ class Clicks(boxes.BoxElectionTest):
         self.assertIn("another vote.php than the folder call", ended.output)
         self.assertIn("a book that was put back lacks some", ended.output)
         self.assertEqual(self.standing(), {"ben": "1,2,3,4"})
-        self.done("held", "2", "--enter")
+        # the link ties nobody to it any more
+        fault = "letter 2: its sender and its subject do not show that it is of ada"
+        self.assert_fault(self.election("held", "2", "--enter"), 9, fault, "--force")
+        self.done("held", "2", "--enter", "--force")
         self.assertEqual(self.standing(), {"ada": "1,2,3,4", "ben": "1,2,3,4"})
 
     def test_a_link_of_a_call_that_was_taken_back(self) -> None:
@@ -257,6 +206,45 @@ class Clicks(boxes.BoxElectionTest):
         self.assertIn(why, said)
         self.assertEqual(self.standing(), {})
 
+    def test_a_page_of_a_call_that_was_taken_back(self) -> None:
+        """The options have another order now: no way leads from that page to a ballot of this call."""
+        self.begun()
+        page, key = self.page(), self.rows("SELECT data FROM sealed WHERE name = 'box key'")
+        self.done("call", "--take-back")
+        turned = elections.POLL.replace('"At the lake", "In the town hall"', '"In the town hall", "At the lake"')
+        self.assertNotEqual(turned, elections.POLL)
+        self.write("poll.toml", turned)
+        self.call()
+        self.done("add", "--box")
+        self.done("letters", "call")
+        self.assertEqual(self.rows("SELECT data FROM sealed WHERE name = 'box key'"), key)
+        self.assertNotEqual(self.page(), page)
+        answer = self.host.send(ballot("ada", "1,2,3,4", 1, self.links()["ada"], page))
+        self.assertEqual((answer.status, answer.word), (409, "old:"))
+        self.click("ada", "1,2,3,4", self.links()["ada"])
+        self.done("add", "--box", "--yes")
+        self.assertEqual(self.standing(), {"ada": "1,2,3,4"})
+
+    def test_a_record_that_does_not_say_of_which_page_it_is(self) -> None:
+        """A script of before kept it, or it is from another page: nobody knows what its elector read."""
+        links = self.begun()
+        for name in ("ada", "ben", "cleo"):
+            self.click(name, "1,2,3,4", links[name])
+        said = f"X-Page: {self.page()}\n".encode()
+        before, of_ada, of_ben, rest = self.file().read_bytes().split(said)
+        data = before + of_ada + b"X-Page: 0123456789abcdef\n" + of_ben + said + rest
+        self.file().write_bytes(data)
+        why = "it does not say that it came by the page of this call, and another"
+        self.assertEqual(self.done("add", "--box", "--yes").output.count(why), 2)
+        self.assertEqual(self.standing(), {"cleo": "1,2,3,4"})
+        for name, text in self.receipts().items():
+            is_told = "The reason: it came by an older page of the vote. To vote, open the link in the newest letter of this vote." in text
+            self.assertEqual(is_told, name != "cleo", name)
+        for words in (("held", "1", "--enter"), ("held", "2", "--enter")):
+            self.assert_fault(self.election(*words), 9, why, "repeat it with --force")
+            self.done(*words, "--force")
+        self.assertEqual(self.standing(), dict.fromkeys(("ada", "ben", "cleo"), "1,2,3,4"))
+
     def test_by_ftp_and_then_by_key(self) -> None:
         links = self.begun()
         self.click("ada", "1,2,3,4", links["ada"])
@@ -268,7 +256,9 @@ class Clicks(boxes.BoxElectionTest):
         self.assertEqual(ended.output.count("it is in the file of the box, which others may have changed"), 2)
         self.assertEqual(self.standing(), {})
         for text in self.receipts().values():
-            self.assertRegex(text, "A ballot of .* came by the page of the vote, with your link. It is not entered yet: the secretary has to look at it first. If ")
+            self.assertRegex(
+                text, "A ballot of .* came by the page of the vote, with your link. It is not entered yet: the secretary has to look at it first. If "
+            )
         self.done("held", "1", "--enter", "--force")
         said = self.done("add", "--box", "--yes").output
         self.assertNotIn("it has no more", said)
@@ -289,7 +279,7 @@ class Clicks(boxes.BoxElectionTest):
         text = self.receipts()["ada"]
         self.assertNotIn("from another address", text)
         for said in (
-            "It came by the page of the vote. It was read as (ada 1,2,3,4)",
+            "It came by the page of the vote. It was read as: At the lake, then In the town hall,",
             "came by the page of the vote, with your link. It was not entered. The reason: the secretary has looked at it, and set it aside.",
             "A ballot in your name came by the page of the vote, but not with your present link. The secretary has set it aside.",
         ):
@@ -301,17 +291,13 @@ class Clicks(boxes.BoxElectionTest):
 
         def wrote(name: str, ranks: str, ago: int) -> bytes:
             arrived = time.strftime("%a, %d %b %Y %H:%M:%S +0000", time.gmtime(now - ago))
-            return self.of_this_vote(
-                letter(name, f"{name} {ranks}\n", time=arrived, number=str(ago))
-            )
+            return self.of_this_vote(letter(name, f"{name} {ranks}\n", time=arrived, number=str(ago)))
 
         self.click("ada", "1,2,3,4", links["ada"])
         self.click("ben", "1,2,3,4", links["ben"])
         self.done("add", "--box", "--yes")
         # an older letter is passed over, a later one counts
-        self.write(
-            "inbox.mbox", mailbox(wrote("ada", "4,3,2,1", 600), wrote("ben", "4,3,2,1", -20))
-        )
+        self.write("inbox.mbox", mailbox(wrote("ada", "4,3,2,1", 600), wrote("ben", "4,3,2,1", -20)))
         ended = self.done("add", "--yes", "inbox.mbox")
         self.assertIn("Passed over, since a later letter of its elector went in", ended.output)
         self.assertEqual(self.standing(), {"ada": "1,2,3,4", "ben": "4,3,2,1"})
@@ -323,21 +309,14 @@ class Clicks(boxes.BoxElectionTest):
                 self.click("ada", "1,2,3,4", links["ada"])
                 self.off(seconds)
                 ended = self.done("add", "--box", "--look")
-                self.assertRegex(
-                    ended.output, rf"its clock is 1[78]\d seconds {side} that of this computer"
-                )
+                self.assertRegex(ended.output, rf"its clock is 1[78]\d seconds {side} that of this computer")
         # a letter that came between: by which clock is it the later one? the one that is read second waits
         self.off(180)
         self.done("add", "--box", "--yes")
         arrived = time.strftime("%a, %d %b %Y %H:%M:%S +0000", time.gmtime(time.time() + 100))
-        self.write(
-            "inbox.mbox", mailbox(self.of_this_vote(letter("ada", "ada 4,3,2,1\n", time=arrived)))
-        )
+        self.write("inbox.mbox", mailbox(self.of_this_vote(letter("ada", "ada 4,3,2,1\n", time=arrived))))
         ended = self.done("add", "--yes", "inbox.mbox")
-        self.assertIn(
-            "the clock of the web host was off, so it may be earlier or later than another ballot of ada",
-            ended.output,
-        )
+        self.assertIn("the clock of the web host was off, so it may be earlier or later than another ballot of ada", ended.output)
         self.assertIn("; may have voted since\n", self.done("held").output)
         why = "its elector may have voted since, as the clock of the web host was off"
         self.assert_fault(self.election("held", "3", "--enter", "--yes"), 9, why)
@@ -357,35 +336,30 @@ class Clicks(boxes.BoxElectionTest):
                 arrived = time.strftime("%a, %d %b %Y %H:%M:%S +0000", between)
                 data = self.of_this_vote(letter(name, f"{name} 4,3,2,1\n", time=arrived))
                 self.write("inbox.mbox", mailbox(data))
-                self.assertIn(
-                    f"may be earlier or later than another ballot of {name}",
-                    self.done("add", "--yes", "inbox.mbox").output,
-                )
+                self.assertIn(f"may be earlier or later than another ballot of {name}", self.done("add", "--yes", "inbox.mbox").output)
 
     def test_a_dishonest_host(self) -> None:
         links = self.begun()
         # cleo has another link than she had
-        self.write(
-            "members.csv", elections.members_of(elections.NAMES).replace("cleo@club", "cleo@new")
-        )
+        self.write("members.csv", elections.members_of(elections.NAMES).replace("cleo@club", "cleo@new"))
         self.done("roll", "--yes")
         self.click("ada", "1,2,3,4", links["ada"])
         self.done("add", "--box", "--yes")
-        mark = self.mark()
+        mark, page = self.mark(), self.page()
         at = str(self.boxes_kept()[-1]["time"])
         real = self.file().read_bytes()
         drop, ago = FIRST, time.strftime("%Y-%m-%dT%H:%M:%S", time.gmtime(time.time() - 1800))
         backdated = (
-            record("x", "ben 1,2,3,4", 99, ago, mark).replace("2" * 16, links["ben"]).encode()
+            record("x", "ben 1,2,3,4", 99, ago, mark, page).replace("2" * 16, links["ben"]).encode()
         )
         unknown = b"".join(
-            record("x", "cleo 1,2,3,4", number, at[:19], mark)
+            record("x", "cleo 1,2,3,4", number, at[:19], mark, page)
             .replace("2" * 16, "2" * 15 + sign)
             .encode()
             for number, sign in enumerate(OWN_SIGNS[: MOST + 10], start=100)
         )
-        former = record("x", "cleo 1,2,3,4", 98, ago, mark).replace("2" * 16, links["cleo"]).encode()
-        nobody = record("x", "nobody 1,2,3,4", 999, at[:19], mark).encode()
+        former = record("x", "cleo 1,2,3,4", 98, ago, mark, page).replace("2" * 16, links["cleo"]).encode()
+        nobody = record("x", "nobody 1,2,3,4", 999, at[:19], mark, page).encode()
         odd = nobody.replace(b"nobody", b"dan").replace(
             b"From: box@page.invalid\n", b"From: dan@club.example\n"
         )
@@ -395,6 +369,7 @@ class Clicks(boxes.BoxElectionTest):
             ("dropped", drop, 1, 0, 0),
             ("backdated", real + backdated, 0, 0, 2),
             ("of who never came", real + backdated + unknown + former, 0, 10, MOST + 3),
+            ("again, by others", real + backdated + unknown.replace(b"<0000", b"<1111"), MOST + 1, MOST + 10, 2),
             ("of nobody, and of another form", real + backdated + nobody + odd, MOST + 1, 2, 2),
             ("changed", changed, MOST + 3, 0, 1),
             ("replayed", replayed, MOST + 4, 0, 1),
@@ -403,13 +378,28 @@ class Clicks(boxes.BoxElectionTest):
                 self.file().write_bytes(data)
                 ended = self.done("add", "--box", "--yes")
                 kept = self.boxes_kept()[-1]
-                self.assertEqual(
-                    (kept["gone"], kept["others"], kept["records"]),
-                    (gone, others, records),
-                    ended.output,
-                )
+                self.assertEqual((kept["gone"], kept["others"], kept["records"]), (gone, others, records), ended.output)
                 self.assertEqual(self.standing(), {"ada": "1,2,3,4"})
         self.assertIn("it is older than", self.done("held").output + ended.output)
+
+    def test_a_record_that_is_ahead_of_the_clock_of_its_host(self) -> None:
+        """It would beat what its elector sends later. Of those of one second each has one of its own."""
+        links = self.begun()
+        for number in range(9):
+            self.click("ben", f"{number % 4 + 1},1,1,1", links["ben"])
+        self.click("ada", "1,2,3,4", links["ada"])
+        ahead = time.strftime("%Y-%m-%dT%H:%M:%S", time.gmtime(time.time() + 300))
+        forged = record("x", "ada 4,3,2,1", 99, ahead, self.mark(), self.page())
+        whole = self.file().read_bytes()
+        self.file().write_bytes(whole + forged.replace("2" * 16, links["ada"]).encode())
+        said = self.done("add", "--box", "--yes").output
+        self.assertIn("10 ballots of letters went in; 1 letter waits", said)
+        self.assertIn("or that of the web host when it was asked", said)
+        self.file().write_bytes(whole)
+        self.click("ada", "2,1,3,4", links["ada"])
+        self.off(600)
+        self.done("add", "--box", "--yes")
+        self.assertEqual(self.standing(), {"ada": "2,1,3,4", "ben": "1,1,1,1"})
 
     def test_a_year_that_no_clock_has(self) -> None:
         """Kept, it would stop each later command: of an answer with it nothing is, and of a record no time is known."""
@@ -425,7 +415,7 @@ class Clicks(boxes.BoxElectionTest):
         script.write_bytes(true)
         self.assertEqual(len(self.boxes_kept()), 1)
         self.click("ada", "1,2,3,4", links["ada"])
-        far = record("x", "ben 1,2,3,4", 99, time_, mark).replace("2" * 16, links["ben"])
+        far = record("x", "ben 1,2,3,4", 99, time_, mark, self.page()).replace("2" * 16, links["ben"])
         self.file().write_bytes(self.file().read_bytes() + far.encode())
         self.off(180)
         self.assertIn("1 ballot of letters went in", self.done("add", "--box", "--yes").output)
@@ -434,9 +424,7 @@ class Clicks(boxes.BoxElectionTest):
 
     def test_no_request_has_the_key_and_two_ask_at_once(self) -> None:
         with Liar(lambda request: [passed_on(request, self.host)]) as between:
-            self.done(
-                "call", *boxes.UNTIL, "--to", "vote@club.example", "--at", between.at, "--box"
-            )
+            self.done("call", *boxes.UNTIL, "--to", "vote@club.example", "--at", between.at, "--box")
             self.upload()
             time.sleep(1.1)
             self.done("add", "--box")
@@ -475,9 +463,7 @@ class Clicks(boxes.BoxElectionTest):
             f"{links['ada']} is my code\nada 1,2\n",
             f"{place[1:]} 1,2,3,4\n{links['ada']} 1,2,3,4\n",
         ]
-        letters = [
-            letter("ada", one, time=arrived, number=number) for number, one in enumerate(texts)
-        ]
+        letters = [letter("ada", one, time=arrived, number=number) for number, one in enumerate(texts)]
         subject = f"Re: {self.host.at}{place} [{self.mark()}]"
         letters.append(letter("ada", "ada 1,2\n", time=arrived, number=9, subject=subject))
         self.write("inbox.mbox", mailbox(*letters))
@@ -492,25 +478,14 @@ class Clicks(boxes.BoxElectionTest):
         self.assertIn(f"ada/{own}/.. 1,2,3,4: column 4", said)
         self.assertIn(" .. 1,2,3,4: .. is not on the roll", said)
         self.done("letters", "receipts")
-        receipts = [
-            email.message_from_bytes(file.read_bytes())
-            for file in (self.folder / "letters/receipts").rglob("*.eml")
-        ]
+        receipts = [email.message_from_bytes(file.read_bytes()) for file in (self.folder / "letters/receipts").rglob("*.eml")]
         texts = [receipt.get_payload(decode=True).decode() for receipt in receipts]  # type: ignore[union-attr]
         # with the right line, and the page alone
-        self.assertEqual(
-            sum(f"{name} _,_,_,_" in text for name in ("ada", "ben") for text in texts), 2
-        )
+        self.assertEqual(sum(f"{name} _,_,_,_" in text for name in ("ada", "ben") for text in texts), 2)
         for text in (said, *texts):
             for link in links.values():
                 self.assertNotIn(link, text.lower())
-        self.assertTrue(
-            any(
-                "A ballot of" in text
-                and "came by the page of the vote, with your link" in " ".join(text.split())
-                for text in texts
-            )
-        )
+        self.assertTrue(any("A ballot of" in text and "came by the page of the vote, with your link" in " ".join(text.split()) for text in texts))
 
     def test_a_record_without_a_ballot_is_told_to_whose_link_it_is(self) -> None:
         """The page makes none, but whoever has the link can."""
@@ -531,9 +506,7 @@ class Clicks(boxes.BoxElectionTest):
         self.click("ada", "1,2,3,4", links["ada"])
         self.done("add", "--box", "--yes")
         self.file().write_bytes(FIRST)
-        self.assertIn(
-            "1 record that it had it has no more", self.done("add", "--box", "--yes").output
-        )
+        self.assertIn("1 record that it had it has no more", self.done("add", "--box", "--yes").output)
         self.assertNotIn("has no more", self.done("add", "--box", "--yes").output)
 
     def test_a_record_of_the_second_of_an_asking_and_of_the_one_before(self) -> None:
@@ -541,7 +514,7 @@ class Clicks(boxes.BoxElectionTest):
         asked, mark = str(self.boxes_kept()[-1]["time"])[:19], self.mark()
         before = datetime.datetime.fromisoformat(asked) - datetime.timedelta(seconds=1)
         data = b"".join(
-            record("x", f"{name} 1,2,3,4", number, when, mark)
+            record("x", f"{name} 1,2,3,4", number, when, mark, self.page())
             .replace("2" * 16, links[name])
             .encode()
             for number, (name, when) in enumerate((("ada", asked), ("ben", before.isoformat())))
@@ -568,29 +541,13 @@ class Asked(boxes.BoxElectionTest):
         self.done("call", "--at", self.host.at)
         fault = "call: nobody has seen yet whether the box of the web host works, with the links of now; nothing was written: upload the folder call, then run debvote-election add --box"
         self.assert_fault(self.election("letters", "call"), 9, fault)
-        self.assert_fault(
-            self.election("add", "--box"),
-            9,
-            f"{self.host.at}vote.php: it answers 404",
-            "nothing was added",
-        )
+        self.assert_fault(self.election("add", "--box"), 9, f"{self.host.at}vote.php: it answers 404", "nothing was added")
         # what is written all the same says that the page takes none, and the log why
         self.done("letters", "call", *self.forced)
-        letters = [
-            email.message_from_bytes(file.read_bytes())
-            for file in (self.folder / "letters/call").rglob("*.eml")
-        ]
+        letters = [email.message_from_bytes(file.read_bytes()) for file in (self.folder / "letters/call").rglob("*.eml")]
         texts = [letter.get_payload(decode=True).decode() for letter in letters]  # type: ignore[union-attr]
         self.assertEqual(
-            {
-                (
-                    "The page takes no ballots now" in text,
-                    bool(boxes.LINK.search(text)),
-                    " _,_,_,_" in text,
-                )
-                for text in texts
-            },
-            {(True, False, True)},
+            {("The page takes no ballots now" in text, bool(boxes.LINK.search(text)), " _,_,_,_" in text) for text in texts}, {(True, False, True)}
         )
         self.assertIn('"because": "The host is down."', self.done("log").output)
         self.upload()
@@ -599,9 +556,7 @@ class Asked(boxes.BoxElectionTest):
         # where nothing stops it is not told, and letters have the link
         self.assertEqual(sorted(self.links()), elections.NAMES)
         # an asking of an older list is none, nor is a look
-        self.write(
-            "members.csv", elections.members_of(elections.NAMES).replace("ada@club", "ada@new")
-        )
+        self.write("members.csv", elections.members_of(elections.NAMES).replace("ada@club", "ada@new"))
         self.done("roll", "--yes")
         for words in (("add", "--box"), ("add", "--box", "--look")):
             self.done(*words)
@@ -610,13 +565,9 @@ class Asked(boxes.BoxElectionTest):
                 fault = f"{kind}: nobody has seen yet whether the box of the web host works, with the links of now"
                 self.assert_fault(self.election("letters", kind), 9, fault, "upload the folder call")
             self.upload()
-        self.assertEqual(
-            json.loads(self.done("status", "--json").output)["box"]["is_present"], False
-        )
+        self.assertEqual(json.loads(self.done("status", "--json").output)["box"]["is_present"], False)
         self.done("add", "--box")
-        self.assertEqual(
-            json.loads(self.done("status", "--json").output)["box"]["is_present"], True
-        )
+        self.assertEqual(json.loads(self.done("status", "--json").output)["box"]["is_present"], True)
         self.done("letters", "call")
         # what lies at the address of now is fetched first
         said = self.done("call").output
@@ -642,10 +593,12 @@ class Asked(boxes.BoxElectionTest):
     def test_reminders_and_another_page(self) -> None:
         self.begun()
         self.done("letters", "reminders")
+        [(asked,)] = self.rows("SELECT time FROM act WHERE name = 'letters' AND detail ->> '$.box' IS NOT NULL")
+        since = datetime.datetime.fromisoformat(str(asked))
         # an asking is fresh for ten minutes
-        self.off(540)
+        self.set_clock(str(since + datetime.timedelta(seconds=540)))
         self.done("letters", "reminders", "--yes")
-        self.off(601)
+        self.set_clock(str(since + datetime.timedelta(seconds=601)))
         fault = "reminders: who voted by a click in the last ten minutes would be told that they have not; nothing was written: run debvote-election add --box"
         self.assert_fault(self.election("letters", "reminders", "--yes"), 9, fault)
         self.assert_fault(
@@ -659,6 +612,7 @@ class Asked(boxes.BoxElectionTest):
         self.assertIn("--box: the page needs an address by https", ended.faults)
         self.done("letters", "reminders", "--yes", *self.forced)
         # the clock of the host is behind, so that by both clocks ten minutes are past
+        self.off(700)
         self.assertIn("seconds behind", self.done("add", "--box").output)
         fault = "would be told that they have not: when the box was asked last, it was only "
         self.assert_fault(self.election("letters", "reminders", "--yes"), 9, fault)
@@ -667,10 +621,7 @@ class Asked(boxes.BoxElectionTest):
         links = self.begun()
         self.click("ada", "1,2,3,4", links["ada"])
         self.done("add", "--box", "--yes")
-        self.assertIn(
-            "Box of the web host: 1 record when it was asked last",
-            self.done("count", "--force").faults,
-        )
+        self.assertIn("Box of the web host: 1 record when it was asked last", self.done("count", "--force").faults)
         self.off(700)
         fault = "--box: the box of the web host was not asked in the last ten minutes; nothing was changed: run debvote-election add --box"
         self.assert_fault(self.election("close", "--early"), 9, fault)
@@ -678,26 +629,17 @@ class Asked(boxes.BoxElectionTest):
         self.done("add", "--box", "--yes")
         time.sleep(1.1)
         ended = self.done("close", "--early")
-        self.assertIn(
-            "Note: the page still takes ballots, and says that they arrived: run debvote-election add --box.",
-            ended.output,
-        )
+        self.assertIn("Note: the page still takes ballots, and says that they arrived: run debvote-election add --box.", ended.output)
         self.assertIn("\nNext: debvote-election add --box, then debvote-election count, then", self.done("status").output)
         fault = "--box: the box of the web host was not asked since the vote was closed early"
         for words, status in ((("count",), 9), (("letters", "closed"), 9)):
             self.assert_fault(self.election(*words), status, fault)
         ended = self.election("publish")
-        self.assertIn(
-            "the box of the web host was not asked since the end: run debvote-election add --box",
-            ended.faults,
-        )
+        self.assertIn("the box of the web host was not asked since the end: run debvote-election add --box", ended.faults)
         self.done("letters", "closed", *self.forced)
         self.assertEqual(self.election("count", "--force").status, 0)
         self.done("publish", *self.forced)
-        self.assertIn(
-            b"Ballots may have been sent on the page of the vote that the secretary did not get.",
-            self.read("result/index.html"),
-        )
+        self.assertIn(b"Ballots may have been sent on the page of the vote that the secretary did not get.", self.read("result/index.html"))
         # a click after the close is acknowledged by the page, and waits; asked once, nothing stops
         time.sleep(1.1)
         self.click("ben", "1,2,3,4", links["ben"])
@@ -732,10 +674,7 @@ class Asked(boxes.BoxElectionTest):
         self.assertRegex(said, "Added last: (?!2099|never)")
         self.assertEqual(self.election("count").status, 0)
         self.done("publish")
-        self.assertIn(
-            b"Ballots may have been sent on the page of the vote that the secretary did not get.",
-            self.read("result/index.html"),
-        )
+        self.assertIn(b"Ballots may have been sent on the page of the vote that the secretary did not get.", self.read("result/index.html"))
         self.assertIn(b"The host is down.", self.read("result/index.html"))
         # a later close needs none
         self.done("reopen", "--because", "A letter was found.")
@@ -790,10 +729,7 @@ class Moved(boxes.BoxElectionTest):
             said,
         )
         # nothing lies at the new address yet
-        self.assertIn(
-            f"\nNext: upload the files of call to {self.host.at}, vote.php too, then run debvote-election add --box, which tries",
-            said,
-        )
+        self.assertIn(f"\nNext: upload the files of call to {self.host.at}, vote.php too, then run debvote-election add --box, which tries", said)
         self.upload()
         # what the other host had is not missed here
         self.assertNotIn("has no more", self.done("add", "--box", "--yes").output)
@@ -868,10 +804,7 @@ class Moved(boxes.BoxElectionTest):
 
 
 MEMBERS = [f"m{number:02}" for number in range(1, 41)]
-RANKS = {
-    name: ",".join(str((place * (number % 3 + 1) + number) % 4 + 1) for place in range(4))
-    for number, name in enumerate(MEMBERS)
-}
+RANKS = {name: ",".join(str((place * (number % 3 + 1) + number) % 4 + 1) for place in range(4)) for number, name in enumerate(MEMBERS)}
 OTHER = "4,4,1,-"
 
 
@@ -884,9 +817,7 @@ class Forty(boxes.BoxElectionTest):
     def letter_of(self, name: str, ranks: str, seconds: int, own: str) -> bytes:
         arrived = time.strftime("%a, %d %b %Y %H:%M:%S +0000", time.gmtime(time.time() + seconds))
         subject = f"Re: Vote [{self.mark()}-{own}]"
-        return letter(
-            name, f"{name} {ranks}\n", time=arrived, subject=subject, number=f"{name}{seconds}"
-        )
+        return letter(name, f"{name} {ranks}\n", time=arrived, subject=subject, number=f"{name}{seconds}")
 
     def test_each_ballot_is_as_meant_and_each_receipt_true(self) -> None:
         self.begun()
@@ -899,13 +830,10 @@ class Forty(boxes.BoxElectionTest):
         # a click again, and one with the same number again
         self.click("m05", OTHER, links["m05"][1])
         meant["m05"] = OTHER
-        again = ballot("m06", OTHER, 999, links["m06"][1])
-        self.assertEqual({self.host.send(again).status for _ in range(3)}, {200})
+        again = ("m06", OTHER, links["m06"][1], 999)
+        self.assertEqual({self.sent(*again).status for _ in range(3)}, {200})
         meant["m06"] = OTHER
-        self.assertIn(
-            "32 ballots of letters went in; 0 letters wait",
-            self.done("add", "--box", "--yes").output,
-        )
+        self.assertIn("32 ballots of letters went in; 0 letters wait", self.done("add", "--box", "--yes").output)
         # an extension, and the same script is uploaded again, with the box in place
         self.done("call", "--until", "2099-12-06 18:00")
         self.upload()
@@ -944,34 +872,15 @@ class Forty(boxes.BoxElectionTest):
         self.done("add", "--box", "--yes")
         self.assertEqual(self.standing(), meant)
         self.assertIn("remove vote.php and box-", self.done("publish").output)
-        shown = [
-            file
-            for name in ("call", "result", "letters/closed.txt")
-            for file in [self.folder / name, *(self.folder / name).rglob("*")]
-        ]
+        shown = [file for name in ("call", "result", "letters/closed.txt") for file in [self.folder / name, *(self.folder / name).rglob("*")]]
         for file in filter(pathlib.Path.is_file, shown):
-            self.assertEqual(
-                [link for _, link in links.values() if link in file.read_text()], [], file
-            )
-        self.assertEqual(
-            dict(
-                line.split(" ", 1) for line in self.read("result/ballots.txt").decode().splitlines()
-            ),
-            meant,
-        )
-        self.demand_receipts(
-            meant, {**dict.fromkeys(writing, False), **dict.fromkeys(clicking, True)}
-        )
+            self.assertEqual([link for _, link in links.values() if link in file.read_text()], [], file)
+        self.assertEqual(dict(line.split(" ", 1) for line in self.read("result/ballots.txt").decode().splitlines()), meant)
+        self.demand_receipts(meant, {**dict.fromkeys(writing, False), **dict.fromkeys(clicking, True)})
 
     def own_links(self) -> dict[str, tuple[str, str]]:
-        folders = sorted(
-            (self.folder / "letters/call").iterdir(), key=lambda one: one.stat().st_mtime
-        )
-        found = [
-            boxes.link_in(file.read_bytes())
-            for folder in folders
-            for file in sorted(folder.glob("*.eml"))
-        ]
+        folders = sorted((self.folder / "letters/call").iterdir(), key=lambda one: one.stat().st_mtime)
+        found = [boxes.link_in(file.read_bytes()) for folder in folders for file in sorted(folder.glob("*.eml"))]
         return {name: (own, link) for name, own, link in found}
 
     def by_the_page(self, names: list[str], links: dict[str, tuple[str, str]]) -> None:
@@ -986,31 +895,24 @@ class Forty(boxes.BoxElectionTest):
                 window.tell("Page.navigate", url="about:blank")
                 window.until("location.href === 'about:blank'")
                 window.tell("Page.navigate", url=f"{self.host.at}#{name}/{'/'.join(links[name])}")
-                window.until(
-                    "document.readyState === 'complete' && location.href !== 'about:blank'"
-                )
+                window.until("document.readyState === 'complete' && location.href !== 'about:blank'")
                 window.ballot(None, RANKS[name].replace(",", ""))
                 window.ask("document.getElementById('Vote').click()")
-                window.until(
-                    "document.getElementById('Sent').textContent.startsWith('It has arrived')"
-                )
+                window.until("document.getElementById('Sent').textContent.startsWith('It has arrived')")
                 self.assertEqual(window.faults, [])
 
     def demand_receipts(self, meant: dict[str, str], came_by_page: dict[str, bool]) -> None:
         self.done("letters", "receipts")
+        in_words = Election(self.folder, PROGRAM.parent).questions.in_words()
         for file in (self.folder / "letters/receipts").rglob("*.eml"):
             read = email.message_from_bytes(file.read_bytes())
             text = " ".join(read.get_payload(decode=True).decode().split())  # type: ignore[union-attr]
             name = re.search(r"You vote under the name (m\d\d)", text)[1]  # type: ignore[index]
-            self.assertIn(f"It was read as ({name} {meant[name]})", text)
+            self.assertIn(f"It was read as: {in_words(meant[name])}.", text)
             if name in came_by_page and name not in ("m08", "m31"):
-                self.assertEqual(
-                    "It came by the page of the vote." in text, came_by_page[name], text
-                )
+                self.assertEqual("It came by the page of the vote." in text, came_by_page[name], text)
             self.assertIsNone(boxes.LINK.search(text))
-        texts = b"".join(
-            file.read_bytes() for file in (self.folder / "letters/receipts").rglob("*.eml")
-        )
+        texts = b"".join(file.read_bytes() for file in (self.folder / "letters/receipts").rglob("*.eml"))
         self.assertIn(b"The reason: it arrived after the vote was closed", b" ".join(texts.split()))
 
 
@@ -1020,25 +922,21 @@ class Many(boxes.BoxElectionTest):
 
     def test_ten_thousand_records(self) -> None:
         """In less than 30 seconds of this computer, whatever else it does."""
-        links, mark = self.begun(), self.mark()
-        begin = datetime.datetime.now(datetime.UTC) + datetime.timedelta(seconds=1)
+        links, mark, page = self.begun(), self.mark(), self.page()
+        # after the asking of before, and not later than the next
+        time.sleep(1.1)
+        begin = datetime.datetime.now(datetime.UTC)
         data = b"".join(
-            record("x", f"{name} {number % 4 + 1},2,3,4", 1000 * turn + number, (begin + datetime.timedelta(seconds=turn)).isoformat()[:19], mark)
+            record("x", f"{name} {number % 4 + 1},2,3,4", 1000 * turn + number, (begin + datetime.timedelta(seconds=turn)).isoformat()[:19], mark, page)
             .replace("2" * 16, links[name]).encode()
             for turn in range(20) for number, name in enumerate(self.names)
         )  # fmt: skip
         self.file().write_bytes(FIRST + data)
         before = resource.getrusage(resource.RUSAGE_CHILDREN)
-        self.assertIn(
-            "The box has 10000 records.\n10000 new letters; 0 came before.\n",
-            self.done("add", "--box", "--yes").output,
-        )
+        self.assertIn("The box has 10000 records.\n10000 new letters; 0 came before.\n", self.done("add", "--box", "--yes").output)
         after = resource.getrusage(resource.RUSAGE_CHILDREN)
         self.assertLess(after.ru_utime + after.ru_stime - before.ru_utime - before.ru_stime, 30)
-        self.assertEqual(
-            self.standing(),
-            {name: f"{number % 4 + 1},2,3,4" for number, name in enumerate(self.names)},
-        )
+        self.assertEqual(self.standing(), {name: f"{number % 4 + 1},2,3,4" for number, name in enumerate(self.names)})
 
 
 class Clocks(unittest.TestCase):
@@ -1046,26 +944,17 @@ class Clocks(unittest.TestCase):
 
     KEY = bytes(range(32))
 
-    def record_at(
-        self, name: str, ranks: str, when: datetime.datetime, behind: int, link: str | None = None
-    ) -> ParsedLetter:
-        data = record(
-            "x", f"{name} {ranks}", int(f"{when:%H%M}{ranks[0]}"), f"{when:%Y-%m-%dT%H:%M:%S}"
-        ).partition("\n")[2]
+    def record_at(self, name: str, ranks: str, when: datetime.datetime, behind: int, link: str | None = None) -> ParsedLetter:
+        data = record("x", f"{name} {ranks}", int(f"{when:%H%M}{ranks[0]}"), f"{when:%Y-%m-%dT%H:%M:%S}").partition("\n")[2]
         own = third_part(self.KEY, name, OWN[name]) if link is None else link
-        return dataclasses.replace(
-            parsed(data.encode().removesuffix(b"\n")), link=own, behind=behind
-        )
+        return dataclasses.replace(parsed(data.encode().removesuffix(b"\n")), link=own, behind=behind)
 
     def outcomes(self, *letters: ParsedLetter | bytes, **how: object) -> list[str]:
         return outcomes(*letters, box_key=self.KEY, **how)
 
     def test_a_record_goes_in_by_its_link_alone(self) -> None:
-        for is_marked in (False, True):
-            self.assertEqual(
-                self.outcomes(self.record_at("ada", "1,2,3,4", at(10), 0), is_marked=is_marked),
-                ["in: ada 1,2,3,4"],
-            )
+        [one] = judged(self.record_at("ada", "1,2,3,4", at(10), 0), box_key=self.KEY)
+        self.assertEqual((outcome(one), one.is_tied("ada"), one.is_tied("ben")), ("in: ada 1,2,3,4", True, False))
         for link in (
             third_part(self.KEY, "ben", OWN["ben"]),
             "2" * 16,
@@ -1075,6 +964,13 @@ class Clocks(unittest.TestCase):
                 self.outcomes(self.record_at("ada", "1,2,3,4", at(10), 0, link)),
                 ["waits: other link"],
             )
+        # of another page, or of none that it says
+        for page in ("", "0" * 16, page_of(self.KEY, "0" * 16), page_of(b"", MARK)):
+            other = dataclasses.replace(self.record_at("ada", "1,2,3,4", at(10), 0), page=page)
+            self.assertEqual(self.outcomes(other), ["waits: other page"])
+        # nor is more of it kept of a stranger's letter than of another field
+        long = parsed(b"X-Page: " + b"\xe9" * 100_000 + b"\n" + letter("ada", "ada 1,2,3,4"))
+        self.assertLessEqual(len(long.page.encode()), 6_000)
         # fetched with the file of the box it waits; and the same bytes of a mailbox are a letter of a stranger
         fetched = dataclasses.replace(self.record_at("ada", "1,2,3,4", at(10), 0), is_fetched=True)
         self.assertEqual(self.outcomes(fetched), ["waits: fetched"])
@@ -1088,16 +984,10 @@ class Clocks(unittest.TestCase):
             (1, -180, "waits: clock at the end"), (-1, -180, "in: ada 1,2,3,4"), (4, -180, "waits: after the end"),
         ):  # fmt: skip
             with self.subTest(minutes=minutes, behind=behind):
-                one = self.record_at(
-                    "ada", "1,2,3,4", at(12) + datetime.timedelta(minutes=minutes), behind
-                )
+                one = self.record_at("ada", "1,2,3,4", at(12) + datetime.timedelta(minutes=minutes), behind)
                 for end in ("end", "first_close"):
                     found = judged(one, box_key=self.KEY, **{end: at(12)})
-                    said = (
-                        wanted.replace("after the end", "after the close")
-                        if end == "first_close"
-                        else wanted
-                    )
+                    said = wanted.replace("after the end", "after the close") if end == "first_close" else wanted
                     self.assertEqual(outcome(found[0]), said)
                     # what may be in time stops the close
                     self.assertEqual(found[0].arrived_in_time, "after" not in wanted)
@@ -1113,23 +1003,12 @@ class Clocks(unittest.TestCase):
             later = letter("ada", "ada 4,3,2,1", time=f"Mon, 23 Nov 2026 10:0{minutes}:00 +0000")
             self.assertEqual(self.outcomes(first, later), ["in: ada 1,2,3,4", wanted])
         # the same ballot, or two by the same clock, can't be turned
-        self.assertEqual(
-            self.outcomes(
-                first, letter("ada", "ada 1,2,3,4", time="Mon, 23 Nov 2026 10:01:00 +0000")
-            )[1],
-            "in: ada 1,2,3,4",
-        )
-        self.assertEqual(
-            self.outcomes(first, self.record_at("ada", "4,3,2,1", at(10, 1), 180))[1],
-            "in: ada 4,3,2,1",
-        )
+        self.assertEqual(self.outcomes(first, letter("ada", "ada 1,2,3,4", time="Mon, 23 Nov 2026 10:01:00 +0000"))[1], "in: ada 1,2,3,4")
+        self.assertEqual(self.outcomes(first, self.record_at("ada", "4,3,2,1", at(10, 1), 180))[1], "in: ada 4,3,2,1")
         # one that was entered before
         for behind, wanted in ((180, "waits: clocks"), (0, "older: later ballot")):
             entered = {"ada": [Ballot(at(10, 2), "ada 1,2,3,4", True, -behind)]}
-            self.assertEqual(
-                self.outcomes(letter("ada", "ada 4,3,2,1"), ballots=entered, is_marked=False)[:1],
-                [wanted],
-            )
+            self.assertEqual(self.outcomes(letter("ada", "ada 4,3,2,1"), ballots=entered)[:1], [wanted])
 
     def test_which_ballots_are_surely_later(self) -> None:
         """What the list of held says has one rule with its --enter: each ballot is looked at, not the last alone."""
@@ -1141,14 +1020,18 @@ class Clocks(unittest.TestCase):
         ):
             # it waits, since another address sent it
             given = letter("ada", "ada 4,3,2,1", sender="x@y.example")
-            [case] = judged(given, ballots={"ada": there}, is_marked=False)
+            [case] = judged(given, ballots={"ada": there})
             self.assertEqual(case.voted_since, {"ada": is_sure}, there)
+
+    def test_what_is_later_than_the_asking_that_brought_it_waits(self) -> None:
+        for second, wanted in ((0, "in: ada 1,2,3,4"), (-1, "waits: in the future")):
+            asked = at(10) + datetime.timedelta(seconds=second)
+            one = dataclasses.replace(self.record_at("ada", "1,2,3,4", at(10), 0), latest=asked)
+            self.assertEqual(self.outcomes(one), [wanted])
 
     def test_what_an_asking_before_should_have_brought_waits(self) -> None:
         for minutes, wanted in ((0, "in: ada 1,2,3,4"), (1, "waits: not there before")):
-            one = dataclasses.replace(
-                self.record_at("ada", "1,2,3,4", at(10), 0), asked_before=at(10, minutes)
-            )
+            one = dataclasses.replace(self.record_at("ada", "1,2,3,4", at(10), 0), asked_before=at(10, minutes))
             self.assertEqual(self.outcomes(one), [wanted])
 
 

@@ -7,18 +7,16 @@ import unittest
 
 from debvote_tools.inbox.judging import Ballot
 from debvote_tools.inbox.letter import ParsedLetter, Signature
-from debvote_tools.inbox.letter_lines import may_be_ballot, repaired_text
 from debvote_tools.inbox.reasons import Reason, ReasonWithValues, for_elector, for_secretary
-from debvote_tools.poll.questions import LONGEST_LINE
+from debvote_tools.text.answers import answer_pattern
 
 from tests.python.inbox import test_signatures, test_table_of_letters
-from tests.support.letters import BALLOT, MARK, NAMES, OTHER, at, judged, label, letter, names, parsed
+from tests.support.letters import BALLOT, MARK, OTHER, at, judged, label, letter, parsed
 
 # values of each name that a reason may have
 VALUES: dict[str, str | int | datetime.datetime] = {
-    "length": 7, "limit": 8, "number": 3, "digest": 2, "options": 4, "called": at(9), "first": at(9), "between": at(9), "end": at(9), "close": at(9), "time": at(9), "arrived": at(9), "asked": at(9), "seconds": 180,
-    "what": "text", "charset": "x-none", "character": "U+000D", "element": "<s>", "sender": "a@x",
-    "elector": "ada", "listed": "b@x", "electors": "ada, ben", "mark": "0123456789abcdef", "key": "A" * 40, "rest": "a ballot of ben",
+    "length": 7, "limit": 8, "number": 3, "digest": 2, "called": at(9), "first": at(9), "between": at(9), "end": at(9), "close": at(9), "time": at(9), "asked": at(9), "until": at(9), "seconds": 180,
+    "what": "text", "charset": "x-none", "character": "U+000D", "sender": "a@x", "elector": "ada", "listed": "b@x", "mark": "0123456789abcdef", "key": "A" * 40,
 }  # fmt: skip
 
 
@@ -40,7 +38,8 @@ class Sentences(unittest.TestCase):
             for value in VALUES.values():
                 if isinstance(value, str) and len(value) > 4:
                     self.assertNotRegex(text, rf"(?<!\w){re.escape(value)}(?!\w)")
-            self.assertFalse(may_be_ballot(repaired_text(text, names()), LONGEST_LINE) and any(name in text.split() for name in NAMES), text)
+            # what an elector sends back is no answer
+            self.assertIsNone(answer_pattern(2, "ABC", frozenset(("yes", "no"))).search(text), text)
 
     def test_what_electors_read_of_their_own_key(self) -> None:
         """One that has expired or was revoked may be the key that the list of members has."""
@@ -77,13 +76,10 @@ class Sentences(unittest.TestCase):
     def test_each_becomes_of_some_letter(self) -> None:
         test_signatures.Table.setUpClass()
         signed = [becomes for _, becomes, _ in test_signatures.Table().rows()]
-        found = {one.partition(": ")[2] for one in (*(row.becomes for row in test_table_of_letters.TABLE), *signed)}
+        texts = {f"waits: {reason}" for reason, _ in test_table_of_letters.OTHERS}
+        found = {one.partition(": ")[2] for one in (*(row.becomes for row in test_table_of_letters.TABLE), *texts, *signed)}
         # these are of letters beside others, of what an act decided, and of a gpgv that hangs
         found |= {"came before", "parted off", "taken back", "put back", "set aside", "struck", "slow signature", "perhaps copy"}
-        # of one of which another ballot was entered (test_letters.py)
-        found |= {"not entered"}
-        # of letters about a motion (test_motions.py)
-        found |= {"word", "word alone", "another answer"}
         # and of records of the box (test_by_click.py)
-        found |= {"other link", "fetched", "not there before", "clock at the end", "clocks"}
+        found |= {"other link", "other page", "fetched", "not there before", "clock at the end", "clocks"}
         self.assertEqual({label(reason()) for reason in Reason} - found, set())

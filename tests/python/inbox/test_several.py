@@ -19,9 +19,9 @@ def hour(of_day: int, second: int = 0) -> str:
     return f"Mon, 23 Nov 2026 {of_day:02}:00:{second:02} +0000"
 
 
-def first(**how: object) -> bytes:
+def first(text: str = f"{BALLOT}\n", **how: object) -> bytes:
     """The letter of which there are copies."""
-    return letter("ada", f"{BALLOT}\n", **{"time": hour(10), **how})  # type: ignore[arg-type]
+    return letter("ada", text, **{"time": hour(10), **how})  # type: ignore[arg-type]
 
 
 def other(time: str, **how: object) -> bytes:
@@ -81,12 +81,13 @@ class Several(unittest.TestCase):
         ]  # fmt: skip
         for before, after in changes:
             self.assertEqual(outcomes(first(), first().replace(before, after)), [f"in: {BALLOT}", "copy"], after)
-        quoted = letter("ada", f"{BALLOT}\n\nFrom here on nothing\n")
-        self.assertEqual(outcomes(quoted, quoted.replace(b"\nFrom here", b"\n>From here")), [f"in: {BALLOT}", "copy"])
-        # two letters wait for one reason; only one of them may be genuine, and the secretary sees both
-        texts = [f"<p>{ballot}</p>" for ballot in (BALLOT, OTHER, OTHER)]
-        parts = [alternatives("ada", BALLOT, text, time=None, head=f"X: {number}\n") for number, text in enumerate(texts)]
-        self.assertEqual(outcomes(*parts), ["waits: no arrival", "waits: no arrival", "copy"])
+        signed = letter("ada", f"{BALLOT}\n-- \nFrom here on nothing\n")
+        self.assertEqual(outcomes(signed, signed.replace(b"\nFrom here", b"\n>From here")), [f"in: {BALLOT}", "copy"])
+        # nor another HTML of its own
+        self.assertEqual(outcomes(first(), alternatives("ada", BALLOT, f"<p>{OTHER}</p>", time=hour(10))), [f"in: {BALLOT}", "copy"])
+        # two whose lines differ wait for one reason: only one of them may be genuine, and the secretary sees both
+        signed = signed.replace(b"Received:", b"X:")
+        self.assertEqual(outcomes(signed, signed.replace(b"\nFrom here", b"\n>From here"), signed + b"\n"), ["waits: no arrival", "waits: no arrival", "copy"])
 
     def test_a_later_copy(self) -> None:
         # it waits if another ballot came between
@@ -163,7 +164,7 @@ class Several(unittest.TestCase):
             "a head that is damaged": first().replace(b"To: ", b"no field\nTo: "),
             "two lines From": first().replace(b"To: ", b"From: x@y.example\nTo: "),
             "the mark of another vote": first().replace(b"To: ", b"Subject: [0123456789abcdef]\nTo: "),
-            "another HTML": alternatives("ada", f"{BALLOT}\n", f"<p>{OTHER}</p>"),
+            "another text": first(text=f"--b\n\n{BALLOT}\n--b\nContent-Type: text/html\n\n<p>{OTHER}</p>\n--b--\n", kind="multipart/mixed; boundary=b"),
         }
         # one that a mailbox hides comes as a file, too
         hidden = parsed(first(), is_parted_off=True)

@@ -11,7 +11,7 @@ import unittest.mock
 
 from debvote_tools.inbox.mailbox import MAX_LETTER, NotRead, RawLetter, are_letters, letters_of_file, letters_of_folder, sections_of
 
-from tests.support.letters import NAMES, RANKS, answer, letter, mailbox, outcomes, parsed, passed_over_in, read_in
+from tests.support.letters import NAMES, RANKS, letter, mailbox, outcomes, parsed, passed_over_in, read_in
 
 LINE = b"From somebody Mon Nov 23 10:00:00 2026\n"
 ADA, BEN = letter("ada", f"ada {RANKS}\n"), letter("ben", f"ben {RANKS}\n")
@@ -91,7 +91,7 @@ class Files(unittest.TestCase):
             for between in (b"", b"\n", b"Return-Path: <ben@club.example>\n"):
                 self.assert_becomes(data + between + CODED, PARTED)
         attached = letter("ada", f"--b\n\nada {RANKS}\n--b\nContent-Type: message/rfc822\n\n", kind="multipart/mixed; boundary=b")
-        self.assert_becomes(attached + letter("ben", "hello\n") + b"--b--\n", IN_ADA)
+        self.assert_becomes(attached + letter("ben", "hello\n") + b"--b--\n", PARTED)
 
     def test_what_may_be_text_of_the_letter_above(self) -> None:
         carrier, below = letter("mallory", "hello\n"), b"\n" + LINE + BEN
@@ -161,15 +161,7 @@ class Files(unittest.TestCase):
             letters_of_file("box", LINE + b"From: x\n" + data)
         self.assertLess(time.process_time() - began, 60)
 
-    def test_ids_of_answers_and_heads(self) -> None:
-        """They are plain, or none: what is written into a letter that goes out has no line of its own."""
-        data = answer("ada", f"ada {RANKS}\n")
-        self.assertEqual(parsed(data).in_reply_to, "<call.ada@club.example>")
-        for value in ("=?utf-8?q?=3Cx=0ABcc=3A_y=40z=3E?=", "<x y@z>", "<\xff\xfe@z>", "<a@b> <c@d>", "<a\n b@c>", f"<{'x' * 300}@y>", "x", ""):
-            changed = data.replace(b"<call.ada@club.example>", value.encode("latin-1"))
-            self.assertEqual(parsed(changed).in_reply_to, "", value)
-            self.assertEqual(outcomes(changed), [f"in: ada {RANKS}"], value)
-        # heads as they are shown
+    def test_heads_as_they_are_shown(self) -> None:
         head = "Subject: =?utf-8?b?R3LDvMOfZQ==?= =?x-none?q?x?=\nSubject: \udcff\n"
         found = parsed(letter("ada", "x", sender="=?utf-8?q?a=0ABcc:?= <ada@club.example>", head=head))
         self.assertNotIn("\n", found.shown_sender + found.subject)

@@ -17,7 +17,7 @@ from debvote_tools.outbox.letter_folder import in_place
 
 from tests.support import elections
 from tests.support.called import LAKE
-from tests.support.letters import letter, mailbox, repaired_line
+from tests.support.letters import letter, marked, mailbox
 from tests.support.outgoing import AT, END, OTHER_RANKS, RANKS, TITLE, OutTest, one_line, parsed
 
 FORM = f"The page of the vote, which writes the line of your ballot for you, and on which the result will be: {AT}"
@@ -44,7 +44,7 @@ class Call(OutTest):
             [(mark, own)] = re.findall(MARKS, message["Subject"])
             begin = f"Dear {name.title()}, {WHEN} {FORM}#{name}/{own} {LINE}{name} _,_,_,_ The options; the last one is the default "
             begin += "option, which stays where no other one is good enough: "
-            self.assertTrue(text.startswith(f"{begin}{OPTIONS} Send your line as an answer to this letter, or to "), text)
+            self.assertTrue(text.startswith(f"{begin}{OPTIONS} Answer this letter, or write to "), text)
             self.assertIn(f"whose subject ends with [{mark}-{own}]", text)
             self.assertIn(f"until the result: {hashlib.sha256(self.read('call/poll.toml')).hexdigest()} Majority ratio 3: ", text)
             # the rules in full are on the page
@@ -56,8 +56,8 @@ class Call(OutTest):
         # the letter to all has gaps, and the mark of the poll
         text = " ".join(self.read("call/call.txt").decode().split())
         self.assertTrue(text.startswith(f"{WHEN} {FORM} {LINE}NAME _,_,_,_ Write your name on the roll in the place of NAME. The options"), text)
-        self.assertRegex(text, r"Send your line to vote@club\.example in a letter whose subject ends with \[[0-9a-f]{16}\]\.")
-        self.assertNotIn("answer to this letter", text)
+        self.assertIn("Open the link in your letter, or answer that letter: then the subject has your own mark, ", text)
+        self.assertNotIn("nswer this letter", text)
         # heads and modes
         ids, own_marks = set(), dict(self.book.rows("SELECT name, mark FROM elector JOIN elector_state USING (elector) WHERE mark <> ''"))
         self.assertEqual(len(set(own_marks.values())), 9)
@@ -87,12 +87,13 @@ class Call(OutTest):
         self.written("call")
         self.assertEqual({file: file.read_bytes() for file in self.files("call")}, before)
         self.assertEqual(self.book.last_number(), last)
-        # who knows the own mark of an elector and the Message-ID of a letter to them may put a quotation above the ballot, and nobody else
-        quoted = "\n".join(f"> {line}" for line in found["ada"].get_content().splitlines()[:12])
-        head = f"In-Reply-To: {found['ada']['Message-ID']}\nSubject: Re: {found['ada']['Subject']}\n"
+        # above the quotation of a letter to herself, which has her own mark; it is that of nobody else
+        quoted = "\n".join(f"> {line}" for line in found["ada"].get_content().splitlines())
         for name in ("ada", "ben"):
-            self.add(letter(name, f"On 23 November 2026 you wrote:\n{quoted}\n\n{name} {RANKS}\n", head=head, time=EARLIER))
+            text = f"{name} {RANKS}\n\nOn Mon, 23 Nov 2026 at 09:00, Vote wrote:\n{quoted}\n"
+            self.add(letter(name, text, subject=f"Re: {found['ada']['Subject']}", time=EARLIER))
         self.assertEqual(self.exported()[0], f"ada {RANKS}\n")
+        self.assertIn("its subject lacks the own mark of ben, so anybody may have sent it\n", self.told("held"))
 
     def test_after_an_extension_those_who_have_the_call_get_its_letter(self) -> None:
         self.written("call")
@@ -192,9 +193,9 @@ class OwnWords(OutTest):
     """What the secretary writes begins each letter that asks for a ballot, and a name of the society is in From."""
 
     call_words = None
-    letter = f"Dear friends,\n\npaper goes into the box in the hall.\nIf you are unsure write ada {RANKS} and sign.\n\n"
+    letter = "Dear friends,\n\npaper goes into the box in the hall.\n\n"
     # its lines stay as they are, also longer ones
-    letter += f"{RANKS}\n{'a line of a letter ' * 5}.\nThe next one\n\nYours, Eve\n"
+    letter += f"{'a line of a letter ' * 5}.\nThe next one\n\nYours, Eve\n"
 
     def setUp(self) -> None:
         super().setUp()
@@ -210,20 +211,24 @@ class OwnWords(OutTest):
         found["extension"] = self.written("call")
         self.add_lines("ada 1,2")
         found["receipts"] = self.written("receipts")
-        first = self.letter.replace("If you are unsure write ada", "|If you are unsure write\n|ada").replace(f"\n{RANKS}", f"\n|{RANKS}")
-        begins = {"call": first, "reminders": first, "extension": "Dear Ada,\n\nIt ends later.\n", "receipts": "Dear Ada,\n"}
+        begins = {"call": self.letter, "reminders": self.letter, "extension": "Dear Ada,\n\nIt ends later.\n", "receipts": "Dear Ada,\n"}
         for kind, letters in found.items():
             message = letters["ada"]
             self.assertTrue(message.get_content().startswith(begins[kind]), message.get_content())
             self.assertEqual(message["From"], "Wahlleitung T\u00fcV <vote@club.example>")
             self.assertEqual((message["To"], message["Reply-To"]), ("ada@club.example", None))
-        # no line of ours reads as a ballot, also where the secretary's own words have one, nor is it offered
+        # no line of ours reads as a ballot, nor looks like an answer
         self.add(letter("ada", f"Thank you.\n\n{found['call']['ada'].get_content()}", number=2))
         self.assertIn("\n        no ballot found\n", self.told("held"))
         for name, message in found["call"].items():
-            head = f"In-Reply-To: {message['Message-ID']}\nSubject: Re: {message['Subject']}\n"
-            self.add(letter(name, f"{name} {RANKS}\n\nOn Monday the secretary wrote:\n{message.get_content()}", head=head, time=EARLIER))
-        self.assertEqual(self.numbers()["voters"], 9)
+            quoted = "".join(f"> {line}\n" for line in message.get_content().splitlines())
+            answers = [letter(name, f"{name} {RANKS}\n\n{head}{text}", number=3 + len(head), time=EARLIER) for head, text in (
+                ("On Monday, 23 November 2026 at 08:00 the secretary <vote@club.example> wrote:\n", quoted),
+                ("-----Original Message-----\n", message.get_content()),
+            )]  # fmt: skip
+            self.assertIn("2 ballots of letters went in; 1 letter waits.", self.add(*answers))
+        # without a head it is text of hers
+        self.assertIn("line 1 is a ballot, and there are other lines", self.add(letter("ada", f"ada {RANKS}\n\n{message.get_content()}", number=9)))
 
 
 class Paper(OutTest):
@@ -333,8 +338,8 @@ class ReceiptsAndReminders(OutTest):
         self.assertRegex(texts["ben"], r"has arrived\. Another ballot of yours, which was entered after it, counts instead\. .* It counts unless you send a later one")
         for name, said in (
             ("ada", "has arrived. It counts unless you send a later one."),
-            ("ada", f"It was read as (ada {RANKS}), in words: {LAKE}. If you have not sent this"),
-            ("ben", f"It was read as (ben {OTHER_RANKS}), in words: In the town hall, then"),
+            ("ada", f"It was read as: {LAKE}. If you have not sent this"),
+            ("ben", "It was read as: In the town hall, then"),
             ("cleo", "It is not a valid ballot of this vote, so it does not count. It has 2 ranks, and the vote has 4 options."),
             ("dan", "was entered, and the secretary has struck it. It does not count."),
             ("eve", "was entered, and the secretary has taken it back. It does not count unless it is entered again."),
@@ -344,7 +349,7 @@ class ReceiptsAndReminders(OutTest):
         ):
             self.assertIn(said, texts[name])
         # a receipt that refuses says why, then where the form is and how a right line looks; another has neither
-        begin = "and the vote has 4 options. |cleo 1,2 If you have not sent this, or it is not what you meant, answer at once. "
+        begin = "and the vote has 4 options. If you have not sent this, or it is not what you meant, answer at once. "
         begin += f"You vote under the name cleo. You can send a right line now, and need not wait. {WHEN.removeprefix(f'{TITLE} ')} {FORM}#cleo/"
         self.assertIn(begin, texts["cleo"])
         self.assertEqual(texts["cleo"].count(TITLE), 1)
@@ -408,40 +413,36 @@ class ReceiptsAndReminders(OutTest):
         for name, said in {"ada": "No ballot from it is entered yet", "ben": "has 2 ranks", "cleo": "taken it back", "dan": "it is late"}.items():
             self.assertNotIn(said, first[name])
             counts = "and it counts." if name == "dan" else "It counts unless you send a later one."
-            self.assertRegex((found | late)[name], rf"{re.escape(counts)} It was read as \({name} {RANKS}\).* {said}")
+            self.assertRegex((found | late)[name], rf"{re.escape(counts)} It was read as: {LAKE}\..* {said}")
         # what is struck later is told, and what is late
         self.assertIn("the secretary has struck it", found["eve"])
         self.assertIn("has arrived, and it counts. It was read as", late["hal"])
-        self.assertIn("It was entered after the close, so it is late and does not count. It was read as (fay", late["fay"])
+        self.assertIn(f"It was entered after the close, so it is late and does not count. It was read as: {LAKE}", late["fay"])
         self.assertIn("so it is late and does not count.", late["gus"])
         for text in late.values():
             self.assertNotRegex(text, r"_,_|unless you|You can send")
-        # what was entered anew is told once
-        self.done("reopen", "--in-time", 10, "--because", "it was in time")
-        anew = self.texts("receipts")
-        self.assertEqual((list(anew), anew["fay"].count("It was read as")), (["fay"], 1))
-        self.assertIn("has arrived, and it counts. It was read as (fay", anew["fay"])
+        # what is entered again is told alone
+        self.done("reopen", "--because", "it was in time")
+        self.add_lines(f"fay {RANKS}", words=("--came-before-close", "yes"))
+        again = self.texts("receipts")
+        self.assertEqual((list(again), again["fay"].count("It was read as")), (["fay"], 1))
+        self.assertIn(f"has arrived, and it counts. It was read as: {LAKE}", again["fay"])
 
     def test_a_letter_of_which_one_ballot_is_entered(self) -> None:
-        """Its elector is told once of that, and the other elector that the letter waits: Ben, who has the same address, or Dan."""
+        """Its elector is told once of that, and the other elector that none of theirs was: Ben, who has the same address, or Dan."""
         self.change_roll("ben@club", "ada@club")
         self.add(letter("ada", f"ada {RANKS}\nben {OTHER_RANKS}\n"), letter("cleo", f"cleo {RANKS}\ndan {OTHER_RANKS}\n"))
         self.add(letter("gus", f"hal {RANKS}\n"))
-        for number in (1, 2, 3):
-            self.done("held", number, "--enter", 1)
+        for number, how in ((1, ["--as", f"ada {RANKS}"]), (2, ["--as", f"cleo {RANKS}"]), (3, ["--enter", "--force"])):
+            self.done("held", number, *how)
         texts = self.texts("receipts")
         # one goes to the address that Ben had; who sent one for somebody else alone is told nothing of it
         self.assertEqual(sorted(texts), ["ada", "ben", "ben_2", "cleo", "dan", "hal"])
         for name in ("ada", "cleo"):
             self.assertEqual((texts[name].count("has arrived"), "It counts unless you send a later one." in texts[name]), (1, True))
         of_others = "10:00 (UTC) has a ballot of somebody else, which was entered. No ballot of yours from it"
-        self.assertIn(f"{of_others} is entered yet: the secretary has to look at it first.", texts["ben"])
-        self.assertIn(ELSEWHERE, texts["dan"])
-        # of one that was set aside, too
-        self.add(letter("ada", f"My vote, and his:\nada {OTHER_RANKS}\nben {RANKS}\n", number=2))
-        self.done("held", 4, "--enter", 2, "--force")
-        self.done("held", 4, "--set-aside")
-        self.assertIn(f"{of_others} was entered.", self.texts("receipts")["ben"])
+        for name in ("ben", "dan"):
+            self.assertIn(f"{of_others} was entered.", texts[name])
         shown = {name: "letter 2, from " in self.told("show", name) for name in ("cleo", "dan", "eve")}
         self.assertEqual(shown, {"cleo": True, "dan": True, "eve": False})
 
@@ -460,8 +461,8 @@ class ReceiptsAndReminders(OutTest):
         waits = " letters wait until you have looked at them: debvote-election held\nThere is no letter to send.\n"
         self.assertEqual(self.told("letters", "receipts"), f"{said}5{waits}")
         held = self.told("held").replace("\n        ", "\n")
-        self.assertIn("no ballot found\nother words: Who are you?\n", held)
-        self.assertIn(f"no ballot found\nother words: Benjamin Lind {RANKS}\nsame address: ada, ben\n", held)
+        self.assertIn("no ballot found\nwritten: Who are you?\n", held)
+        self.assertIn(f"no ballot found\nwritten: Benjamin Lind {RANKS}\nsame address: ada, ben\n", held)
         shown = {name: "letter 1, from " in self.told("show", name) for name in ("ada", "ben", "cleo")}
         self.assertEqual(shown, {"ada": True, "ben": True, "cleo": False})
         self.told("held", 1, 2, "--set-aside")
@@ -474,8 +475,8 @@ class ReceiptsAndReminders(OutTest):
             letter("cleo", f"dan {RANKS}\n"),
             letter("eve", f"eve {RANKS}\n", sender="stranger@x.example"),
             letter("fay", "away\n", head="Auto-Submitted: auto-replied\n"),
-            letter("gus", "I want the lake.\n", sender="GUS@Club.Example"),
-            letter("hal", "Hello\nI vote hal 1,2,3,4, of course\n"),
+            marked("gus", "I want the lake.\n", sender="GUS@Club.Example"),
+            letter("hal", "Hello\nI vote for the lake:\nhal 1,2,3,4\n"),
             # the call to her that came back
             letter("ida", "Undelivered.\n\n  ida _,_,_,_\n", sender="mailer-daemon@x.example"),
         )
@@ -484,7 +485,7 @@ class ReceiptsAndReminders(OutTest):
         waits = "has arrived. No ballot from it is entered yet: the secretary has to look at it first. The reason: "
         none = f"{waits}no line of it is a ballot of this vote."
         for name, said in (
-            ("ada", f"(ada {RANKS})"),
+            ("ada", LAKE),
             ("ben", f"{none} Line 1 of its text is near to a ballot. It has 2 ranks,"),
             # who wrote a ballot in another's name is told, too, with nothing of the other
             ("cleo", "The reason: the list of members has another address for the name on the ballot."),
@@ -492,33 +493,22 @@ class ReceiptsAndReminders(OutTest):
             ("eve", ELSEWHERE),
             ("gus", f"{none} If you have not sent this"),
             ("gus", "You vote under the name gus. You can send a right line now"),
-            ("hal", "Line 2 of its text is near to a ballot. It has a ballot within other words; the ballot has to be there alone."),
+            ("hal", f"{waits}there is more in it than a ballot. Answer this letter, write your ballot on top, and nothing else."),
         ):
             self.assertIn(said, texts[name])
         self.assertNotRegex(texts["cleo"], rf"\bdan\b|{RANKS}")
         self.assertNotIn("stranger", texts["eve"] + texts["dan"])
         self.assertEqual(self.texts("receipts"), {})
         # one that waited and is entered now
-        self.done("held", 3, "--enter", 1)
+        self.done("held", 3, "--enter", "--force")
         # a ballot that the secretary typed is told as the letter, with its time, and how it was read
         self.done("held", 6, "--as", f"gus {RANKS}")
         texts = self.texts("receipts")
         self.assertEqual(list(texts), ["dan", "gus"])
         said = "10:00 (UTC) has arrived. It counts unless you send a later one."
-        self.assertIn(f"{said} It was read as (dan {RANKS})", texts["dan"])
-        self.assertIn(f"{said} The secretary typed it, by a letter that came. It was read as (gus {RANKS}), in words: {LAKE}.", texts["gus"])
+        self.assertIn(f"{said} It was read as: {LAKE}", texts["dan"])
+        self.assertIn(f"{said} The secretary typed it, by a letter that came. It was read as: {LAKE}.", texts["gus"])
         self.assertNotIn("No ballot from it", texts["gus"])
-
-    def test_who_has_a_line_in_a_letter_from_which_another_ballot_went_in(self) -> None:
-        """They are told, once, and reminded of it."""
-        self.add(letter("ada", f"ada {RANKS}\n\nben 1,2\n"))
-        texts = self.texts("receipts")
-        self.assertEqual(list(texts), ["ada", "ben"])
-        said = "10:00 (UTC) has a ballot of somebody else, which was entered. No ballot of yours from it was entered."
-        self.assertIn(f"{said} If you have not sent this", texts["ben"])
-        self.assertNotIn("of somebody else", texts["ada"])
-        self.assertEqual(self.texts("receipts"), {})
-        self.assertIn(said, self.texts("reminders")["ben"])
 
     def test_one_for_each_elector_and_run(self) -> None:
         twice, aside = letter("ben", f"ben {RANKS}\n"), (letter("dan", "hello\n"), letter("eve", f"eve {RANKS}\n", sender="x@x.example"))
@@ -551,17 +541,11 @@ class ReceiptsAndReminders(OutTest):
         names = "From To Subject Date Message-ID X-Unsent Auto-Submitted MIME-Version Content-Type Content-Transfer-Encoding"
         self.assertEqual([name for name, _ in message.raw_items()], names.split())
 
-    def test_a_line_that_was_refused_is_quoted_and_votes_for_nobody(self) -> None:
-        """Nor does it where the receipt is answered, with or without a ballot, and the quotation has no marks. One with words is not quoted."""
-        lines = [f"ada {RANKS},1", f"ben {RANKS} or http://x.example", "cleo " + "1," * 60, f"dan\u202e {RANKS}", "eve 1; 2;3"]
-        self.add_lines(*lines, words=("--force",))
-        found = self.written("receipts")
-        for (name, message), line in zip(found.items(), (f"|{lines[0]}\n\n", "", "", "", "|eve 1; 2;3\n\n"), strict=True):
-            self.assertIn(f".\n\n{line}If you have not sent this", message.get_content())
-            head = f"In-Reply-To: {message['Message-ID']}\nSubject: Re: {message['Subject']}\n"
-            for number, ballot in enumerate(("", f"{name} {OTHER_RANKS}\n\nThe secretary wrote:\n")):
-                self.add(letter(name, f"{ballot}{message.get_content()}", number=number, head=head, time=EARLIER))
-        self.assertEqual(self.exported()[0].splitlines()[5:], [f"{name} {OTHER_RANKS}" for name in found])
+    def test_no_line_that_was_refused_is_repeated(self) -> None:
+        self.add_lines(f"ada {RANKS},1", f"ben {RANKS} or http://x.example", words=("--force",))
+        for text in self.texts("receipts").values():
+            self.assertIn(". If you have not sent this", text)
+            self.assertNotIn("x.example", text.replace("club.example", ""))
 
     def test_to_whom_reminders_go(self) -> None:
         """A line that came and does not count is told with the reason, as in the receipt. A letter that was set aside is not told again."""
@@ -607,6 +591,9 @@ class ReceiptsAndReminders(OutTest):
         self.assertIn("Your letter of Monday, 23 November 2026, 10:00 (UTC) has arrived. No ballot from it is entered yet: ", texts["ida"])
         for words in (NONE, "You can send a right line now", "ida _,_,_,_"):
             self.assertNotIn(words, texts["ida"])
+        # and the secretary, how many letters wait
+        waits = r"(?m)^5 letters wait until you have looked at them: debvote-election held$"
+        self.assertRegex(self.told("letters", "reminders", "--yes"), waits)
 
     def test_the_end_after_two_extensions_in_reminders_and_receipts(self) -> None:
         ids = set()
@@ -621,6 +608,7 @@ class ReceiptsAndReminders(OutTest):
             self.set_clock("2026-11-23T10:00:00+00:00")
         # each run that writes files is a new one
         self.assertEqual(len(ids), 2)
+
 
 class FullDisk(OutTest):
     """A disk that is full at any write: receipts are noted if their files are there, and the next run writes the others."""
@@ -687,53 +675,6 @@ class FullDisk(OutTest):
         self.assertEqual(failures, {"write", "pwrite64", "mkdir", "rename"})
 
 
-class NoBallots(OutTest):
-    """No line of what goes out reads as a ballot, however it is wrapped."""
-
-    # names and texts that try to, and names of the list of members
-    ballot = f"ada {RANKS}"
-    long = f"Where we meet in the spring of the year that comes after this one, or {ballot}"
-    poll = elections.POLL.replace("At the lake", "ada 1").replace("In the town hall", long).replace("Further discussion", ballot)
-    poll = poll.replace("Where we meet in spring", f"ben 1 2 3 4 {long}")
-    members = f'name,who,mail\nada,"{ballot}",ada@club.example\nben,"{"y" * 70} {ballot} {"x" * 80}",ben@club.example\n'
-    members += "".join(f"{name},{name.title()},{name}@club.example\n" for name in elections.NAMES[2:])
-
-    def test_no_line_is_a_ballot(self) -> None:
-        self.write("letter.txt", f"Write as ada does: {self.ballot}\n{self.ballot}\n")
-        self.done("call")
-        found = self.written("call")
-        for text in (found["ben"].get_content(), self.read("call/call.txt").decode()):
-            lines = [line.strip() for line in text.splitlines()]
-            self.assertEqual((f"|{self.ballot}" in lines, self.ballot in lines), (True, False), text)
-        self.add_lines(f"ada {RANKS}", "ben 1,2", f"cleo {RANKS}", f"cleo {OTHER_RANKS}")
-        self.add(letter("dan", f"I vote dan {RANKS} today\n"), letter("eve", f"fay {RANKS}\ngus {RANKS}\n"))
-        kinds = {"call": found, "receipts": self.written("receipts"), "reminders": self.written("reminders")}
-        self.done("close", "--early", "--force", "--because", "cleo 1,2,3,4")
-        kinds["closed"] = self.written("closed")
-        casting = ("--casting", "ada 1", "--cast-by", "ada 1,2,3,4", "--cast-on", "2026-11-23")
-        self.done("publish", *casting, "--force", "--because", "ben 1,2,3,4")
-        kinds["result"] = self.written("result")
-        lines = set()
-        for kind, letters in kinds.items():
-            self.assertTrue(letters, kind)
-            for message in letters.values():
-                text = message.get_content()
-                lines |= {line.encode() for line in text.splitlines()} | {" ".join(text.split()).encode()}
-                # by words, from each word on, as long as a line of a mail program
-                words = text.split()
-                for start in range(len(words)):
-                    lines |= {" ".join(words[start : start + count]).encode() for count in (2, 3, 4)}
-        self.assertGreater(len(lines), 1000)
-        ballots = [repaired_line(line) for line in lines]
-        self.write("lines", b"".join(line.replace(b"\n", b" ") + b"\n" for line in ballots if line.strip()))
-        steps = ("steps", "--poll", "call/poll.toml", "--ballots", "lines")
-        replies = {line.partition(" ")[2] for line in self.debvote(*steps).output.splitlines()}
-        self.assertLessEqual(replies, {"bad shape", "bad rank count", "bad not on roll"})
-        # a ballot among them is seen
-        self.write("lines", self.read("lines") + f"ada {RANKS}\n".encode())
-        self.assertIn("counted", self.debvote(*steps).output)
-
-
 class CloseAndResult(OutTest):
     def test_an_open_vote(self) -> None:
         self.assert_fault(self.election("letters", "result"), 9, "the vote is not closed")
@@ -745,7 +686,7 @@ class CloseAndResult(OutTest):
         begin = f"{TITLE} Winner: Option 1: At the lake. It beats each option that was not dropped: "
         numbers = "Option 2: In the town hall by 2 to 0 and Option 4: Further discussion by 2 to 0."
         facts = "2 of 9 voted, quorum 2 reached. The result is published at: "
-        own = f"Your own ballot is (ada {RANKS}), in words: {LAKE}. The page shows it at: {AT}#ada "
+        own = f"Your own ballot in words: {LAKE}. The page shows it at: {AT}#ada "
         self.assertIn(f"Dear Ada, {begin}{numbers} {facts}{AT} {own}What is doubtful", texts["ada"])
         self.assertEqual(f"Dear Ada, {' '.join(self.read('letters/result.txt').decode().split())}", texts["ada"].replace(own, ""))
         self.assertIn(f"{AT}#ben", texts["ben"])
@@ -773,7 +714,7 @@ class CloseAndResult(OutTest):
         texts = self.texts("result")
         self.assertEqual(sorted(texts), elections.NAMES)
         # the ballot that counts now, and not that of the first close
-        self.assertIn("Your own ballot is (ada 1,3,4,2), in words: ", texts["ada"])
+        self.assertIn("Your own ballot in words: At the lake, then Further", texts["ada"])
 
     def test_why_no_ballot_of_an_elector_counts(self) -> None:
         self.add_lines(f"ada {RANKS}", "ben 1,2", f"cleo {RANKS}", "hal 1,2")
@@ -798,7 +739,8 @@ class CloseAndResult(OutTest):
             ("dan", "It was entered after the close, so it is late and does not count."),
             ("eve", "No ballot from it is entered yet: the secretary has to look at it first. The reason: no line of it is a ballot of this vote."),
             ("fay", "No ballot has come under your name."),
-            ("gus", "and the secretary has taken it back. It does not count unless it is entered again."),
+            # no ballot is entered again after the close
+            ("gus", "and the secretary has taken it back. It does not count. It was read as:"),
         ):
             self.assertRegex(texts[name], rf"{AT} The result has no ballot of yours that counts\. .*{re.escape(why)} .*What is doubtful")
 
@@ -873,7 +815,7 @@ class Secret(OutTest):
             self.assertNotIn("It went to another address", texts["ben"])
         # a key alone, an address that is added, and an open vote
         self.write("members.csv", elections.members_of(self.names).replace("ada@club.example", "ada@new.example home@x.example"))
-        self.assertNotIn("code", self.told("roll", "--yes"))
+        self.assertNotIn("secret code", self.told("roll", "--yes"))
         # on paper, by a letter that has no code, and to an address that is put back it went to none
         for address, kind in (("", "call"), ("third@x.example", "reminders"), ("ada@club.example", "call")):
             self.write("members.csv", elections.members_of(self.names).replace("ada@club.example", address))
@@ -881,16 +823,6 @@ class Secret(OutTest):
             texts = self.texts(kind)
         told = re.findall(r"It went to another address before: (\S*)\. ", texts["ada"])
         self.assertEqual(told, ["ada@new.example", "wrong@x.example"])
-
-    def test_a_second_close_does_not_tell_why_the_vote_was_opened_again(self) -> None:
-        self.add_lines(f"ada {RANKS}")
-        self.done("close", "--early")
-        self.done("reopen", "--because", "ben's letter was forgotten")
-        self.done("close", "--early")
-        text = " ".join(self.read("letters/closed.txt").decode().split())
-        self.assertIn("The vote was closed before, on Monday, 23 November 2026,", text)
-        self.assertIn("and opened again. This letter takes the place of the one about that close, which had this checksum", text)
-        self.assertNotIn("forgotten", text)
 
     def test_nothing_else_has_codes_or_ranks(self) -> None:
         codes = self.codes()

@@ -19,6 +19,7 @@ from debvote_tools.cli.faults import Fault
 from debvote_tools.outbox import smtp
 
 from tests.support import elections, terminal
+from tests.support.called import LAKE
 from tests.support.letters import TEN, letter
 from tests.support.outgoing import OTHER_RANKS, RANKS, MailServer, PlainServer, SendTest, one_line, parsed
 
@@ -236,10 +237,10 @@ class Sending(SendTest):
         self.assertEqual(self.not_reached(), {"ada": "came back", "ben": "came back"})
         # a ballot that is struck, or had come before, shows nothing either
         self.add(letter("ada", f"ada {RANKS}\n", time="Mon, 23 Nov 2026 08:00:00 +0000", number="before"))
-        self.done("held", 6, "--enter", 1, "--force", "--yes")
+        self.done("held", 6, "--enter", "--force")
         self.assertEqual(self.not_reached(), {"ada": "came back", "ben": "came back"})
         self.add(letter("ben", f"ben {OTHER_RANKS}\n", time="Mon, 23 Nov 2026 10:30:00 +0000", number="after"))
-        self.done("held", 7, "--enter", 1, "--force", "--yes")
+        self.done("held", 7, "--enter", "--force")
         self.assertEqual(self.not_reached(), {"ada": "came back"})
         self.done("undo", "--yes")
         self.assertEqual(self.not_reached(), {"ada": "came back", "ben": "came back"})
@@ -277,19 +278,14 @@ class Sending(SendTest):
         self.told("letters", "call")
         self.assertEqual(self.not_reached(), {"ada": "refused"})
 
-    def test_a_receipt_is_not_the_call(self) -> None:
-        self.assert_sent("call")
-        self.change_roll("ada@club", "ada@new")
-        self.add_lines(f"ada {RANKS}")
-        self.assert_sent("receipts")
-        self.assertEqual(self.not_reached(), {"ada": "no letter"})
-
     def test_each_own_mark_is_told_by_a_letter(self) -> None:
-        """That of a second address, and of an address that is put back: whoever knows the first address has the old mark."""
+        """That of a second address, and of an address that is put back: whoever knows the first address has the old mark. A receipt is none."""
         self.assert_sent("call")
-        for roll in ("ada@club.example ada@second.example", "ada@new.example", "ada@club.example"):
-            self.server.taken.clear()
+        for number, roll in enumerate(("ada@club.example ada@second.example", "ada@new.example", "ada@club.example"), start=1):
             self.change_roll("ada@club.example", roll)
+            self.add_lines(f"ada {number},2,3,4")
+            self.assert_sent("receipts")
+            self.server.taken.clear()
             self.assertEqual(self.not_reached(), {"ada": "no letter"})
             self.assert_sent("call")
             [taken] = self.server.taken
@@ -335,7 +331,7 @@ class Sending(SendTest):
         self.told("roll", "--yes")
         self.assert_sent("receipts", "Sent 2 of 3 letters.")
         self.assertEqual(self.server.addresses(), [ALL[2], "ada@new.example", "ben@new.example"])
-        self.assertIn(f"It was read as (ben {RANKS})", one_line(parsed(self.server.taken[2].data)))
+        self.assertIn(f"It was read as: {LAKE}", one_line(parsed(self.server.taken[2].data)))
         self.server.rcpt_answers = {}
         self.assert_sent("receipts", "Sent 1 of 1 letter.")
         self.assertEqual(self.server.addresses()[3:], [ALL[0]])
@@ -383,6 +379,11 @@ class Sending(SendTest):
         shutil.rmtree(place)
         self.assertIn(f"Print {page.relative_to(self.folder)}.\n", self.send("receipts").output)
         self.assertEqual((page.read_bytes(), self.rows("receipts")), (data, rows))
+        # alone: what the server took is no file again, nor is it said to be one
+        shutil.rmtree(place)
+        said = f"Without an address: ada. Print {page.relative_to(self.folder)}.\nNo other letter is to be sent.\n"
+        self.assertEqual(self.told("letters", "receipts"), said)
+        self.assertEqual([file for file in place.rglob("*") if file.is_file()], [page])
         # the address that she had before gets the first, too
         self.assertEqual(sorted(self.server.addresses()), ["ada@club.example", "ben@club.example"])
         # what comes of her later is on a new page
@@ -503,11 +504,11 @@ class Sending(SendTest):
         self.add(letter("cleo", f"dan {RANKS}\n"))
         self.server.rcpt_answers = {"dan@club.example": "451 later"}
         self.assert_sent("receipts", status=9)
-        self.done("held", 1, "--enter", 1)
+        self.done("held", 1, "--enter", "--force")
         self.server.rcpt_answers = {}
         self.assert_sent("receipts")
         [taken] = [taken for taken in self.server.taken if taken.to == "dan@club.example"]
-        self.assertIn(f"It was read as (dan {RANKS})", one_line(parsed(taken.data)))
+        self.assertIn(f"It was read as: {LAKE}", one_line(parsed(taken.data)))
 
 
 class Remembered(SendTest):

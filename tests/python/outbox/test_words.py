@@ -1,4 +1,4 @@
-"""What letters say, and their bytes: each outcome in each language, names and titles that try to do harm, and lines that read as ballots."""
+"""What letters say, and their bytes: each outcome in each language, and names and titles that try to do harm."""
 
 import dataclasses
 import datetime
@@ -15,7 +15,7 @@ from typing import Any
 
 from debvote_tools.book.queries import Elector, EnteredBallot, Envelope
 from debvote_tools.book.outgoing import OutgoingLetter
-from debvote_tools.inbox.letter_lines import Near
+from debvote_tools.inbox.letter_lines import ReadLine
 from debvote_tools.inbox.fates import REFUSED, Fate
 from debvote_tools.inbox.reasons import Reason, ReasonWithValues, for_elector
 from debvote_tools.inbox.rules import LetterOutcome
@@ -25,8 +25,7 @@ from debvote_tools.poll.announced import is_mail_address
 from debvote_tools.poll.call import CallData, call_page
 from debvote_tools.poll.questions import Questions
 from debvote_tools.poll.sealed import SealedPoll
-from debvote_tools.text.ballots import faults_of, without_ballots
-from debvote_tools.text.motions import Words, words_of
+from debvote_tools.text.ballots import faults_of
 from debvote_tools.text.language import LANGUAGES, language_of
 from debvote_tools.text.rendering import one_line as on_one_line, render_page, resources
 
@@ -51,32 +50,27 @@ def vote(code: str = "en", *, is_over: bool = False, **how: object) -> Composer:
 
 def came_letter(reason: ReasonWithValues | None, **how: object) -> Any:
     """A letter as far as its receipt tells it."""
-    usual: dict[str, object] = {"near": (), "standing": (), "is_pending": True}
+    usual: dict[str, object] = {"refused": (), "standing": (), "is_pending": True}
     return types.SimpleNamespace(reason=reason, read=types.SimpleNamespace(link=""), **{**usual, **how})
 
 
-def all_that_came() -> list[Fate]:
+def all_that_came(answers: str = "1,2,3") -> list[Fate]:
     """Something of each kind, with each fault that a line may have."""
-    near = (
-        Near(1, "ada 1,2", False, "bad rank count: 2 ranks, the poll has 3 options"), Near(2, "bob 1,2,3", True, "bad not on roll: bob is not on the roll"),
-        Near(3, "ada 1;2;x", False, 'bad shape: column 9: "x"'), Near(4, "ada one", False, "bad shape: it is odd"),
-        Near(5, "ada 1,2,3", False, None), Near(6, "ada 1,2,3", True, None),
-    )  # fmt: skip
-
-    typed = EnteredBallot(2, "ada 1,2,3", is_late=False, is_struck=False, is_taken_back=False, is_typed=True)
-    source = came_letter(None, entered=[typed], left=set(), not_entered=set())
+    refused = ["bad rank count: 1 ranks, the poll has 3 options", "bad not on roll: bob is not on the roll", 'bad shape: column 9: "x"']
+    read = [ReadLine(number, ("ada",), "1", answer) for number, answer in enumerate([*refused, None])]
+    typed = EnteredBallot(2, f"ada {answers}", is_late=False, is_struck=False, is_taken_back=False, is_typed=True)
+    source = came_letter(None, entered=[typed])
 
     def envelope(number: int, became: str, answer: str | None = None) -> Fate:
-        line = b"ada 1,2,3" if answer is None else b"ada 1"
+        line = f"ada {answers}".encode() if answer is None else b"ada 1"
         there = Envelope(number, number, 1, line, None, 1, "", TIME, False, None, answer)
         return Fate(TIME, became, there, came_by=source)
 
     ballots = [envelope(number, became) for number, became in enumerate(OF_BALLOT) if became != REFUSED]
-    refused = ["bad rank count: 1 ranks, the poll has 3 options", 'bad shape: column 2: "!"']
     kinds = itertools.product((LetterOutcome.WAITS, LetterOutcome.SET_ASIDE), (True, False), ([], [typed]))
     letters = []
     for outcome, is_own, standing in kinds:
-        letter = came_letter(Reason.NO_BALLOT(), near=near, standing=standing, is_pending=outcome is LetterOutcome.WAITS)
+        letter = came_letter(Reason.NO_BALLOT(), refused=read, standing=standing, is_pending=outcome is LetterOutcome.WAITS)
         letters.append(Fate(TIME, outcome, letter=letter, is_own=is_own))
     return [*ballots, *(envelope(9, REFUSED, answer) for answer in refused), *letters]
 
@@ -84,13 +78,13 @@ def all_that_came() -> list[Fate]:
 WAITS = next(one for one in all_that_came() if one.became is LetterOutcome.WAITS and one.is_own)
 
 
-def texts(now: Composer) -> list[str]:
-    with_code = ADA._replace(code="c0de")
-    calls = (now.call_letter(elector, is_extension=is_extension).text for elector, is_extension in ((ADA, False), (ADA._replace(key="A"), False), (ADA, True)))
-    calls = itertools.chain(calls, [now.call_letter(with_code, is_extension=False, earlier=["a@b.example"]).text])
-    results = (now.said("result", ADA, letter="RESULT\n", answers=ranks, fates=all_that_came()).text for ranks in ("1,2,3", None))
+def texts(now: Composer, answers: str = "1,2,3") -> list[str]:
+    came = all_that_came(answers)
+    calls = [now.call_letter(elector, is_extension=is_extension).text for elector, is_extension in ((ADA, False), (ADA._replace(key="A"), False), (ADA, True))]
+    calls += [now.call_letter(ADA._replace(code="c0de"), is_extension=False, earlier=["a@b.example"]).text]
+    results = (now.said("result", ADA, letter="RESULT\n", answers=ranks, fates=came).text for ranks in (answers, None))
     closed = now.said("closed", ADA, letter="CLOSED\n").text
-    return [*calls, now.reminder(ADA, [WAITS]).text, now.reminder(ADA, []).text, now.receipt(ADA, all_that_came()).text, closed, *results]
+    return [*calls, now.reminder(ADA, [WAITS]).text, now.reminder(ADA, []).text, now.receipt(ADA, came).text, closed, *results]
 
 
 class Texts(unittest.TestCase):
@@ -112,18 +106,18 @@ class Texts(unittest.TestCase):
                 self.assertTrue(subject.endswith(": Spring"), subject)
 
     def test_a_secret_vote_repeats_no_ranks_and_a_signed_one_asks_for_a_signature(self) -> None:
-        self.assertIn("(ada 1,2,3)", vote().receipt(ADA, all_that_came()).text)
+        self.assertIn("It was read as: Lake, then Hall, then None.", vote().receipt(ADA, all_that_came()).text)
         for key, said in (("A" * 40, "Write and sign two lines"), ("", "has no key of yours: a letter from you waits")):
             text = " ".join(vote(is_signed=True).reminder(ADA._replace(key=key), []).text.split())
             self.assertIn("has to be signed with OpenPGP", text)
             self.assertIn(said, text)
-            self.assertNotIn("send the line alone", text)
+            self.assertNotIn("on top", text)
             self.assertEqual("Write and sign" in text, bool(key))
         self.assertNotIn("OpenPGP", vote().reminder(ADA, []).text)
 
     def test_after_the_end_nobody_is_asked_to_send_anything(self) -> None:
         for code in LANGUAGES:
-            for reason in (Reason.TOO_LONG(), Reason.NOT_FIRST(), Reason.NO_BALLOT()):
+            for reason in (Reason.TOO_LONG(), Reason.NOT_ALONE(number=1), Reason.NO_BALLOT()):
                 came = WAITS._replace(letter=came_letter(reason))
                 open_text, over = (" ".join(vote(code, is_over=is_over).receipt(ADA, [came]).text.split()) for is_over in (False, True))
                 said = " ".join(language_of(code).say(for_elector(reason)).split())
@@ -138,24 +132,17 @@ class Texts(unittest.TestCase):
         texts = [
             [vote(code).receipt(ADA, [WAITS._replace(letter=came_letter(reason))]).text]
             for code in LANGUAGES
-            for reason in (None, Reason.WORD(), Reason.ANOTHER_ANSWER(number=2))
+            for reason in (None, Reason.PUT_BACK(), Reason.NO_ARRIVAL())
         ]
         for without, *others in zip(*[iter(texts)] * 3):
             self.assertEqual(others, [without, without])
 
-    def test_of_a_letter_of_two_each_is_told_of_the_own_ballot(self) -> None:
-        """What of the other's ballot was left out, is left or was typed is not told; and what was left out of one that is struck does not matter."""
-        now = vote(questions=Questions({label: POLL for label in "ABC"}, "Meeting"), quorum_votes=dict.fromkeys("ABC", 1))
-        typed = EnteredBallot(2, "ben A 1,2,3", is_late=False, is_struck=False, is_taken_back=False, is_typed=True)
-        letter = came_letter(None, entered=[typed._replace(number=1, is_typed=False), typed], not_entered={("ada", "A"), ("ada", "B"), ("ben", "B"), ("ben", "C")}, left={("ada", "B"), ("ben", "C")})
-        there = Envelope(1, 1, 1, b"ada C 1,2,3", None, 1, "", TIME, False, None)
-        left_out, left, by_hand = "not entered, since you had later ones: {}.", "not entered yet: {}.", "The secretary typed it"
-        for name, number, labels in (("ada", 1, "AB"), ("ben", 2, "BC")):
-            told = now.said_of(Fate(TIME, "counts", there._replace(number=number), came_by=letter), name)
-            self.assertEqual([said.format(f"{label} (Spring)") in told for said, label in zip((left_out, left), labels)], [True, True], told)
-            self.assertEqual((told.count("(Spring)"), by_hand in told), (2, number == 2), told)
-            struck = now.said_of(Fate(TIME, "struck", there._replace(number=number, struck=9), came_by=letter), name)
-            self.assertEqual((struck.count("(Spring)"), by_hand in struck), (0, number == 2), struck)
+    def test_of_a_letter_of_two_only_whose_ballot_was_typed_is_told_so(self) -> None:
+        typed = EnteredBallot(2, "ben 1,2,3", is_late=False, is_struck=False, is_taken_back=False, is_typed=True)
+        letter = came_letter(None, entered=[typed._replace(number=1, is_typed=False), typed])
+        there = Envelope(1, 1, 1, b"ada 1,2,3", None, 1, "", TIME, False, None)
+        told = [vote().said_of(Fate(TIME, "counts", there._replace(number=number), came_by=letter), "ada") for number in (1, 2)]
+        self.assertEqual(["The secretary typed it" in text for text in told], [False, True])
 
     def test_of_a_result(self) -> None:
         """The letter for all, and within it, behind the winner, the own ballot and where the result is."""
@@ -169,7 +156,7 @@ class Texts(unittest.TestCase):
                 self.assertTrue(text.startswith(f"Dear Ada L.,\n\nRESULT\n\n{place}\nYour "), text)
                 self.assertTrue(text.endswith(end), text)
                 self.assertEqual(text.count(place.partition("\n")[0]), 1)
-            own = "Your own ballot is (ada 2,1,3), in words: Hall, then Lake, then None. The page shows it at: https://club.example/vote/#ada"
+            own = "Your own ballot in words: Hall, then Lake, then None. The page shows it at: https://club.example/vote/#ada"
             self.assertIn(own, " ".join(texts[0].split()))
             self.assertNotRegex(texts[1], "#|2,1,3|Hall")
             self.assertIn("find it with your name, ada, and your code", " ".join(texts[1].split()))
@@ -186,7 +173,7 @@ class Texts(unittest.TestCase):
 class CallLetter(unittest.TestCase):
     """The call, an extension, a reminder and a receipt that refuses have the same block."""
 
-    letter = "Dear friends,\n\npaper ballots go to the box in the hall.\nWrite ada 1,2,3 or so.\n  ben 3,2,1\n\nYours, Eve\n"
+    letter = "Dear friends,\n\npaper ballots go to the box in the hall.\n\nYours, Eve\n"
 
     def asking(self, now: Composer, elector: Elector = ADA) -> list[str]:
         letters = [now.call_letter(elector, is_extension=False).text, now.call_letter(elector, is_extension=True).text]
@@ -220,11 +207,10 @@ class CallLetter(unittest.TestCase):
 
     def test_the_words_of_the_secretary_come_first_and_it_is_said_once_whose_they_are(self) -> None:
         for code in LANGUAGES:
-            now = vote(code, letter_text=self.letter, electors=(ADA, ADA._replace(name="ben")))
+            now = vote(code, letter_text=self.letter)
             *first, refusing = self.asking(now)
             for text in first:
-                begin = "Dear friends,\n\npaper ballots go to the box in the hall.\n|Write\n|ada 1,2,3 or so.\n  |ben 3,2,1\n\nYours, Eve\n\n"
-                self.assertTrue(text.startswith(begin), text)
+                self.assertTrue(text.startswith(f"{self.letter}\n"), text)
                 whose = "The words at the head of this letter are those of whoever sends it. "
                 said = now.call_data.language.say(f"{whose}The program debvote wrote the rest, and has not checked them.")
                 self.assertEqual(" ".join(text.split()).count(said), 1)
@@ -232,15 +218,10 @@ class CallLetter(unittest.TestCase):
                 self.assertTrue(" ".join(text.split()).endswith(said))
             self.assertNotIn("Dear friends", refusing)
             # a reminder begins so, too, if a letter waits
-            self.assertTrue(now.reminder(ADA, [WAITS]).text.startswith(begin))
-
-    def test_a_name_is_one_on_the_roll_or_the_end_of_it_or_of_a_real_name(self) -> None:
-        now = dataclasses.replace(vote().call_data, electors=(ADA._replace(name="ada-ley", who="Ad\u00e8le B. Lovelace"),))
-        words = ("ada-ley", "LEY", "lovelace", "Ada", "Ad\u00e8le", "B.")
-        self.assertEqual([now.is_name(word) for word in words], [True, True, True, False, False, False])
+            self.assertTrue(now.reminder(ADA, [WAITS]).text.startswith(self.letter))
 
     def test_what_one_letter_says_and_another_does_not(self) -> None:
-        of_box = vote(has_box=True)
+        of_box = vote(box_key=b"x")
         letters = [" ".join(of_box.call_letter(one, is_extension=False).text.split()) for one in (ADA, ADA._replace(mark=""), GUS)]
         # without an own mark the link is nobody's, and only the page is where a ballot is sent
         self.assertEqual(["Open the link, choose, and press Vote" in text for text in letters[:2]], [True, False])
@@ -255,6 +236,9 @@ class CallLetter(unittest.TestCase):
         whose = "The texts about the options are those of whoever sends this letter."
         self.assertEqual([whose in text for text in (call, extension)], [True, False])
         self.assertEqual(call.count("(or in place of the ranks one word: "), 1)
+        # only options have a box to write into
+        [_, _, ballot] = rows_to_print(now.call_letter(GUS, is_extension=False).text)
+        self.assertEqual([kind for _, kind in ballot].count("option"), len(poll.names) + 2)
         # the quorum of a question has its title before it, where the rest is on the page
         by_mail = " ".join(now.call_letter(ADA, is_extension=False).text.split())
         self.assertIn("Question A: Spring The quorum is 1 vote: at least 1 elector must prefer an option to the default option.", by_mail)
@@ -269,20 +253,18 @@ class CallLetter(unittest.TestCase):
             for text in self.asking(vote(letter_text=f"{first}\n\nMore.\n"))[:3]:
                 begin = first if first in greeting else f"Dear Ada L.,\n\n{first}"
                 self.assertTrue(text.startswith(f"{begin}\n\nMore.\n\n"), text)
-        # with --marked it says to answer, or to use the link
-        # a receipt of a vote with a box has the link nowhere
-        for text in [*self.asking(vote(is_marked=True)), *self.asking(vote(is_marked=True, has_box=True))]:
-            self.assertIn("Open your own link, or answer this letter: then the subject has your own mark", " ".join(text.split()))
-        # one to an earlier address has no own mark
-        for text in self.asking(vote(is_marked=True), ADA._replace(mark="")):
+        for text in self.asking(vote()):
+            self.assertIn("That is your own mark, which nobody else knows: a letter without it waits", " ".join(text.split()))
+        # one to an earlier address has no own mark, and a signed letter needs none
+        for text in self.asking(vote(), ADA._replace(mark="")):
             self.assertIn("Open the link in your letter, or answer that letter: then", " ".join(text.split()))
-        self.assertNotIn("own mark", "".join(self.asking(vote())))
+        self.assertNotIn("own mark", "".join(self.asking(vote(is_signed=True))))
         # without a page the texts follow
-        poll = dataclasses.replace(POLL, explanations=("A lake.\nada 1,2,3\n", "", ""))
+        poll = dataclasses.replace(POLL, explanations=("A lake.\nada\n", "", ""))
         for letter in ("", self.letter):
-            now = vote(questions=alone(poll), at=None, letter_text=letter, electors=(ADA,))
+            now = vote(questions=alone(poll), at=None, letter_text=letter)
             text = now.call_letter(ADA, is_extension=False).text
-            self.assertIn("\n\nOption 1: Lake\n\nA lake.\n|ada 1,2,3\n\nWHAT DECIDES\n", text)
+            self.assertIn("\n\nOption 1: Lake\n\nA lake.\nada\n\nWHAT DECIDES\n", text)
             self.assertEqual(text.count("checked"), 1)
             self.assertEqual("The words at the head of this letter, and the texts" in " ".join(text.split()), bool(letter))
             self.assertNotIn("A lake", now.call_letter(ADA, is_extension=True).text)
@@ -311,6 +293,12 @@ class CallLetter(unittest.TestCase):
 
 @unittest.skipUnless(BROWSER, "chromium is not installed")
 class Printed(unittest.TestCase):
+    def printed(self, folder: pathlib.Path) -> bytes:
+        """The PDF of a page in a folder."""
+        words = [BROWSER, "--headless", "--no-sandbox", "--disable-gpu", f"--user-data-dir={folder}/of-browser"]
+        subprocess.run([*words, f"--print-to-pdf={folder}/page.pdf", f"{folder}/page.html"], check=True, capture_output=True)
+        return (folder / "page.pdf").read_bytes()
+
     def assert_sides(self, printed: list[tuple[Composer, str]]) -> None:
         """Each letter has at most two sides, and a place for the rank of each option. All are printed at once."""
         folder = pathlib.Path(self.enterContext(tempfile.TemporaryDirectory()))
@@ -325,9 +313,7 @@ class Printed(unittest.TestCase):
         links = "".join(f"<a href=#at{number}>x</a> " for number in range(len(pages) + 1))
         sections.append(f'<section class="letter" id="at{len(pages)}">{links}</section>')
         (folder / "page.html").write_text(pages[0].replace(sections[0], "\n".join(sections)))
-        words = [BROWSER, "--headless", "--no-sandbox", "--disable-gpu", f"--user-data-dir={folder}/of-browser"]
-        subprocess.run([*words, f"--print-to-pdf={folder}/page.pdf", f"{folder}/page.html"], check=True, capture_output=True)
-        data = (folder / "page.pdf").read_bytes()
+        data = self.printed(folder)
         sides = sorted(map(int, re.findall(rb"(\d+) 0 obj\s*<</Type\s*/Page\b", data)))
         begins = [sides.index(int(re.search(rb"/at%d \[(\d+) 0 R" % number, data)[1])) for number in range(len(pages) + 1)]
         for (_, text), first, following in zip(printed, begins, begins[1:], strict=False):
@@ -339,9 +325,7 @@ class Printed(unittest.TestCase):
         how = {"style": resources(PACKAGE, "letter.css"), "title": "Spring", "sender": "", "letters": [(name, [[("Hello", "paragraph")]]) for name in ("Ada", "Ben", "Cleo")]}
         for is_secret, sides in ((False, 3), (True, 6)):
             (folder / "page.html").write_bytes(render_page(PACKAGE, "print.html", language_of("en"), is_secret=is_secret, **how))
-            words = [BROWSER, "--headless", "--no-sandbox", "--disable-gpu", f"--user-data-dir={folder}/of-browser"]
-            subprocess.run([*words, f"--print-to-pdf={folder}/page.pdf", f"{folder}/page.html"], check=True, capture_output=True)
-            self.assertEqual(len(re.findall(rb"/Type\s*/Page\b", (folder / "page.pdf").read_bytes())), sides)
+            self.assertEqual(len(re.findall(rb"/Type\s*/Page\b", self.printed(folder))), sides)
 
     def test_a_letter_has_at_most_two_sides_and_the_texts_or_where_they_are(self) -> None:
         """With twelve options, no page, a secret code, and 600 characters of the secretary's own; or with texts, if they have room."""
@@ -449,44 +433,9 @@ class Bytes(unittest.TestCase):
         self.assertEqual([text for text in (*right, *wrong) if is_mail_address(text)], list(right))
 
     def test_one_fault_a_line(self) -> None:
-        """Within other words that is the fault, whatever else is wrong with it."""
         for answer, said in (("bad shape: it is odd", "It is not written"), (None, "It is a ballot"), ("bad not on roll: bob", "The name in it"), ("late: x", "")):
             found = list(faults_of(answer, "", language_of("en")))
             self.assertEqual([one.startswith(said) for one in found], [True] * bool(said), answer)
-        within = [list(faults_of(answer, "", language_of("en"), is_within=True)) for answer in ("bad shape: it is odd", None, "late: x")]
-        self.assertEqual(within, [["It has a ballot within other words; the ballot has to be there alone."]] * 3)
         # the vote has no number of options, but each question
         for ranks, said in (("1 rank", "One of its answers has 1 rank, and the question has 3 options."), ("4 ranks", "One of its answers has 4 ranks, and the question has 3 options.")):
             self.assertEqual([*faults_of(f"bad rank count: {ranks}, the poll has 3 options", "", language_of("en"), is_of_several=True)], [said])
-
-    def guarded(self, line: str, options: int = 3, words: Words = {}) -> str:
-        text = without_ballots(f"x\n{line}\ny", options, lambda word: word.lower() in ("ada", "ben-2", "maier"), words)
-        self.assertTrue(text.startswith("x\n") and text.endswith("\ny"), text)
-        return text[2:-2]
-
-    def test_lines_that_read_as_ballots_get_a_bar_and_others_stay(self) -> None:
-        for line in (
-            "ada 1,2,3", "  Ada: 1, 2, 3.", "\u201cada 1,-,3\u201d", "*ada* 1;2;3", "ada *1,2,3*", "ada:1,2,3", "ben-2 1,2,\u2013", "ada\u00a01 , 2 , 3", "ada -,\u2013,1", "ada 1,2,3 ,4", "***ada*** 1,2,3",
-            # ranks alone, which are offered as the ballot of whoever sends them back
-            "1,2,3", "  1; 2 ;3.", "*1*,-,3", "1 2 3", "\u201c1,\u2013,3\u201d",
-        ):  # fmt: skip
-            blanks = line[: len(line) - len(line.lstrip())]
-            self.assertEqual(self.guarded(line), f"{blanks}|{line.strip()}")
-        # those that would if they were broken at a blank
-        self.assertEqual(self.guarded("  paper: ada 1,2,3 or so"), "  |paper:\n  |ada 1,2,3 or so")
-        self.assertEqual(self.guarded("Zo\u00eb Maier 1,2,3"), "|Zo\u00eb\n|Maier 1,2,3")
-        self.assertEqual(self.guarded("ada 1,2,3 ben-2 3,2,1"), "|ada 1,2,3\n|ben-2 3,2,1")
-        self.assertEqual(self.guarded("| ada 1,2,3"), "|ada 1,2,3")
-        # others stay
-        for line in ("ada 1,2", "ada _,_,_", "(ada 1,2,3)", "ada, ben, cleo", "3 of 4, 5 of 6, 7 of 8", "Euro 1,2,3", "ada 100,2,3", "ada 1,2,300", "1,2", "-- ", "(1,2,3)"):
-            self.assertEqual(self.guarded(line), line)
-
-    def test_lines_that_are_answers_to_a_motion_get_a_bar(self) -> None:
-        words = words_of("es", motion=True)
-        for line in ("ada yes", "  Ada: S\u00ed.", "sI\u0301!", "No", "Zo\u00eb Maier: abstenci\u00f3n", "ben-2 NO !"):
-            blanks = line[: len(line) - len(line.lstrip())]
-            self.assertEqual((self.guarded(line, 2, words), self.guarded(line, 2)), (f"{blanks}|{line.strip()}", line))
-        # a sentence, another word, what is in brackets, the name of nobody, and our own lines
-        for line in ("whether he says yes or no", "I asked Paul and ada: no", "ada ja", "ada si", "(sí, no, abstención)", "peter yes", "Option 1: Yes", "Opci\u00f3n 2: No"):
-            self.assertEqual(self.guarded(line, 2, words), line)
-        self.assertEqual(self.guarded("The fee is 12,50 Euro", 2), "The fee is 12,50 Euro")

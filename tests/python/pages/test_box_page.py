@@ -24,35 +24,49 @@ from debvote_tools.poll.sealed import with_roll
 from debvote_tools.text.language import LANGUAGES, language_of
 from debvote_tools.text.rendering import checksum_source
 
+from tests.support import calls
 from tests.support.at_browser import NEEDS_BROWSER, Window
-from tests.support.calls import CALL, KINDS, POLL, ROLL, alone
+from tests.support.calls import KINDS, POLL, ROLL, alone
 from tests.support.web_host import KEY, NEEDS_PHP, Host, Liar, answered, ballot, firewall, passed_on
 
+# no test is after its end
+END = datetime.datetime(2099, 12, 4, 18, tzinfo=datetime.UTC)
+CALL = dataclasses.replace(calls.CALL, until=END, box_key=KEY)
 MARK = CALL.questions.mark
 OWNS = {name: f"23456789a{sign}" for name, sign in zip(ROLL, "abcd")}
 LINKS = {name: third_part(KEY, name, own) for name, own in OWNS.items()}
+PLACES = {name: f"#{name}/{own}/{LINKS[name]}" for name, own in OWNS.items()}
 WORDS_IN = {code: json.loads(language_of(code).words(SENTENCES)) for code in LANGUAGES}
 WORDS = WORDS_IN["en"]
 NOW = b"2026-11-28T12:19:04Z"
+IS_THERE = "document.readyState === 'complete' && document.getElementById('Vote')"
 
 STATE = """(() => {
-  const node = (id) => document.getElementById(id), seen = (id) => node(id).checkVisibility();
+  const node = (id) => document.getElementById(id), seen = (id) => Boolean(node(id)?.checkVisibility());
   const fields = [...document.querySelectorAll("#Ballot input, #Ballot select")];
   return { said: node("Sent").textContent, line: node("Line").textContent.replaceAll("\\n", " "), seen: seen("Vote"),
-    button: seen("Vote") && !node("Vote").disabled, unlinked: seen("Unlinked"),
+    button: seen("Vote") && !node("Vote").disabled, unlinked: seen("Unlinked"), broken: seen("Broken"),
     fields: fields.filter((field) => !field.disabled).length };
 })()"""
+# of a page on which nothing is chosen
+EMPTY = {"said": "", "line": "", "fields": 21}
+EMPTY |= dict.fromkeys(("button", "seen", "unlinked", "broken"), False)
 
 
 def page_with_box(code: str = "en", patience: int = 30_000, call: CallData = CALL) -> bytes:
     """The page of a call with a box, whose script waits so long."""
-    call = dataclasses.replace(call, language=language_of(code), has_box=True)
+    call = dataclasses.replace(call, language=language_of(code))
     page = dict(call_files(call))["index.html"].decode()
     [script] = re.findall("(?s)<script>(.*?)</script>", page)
     before, after = script.split("PATIENCE = 30000")
     new_script = f"{before}PATIENCE = {patience}{after}"
     page = page.replace(checksum_source(script), checksum_source(new_script))
     return page.replace(script, new_script).encode()
+
+
+def received(_: bytes) -> Iterable[bytes]:
+    """The answer that a ballot arrived now."""
+    return [answered(b"received " + NOW + b"\n")]
 
 
 @NEEDS_BROWSER
@@ -83,20 +97,21 @@ class BoxPageTest(unittest.TestCase):
     def sent(self) -> str:
         """Presses the button, and returns what is said of the answer."""
         self.press()
-        passing = ["", *(words["sending"] for words in WORDS_IN.values())]
-        self.window.until(
-            f"!{json.dumps(passing)}.includes(document.getElementById('Sent').textContent)"
-        )
+        passing = json.dumps(["", *(words["sending"] for words in WORDS_IN.values())])
+        self.window.until(f"!{passing}.includes(document.getElementById('Sent').textContent)")
         return str(self.state()["said"])
+
+    def until_arrived(self, window: Window | None = None) -> None:
+        begun = "document.getElementById('Sent').textContent.startsWith('It has arrived')"
+        (window or self.window).until(begun)
 
 
 class RealBoxTest(BoxPageTest):
     """With a real box."""
 
     def setUp(self) -> None:
-        self.folder = pathlib.Path(
-            self.enterContext(tempfile.TemporaryDirectory(prefix="debvote-page-"))
-        )
+        room = tempfile.TemporaryDirectory(prefix="debvote-page-")
+        self.folder = pathlib.Path(self.enterContext(room))
         (self.folder / "index.html").write_bytes(page_with_box())
         (self.folder / "vote.php").write_bytes(script_of(KEY, MARK, OWNS))
         self.host = self.enterContext(Host(self.folder))
@@ -105,55 +120,31 @@ class RealBoxTest(BoxPageTest):
     def records(self) -> list[str]:
         """What the box has: of each record link, number and line."""
         data = self.file.read_text() if self.file.exists() else ""
-        return [
-            "/".join(found)
-            for found in re.findall(
-                r"X-Link: (\w+)\n(?:.+\n)*?Message-ID: <\w+@page.invalid>\n\n(.+)\n-- \n\n", data
-            )
-        ]
+        record = r"X-Link: (\w+)\n(?:.+\n)*?Message-ID: <\w+@page.invalid>\n\n(.+)\n-- \n\n"
+        return ["/".join(found) for found in re.findall(record, data)]
 
 
 @NEEDS_PHP
 class Clicks(RealBoxTest):
     def test_a_click_a_change_and_back_again(self) -> None:
-        self.visit(self.host.at, f"#ada/{OWNS['ada']}/{LINKS['ada']}")
-        self.assertEqual(
-            self.state(),
-            {
-                "said": "",
-                "button": False,
-                "seen": False,
-                "unlinked": False,
-                "fields": 21,
-                "line": "",
-            },
-        )
-        self.assertEqual(
-            self.choose("12-3"),
-            {
-                "said": "",
-                "button": True,
-                "seen": True,
-                "unlinked": False,
-                "fields": 21,
-                "line": "ada 1,2,-,3",
-            },
-        )
+        self.visit(self.host.at, PLACES["ada"])
+        self.assertEqual(self.state(), EMPTY)
+        ready = {"button": True, "seen": True, "line": "ada 1,2,-,3"}
+        self.assertEqual(self.choose("12-3"), EMPTY | ready)
         # nothing is sent before a press
         self.assertEqual(self.host.requests(), ["GET /"])
         said = self.sent()
-        self.assertRegex(
-            said,
-            r"^It has arrived, \w+ \d+, 20\d\d, \d.*\. The secretary fetches it, and you get ",
-        )
+        arrived = r"^It has arrived, \w+ \d+, 20\d\d, \d.*\. The secretary fetches it, and you get "
+        self.assertRegex(said, arrived)
         self.assertEqual(self.records(), [f"{LINKS['ada']}/ada 1,2,-,3"])
         after = self.state()
         self.assertEqual((after["button"], after["seen"], after["fields"]), (False, True, 21))
         # pressed again, nothing is sent
         self.press()
-        # another line can be sent, and the one that was sent is told again
+        # another line is not sent, as the page says, and can be; and the one that was sent is told again
         changed = self.choose("21-3")
-        self.assertEqual((changed["said"], changed["button"]), ("", True))
+        self.assertEqual((changed["said"], changed["button"]), (WORDS["changed"], True))
+        self.assertEqual(self.choose("----")["said"], WORDS["changed"])
         back = self.choose("12-3")
         self.assertEqual((back["said"], back["button"]), (said, False))
         self.choose("3-21")
@@ -172,7 +163,7 @@ class Clicks(RealBoxTest):
         call = dataclasses.replace(CALL, questions=questions, quorum_votes=dict.fromkeys("ABC", 1))
         (self.folder / "index.html").write_bytes(page_with_box(call=call))
         (self.folder / "vote.php").write_bytes(script_of(KEY, questions.mark, OWNS))
-        self.visit(self.host.at, f"#ada/{OWNS['ada']}/{LINKS['ada']}")
+        self.visit(self.host.at, PLACES["ada"])
         for ranks, line in {
             "12-3----21-3": "ada A 1,2,-,3 C 2,1,-,3",
             "----1111----": "ada B 1,1,1,1",
@@ -185,20 +176,31 @@ class Clicks(RealBoxTest):
         self.assertEqual((len(self.records()), self.window.faults), (3, []))
 
     def test_by_keys(self) -> None:
-        self.visit(self.host.at, f"#ben/{OWNS['ben']}/{LINKS['ben']}")
+        self.visit(self.host.at, PLACES["ben"])
         self.choose("1234")
         for _ in range(40):
             self.window.press("Tab")
             if self.window.ask("document.activeElement.id") == "Vote":
                 break
         self.window.press("Enter")
-        self.window.until(
-            "document.getElementById('Sent').textContent.startsWith('It has arrived')"
-        )
+        self.until_arrived()
         self.assertEqual(self.records(), [f"{LINKS['ben']}/ben 1,2,3,4"])
 
+    def test_a_link_that_is_not_whole(self) -> None:
+        """A sign of the sentence or of a web site stands behind it, or it was cut off."""
+        ada = PLACES["ada"]
+        behind = [f"{ada}{sign}" for sign in (".", ">", ")", "?utm_source=x/y", "x", "%3E")]
+        for place in (*behind, ada[:-1], ada[:20], f"#ada/{OWNS['ada']}", f"#ada/{OWNS['ada'][:-1]}"):
+            with self.subTest(place):
+                self.visit(self.host.at, place)
+                wanted = EMPTY | {"line": "ada 1,2,3,4", "broken": True}
+                self.assertEqual(self.choose("1234"), wanted)
+        for place in (ada, "#ada", ""):
+            self.visit(self.host.at, place)
+            self.assertFalse(self.choose("1234", "ada")["broken"], place)
+
     def test_only_with_the_link_of_the_elector_on_the_line(self) -> None:
-        ada = f"#ada/{OWNS['ada']}/{LINKS['ada']}"
+        ada = PLACES["ada"]
         for place, name, is_linked in (
             (ada, None, True),
             (ada.upper().replace("#ADA", "#Ada"), None, True),
@@ -208,28 +210,19 @@ class Clicks(RealBoxTest):
             (ada, "ben", False),
             (ada, " Ada", True),
             ("#ada", None, False),
-            (f"#ada/{OWNS['ada']}", None, False),
-            (f"{ada}x", None, False),
             (f"#ada//{LINKS['ada']}", None, True),
             ("", "ada", False),
-            (f"#ada/{LINKS['ada']}", None, False),
-            (ada.replace(LINKS["ada"], "0" * 16), None, False),
         ):
             with self.subTest(place=place, name=name):
                 self.visit(self.host.at, place)
                 found = self.choose("1234", name)
                 self.assertNotEqual(found["line"], "")
-                self.assertEqual(
-                    (found["seen"], found["button"], found["unlinked"]),
-                    (is_linked, is_linked, not is_linked),
-                )
+                seen = (found["seen"], found["button"], found["unlinked"])
+                self.assertEqual(seen, (is_linked, is_linked, not is_linked))
         # from a file nothing can be sent
         self.window.tell("Page.navigate", url="about:blank")
         self.window.open(self.folder / "index.html", ada)
-        found = self.choose("1234")
-        self.assertEqual(
-            (found["line"], found["seen"], found["unlinked"]), ("ada 1,2,3,4", False, True)
-        )
+        self.assertEqual(self.choose("1234"), EMPTY | {"line": "ada 1,2,3,4", "unlinked": True})
         self.assertEqual(self.records(), [])
 
     def test_a_link_that_a_new_one_has_replaced_and_too_many(self) -> None:
@@ -237,11 +230,11 @@ class Clicks(RealBoxTest):
         self.choose("1234")
         self.assertEqual(self.sent(), WORDS["unknown"])
         # the newest letter is opened in the same window
-        self.window.ask(f"location.hash = 'ada/{OWNS['ada']}/{LINKS['ada']}'")
+        self.window.ask(f"location.hash = '{PLACES['ada']}'")
         self.window.until("document.getElementById('Sent').textContent === ''")
         self.assertRegex(self.sent(), "^It has arrived")
         for number in range(MOST - 2):
-            sent = ballot("ada", f"{number % 4 + 1},1,1,1", number, LINKS["ada"])
+            sent = ballot("ada", f"{number % 4 + 1},1,1,1", number, LINKS["ada"], CALL.page)
             self.assertEqual(self.host.send(sent).word, "received")
         self.choose("1243")
         self.assertRegex(self.sent(), "^It has arrived")
@@ -250,13 +243,62 @@ class Clicks(RealBoxTest):
         self.assertEqual(len(self.records()), MOST)
 
     def test_a_web_firewall_that_lets_only_fields_of_forms_pass(self) -> None:
-        with Liar(firewall(self.host)) as between:
-            self.visit(between.at, f"#cleo/{OWNS['cleo']}/{LINKS['cleo']}")
-            for ranks in ("4321", "1234"):
+        for status, ranks in ((403, "4321"), (406, "1234")):
+            with self.subTest(status), Liar(firewall(self.host, status)) as between:
+                self.visit(between.at, PLACES["cleo"])
                 self.choose(ranks)
                 self.assertRegex(self.sent(), "^It has arrived")
         wanted = [f"{LINKS['cleo']}/cleo {ranks}" for ranks in ("4,3,2,1", "1,2,3,4")]
         self.assertEqual(self.records(), wanted)
+
+    def call_anew(self, *names: str) -> str:
+        """Takes the call back, and calls anew with the options in another order; of its files these are
+        uploaded. Returns the new link of ada.
+        """
+        poll = dataclasses.replace(POLL, options=POLL.options[::-1], ratios=POLL.ratios[::-1])
+        call = dataclasses.replace(CALL, questions=alone(poll))
+        owns = {name: own.replace("a", "k") for name, own in OWNS.items()}
+        files = {
+            "index.html": page_with_box(call=call),
+            "vote.php": script_of(KEY, call.questions.mark, owns),
+        }
+        for name in names:
+            (self.folder / name).write_bytes(files[name])
+        return f"#ada/{owns['ada']}/{third_part(KEY, 'ada', owns['ada'])}"
+
+    def demand_refused_as_old(self) -> None:
+        self.choose("1234")
+        # the words are those of poll/test_box.py
+        self.assertEqual(self.sent(), WORDS["old"])
+        self.assertEqual((self.state()["button"], self.records()), (True, []))
+
+    def test_a_page_that_is_still_open_takes_no_new_link(self) -> None:
+        """It shows the options in the order of before."""
+        self.visit(self.host.at, PLACES["ada"])
+        link = self.call_anew("index.html", "vote.php")
+        self.window.ask(f"location.hash = '{link}'")
+        self.demand_refused_as_old()
+        # loaded again, it is the one of now
+        self.visit(self.host.at, link)
+        self.choose("1234")
+        self.assertRegex(self.sent(), "^It has arrived")
+        self.assertEqual([one.partition("/")[2] for one in self.records()], ["ada 1,2,3,4"])
+
+    def test_a_page_that_the_browser_kept_takes_no_new_link(self) -> None:
+        def lie(request: bytes) -> Iterable[bytes]:
+            head, end, body = passed_on(request, self.host).partition(b"\r\n\r\n")
+            yield head + b"\r\nCache-Control: max-age=600" + end + body
+
+        with Liar(lie) as between:
+            self.visit(between.at, PLACES["ada"])
+            self.visit(between.at, self.call_anew("index.html", "vote.php"))
+            self.demand_refused_as_old()
+            pages = [request for request in between.requests if request.startswith(b"GET / ")]
+            self.assertEqual(len(pages), 1)
+
+    def test_an_older_page_beside_a_new_script_takes_no_new_link(self) -> None:
+        self.visit(self.host.at, self.call_anew("vote.php"))
+        self.demand_refused_as_old()
 
     def test_a_lost_answer_counts_once(self) -> None:
         """The line is not changed until it is known what became of it."""
@@ -270,14 +312,12 @@ class Clicks(RealBoxTest):
                 yield b"" if next(cuts) else said
 
         with Liar(lie) as between:
-            self.visit(between.at, f"#cleo/{OWNS['cleo']}/{LINKS['cleo']}")
+            self.visit(between.at, PLACES["cleo"])
             self.choose("4321")
             for _ in range(2):
                 self.assertEqual(self.sent(), WORDS["unsure"])
-                after = self.state()
-                self.assertEqual(
-                    (after["fields"], after["button"], after["line"]), (0, True, "cleo 4,3,2,1")
-                )
+                unsure = {"said": WORDS["unsure"], "fields": 0, "button": True, "seen": True}
+                self.assertEqual(self.state(), EMPTY | unsure | {"line": "cleo 4,3,2,1"})
             self.assertRegex(self.sent(), "^It has arrived")
             self.assertEqual(self.state()["fields"], 21)
         self.assertEqual(self.records(), [f"{LINKS['cleo']}/cleo 4,3,2,1"])
@@ -291,7 +331,7 @@ class Members(RealBoxTest):
         super().setUp()
         self.window.resize(360, 640)
         self.addCleanup(self.window.resize, 390, 844)
-        self.place = f"#ada/{OWNS['ada']}/{LINKS['ada']}"
+        self.place = PLACES["ada"]
 
     def tap(self, ranks: str, window: Window | None = None) -> None:
         """Touches the buttons of these ranks, as a browser notes it that comes back to the page."""
@@ -301,8 +341,7 @@ class Members(RealBoxTest):
 
     def demand_arrived(self, window: Window | None = None) -> None:
         (window or self.window).ask("document.getElementById('Vote').click()")
-        begun = "document.getElementById('Sent').textContent.startsWith('It has arrived')"
-        (window or self.window).until(begun)
+        self.until_arrived(window)
 
     def lines(self) -> list[str]:
         return [record.partition("/")[2] for record in self.records()]
@@ -317,7 +356,7 @@ class Members(RealBoxTest):
             for kind in ("mousePressed", "mouseReleased"):
                 how = {"button": "left", "clickCount": count, **place}
                 self.window.tell("Input.dispatchMouseEvent", type=kind, **how)
-        self.window.until("document.getElementById('Sent').textContent.startsWith('It has')")
+        self.until_arrived()
         self.assertEqual(self.lines(), ["ada 1,2,3,4"])
         self.assertEqual(self.host.requests(), ["GET /", "POST /vote.php"])
 
@@ -341,20 +380,17 @@ class Members(RealBoxTest):
         self.assertEqual(self.lines(), ["ada 1,2,3,4"] * 2)
 
     def go_and_come_back(self) -> None:
-        is_there = "document.readyState === 'complete' && document.getElementById('Vote')"
         self.window.tell("Page.navigate", url=f"{self.host.at}else.html")
-        self.window.until(f"!({is_there})")
+        self.window.until(f"!({IS_THERE})")
         self.window.ask("setTimeout(() => history.back())")
-        self.window.until(is_there)
+        self.window.until(IS_THERE)
 
     def test_in_two_windows(self) -> None:
         """By the telephone, by a computer, and by the telephone again: the last counts."""
         with Window(1280, 800) as other:
             for window, ranks in ((self.window, "1234"), (other, "4321")):
                 window.tell("Page.navigate", url=f"{self.host.at}{self.place}")
-                window.until(
-                    "document.readyState === 'complete' && document.getElementById('Vote')"
-                )
+                window.until(IS_THERE)
             self.tap("1234")
             self.tap("4321", other)
             self.demand_arrived()
@@ -380,14 +416,13 @@ class Members(RealBoxTest):
             self.tap("1234")
             self.sleep()
             self.press()
-            self.window.until(
-                f"document.getElementById('Sent').textContent === {json.dumps(WORDS['sending'])}"
-            )
+            sending = json.dumps(WORDS["sending"])
+            self.window.until(f"document.getElementById('Sent').textContent === {sending}")
             self.window.tell("Page.setWebLifecycleState", state="frozen")
             go.put(True)
             kept.get(timeout=60)
             self.window.tell("Page.setWebLifecycleState", state="active")
-            self.window.until("document.getElementById('Sent').textContent.startsWith('It has')")
+            self.until_arrived()
         self.assertEqual(self.lines(), ["ada 1,2,3,4"])
 
     def sleep(self) -> None:
@@ -409,15 +444,15 @@ class Members(RealBoxTest):
 
     def test_a_page_that_was_opened_before_an_extension(self) -> None:
         """It says that the time is over, and sends; whether it counts is decided by the end of now."""
-        past = dataclasses.replace(
-            CALL, until=datetime.datetime(2026, 11, 1, 18, tzinfo=datetime.UTC)
-        )
+        past = dataclasses.replace(CALL, until=END.replace(2026, 11, 1))
         (self.folder / "index.html").write_bytes(page_with_box(call=past))
         self.visit(self.host.at, self.place)
         self.tap("1234")
         self.assertTrue(self.window.ask("document.getElementById('Over').checkVisibility()"))
         self.demand_arrived()
         self.assertEqual(self.lines(), ["ada 1,2,3,4"])
+        late = "It has arrived, .*, after Nov 1, 2026, .*, the end that this page knows. If the vote was extended it may still count"
+        self.assertRegex(self.state()["said"], late)
 
     def test_a_link_that_was_sent_on(self) -> None:
         """Who opens it reads whose it is, and can't vote by it under another name, which may begin as theirs."""
@@ -430,10 +465,8 @@ class Members(RealBoxTest):
         self.tap("1234")
         self.window.ask("document.getElementById('Not-you').click()")
         self.assertEqual((self.state()["button"], self.state()["line"]), (False, ""))
-        found = self.choose("1234", "ada-lee")
-        self.assertEqual(
-            (found["line"], found["seen"], found["unlinked"]), ("ada-lee 1,2,3,4", False, True)
-        )
+        wanted = EMPTY | {"line": "ada-lee 1,2,3,4", "unlinked": True}
+        self.assertEqual(self.choose("1234", "ada-lee"), wanted)
         self.assertEqual(self.lines(), [])
 
 
@@ -442,23 +475,22 @@ class Answers(BoxPageTest):
 
     def serve(self, lie: Callable[[bytes], Iterable[bytes | float]], page: bytes) -> Liar:
         def all_of(request: bytes) -> Iterable[bytes | float]:
-            return (
-                lie(request)
-                if request.startswith(b"POST")
-                else [answered(page, 200, "Content-Type: text/html")]
-            )
+            if request.startswith(b"POST"):
+                return lie(request)
+            return [answered(page, 200, "Content-Type: text/html")]
 
         return self.enterContext(Liar(all_of))
 
     def test_what_is_said_of_each_answer(self) -> None:
         answers = queue.SimpleQueue[list[bytes | float]]()
-        host = self.serve(lambda request: answers.get(), page_with_box(patience=600))
-        self.visit(host.at, f"#dan/{OWNS['dan']}/{LINKS['dan']}")
-        other = self.enterContext(Liar(lambda request: [answered(b"received " + NOW + b"\n")]))
+        host = self.serve(lambda request: answers.get(), page_with_box(patience=3_000))
+        self.visit(host.at, PLACES["dan"])
+        other = self.enterContext(Liar(received))
         ranks = map("".join, itertools.product("1234", repeat=4))
         for said, *sent in (
             ("unknown", answered(b"unknown: no such name and link\n", 403)),
             ("many", answered(b"many: no more by this link\n", 429)),
+            ("old", answered(b"old: another page\n", 409)),
             ("lost", answered(b"lost: disk full or broken\n", 503)),
             ("lost", answered(b"bad: no ballot\n", 400)),
             ("lost", answered(b"bad: too long\n", 413)),
@@ -473,6 +505,8 @@ class Answers(BoxPageTest):
             ("unsure", answered(b"lost: x\n")),
             ("unsure", answered(b"unknown: x\n", 404)),
             ("unsure", answered(b"<!doctype html>", 403)),
+            ("unsure", answered(b"<!doctype html>", 406)),
+            ("unsure", answered(b"<!doctype html>", 409)),
             ("unsure", answered(b"<!doctype html>", 404)),
             ("unsure", answered(b"")),
             ("unsure", answered(b"toString: x\n", 200)),
@@ -486,21 +520,18 @@ class Answers(BoxPageTest):
             ("unsure", answered(b"received " + NOW + b"\n")[:-8], 25.0),
         ):
             with self.subTest(said=said, sent=sent):
-                self.window.ask(f"location.hash = 'dan/{OWNS['dan']}/{LINKS['dan']}'")
+                self.window.ask(f"location.hash = '{PLACES['dan']}'")
                 before = self.choose(next(ranks))
-                self.assertEqual(
-                    (before["said"], before["button"], before["fields"]), ("", True, 21)
-                )
+                self.assertIn(before["said"], ("", WORDS["changed"]))
+                self.assertEqual((before["button"], before["fields"]), (True, 21))
                 # a web firewall may have refused it: it is sent once more
-                is_refused = said == "unsure" and isinstance(sent[0], bytes) and b" 403 " in sent[0]
+                status = sent[0][9:12] if isinstance(sent[0], bytes) else b""
+                is_refused = said == "unsure" and status in (b"403", b"406")
                 for _ in range(1 + is_refused):
                     answers.put(sent)
                 self.assertEqual(self.sent(), WORDS[said])
-                after = self.state()
-                self.assertEqual(
-                    (after["button"], after["fields"], after["line"]),
-                    (True, 0 if said == "unsure" else 21, before["line"]),
-                )
+                after, fields = self.state(), 0 if said == "unsure" else 21
+                self.assertEqual(after, before | {"said": WORDS[said], "fields": fields})
                 if said == "unsure":
                     # it is sent again, byte for byte, until that is answered
                     first = host.requests[-1 - is_refused]
@@ -508,12 +539,11 @@ class Answers(BoxPageTest):
                     self.assertRegex(self.sent(), "^It has arrived, Nov 28, 2026, ")
                     self.assertEqual(host.requests[-1], first)
         self.assertEqual(other.requests, [])
-        numbers = [
-            request.splitlines()[-1] for request in host.requests if request.startswith(b"POST")
-        ]
+        posted = [request for request in host.requests if request.startswith(b"POST")]
+        numbers = [request.splitlines()[-1] for request in posted]
         self.assertTrue(all(re.fullmatch(rb"[0-9a-f]{32}", number) for number in numbers))
         # each line has its number
-        self.assertEqual(len({*numbers}), 25)
+        self.assertEqual(len({*numbers}), 28)
 
     def test_nothing_changes_until_the_answer(self) -> None:
         go = queue.SimpleQueue[bool]()
@@ -523,18 +553,12 @@ class Answers(BoxPageTest):
             yield answered(b"received " + NOW + b"\n")
 
         host = self.serve(lie, page_with_box())
-        self.visit(host.at, f"#ada/{OWNS['ada']}/{LINKS['ada']}")
+        self.visit(host.at, PLACES["ada"])
         self.window.ask("document.cookie = 'of=another-page'")
         self.choose("1234")
         self.press()
-        off = {
-            "said": WORDS["sending"],
-            "button": False,
-            "seen": True,
-            "unlinked": False,
-            "fields": 0,
-            "line": "ada 1,2,3,4",
-        }
+        sending = EMPTY | {"said": WORDS["sending"], "seen": True, "fields": 0}
+        off = sending | {"line": "ada 1,2,3,4"}
         self.assertEqual(self.state(), off)
         # neither by a second press, nor by a script of the browser that fills the form, nor by keys
         self.press()
@@ -542,23 +566,17 @@ class Answers(BoxPageTest):
             self.window.press(key)
         self.assertEqual(self.state(), off)
         # another link in the same window: it waits, too
-        self.window.ask(f"location.hash = 'ben/{OWNS['ben']}/{LINKS['ben']}'")
+        self.window.ask(f"location.hash = '{PLACES['ben']}'")
         self.window.until("document.getElementById('Line').textContent.startsWith('ben ')")
-        self.assertEqual(
-            (self.state()["button"], self.state()["fields"], self.state()["said"]),
-            (False, 0, WORDS["sending"]),
-        )
+        self.assertEqual(self.state(), sending | {"line": "ben 1,2,3,4"})
         go.put(True)
         self.window.until("!document.getElementById('Vote').disabled")
         self.assertEqual((self.state()["said"], self.state()["fields"]), ("", 21))
-        self.window.ask(f"location.hash = 'ada/{OWNS['ada']}/{LINKS['ada']}'")
-        self.window.until(
-            "document.getElementById('Sent').textContent.startsWith('It has arrived')"
-        )
+        self.window.ask(f"location.hash = '{PLACES['ada']}'")
+        self.until_arrived()
         [request] = [request for request in host.requests if request.startswith(b"POST")]
-        self.assertRegex(
-            request, rb"(?s)\r\n\r\nada 1,2,3,4\n%b\n[0-9a-f]{32}\n\Z" % LINKS["ada"].encode()
-        )
+        posted = rf"\r\n\r\n{CALL.page} ada 1,2,3,4\n{LINKS['ada']}\n[0-9a-f]{{32}}\n\Z"
+        self.assertRegex(request, posted.encode())
         heads = request.partition(b"\r\n\r\n")[0].lower()
         self.assertIn(b"content-type: application/x-www-form-urlencoded\r\n", heads)
         self.assertNotIn(b"cookie", heads)
@@ -573,10 +591,8 @@ class Answers(BoxPageTest):
         for code, width in itertools.product(LANGUAGES, (320, 360, 1280)):
             with self.subTest(code=code, width=width):
                 self.window.resize(width, 640)
-                host = self.serve(
-                    lambda request: [answered(b"received " + NOW + b"\n")], page_with_box(code)
-                )
-                self.visit(host.at, f"#ada/{OWNS['ada']}/{LINKS['ada']}")
+                host = self.serve(received, page_with_box(code))
+                self.visit(host.at, PLACES["ada"])
                 self.choose("1234")
                 box, others = self.window.ask(
                     """(() => { const place = (node) => node.getBoundingClientRect();
@@ -590,25 +606,28 @@ class Answers(BoxPageTest):
                 self.assertEqual(self.window.broken_words("[document.getElementById('Vote')]"), [])
                 self.assertEqual(self.window.ask("document.documentElement.scrollWidth"), width)
                 how = {"dateStyle": "medium", "timeStyle": "medium", "timeZone": zone}
-                time = self.window.ask(
-                    f"new Date('{NOW.decode()}').toLocaleString('{code}', {json.dumps(how)})"
-                )
+                time = f"new Date('{NOW.decode()}').toLocaleString('{code}', {json.dumps(how)})"
+                time = self.window.ask(time)
                 self.assertEqual(self.sent(), WORDS_IN[code]["received"].replace("{time}", time))
         self.window.resize(390, 844)
 
+    def test_what_arrived_after_the_end_that_the_page_knows(self) -> None:
+        """By the clock of the host, in whole seconds: a page may be left open, and the vote be extended."""
+        end = datetime.datetime.fromisoformat(NOW.decode())
+        for code, seconds in itertools.product(LANGUAGES, (0, 1)):
+            with self.subTest(code=code, seconds=seconds):
+                call = dataclasses.replace(CALL, until=end - datetime.timedelta(seconds=seconds))
+                host = self.serve(received, page_with_box(code, call=call))
+                self.visit(host.at, PLACES["ada"])
+                self.choose("1234")
+                said, words = self.sent(), WORDS_IN[code]["late" if seconds else "received"]
+                for part in filter(None, re.split(r"{\w+}", words)):
+                    self.assertIn(part, said)
+                self.assertFalse(self.state()["button"])
+
     def test_no_page_without_a_box_has_anything_of_it(self) -> None:
+        parts = "fetch(", "connect-src", "XMLHttpRequest", "sendBeacon", "vote.php"
         for kind, data in KINDS.items():
             page = dict(call_files(data))["index.html"].decode()
-            for part in (
-                "fetch(",
-                "connect-src",
-                "XMLHttpRequest",
-                "sendBeacon",
-                "vote.php",
-                *WORDS.values(),
-            ):
+            for part in (*parts, *WORDS.values()):
                 self.assertNotIn(part, page, kind)
-
-
-if __name__ == "__main__":
-    unittest.main()

@@ -138,7 +138,7 @@ class Lines(PageTest):
         for size, many in SIZES.items():
             names, choices = names_of(size), choices_of(size, many, chance)
             poll = poll_of(names, many)
-            folder = self.open(CallData(ENGLISH, alone(poll), {"": 1}, to=ADDRESS))
+            folder = self.open(CallData(ENGLISH, alone(poll), {"": 1}, to=ADDRESS), f"#e00/{OWN}")
             # no elector's name has a capital letter
             wanted = {"title": f"Vote: {HOSTILE_TITLE}", "head": HOSTILE_TITLE, "wide": 360, "requests": 0, "scripts": 1}
             self.assertEqual(self.window.ask(FACTS), wanted | {"unlabelled": 0, "small": [], "shown": True})
@@ -166,12 +166,12 @@ class Lines(PageTest):
         self.assertEqual(result["names"], {str(number): name for number, name in enumerate(names, start=1)})
         found = result["missing"], result["said"], result["ready"], result["invalid"], result["long"]
         self.assertEqual(found, ("", "", True, "false", len(result["line"]) > 72))
-        letter = result["to"], result["subject"], result["body"]
-        self.assertEqual(letter, (f"mailto:{urllib.parse.quote(ADDRESS, safe='@')}", f"Ballot: {HOSTILE_TITLE} [{mark}]", f"{result['line']}\r\n"))
+        letter = f"mailto:{urllib.parse.quote(ADDRESS, safe='@')}", f"Ballot: {HOSTILE_TITLE} [{mark}-{OWN}]", f"{result['line']}\r\n"
+        self.assertEqual((result["to"], result["subject"], result["body"]), letter if result["line"].startswith("e00 ") else ("", None, None))
 
     def test_no_line_before_name_and_rank(self) -> None:
         odd = dict.fromkeys(["q b", "\u00e9va", "x_y", "\u212aate", "q,b", "x" * 33], "is not on the roll of this poll")
-        self.open(CALL)
+        self.open(CALL, f"#ada/{OWN}")
         for name, part in {**odd, "": "", "   ": ""}.items():
             # each after a good line, so that nothing of it stays
             self.assertEqual(self.window.ballot("ada", "1234")["body"], "ada 1,2,3,4\r\n")
@@ -206,7 +206,7 @@ class Lines(PageTest):
             found = [self.window.ballot(None, ranks) for ranks in ("1234", "----", "213-")]
             wanted = [(f"{gap} 1,2,3,4", ""), ("", "Give at least one option a rank."), (f"{gap} 2,1,3,-", "")]
             self.assertEqual([(result["line"], result["missing"]) for result in found], wanted)
-            self.assertEqual((found[2]["body"], found[2]["wide"], self.window.faults), (f"{gap} 2,1,3,-\r\n", 360, []))
+            self.assertEqual((found[2]["body"], found[2]["wide"], self.window.faults), (None, 360, []))
             self.assertNotRegex(page, '<textarea|<datalist|<input (?!type="radio")')
             # in the steps, and at the buttons
             said = rf"In the letter, and not on this page, write your \w+ in the place of <code>{gap}</code>"
@@ -226,7 +226,7 @@ class Several(PageTest):
     def test_the_ballot_has_what_is_answered(self) -> None:
         answers, options = {"A": "12", "B": "21-3", "C": "11"}, {"A": 2, "B": 4, "C": 2}
         said = {"A": "1 {1}, 2 {2}", "B": "1 {2}, 2 {1}, 3 {4}, \u2013 {3}", "C": "1 {1}, 1 {2}"}
-        folder = self.open(self.call())
+        folder = self.open(self.call(), f"#ada/{OWN}")
         self.assertEqual(self.window.ask(FACTS)["head"], "Assembly & 2026")
         for chosen in itertools.chain(*(itertools.combinations(answers, count) for count in range(4))):
             ranks = [rank for label in answers for rank in (answers[label] if label in chosen else "-" * options[label])]
@@ -276,7 +276,7 @@ class Several(PageTest):
 
     def test_a_long_link_is_not_offered(self) -> None:
         many = Questions(dict.fromkeys(LABELS, poll_of(names_of(20), 9)), "Assembly 2026")
-        self.open(self.call(many))
+        self.open(self.call(many), f"#e01/{OWN}")
         ranks = [str(rank) for rank in range(1, 21)]
         of_all = self.window.ballot("e01", ranks * 24)
         self.assertEqual((of_all["letter"], of_all["ready"], of_all["missing"], of_all["wide"]), (False, True, "", 360))
@@ -294,23 +294,6 @@ class Several(PageTest):
         one, two = len(link(1)), len(link(2))
         most = 1 + (2_000 - one) // (two - one)
         self.assertEqual([bool(link(most)), bool(link(most + 1))], [True, False])
-
-    def test_widths_and_contrast(self) -> None:
-        self.addCleanup(self.window.show)
-        self.addCleanup(self.window.resize, 360, 640)
-        names = dataclasses.replace(POLL, shown_title="Donaudampfschifffahrt" * 9, shown_options=("\u05d0\u05d1 " * 60, "N" * 90, "C", "{name} $& $1"))
-        for is_dark in (False, True):
-            self.window.show(is_dark=is_dark)
-            self.open(self.call(Questions({"A": FEE, "B": names, "C": poll_of(names_of(32), 4, "ada")}, "Assembly 2026")))
-            for width in (360, 390, 1280):
-                self.window.resize(width, 640)
-                found = self.window.ballot("ada", ["1", "2", "4", "3", "2", "1", *["1"] * 32])
-                self.assertEqual((found["line"].split(" ")[:5], found["wide"]), (["ada", "A", "1,2", "B", "4,3,2,1"], width))
-            # one line that mail programs break is enough
-            for rank, is_long in (("1", False), ("10", True)):
-                self.assertEqual(self.window.ballot("ada", [*"124321", *[rank] * 32])["long"], is_long)
-            self.window.ask("document.querySelectorAll('details').forEach((node) => { node.open = true; })")
-            self.assertGreaterEqual(min(contrast(*colours) for colours in self.window.ask(COLOURS)), 4.5, is_dark)
 
     def test_without_script_and_on_paper(self) -> None:
         data = self.call()
@@ -430,53 +413,53 @@ class Names(PageTest):
         self.assertEqual(self.window.ballot(None, "21-3")["line"], "NAME 2,1,-,3")
 
     def check_letter(self, typed: str | None, name: str, own: str) -> None:
-        """The line with this name, in a letter with this own mark; without a name there is none."""
+        """The line with this name, in a letter with this own mark; without one there is no letter, and without a name no line."""
         found = self.window.ballot(typed, "21-3")
-        subject = f"Ballot: Where we meet [{CALL.questions.mark}{'-' if own else ''}{own}]"
-        self.assertEqual((found["line"], found["subject"]), (f"{name} 2,1,-,3", subject) if name else ("", None))
+        subject = f"Ballot: Where we meet [{CALL.questions.mark}-{own}]" if own else None
+        self.assertEqual((found["line"], found["subject"]), (f"{name} 2,1,-,3" if name else "", subject))
 
-    def test_with_marks_alone(self) -> None:
-        data, secret = (dataclasses.replace(kind, is_marked=True) for kind in (CALL, SECRET))
-
-        def line_letter_and_hint(name: str | None) -> tuple[object, ...]:
+    def test_what_is_said_without_the_own_mark(self) -> None:
+        def line_letter_and_hints(name: str | None) -> tuple[object, ...]:
             found = self.window.ballot(name, "21-3")
-            return found["line"], bool(found["letter"]), found["unmarked"]
+            hints = "[...document.querySelectorAll('.unmarked')].filter((node) => node.checkVisibility()).length"
+            return found["line"], bool(found["letter"]), self.window.ask(hints)
 
-        page = (self.open(data) / "index.html").read_text()
-        self.assertEqual(line_letter_and_hint("ada"), ("ada 2,1,-,3", False, True))
-        self.open(data, f"#ada/{OWN}")
-        self.check_letter(None, "ada", OWN)
-        self.assertEqual(line_letter_and_hint(None), ("ada 2,1,-,3", True, False))
-        below = "[...document.querySelectorAll('.unmarked')].filter((node) => node.checkVisibility()).length"
-        self.assertEqual(self.window.ask(below), 0)
-        self.assertEqual((line_letter_and_hint("ben"), self.window.ask(below)), (("ben 2,1,-,3", False, True), 2))
-        of_secret = (self.open(secret) / "index.html").read_text()
-        self.assertEqual(line_letter_and_hint(None), ("NAME 2,1,-,3", False, True))
+        page = (self.open(CALL) / "index.html").read_text()
+        self.assertEqual(line_letter_and_hints("ada"), ("ada 2,1,-,3", False, 2))
+        self.open(CALL, f"#ada/{OWN}")
+        self.assertEqual([line_letter_and_hints(name) for name in (None, "ben")], [("ada 2,1,-,3", True, 0), ("ben 2,1,-,3", False, 2)])
+        of_secret = (self.open(SECRET) / "index.html").read_text()
+        self.assertEqual(line_letter_and_hints(None), ("NAME 2,1,-,3", False, 1))
         self.assertNotIn('href="mailto:', page + of_secret)
-        self.assertIn("Answer your letter: then the subject has your own mark", " ".join(of_secret.split()))
-        self.open(SECRET)
-        self.assertEqual(line_letter_and_hint(None), ("NAME 2,1,-,3", True, False))
+        self.assertIn("Answer your letter, or end the subject as your slip says", " ".join(of_secret.split()))
 
 
 class Looks(PageTest):
     def test_widths_and_contrast(self) -> None:
+        """Of one question, and of several."""
         long_names = dataclasses.replace(POLL, shown_options=("\u05d0\u05d1 " * 60, "Donaudampfschifffahrt" * 9, "72 \u20ac", "{name} $& $1"))
-        polls = [(poll_of(names_of(size), 9, "x" * 32), "x" * 32) for size in (4, 32)] + [(long_names, "ada")]
+        votes = [(alone(poll_of(names_of(size), 9, "x" * 32)), "x" * 32) for size in (4, 32)] + [(alone(long_names), "ada")]
+        long_title = dataclasses.replace(long_names, shown_title="Donaudampfschifffahrt" * 9)
+        votes.append((Questions({"A": FEE, "B": long_title, "C": poll_of(names_of(32), 4, "ada")}, "Assembly 2026"), "ada"))
         colours = set()
         self.addCleanup(self.window.show)
         self.addCleanup(self.window.resize, 360, 640)
-        for (poll, name), is_dark in itertools.product(polls, (False, True)):
+        for (questions, name), is_dark in itertools.product(votes, (False, True)):
             self.window.show(is_dark=is_dark)
-            self.open(dataclasses.replace(CALL, questions=alone(poll)))
+            self.open(dataclasses.replace(CALL, questions=questions, quorum_votes=dict.fromkeys(questions, 1)))
+            ranks = {label: [str(len(poll.names))] * len(poll.names) for label, poll in questions.items()}
+            line = " ".join([name, *(f"{label} {','.join(its)}".strip() for label, its in ranks.items())])
             for width in (360, 390, 1280):
                 self.window.resize(width, 640)
-                self.window.ballot(" Zoe L", ["-"] * len(poll.names))
-                ranks = [str(len(poll.names))] * len(poll.names)
-                found = self.window.ballot(name, ranks)
-                self.assertEqual((found["line"], found["wide"]), (f"{name} {','.join(ranks)}", width))
+                self.window.ballot(" Zoe L", ["-"] * len(sum(ranks.values(), [])))
+                found = self.window.ballot(name, sum(ranks.values(), []))
+                self.assertEqual((found["line"], found["wide"]), (line, width))
             self.window.ask("document.querySelectorAll('details').forEach((node) => { node.open = true; })")
             self.assertGreaterEqual(min(contrast(*colours) for colours in self.window.ask(COLOURS)), 4.5, is_dark)
             colours.add((is_dark, self.window.ask("(({ color, backgroundColor }) => color + backgroundColor)(getComputedStyle(document.body))")))
+        # of several lines one that mail programs break is enough
+        for rank, is_long in (("1", False), ("10", True)):
+            self.assertEqual(self.window.ballot("ada", [*"124321", *[rank] * 32])["long"], is_long)
         self.assertEqual((len(colours), len({colour for _, colour in colours})), (2, 2))
 
     def test_ranks_stand_beside_the_option_where_there_is_room(self) -> None:
@@ -545,7 +528,7 @@ class ByKeys(PageTest):
         return way
 
     def test_a_ballot_is_made_and_its_line_is_taken(self) -> None:
-        self.open(CALL)
+        self.open(KINDS["signed"])
         self.tab_to("Name")
         self.window.type("\u00c0d\u00e0")
         self.tab_to("ada")
@@ -587,7 +570,7 @@ class ByKeys(PageTest):
         self.addCleanup(self.window.show)
         for is_dark in (False, True):
             self.window.show(is_dark=is_dark)
-            self.open(CALL)
+            self.open(KINDS["signed"])
             way = self.tab_to("Name")
             self.window.type("ada")
             for number in range(1, 5):
@@ -601,7 +584,7 @@ class ByKeys(PageTest):
             self.assertEqual([place["name"] for place in back], ["Letter", "Rank-4", "Rank-3", "Rank-2", "Rank-1", "Name"])
 
     def test_tab_comes_to_each_question_and_no_focus_is_below_the_ballot(self) -> None:
-        self.open(dataclasses.replace(CALL, questions=THREE, quorum_votes=dict.fromkeys(THREE, 1)))
+        self.open(dataclasses.replace(KINDS["signed"], questions=THREE, quorum_votes=dict.fromkeys(THREE, 1)))
         way = self.tab_to("Name")
         self.window.type("ada")
         ranks = ["Rank-A1", "Rank-A2", "Rank-B1", "Rank-B2", "Rank-B3", "Rank-B4", "Rank-C1", "Rank-C2"]

@@ -105,6 +105,8 @@ class InBrowser(languages.LanguageTest):
         said, window = functools.partial(self.said, CALL_SENTENCES), self.window
         window.resize(*SMALL)
         window.open(place / "call" / "index.html")
+        window.ask("location.hash = 'e01/23456789ab'")
+        window.until("document.getElementById('Name').value === 'e01'")
         window.ballot("e01", "21-3")
         bottom = window.ask("[...document.querySelectorAll('.rank')].at(-1).getBoundingClientRect().bottom")
         ends = [window.ask(f"document.getElementById('{place}').getBoundingClientRect().{side}")
@@ -116,7 +118,7 @@ class InBrowser(languages.LanguageTest):
         found = window.ballot(" E01", "21-2")
         self.assertEqual((found["line"], found["said"], found["words"]), ("e01 2,1,-,2", "", "1 {2}, 2 {1}, 2 {4}, \u2013 {3}"))
         title = said("subject", title="Where we meet in spring")
-        self.assertRegex(found["subject"], f"^{re.escape(title)} \\[[0-9a-f]{{16}}\\]$")
+        self.assertRegex(found["subject"], f"^{re.escape(title)} \\[[0-9a-f]{{16}}-23456789ab\\]$")
         found = window.ballot("\u00c901", "-1--")
         self.assertEqual((found["line"], found["said"]), ("e01 -,1,-,-", said("on_roll", names="e01")))
         found = window.ballot("x_y", "1234")

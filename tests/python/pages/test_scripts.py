@@ -33,6 +33,12 @@ class ScriptsTest(publishing.ResultPageTest):
         cls.secret = plain_room(cls.scratch / "secret", poll, "".join(ballots))
         cls.told_in_secret = publish(cls.secret, *FILES, "result")
 
+    def published_room(self, name, poll, ballots=publishing.PLAIN_BALLOTS):
+        """A room with the result of these files."""
+        room = plain_room(self.scratch / name, poll, ballots)
+        self.expect("it is published", publish(room, *FILES, "result")[2], 0)
+        return room
+
     def test_finding_a_ballot(self):
         self.expect("open", self.told, ("Winner: 2 B\nverified\n", "", 0))
         window = self.page_of()
@@ -98,8 +104,7 @@ class ScriptsTest(publishing.ResultPageTest):
     def test_the_table_of_votes_breaks_no_word(self):
         names = [f"Ausflug {name}" for name in "Schwarzwald Bodensee Nordseebad Alpenvorland Spreewald Rheintal Sauerland".split()]
         poll = re.sub("options = .*", f"options = {json.dumps(names)}", publishing.PLAIN_POLL).replace("[1, 1]", f"{[1] * 7}")
-        room = plain_room(self.scratch / "eight", poll, "ada 1,2,3,4,5,6,7,8\n")
-        self.expect("it is published", publish(room, *FILES, "result")[2], 0)
+        room = self.published_room("eight", poll, "ada 1,2,3,4,5,6,7,8\n")
         self.addCleanup(self.window.resize, 800, 900)
         self.window.resize(360, 640)
         window = self.page_of(room)
@@ -114,9 +119,7 @@ class ScriptsTest(publishing.ResultPageTest):
         for options, is_smaller in ((3, False), (30, True)):
             names = [f"Ausflug nach {number}" for number in range(options - 1)]
             poll = re.sub("options = .*", f"options = {json.dumps(names)}", publishing.PLAIN_POLL).replace("[1, 1]", f"{[1] * len(names)}")
-            room = plain_room(self.scratch / f"{options} on paper", poll, f"ada {','.join(map(str, range(1, options + 1)))}\n")
-            self.expect("it is published", publish(room, *FILES, "result")[2], 0)
-            window = self.page_of(room)
+            window = self.page_of(self.published_room(f"{options} on paper", poll, f"ada {','.join(map(str, range(1, options + 1)))}\n"))
             window.show(on_paper=True)
             window.resize(717, 900)
             size = window.ask("parseFloat(getComputedStyle(document.querySelector('table')).fontSize)")
@@ -131,9 +134,7 @@ class ScriptsTest(publishing.ResultPageTest):
         for length in (60, 61):
             names = [("Ein Name aus vielen Worten und noch mehr " * 2)[:length], "B " * 90, "N " * 80]
             poll = publishing.PLAIN_POLL + f"shown_options = {json.dumps(names)}\n"
-            room = plain_room(self.scratch / f"names-of-{length}", poll)
-            self.expect("it is published", publish(room, *FILES, "result")[2], 0)
-            window = self.page_of(room)
+            window = self.page_of(self.published_room(f"names-of-{length}", poll))
             sizes[length] = window.ask("parseFloat(getComputedStyle(document.getElementById('Result')).fontSize)")
             window.ask("document.querySelectorAll('details').forEach((node) => { node.open = true; })")
             for width, is_beside in ((360, False), (1100, False), (1130, True), (1280, True)):
@@ -154,8 +155,7 @@ class ScriptsTest(publishing.ResultPageTest):
         """In which the names have more than 200 characters."""
         for length, are_long in ((200, False), (201, True)):
             names = ["A" * 100, "B" * 99, "N" * (length - 199)]
-            room = plain_room(self.scratch / f"{length} characters", publishing.PLAIN_POLL + f"shown_options = {json.dumps(names)}\n")
-            self.expect("it is published", publish(room, *FILES, "result")[2], 0)
+            room = self.published_room(f"{length} characters", publishing.PLAIN_POLL + f"shown_options = {json.dumps(names)}\n")
             self.expect(f"{length} characters", '<ul class="ballots long">' in (room / "result" / "index.html").read_text(), are_long)
 
     def test_electors_with_names_of_things_of_the_page(self):

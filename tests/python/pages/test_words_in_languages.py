@@ -1,6 +1,7 @@
 """Pages and letters in a language hold no word of ours in another one: in a language whose words are all marked, nothing is unmarked
 but what is no word of ours, as the names of options and electors, the commands, and what debvote itself says."""
 
+import datetime
 import email
 import email.policy
 import html
@@ -138,7 +139,7 @@ class Marked(languages.LanguageTest):
         self.election("cast", "call", "--to", languages.TO, "--at", languages.AT)
         self.election("cast", "add", "--yes", given="e01 1,2,3,4\ne02 2,1,3,4\n")
         self.election("cast", "close")
-        given = ("--cast-by", "Person 01", "--cast-on", "2026-11-05")
+        given = ("--cast-by", "Person 01", "--cast-on", str(datetime.datetime.now().astimezone().date()))
         again = ("--casting", "In the town hall", *given, "--force", "--because", languages.REASON)
         for words, status in (((), 1), (("--casting", "At the lake", *given), 0), (again, 0)):
             self.election("cast", "publish", *words, status=status)

@@ -16,9 +16,10 @@ EXAMPLE = 'write it as "2026-12-04 18:00", as "2026-12-04 18:00\\+01:00" or in a
 
 class Until(unittest.TestCase):
     def in_zone(self, name: str) -> None:
-        """From now on this computer is in a zone."""
-        self.enterContext(unittest.mock.patch.dict(os.environ, {"TZ": name}))
+        """From now on this computer is in a zone, until the test ends."""
+        # what is added first is called last: the zone is read again once it is that of before
         self.addCleanup(time.tzset)
+        self.enterContext(unittest.mock.patch.dict(os.environ, {"TZ": name}))
         time.tzset()
 
     def assert_refused(self, text: str, zone: str | None, said: str) -> None:

@@ -10,18 +10,9 @@ import unittest.mock
 
 from debvote_tools.cli.faults import Fault
 from debvote_tools.inbox.box_records import MOST
-from debvote_tools.poll.box import (
-    SCRIPT,
-    SENTENCES,
-    asking_word,
-    third_part,
-    list_digest,
-    new_key,
-    records_file,
-    script_address,
-    script_of,
-    without_links,
-)
+from debvote_tools.poll.box import SCRIPT, SENTENCES, asking_word, key_of, list_digest, page_of
+from debvote_tools.poll.box import records_file, script_address, script_of, third_part
+from debvote_tools.poll.box import without_links
 from debvote_tools.poll.sealed import OWN_LENGTH, OWN_SIGNS, new_own_mark
 
 MARK, KEY = "1ac5041b936c7fc1", bytes(range(32))
@@ -41,17 +32,14 @@ class Links(unittest.TestCase):
     def test_a_link_has_79_bits_and_each_of_key_name_and_own_mark_makes_a_new_one(self) -> None:
         self.assertEqual((len(OWN_SIGNS), math.floor(16 * math.log2(len(OWN_SIGNS)))), (31, 79))
         others = {**OWNS, "ada-lee": "23456789ab", "ada2": "3456789ab2"}
-        links = [
-            third_part(key, name, own) for key in (KEY, b"x" * 32) for name, own in others.items()
-        ]
+        made = itertools.product((KEY, b"x" * 32), others.items())
+        links = [third_part(key, name, own) for key, (name, own) in made]
         links += [third_part(KEY, "ada", "z" * OWN_LENGTH), third_part(KEY, "ben-lee", OWNS["ada"])]
         self.assertEqual(len({*links}), len(links))
         for link in links:
             self.assertRegex(link, rf"\A[{OWN_SIGNS}]{{16}}\Z")
-        self.assertEqual(
-            {third_part(KEY, *one) for one in others.items()},
-            {by_hand(KEY, *one) for one in others.items()},
-        )
+        for one in others.items():
+            self.assertEqual(third_part(KEY, *one), by_hand(KEY, *one))
         # no link is the word that asks, or a part of it
         self.assertNotEqual(third_part(KEY, "ask", "")[:8], asking_word(KEY)[:8])
         # each sign comes in each place
@@ -60,12 +48,19 @@ class Links(unittest.TestCase):
 
     def test_the_word_and_the_key(self) -> None:
         self.assertEqual(asking_word(KEY), hmac.new(KEY, b"ask", hashlib.sha256).hexdigest())
-        keys = {new_key() for _ in range(9)}
+        books = [unittest.mock.Mock(**{"value.return_value": b""}) for _ in range(9)]
+        keys = {key_of(book) for book in books}
         self.assertEqual((len(keys), {len(key) for key in keys}), (9, {32}))
-        self.assertEqual(
-            records_file(KEY),
-            f"box-{hashlib.sha256(asking_word(KEY).encode()).hexdigest()[:32]}.php",
-        )
+        # what the page and the script have of a new one is of the one that is sealed
+        self.assertEqual({key_of(book) for book in books}, keys)
+        self.assertEqual(key_of(unittest.mock.Mock(**{"value.return_value": KEY})), KEY)
+        name = hashlib.sha256(asking_word(KEY).encode()).hexdigest()[:32]
+        self.assertEqual(records_file(KEY), f"box-{name}.php")
+
+    def test_what_a_page_posts_is_of_its_poll_and_its_book(self) -> None:
+        digest = hashlib.sha256(hmac.digest(KEY, f"page {MARK}".encode(), "sha256")).hexdigest()
+        self.assertEqual(page_of(KEY, MARK), digest[:16])
+        self.assertEqual(len({page_of(KEY, MARK), page_of(KEY, "f" * 16), page_of(b"x" * 32, MARK)}), 3)
 
     def test_what_may_be_a_link_is_left_out_where_the_book_can_not_be_read(self) -> None:
         book, link = unittest.mock.Mock(), third_part(KEY, "ada", OWNS["ada"])
@@ -79,6 +74,9 @@ class Words(unittest.TestCase):
         """Who reads that a ballot was not taken does not send it again, and who reads that it arrived waits."""
         for word, begin in {
             "received": "It has arrived, {time}. ",
+            "late": "It has arrived, {time}, after {end}, the end that this page knows. If the vote was extended it may still count",
+            "changed": "The choice has been changed, and is not sent yet.",
+            "old": "It was not taken: this page is an older one. Load it again. If this comes again, answer your newest letter.",
             "unknown": "It was not taken: this page does not know your link. Open the newest letter",
             "many": "It was not taken: too many ballots came by your link. Send your ballot by e-mail.",
             "lost": "It was not taken. Send your ballot by e-mail.",
@@ -106,22 +104,18 @@ class Scripts(unittest.TestCase):
         _, _, lines = script.decode("ascii").rpartition("__halt_compiler();\n")
         self.assertEqual(list_digest(script), hashlib.sha256(lines.encode()).hexdigest())
         rows = [line.split(" ") for line in lines.removesuffix("\n").split("\n")]
-        wanted = {MARK: hashlib.sha256(asking_word(KEY).encode()).hexdigest()}
-        wanted |= {
+        word = hashlib.sha256(asking_word(KEY).encode()).hexdigest()
+        wanted = {
             name: hashlib.sha256(f"{MARK} {name} {by_hand(KEY, name, own)}".encode()).hexdigest()
             for name, own in OWNS.items()
         }
-        self.assertEqual(rows, [list(row) for row in wanted.items()])
+        of_vote = [MARK, word, page_of(KEY, MARK)]
+        self.assertEqual(rows, [of_vote, *(list(row) for row in wanted.items())])
         # no secret is in it, in no form
-        for secret in (
-            KEY,
-            KEY.hex().encode(),
-            asking_word(KEY).encode(),
-            *(own.encode() for own in OWNS.values()),
-        ):
-            self.assertNotIn(secret, script)
-        for name, own in OWNS.items():
-            self.assertNotIn(third_part(KEY, name, own).encode(), script)
+        links = [third_part(KEY, *one) for one in OWNS.items()]
+        for secret in (KEY.hex(), asking_word(KEY), *OWNS.values(), *links):
+            self.assertNotIn(secret.encode(), script)
+        self.assertNotIn(KEY, script)
 
     def test_as_many_records_of_a_link_are_kept_as_the_script_takes(self) -> None:
         """More would be acknowledged, and passed over."""
@@ -130,9 +124,8 @@ class Scripts(unittest.TestCase):
 
     def test_ten_thousand_electors(self) -> None:
         owns = {"-".join(name): "23456789ab" for name in itertools.product("abcdefghij", repeat=4)}
-        self.assertEqual(
-            script_of(KEY, MARK, owns).count(b"\n"), script_of(KEY, MARK, {}).count(b"\n") + 10_000
-        )
+        many, none = (script_of(KEY, MARK, one).count(b"\n") for one in (owns, {}))
+        self.assertEqual(many, none + 10_000)
 
     def test_it_lies_beside_the_page(self) -> None:
         for at, address in {
@@ -144,18 +137,9 @@ class Scripts(unittest.TestCase):
             "http://[::1]:80/": "http://[::1]:80/vote.php",
         }.items():
             self.assertEqual(script_address(at), address)
-        for at in (
-            None,
-            "https://club.example",
-            "https://club.example/vote",
-            "http://club.example/",
-            "https://club.example/?a=/",
-        ):
+        club = "https://club.example"
+        for at in (None, club, f"{club}/vote", "http://club.example/", f"{club}/?a=/"):
             with self.assertRaises(Fault) as caught:
                 script_address(at)
             self.assertRegex(caught.exception.words, re.escape("--box: ") + ".*https")
         self.assertEqual(SCRIPT, "vote.php")
-
-
-if __name__ == "__main__":
-    unittest.main()

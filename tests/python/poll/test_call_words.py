@@ -5,7 +5,6 @@ import dataclasses
 import datetime
 import hashlib
 import html
-import itertools
 import re
 import shutil
 import subprocess
@@ -20,7 +19,6 @@ from debvote_tools.text.language import LANGUAGES, language_of
 
 from tests.support import page_parts
 from tests.support.calls import ADDRESS, CALL, CODES, KINDS, PAGE, POLL, ROLL, SECRET, UNTIL, WITH_CODES, alone
-from tests.support.letters import repaired_line
 
 LATER = UNTIL + datetime.timedelta(days=2)
 FIRST_WORDS, LATER_WORDS = "Friday, 4 December 2026, 18:00 (UTC+01:00)", "Sunday, 6 December 2026, 18:00 (UTC+01:00)"
@@ -93,10 +91,12 @@ class Files(unittest.TestCase):
 
     def test_where_to(self) -> None:
         mark = f"[{CALL.questions.mark}]"
-        self.assertIn(f"Send your line to {ADDRESS} in a letter whose subject ends with {mark}.", page_of(CALL))
+        self.assertIn("Open the link in your letter, or answer that letter: then the subject has your own mark, ", page_of(CALL))
+        self.assertIn("Answer your letter: then the subject has your own mark, ", page_of(dataclasses.replace(CALL, at=None)))
+        self.assertIn(f"Send your line to {ADDRESS} in a letter whose subject ends with {mark}.", page_of(KINDS["signed"]))
         self.assertIn("Send your ballot as the secretary announces. ", page_of(dataclasses.replace(CALL, at=None, to=None)))
         self.assertIn(f"your ballot, and below it the mark of this vote, {mark}, so that", page_of(KINDS["signed"]))
-        links = [node.attributes["href"] for node in read(CALL).root.all("a") if node.attributes.get("href", "").startswith("mailto:")]
+        links = [node.attributes["href"] for node in read(KINDS["signed"]).root.all("a") if node.attributes.get("href", "").startswith("mailto:")]
         self.assertEqual(links, [f"mailto:vote%2Bclub@example.org?subject={urllib.parse.quote(f'Ballot: Where we meet {mark}')}"])
         self.assertEqual(told(CALL, "data-mark"), CALL.questions.mark)
 
@@ -108,7 +108,8 @@ class Files(unittest.TestCase):
             numbered = [f"Option {number}: {name}" for number, name in enumerate(names, start=1)]
             ratios = [f"majority ratio {ratio}" for ratio in (1, 1, 3)] + ["the default option"]
             rules = "Majority ratio 3: at least 3 times as many electors", "The quorum is 2 votes: at least 2 electors", "The roll has 4 electors."
-            self.assertIn(f"Ballot%3A%20{urllib.parse.quote(poll.name)}%20%5B{data.questions.mark}%5D", call_files(data)["index.html"].decode())
+            signed = call_files(dataclasses.replace(data, is_signed=True))["index.html"].decode()
+            self.assertIn(f"Ballot%3A%20{urllib.parse.quote(poll.name)}%20%5B{data.questions.mark}%5D", signed)
             self.assertEqual([root.one(tag).text() for tag in ("title", "h1")], [f"Vote: {poll.name}", poll.name])
             for part in (*map("{}, {}".format, numbered, ratios), *rules, f"The default option is {numbered[3]}.", "NAME _,_,_,_ "):
                 self.assertIn(part, text)
@@ -234,29 +235,6 @@ class Hostile(unittest.TestCase):
             self.assertEqual((ended.stdout, ended.stderr, ended.returncode), ("", "", 0))
 
 
-class NoBallot(unittest.TestCase):
-    """No line of what goes out reads as a ballot, however its words are put on lines, and whatever names are on the roll."""
-
-    def assert_no_ballot(self, text: str) -> None:
-        words = text.split()
-        lines = {" ".join(words[start : start + size]) for size in range(1, 9) for start in range(len(words))}
-        # the shortest ballot has two ranks
-        for line in (repaired_line(line.encode()) for line in lines if "," in line and any(map(str.isdigit, line))):
-            self.assertNotRegex(line, rb"^[a-z0-9.-]{1,32} (?:-|[1-9][0-9]?)(?:,(?:-|[1-9][0-9]?))+$")
-
-    def test_of_calls_and_extensions(self) -> None:
-        for code, (kind, data), count in itertools.product(LANGUAGES, KINDS.items(), (1, 2, 3, 7)):
-            poll = dataclasses.replace(data.questions[""], options=(*POLL.options, "D", "E", "F", "G")[:count], ratios=(1,) * count)
-            call = dataclasses.replace(data, questions=alone(poll), language=language_of(code), until=LATER)
-            for text in (call_letter(call), call_letter(call, is_extension=True)):
-                with self.subTest(language=code, kind=kind, options=count):
-                    self.assert_no_ballot(text)
-
-    def test_the_test_finds_one(self) -> None:
-        with self.assertRaises(AssertionError):
-            self.assert_no_ballot("So write ada 1,2,3 and send it.")
-
-
 class Addresses(unittest.TestCase):
     def test_web_addresses(self) -> None:
         for good in (PAGE, "http://x", "https://example.org:8443/a/b?c=d", "https://xn--bcher-kva.example/", "http://[::1]:80/", "https://[::1]/", "https://x:/", "https://127.0.0.1/~ada/", f"https://{'x' * 492}"):
@@ -269,6 +247,18 @@ class Addresses(unittest.TestCase):
             with self.subTest(bad=bad), self.assertRaisesRegex(Fault, "^.*--at: it must be the address of a page, as https://") as caught:
                 demand_web_address(bad)
             self.assertEqual(caught.exception.status, Status.BAD_WORDS)
+
+    def test_how_a_web_address_with_accents_is_written(self) -> None:
+        """As a browser sends it, and not as it shows it."""
+        for bad, good in (
+            ("https://b\u00fccher.example/", "https://xn--bcher-kva.example/"),
+            ("https://example.org/\u00fc/", "https://example.org/%C3%BC/"),
+        ):
+            with self.assertRaises(Fault) as caught:
+                demand_web_address(bad)
+            self.assertRegex(caught.exception.cure, "accents as %C3%BC, or in the name of a host as xn--bcher-kva.example")
+            self.assertNotIn("browser shows", caught.exception.cure)
+            demand_web_address(good)
 
     def test_mail_addresses(self) -> None:
         for good in (ADDRESS, "a@b", "_x@example.org", "a@" + "b" * 252):

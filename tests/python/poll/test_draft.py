@@ -215,10 +215,10 @@ class Texts(DraftTest):
 
 
 class Confusing(DraftTest):
-    def faults(self, poll: str) -> list[object]:
+    def faults(self, poll: str, language: str = "de") -> list[object]:
         draft = self.draft(poll)
         self.assertEqual(draft.faults, [])
-        return list(faults_of_names(draft, ROLL, "de"))
+        return list(faults_of_names(draft, ROLL, language))
 
     def test_nothing_is_wrong(self) -> None:
         # a line that reads as a ballot is parted off where it goes out
@@ -233,6 +233,15 @@ class Confusing(DraftTest):
             ("option 4, `UBER DER BRÜCKE`: it looks like option 2, `Über der Brücke`",),
         ]
         self.assert_faults(self.faults(poll), *wanted)
+
+    def test_words_of_a_motion_with_accents(self) -> None:
+        poll = 'title = "The fee"\noptions = ["Raise it"]\nratios = [1]\ndefault = "No, as it is"\nquorum = 0\nmotion = true\n'
+        for change, faults in (
+            (("No, as", "SI\u0301: as"), ["the default option of a motion begins with a word for yes"]),
+            (("Raise", "Abstenci\u00f3n o"), ["the option of a motion begins with a word for no or abstention"]),
+            (("No, as", "Si as"), []),
+        ):
+            self.assert_faults(self.faults(poll.replace(*change), "es"), *((fault,) for fault in faults))
 
 
 class NewPoll(DraftTest):

@@ -13,8 +13,6 @@ from debvote_tools.book.queries import Elector
 from debvote_tools.poll.call import call_files
 from debvote_tools.poll.questions import LABELS, Questions, read_questions
 from debvote_tools.poll.secret import alias_in, aliased, codes_csv, slips
-from debvote_tools.text.language import ENGLISH
-from debvote_tools.text.motions import words_of
 
 from tests.support import calls
 from tests.support.at_browser import NEEDS_BROWSER, Window
@@ -79,28 +77,9 @@ class Words(unittest.TestCase):
                 self.assertIn(question, text)
                 rows = "".join(f"  {row}\n" for row in SEVERAL.checksums)
                 self.assertIn(f"the last is that of this list:\n{rows}\n", text)
-                self.assertIn(f"[{SEVERAL.mark}]", text)
                 # the names of one question's line, and no other
                 self.assertNotIn("Your line", text)
                 self.assertNotIn("Send your line", text)
-
-    def test_the_words_of_a_motion_stand_at_its_question(self) -> None:
-        questions = Questions({"A": FEE, "B": dataclasses.replace(FEE, motion=True)}, "Assembly 2026")
-        text = call_files(dataclasses.replace(CALL, questions=questions, quorum_votes={"A": 0, "B": 0}))["call.txt"].decode()
-        [before, after] = text.split("  (or in place of the ranks one word: yes, no, abstain)\n")
-        self.assertTrue(before.endswith("\n\nQuestion B: Raise the fee\n  Option 1: Yes (majority ratio 2)\n  Option 2: No (the default option)\n"))
-        self.assertTrue(after.startswith("\nSend your ballot to "))
-        # lines and letters are read with them if one question is a motion
-        self.assertEqual((questions.words(CALL.language), SEVERAL.words(CALL.language)), (words_of("en", motion=True), {}))
-
-    def test_no_line_of_a_text_reads_as_an_answer(self) -> None:
-        text = "A 1,2\nb: 1,2,3,4\n1,2\n1,2,3,4\nlater C 2,1\nD 1,2 is a place\nA 1\nada A 1,2"
-        barred = "|A 1,2\n|b: 1,2,3,4\n|1,2\n|1,2,3,4\n|later\n|C 2,1\nD 1,2 is a place\nA 1\n|ada\n|A 1,2"
-        self.assertEqual(SEVERAL.without_ballots(text, lambda word: word == "ada", {}), barred)
-        # one bar, although questions differ in how many options they have
-        motions = Questions({"A": dataclasses.replace(FEE, motion=True), "B": POLL}, SEVERAL.title)
-        text, barred = "yes\nada: no\nQuestion A: abstain", "|yes\n|ada: no\n|Question A: abstain"
-        self.assertEqual(motions.without_ballots(text, lambda word: word == "ada", motions.words(ENGLISH)), barred)
 
 
 class Aliases(unittest.TestCase):
@@ -137,6 +116,6 @@ class Aliases(unittest.TestCase):
                 self.assertEqual(lines, "\n".join(["ada", *(f"{label} _,_" for label in questions)]))
 
     def test_the_table_of_codes_has_none(self) -> None:
-        rows = codes_csv(self.electors, is_several=True).decode().splitlines()
-        self.assertEqual(rows[:2], ["name,who,mail,code", f"ada,Ada,,{'a' * 32}"])
-        self.assertEqual(codes_csv(self.electors).decode().splitlines()[0], "name,who,mail,code,alias")
+        rows = codes_csv(dataclasses.replace(CALL, questions=SEVERAL), self.electors).decode().splitlines()
+        self.assertEqual(rows[:2], ["name,who,mail,code,mark", f"ada,Ada,,{'a' * 32},"])
+        self.assertEqual(codes_csv(CALL, self.electors).decode().splitlines()[0], "name,who,mail,code,alias,mark")

@@ -17,7 +17,7 @@ from collections.abc import Sequence
 
 from debvote_tools.book.queries import Elector
 from debvote_tools.cli.faults import Fault
-from debvote_tools.inbox.letter_lines import with_lines
+from debvote_tools.inbox.letter_lines import with_texts
 from debvote_tools.inbox.lines import has_code
 from debvote_tools.poll.call import CallData
 from debvote_tools.poll.sealed import read_plain
@@ -41,7 +41,7 @@ from debvote_tools.text.language import LANGUAGES, language_of
 from tests.support import calls
 from tests.support.at_browser import NEEDS_BROWSER, Window
 from tests.support.calls import ROLL, alone
-from tests.support.letters import alternatives, names, parsed
+from tests.support.letters import letter, names, parsed
 
 CODES = {name: f"{number:x}" * 32 for number, name in enumerate(ROLL, start=10)}
 ALIASES = {name: alias_of(code, name) for name, code in CODES.items()}
@@ -113,10 +113,9 @@ class Codes(unittest.TestCase):
                 self.assertTrue(has_code(text), text)
         for other in ("", "ada", "a" * 31, "a" * 33, "g" * 32, "\u0661" * 32, "a  " * 32):
             self.assertFalse(has_code(other), other)
-        # in other parts of a letter, too
-        data = alternatives("ada", "ada 1,2,4,3", "<p>ada 1,2,4,3<p>my code is " + "0123456789abcdef" * 2)
-        [read] = with_lines([parsed(data)], names(), lambda lines: dict.fromkeys(lines))
-        self.assertEqual([has_code(read.shown_lines[number - 1]) for number in read.code_lines], [True])
+        # in each line of a letter
+        [read] = with_texts([parsed(letter("ada", "ada 1,2,4,3\n> x\n> my code is " + "0123456789abcdef" * 2))], names(), dict.fromkeys)
+        self.assertEqual(read.code_lines, (3,))
 
 
 class Published(unittest.TestCase):
@@ -264,14 +263,17 @@ class Slips(unittest.TestCase):
 class Table(unittest.TestCase):
     def who(self, cell: str) -> str:
         """A cell of the table, by what it is made of."""
-        [row] = csv.DictReader(io.StringIO(codes_csv([elector("ada", cell, f"a{cell}", "", "")]).decode(), newline=""))
+        [row] = csv.DictReader(io.StringIO(codes_csv(CALL, [elector("ada", cell, f"a{cell}", "", "")]).decode(), newline=""))
         return row["who"]
 
     def test_each_elector_has_a_row(self) -> None:
         rows = [elector(name, f'{name.title()} "\u00c9", jr.', "", CODES[name], ALIASES[name]) for name in ROLL]
-        found = list(csv.DictReader(io.StringIO(codes_csv(iter(rows)).decode())))
-        self.assertEqual(found, [{"name": row.name, "who": row.who, "mail": "", "code": row.code, "alias": row.alias} for row in rows])
-        self.assertEqual(codes_csv([]), b"name,who,mail,code,alias\n")
+        found = list(csv.DictReader(io.StringIO(codes_csv(CALL, iter(rows)).decode())))
+        self.assertEqual(found, [{"name": row.name, "who": row.who, "mail": "", "code": row.code, "alias": row.alias, "mark": ""} for row in rows])
+        self.assertEqual(codes_csv(CALL, []), b"name,who,mail,code,alias,mark\n")
+        # as the call has made it, at the end of the subject of an answer
+        called = codes_csv(CALL, [rows[0]._replace(mark="abcde23456")]).decode()
+        self.assertTrue(called.endswith(f",[{CALL.questions.mark}-abcde23456]\n"), called)
 
     def test_a_spreadsheet_runs_no_cell(self) -> None:
         for cell in ("=1+1", "@SUM(A1)", "+cmd|'/c calc'!A0", "-2+3", "\t=1", "\u200b\ufeff=1", "\uff1dHYPERLINK(1)", "\uff0b1+a", "\uff20x", "  =x"):

@@ -12,11 +12,11 @@ import tempfile
 import time
 import unittest
 
-from debvote_tools.poll.box import END_OF_CODE, SCRIPT, asking_word, third_part, list_digest, script_of
+from debvote_tools.poll.box import END_OF_CODE, SCRIPT, asking_word, list_digest, page_of, script_of, third_part
 from debvote_tools.poll.questions import LABELS
 from debvote_tools.text.rendering import resources
 
-from tests.support.web_host import END, FILE, FIRST, KEY, LINKS, MARK, NEEDS_PHP, OWNS, STRACE, WORD
+from tests.support.web_host import END, FILE, FIRST, KEY, LINKS, MARK, NEEDS_PHP, OWNS, PAGE, STRACE, WORD
 from tests.support.web_host import ASK, HOST_OFF, Answer, BoxTest, Host
 from tests.support.web_host import ballot, clock_of_php, record, request_of
 
@@ -29,41 +29,21 @@ for one in ("enable=1", "enable_cli=1", "validate_timestamps=0", "file_update_pr
     CACHE += ["-d", f"opcache.{one}"]
 
 # bodies that are no request of the page
+GOOD, OF_ADA = ballot("ada", "1,2", 77), LINKS["ada"]
+ASKED = ["ada 1,2", "ask", "ask ", f"ASK {WORD}", f"ask {WORD.upper()}", f"ask {WORD[:-1]}"]
+ASKED += [f"ask {WORD}0", f" ask {WORD}"]
+RANKS = ["1,2\x00", "1;2", "a 1,2", "1,2\n\nben 1,2", "1,2<?php phpinfo(); ?>", "\u00b9,2", ""]
 BAD = [
-    b"",
-    b"\n",
-    request_of("ada 1,2"),
-    request_of("ask"),
-    request_of("ask "),
-    ASK[:-1],
-    ASK + b"\n",
-    b"a=" + ASK,
-    b"box=box=" + ballot("ada", "1,2", 77),
-    request_of(f"ASK {WORD}"),
-    request_of(f"ask {WORD.upper()}"),
-    request_of(f"ask {WORD[:-1]}"),
-    request_of(f"ask {WORD}0"),
-    request_of(f" ask {WORD}"),
-    ballot("ada", "1,2", 77)[:-1],
-    ballot("ada", "1,2", 77) + b"\n",
-    ballot("ada", "1,2", 77).replace(b"\n", b"\r\n"),
-    ballot("Ada", "1,2", 77, LINKS["ada"]),
-    ballot("a" * 33, "1,2", 77, LINKS["ada"]),
-    ballot("ada", "1,2\x00", 77),
-    ballot("ada", "1;2", 77),
-    ballot("ada", "a 1,2", 77),
-    ballot("ada", "1,2\n\nben 1,2", 77),
-    ballot("ada", "1,2<?php phpinfo(); ?>", 77),
-    ballot("ada", "\u00b9,2", 77),
-    ballot("ada", "1,2", 77, LINKS["ada"].upper()),
-    ballot("ada", "1,2", 77, LINKS["ada"] + "2"),
-    ballot("ada", "1,2", 77, "../../etc/passwd"),
-    ballot("ada", "1,2", 77).replace(b"0" * 30, b"g" * 30),
-    ballot("ada", "", 77),
-    b"\xef\xbb\xbf" + ballot("ada", "1,2", 77),
-    b"line=ada+1,2&link=" + LINKS["ada"].encode(),
-    b'{"line": "ada 1,2"}',
-    b"\xff" * 40,
+    *(b"", b"\n", b'{"line": "ada 1,2"}', b"\xff" * 40, b"line=ada+1,2&link=" + OF_ADA.encode()),
+    *(ASK[:-1], ASK + b"\n", b"a=" + ASK, *map(request_of, ASKED)),
+    *(GOOD[:-1], GOOD + b"\n", GOOD.replace(b"\n", b"\r\n"), b"\xef\xbb\xbf" + GOOD),
+    *(b"box=box=" + GOOD, GOOD.replace(b"0" * 30, b"g" * 30)),
+    # that of a page of before, which names no poll
+    GOOD.removeprefix(f"{PAGE} ".encode()),
+    *(ballot("ada", "1,2", 77, page=page) for page in (PAGE[:-1], PAGE.upper())),
+    *(ballot(name, "1,2", 77, OF_ADA) for name in ("Ada", "a" * 33)),
+    *(ballot("ada", ranks, 77) for ranks in RANKS),
+    *(ballot("ada", "1,2", 77, link) for link in (OF_ADA.upper(), OF_ADA + "2", "../../etc/passwd")),
 ]
 
 
@@ -86,12 +66,8 @@ class Requests(BoxTest):
         other = script_of(b"x" * 32, "0" * 16, {})
         for script in (self.script, other):
             self.assertEqual(script[: len(code)], code)
-        self.assertEqual(
-            subprocess.run(
-                ["php", "-n", "-l", self.folder / SCRIPT], capture_output=True
-            ).returncode,
-            0,
-        )
+        checked = subprocess.run(["php", "-n", "-l", self.folder / SCRIPT], capture_output=True)
+        self.assertEqual(checked.returncode, 0)
 
     def test_each_row_of_the_protocol(self) -> None:
         host = self.host()
@@ -107,26 +83,20 @@ class Requests(BoxTest):
         # a ballot, of one question and of several
         first = self.received(host.send(ballot("ada", "1,2,-,10", 1)))
         second = self.received(host.send(ballot("ben-lee", "A 1,2 B 2,1,3", 2)))
-        wanted = record("ada", "ada 1,2,-,10", 1, first) + record(
-            "ben-lee", "ben-lee A 1,2 B 2,1,3", 2, second
-        )
+        wanted = record("ada", "ada 1,2,-,10", 1, first)
+        wanted += record("ben-lee", "ben-lee A 1,2 B 2,1,3", 2, second)
         self.assertEqual(self.file.read_text(), FIRST.decode() + wanted)
         self.assertEqual(host.ask().text.partition("\n")[2], wanted)
+        owners = ("ada", "2" * 16), ("ada", LINKS["ben-lee"]), ("zoe", LINKS["ada"]), (MARK, "2" * 16)
+        unknown = [ballot(name, "1,2", 3, link) for name, link in owners]
+        others = page_of(KEY, "f" * 16), page_of(b"x" * 32, MARK)
+        old = [ballot("ada", "1,2", 3, page=page) for page in others]
+        # before the link is looked at
+        old += [ballot("ada", "1,2", 3, "2" * 16, "0" * 16)]
+        old += [b"box=" + ballot("ada", "1,2", 3, page="0" * 16)]
         for word, status, bodies in (
-            (
-                "unknown:",
-                403,
-                [
-                    request_of("ask " + "0" * 64),
-                    ballot("ada", "1,2", 3, "2" * 16),
-                    ballot("ada", "1,2", 3, LINKS["ben-lee"]),
-                ],
-            ),
-            (
-                "unknown:",
-                403,
-                [ballot("zoe", "1,2", 3, LINKS["ada"]), ballot(MARK, "1,2", 3, "2" * 16)],
-            ),
+            ("unknown:", 403, [request_of("ask " + "0" * 64), *unknown]),
+            ("old:", 409, old),
             ("bad:", 413, [b"x" * (LIMIT + 1), ballot("ada", "1," * 2_000, 3), b"x" * 9_000_000]),
             ("bad:", 400, BAD),
         ):
@@ -138,53 +108,28 @@ class Requests(BoxTest):
                     self.assertRegex(answer.text, r"\A[a-z]+: [a-z ]+\n\Z")
         for method in ("GET", "HEAD", "PUT", "DELETE", "OPTIONS", "PATCH"):
             answer = host.send(ballot("ada", "1,2", 3), method, path="/vote.php?ada")
-            self.assertEqual(
-                (answer.status, answer.word, answer.headers.get("allow")),
-                (405, "" if method == "HEAD" else "bad:", "POST"),
-                method,
-            )
-        for answer in (
-            answer,
-            host.ask(),
-            host.send(b"x"),
-            host.send(ballot("ada", "1,2,-,10", 1)),
-        ):
-            of_heads = {
-                name: answer.headers.get(name)
-                for name in (
-                    "x-content-type-options",
-                    "cache-control",
-                    "access-control-allow-origin",
-                )
-            }
-            self.assertEqual(
-                of_heads,
-                {
-                    "x-content-type-options": "nosniff",
-                    "cache-control": "no-store",
-                    "access-control-allow-origin": None,
-                },
-            )
+            found = (answer.status, answer.word, answer.headers.get("allow"))
+            self.assertEqual(found, (405, "" if method == "HEAD" else "bad:", "POST"), method)
+        heads = {"x-content-type-options": "nosniff", "cache-control": "no-store"}
+        heads["access-control-allow-origin"] = None
+        again = host.send(ballot("ada", "1,2,-,10", 1))
+        for answer in (answer, host.ask(), host.send(b"x"), again):
+            self.assertEqual({name: answer.headers.get(name) for name in heads}, heads)
             self.assertEqual(int(answer.headers["content-length"]), len(answer.text))
             self.assertTrue(answer.headers["content-type"].startswith("text/plain"))
         # no refused request changed anything
         self.assertEqual(host.ask().text.partition("\n")[2], wanted)
-        self.assertEqual(
-            sorted(file.name for file in self.folder.iterdir()), sorted([SCRIPT, FILE])
-        )
+        self.assertEqual({file.name for file in self.folder.iterdir()}, {SCRIPT, FILE})
         # whoever opens the file or the script in a browser sees nothing of it
-        self.assertEqual(
-            (host.send(b"", "GET", f"/{FILE}").text, host.send(b"", "GET").text),
-            ("", "bad: only POST\n"),
-        )
+        opened = [host.send(b"", "GET", f"/{name}").text for name in (FILE, SCRIPT)]
+        self.assertEqual(opened, ["", "bad: only POST\n"])
 
     def test_the_longest_ballot(self) -> None:
         host, rest = self.host(), len(ballot("ada", "", 1))
-        self.assertEqual(host.send(ballot("ada", "1" * (LIMIT - rest), 1)).word, "received")
-        self.assertEqual(host.send(ballot("ada", "1" * (LIMIT - rest + 1), 2)).status, 413)
-        self.assertEqual(
-            host.send(ballot("ada", ("1," * LIMIT)[: LIMIT - rest], 3)).word, "received"
-        )
+        longest = "1" * (LIMIT - rest), ("1," * LIMIT)[: LIMIT - rest]
+        for number, ranks in enumerate(longest):
+            self.assertEqual(host.send(ballot("ada", ranks, number + 1)).word, "received")
+        self.assertEqual(host.send(ballot("ada", f"{longest[0]}1", 3)).status, 413)
         self.assertEqual(len(host.lines()), 2)
 
     def test_a_ballot_of_several_questions_is_one_record(self) -> None:
@@ -197,36 +142,19 @@ class Requests(BoxTest):
 
     def test_other_kinds_of_content_and_a_request_that_names_a_file(self) -> None:
         host = self.host()
-        kinds = [
-            "application/x-www-form-urlencoded",
-            "application/json",
-            "text/plain;charset=UTF-8",
-            "application/octet-stream",
-        ]
+        application = [f"application/{kind}" for kind in ("x-www-form-urlencoded", "json", "octet-stream")]
+        kinds = [*application, "text/plain;charset=UTF-8"]
         for number, kind in enumerate(kinds):
-            self.assertEqual(
-                host.send(
-                    ballot("ada", "1,2", number), Content_Type=kind, Origin="https://else.example"
-                ).word,
-                "received",
-            )
-        self.assertEqual(
-            host.send(
-                ballot("ada", "1,2", 9), Content_Type="multipart/form-data; boundary=x"
-            ).status,
-            400,
-        )
+            how = {"Content_Type": kind, "Origin": "https://else.example"}
+            self.assertEqual(host.send(ballot("ada", "1,2", number), **how).word, "received")
+        parts = "multipart/form-data; boundary=x"
+        self.assertEqual(host.send(ballot("ada", "1,2", 9), Content_Type=parts).status, 400)
         # what stands in the address changes nothing
-        for path in (
-            "/vote.php?file=/tmp/x&ask=1",
-            "/vote.php/box.php",
-            "/vote.php?/../../etc/passwd",
-        ):
-            self.assertEqual(host.send(ballot("ben-lee", "1,2", 7), path=path).word, "received")
+        for more in ("?file=/tmp/x&ask=1", "/box.php", "?/../../etc/passwd"):
+            answer = host.send(ballot("ben-lee", "1,2", 7), path=f"/vote.php{more}")
+            self.assertEqual(answer.word, "received", more)
         self.assertEqual(len(host.lines()), len(kinds) + 1)
-        self.assertEqual(
-            sorted(file.name for file in self.folder.iterdir()), sorted([SCRIPT, FILE])
-        )
+        self.assertEqual({file.name for file in self.folder.iterdir()}, {SCRIPT, FILE})
 
     def test_what_is_sent_again_is_one_record(self) -> None:
         host = self.host()
@@ -242,9 +170,8 @@ class Requests(BoxTest):
 
     def test_a_hundred_records_of_a_link(self) -> None:
         host = self.host()
-        times = [
-            self.received(host.send(ballot("ada", "1,2", number))) for number in range(OF_A_LINK)
-        ]
+        sent = (ballot("ada", "1,2", number) for number in range(OF_A_LINK))
+        times = [self.received(host.send(body)) for body in sent]
         # each in a second of its own, in the order in which they came
         self.assertEqual(times, sorted(set(times)))
         answer = host.send(ballot("ada", "1,2", 999))
@@ -300,21 +227,11 @@ class Requests(BoxTest):
         host = self.host(workers=4)
         with concurrent.futures.ThreadPoolExecutor(6) as pool:
             for number in range(0, 18, 6):
-                bodies = [
-                    ballot("ada", f"{one % 3 + 1},2", one) for one in range(number, number + 3)
-                ]
+                numbers = range(number, number + 3)
+                bodies = [ballot("ada", f"{one % 3 + 1},2", one) for one in numbers]
                 # one of them twice, and an asking between
-                sent = list(
-                    pool.map(
-                        host.send,
-                        [
-                            *bodies,
-                            bodies[0],
-                            ASK,
-                            ballot("cleo.x", "1,2", 100 + number),
-                        ],
-                    )
-                )
+                bodies += [bodies[0], ASK, ballot("cleo.x", "1,2", 100 + number)]
+                sent = list(pool.map(host.send, bodies))
                 self.assertEqual([one.status for one in sent], [200] * 6)
                 self.assertEqual((sent[0].text, sent[4].word), (sent[3].text, "box"))
         records = [record for record in host.records() if LINKS["ada"] in record]
@@ -335,10 +252,8 @@ class Requests(BoxTest):
     def test_a_click_takes_no_time_in_a_large_box(self) -> None:
         host = self.host()
         host.ask()
-        many = "".join(
-            record("ben-lee", "ben-lee 1,2", number, "2026-11-28T12:00:00Z")
-            for number in range(10_000, 20_000)
-        )
+        then, numbers = "2026-11-28T12:00:00Z", range(10_000, 20_000)
+        many = "".join(record("ben-lee", "ben-lee 1,2", number, then) for number in numbers)
         self.file.write_text(FIRST.decode() + many.replace(LINKS["ben-lee"], "z" * 16))
         begin = time.monotonic()
         for number in range(OF_A_LINK):
@@ -363,23 +278,21 @@ class Votes(BoxTest):
                 other = script_of(KEY, MARK, OWNS | {"ada": "zzzzzzzzzz"})
                 (self.folder / SCRIPT).write_bytes(other)
                 self.assertEqual(host.send(ballot("ada", "1,2", 1)).status, 403)
-                self.assertEqual(
-                    host.send(ballot("ada", "2,1", 2, third_part(KEY, "ada", "zzzzzzzzzz"))).word,
-                    "received",
-                )
+                link = third_part(KEY, "ada", "zzzzzzzzzz")
+                self.assertEqual(host.send(ballot("ada", "2,1", 2, link)).word, "received")
                 self.assertIn(f" {list_digest(other)} ", host.ask().text)
                 self.assertEqual(host.lines(), ["ada 1,2", "ada 2,1"])
                 # another call of the same book, whose own marks are new; and one of another book,
                 # which has a file of its own
-                (self.folder / SCRIPT).write_bytes(
-                    script_of(KEY, "f" * 16, {name: own[::-1] for name, own in OWNS.items()})
-                )
-                self.assertEqual(host.send(ballot("ada", "1,2", 3)).status, 403)
+                owns = {name: own[::-1] for name, own in OWNS.items()}
+                (self.folder / SCRIPT).write_bytes(script_of(KEY, "f" * 16, owns))
+                self.assertEqual(host.send(ballot("ada", "1,2", 3)).status, 409)
                 self.assertTrue(host.ask().text.startswith(f"box 1 {'f' * 16} "))
                 (self.folder / SCRIPT).write_bytes(script_of(b"x" * 32, MARK, OWNS))
-                self.assertEqual(
-                    (host.ask().status, host.ask(asking_word(b"x" * 32)).text.count("\n")), (403, 1)
-                )
+                self.assertEqual(host.ask().status, 403)
+                self.assertEqual(host.ask(asking_word(b"x" * 32)).text.count("\n"), 1)
+                # with this poll, too
+                self.assertEqual(host.send(ballot("ada", "1,2", 3)).status, 409)
                 self.file.unlink()
 
     def test_a_script_without_its_list(self) -> None:
@@ -429,12 +342,8 @@ class Broken(BoxTest):
 
     def test_what_is_no_file_of_a_box_is_left_as_it_is(self) -> None:
         host = self.host()
-        for data in (
-            b"<?php exit; ?>\r\nFrom x\r\n",
-            b"x" * 100,
-            b"From box@page.invalid\n-- \n\n",
-            b"\xef\xbb\xbf" + FIRST + b"From",
-        ):
+        head, marked = b"From box@page.invalid\n-- \n\n", b"\xef\xbb\xbf" + FIRST + b"From"
+        for data in (b"<?php exit; ?>\r\nFrom x\r\n", b"x" * 100, head, marked):
             self.file.write_bytes(data)
             for answer in (host.ask(), host.send(ballot("ada", "1,2", 1))):
                 self.assertEqual((answer.status, answer.word), (503, "lost:"))
@@ -455,21 +364,17 @@ class Broken(BoxTest):
                     answer = host.send(ballot("ada", "2,1", 2))
                     self.assertEqual((answer.status, answer.word), (503, "lost:"))
                     self.assertEqual(self.file.read_bytes(), whole)
-                    self.assertEqual(
-                        (host.lines(), host.send(ballot("ada", "1,2", 1)).word),
-                        (["ada 1,2"], "received"),
-                    )
+                    self.assertEqual(host.lines(), ["ada 1,2"])
+                    self.assertEqual(host.send(ballot("ada", "1,2", 1)).word, "received")
         # not even the first line
         self.file.unlink()
         with Host(self.folder, most_bytes=len(FIRST) - 1) as host:
-            self.assertEqual(
-                (host.ask().word, host.send(ballot("ada", "1,2", 1)).word), ("lost:", "lost:")
-            )
+            for body in (ASK, ballot("ada", "1,2", 1)):
+                self.assertEqual(host.send(body).word, "lost:")
             self.assertEqual(self.file.read_bytes(), b"")
         with Host(self.folder) as host:
-            self.assertEqual(
-                (host.send(ballot("ada", "1,2", 1)).word, len(host.lines())), ("received", 1)
-            )
+            self.assertEqual(host.send(ballot("ada", "1,2", 1)).word, "received")
+            self.assertEqual(len(host.lines()), 1)
 
     def test_a_php_without_fsync(self) -> None:
         """PHP 8.0 compiles all but that: it kept ballots, failed before the answer, and was asked well."""
@@ -481,23 +386,18 @@ class Broken(BoxTest):
 
     def test_a_box_that_is_full(self) -> None:
         host = self.host()
-        length = len(record("ada", "ada 1,2", 1, "2026-11-28T12:00:00Z"))
-        one = (
-            record("ben-lee", "ben-lee " + "1" * 3_500, 5, "2026-11-28T12:00:00Z")
-            .replace(LINKS["ben-lee"], "z" * 16)
-            .encode()
-        )
+        then = "2026-11-28T12:00:00Z"
+        length = len(record("ada", "ada 1,2", 1, then))
+        one = record("ben-lee", "ben-lee " + "1" * 3_500, 5, then)
+        one = one.replace(LINKS["ben-lee"], "z" * 16).encode()
         many = FULL // len(one) - 1
         for left, word in ((length, "received"), (length - 1, "lost:")):
             fill = b"1" * (FULL - left - len(FIRST) - many * len(one) - len(END))
             self.file.write_bytes(FIRST + one * many + fill + END)
             self.assertEqual(self.file.stat().st_size, FULL - left)
             self.assertEqual(host.send(ballot("ada", "1,2", 1)).word, word)
-            answer = host.ask()
-            self.assertEqual(
-                (answer.status, len(answer.text.partition("\n")[2])),
-                (200, self.file.stat().st_size - len(FIRST)),
-            )
+            answer, size = host.ask(), self.file.stat().st_size - len(FIRST)
+            self.assertEqual((answer.status, len(answer.text.partition("\n")[2])), (200, size))
         self.assertEqual(self.file.stat().st_size, FULL - length + 1)
 
 
@@ -526,31 +426,23 @@ class Killed(BoxTest):
         return calls[begins[0] : begins[1]]
 
     def test_it_is_on_the_disk_before_it_is_acknowledged(self) -> None:
-        for name, body in (
-            ("a first one", ballot("ada", "1,2", 1)),
-            ("one more", ballot("ada", "1,2", 2)),
-            ("again", ballot("ada", "1,2", 2)),
+        kept, found = ["ftruncate", "write", "fsync"], f"{self.folder}>"
+        for what, number, wanted in (
+            ("a first one", 1, [*kept, "fsync", *kept]),
+            ("one more", 2, kept),
+            ("again", 2, ["fsync"]),
         ):
-            with self.subTest(name):
-                calls = [
-                    f"{call} {FILE in line or str(self.folder) + '>' in line}"
-                    for call, _, line in self.calls_of(body)
-                ]
+            with self.subTest(what):
+                calls = self.calls_of(ballot("ada", "1,2", number))
                 of_file = [
                     call
-                    for call in calls
-                    if call
-                    in ("write True", "fsync True", "sendto False", "ftruncate True", "flock True")
+                    for call, _, line in calls
+                    if call in (*kept, "flock", "sendto")
+                    and (FILE in line or found in line) != (call == "sendto")
                 ]
-                kept = ["ftruncate True", "write True", "fsync True"]
-                wanted = {
-                    "a first one": [*kept, "fsync True", *kept],
-                    "one more": kept,
-                    "again": ["fsync True"],
-                }[name]
-                answered = of_file.index("sendto False")
-                self.assertEqual(of_file[:answered], ["flock True", *wanted])
-                self.assertEqual(set(of_file[answered:]), {"sendto False"})
+                answered = of_file.index("sendto")
+                self.assertEqual(of_file[:answered], ["flock", *wanted])
+                self.assertEqual(set(of_file[answered:]), {"sendto"})
 
     def test_nothing_that_was_acknowledged_is_lost_by_a_kill(self) -> None:
         """After each kill the same ballot is sent again by another process: it is there once."""
@@ -567,14 +459,8 @@ class Killed(BoxTest):
                     other.ask()
                 kills += 1
                 body = ballot("ada", f"{kills % 3 + 1},2", kills)
-                with self.traced(
-                    "-o",
-                    "/dev/null",
-                    "-e",
-                    f"trace={call}",
-                    "-e",
-                    f"inject={call}:signal=KILL:when={count}",
-                ) as host:
+                killed = f"inject={call}:signal=KILL:when={count}"
+                with self.traced("-o", "/dev/null", "-e", f"trace={call}", "-e", killed) as host:
                     answer = host.send(body)
                     host.process.wait(60)
                 self.assertIn(answer.word, ("", "received"))
@@ -584,9 +470,8 @@ class Killed(BoxTest):
                     self.assertEqual(data.count(f"<{number:032x}@page.invalid>"), 1, (call, count))
                 self.assertEqual(other.send(body).word, "received", (call, count))
                 there.append(kills)
-                self.assertEqual(
-                    other.lines(), [f"ada {number % 3 + 1},2" for number in there], (call, count)
-                )
+                lines = [f"ada {number % 3 + 1},2" for number in there]
+                self.assertEqual(other.lines(), lines, (call, count))
         self.assertGreater(kills, 100)
 
     def test_a_disk_that_breaks(self) -> None:
@@ -609,14 +494,9 @@ class Killed(BoxTest):
             with self.subTest(fault), self.traced(*only, f"inject={fault}") as host:
                 self.file.write_bytes(whole)
                 answer = host.send(ballot("ada", "2,1", 2))
-                self.assertEqual(
-                    (answer.word, answer.status), (word, 503 if word == "lost:" else 500)
-                )
+                status = 503 if word == "lost:" else 500
+                self.assertEqual((answer.word, answer.status), (word, status))
                 self.assertEqual(self.file.read_bytes(), whole)
         with self.traced(*only, "inject=fsync:error=EIO") as host:
             self.assertEqual(host.send(ballot("ada", "1,2", 1)).word, "unsure:")
         self.assertEqual(self.file.read_bytes(), whole)
-
-
-if __name__ == "__main__":
-    unittest.main()

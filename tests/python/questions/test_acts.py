@@ -12,7 +12,6 @@ import os
 import random
 import re
 import signal
-from collections.abc import Callable
 
 from tests.support import elections
 from tests.support.letters import letter, mailbox
@@ -53,22 +52,24 @@ class Envelope:
 
 @dataclasses.dataclass
 class Letter:
+    """One that was taken back waits until `held` enters it; if its ballot was typed, its own one needs force."""
+
     name: str
     answers: dict[str, str]
     time: int
     waits: bool = True
+    is_taken_back: bool = False
+    was_typed: bool = False
 
 
 @dataclasses.dataclass
 class Model:
     envelopes: list[Envelope] = dataclasses.field(default_factory=list)
     struck: set[int] = dataclasses.field(default_factory=set)
-    # the late lines that a reopen entered anew
-    anew: set[int] = dataclasses.field(default_factory=set)
     letters: list[Letter] = dataclasses.field(default_factory=list)
-    # the acts that entered: the numbers of their envelopes, and the lines of files
-    entered: list[tuple[list[int], list[str]]] = dataclasses.field(default_factory=list)
-    came: collections.Counter = dataclasses.field(default_factory=collections.Counter)
+    # the acts that entered, by the numbers of their envelopes; and the envelopes of files that no undo took back
+    entered: list[list[int]] = dataclasses.field(default_factory=list)
+    of_files: set[int] = dataclasses.field(default_factory=set)
     is_closed: bool = False
     is_reopened: bool = False
 
@@ -80,20 +81,24 @@ class Model:
         return [one.text for one in self.kept(late=late)]
 
     def latest(self, name: str, label: str) -> int:
-        """The time of the latest ballot of an elector that answers a question, late ones too; below 0 if there is none."""
-        kept = self.kept() + self.kept(late=True)
-        return max((one.time for one in kept if one.name == name and one.is_valid and label in dict(one.answers)), default=-1)
+        """The time of the latest ballot of an elector that answers a question and is in time; below 0 if there is none."""
+        return max((one.time for one in self.kept() if one.name == name and one.is_valid and label in dict(one.answers)), default=-1)
 
     def left_of(self, one: Letter) -> dict[str, str]:
         """The answers of a letter of which its elector has no later one."""
         return {label: ranks for label, ranks in one.answers.items() if self.latest(one.name, label) < one.time}
 
     # ---- what acts do
-    def enter(self, envelopes: list[Envelope], lines: list[str]) -> None:
+    def enter(self, envelopes: list[Envelope], *, from_file: bool = False) -> None:
         first = len(self.envelopes) + 1
         self.envelopes += envelopes
-        self.entered.append((list(range(first, first + len(envelopes))), lines))
-        self.came.update(lines)
+        self.entered.append(list(range(first, first + len(envelopes))))
+        self.of_files.update(self.entered[-1] if from_file else ())
+
+    def came(self, is_late: bool) -> collections.Counter:
+        """How often each line came in files; to one that is in time a late one that is not struck did not come."""
+        numbers = (number for number in self.of_files if is_late or number in self.struck or not self.envelopes[number - 1].is_late)
+        return collections.Counter(self.envelopes[number - 1].text for number in numbers)
 
     def of_line(self, name: str, answers: dict[str, str], *, is_late: bool) -> list[Envelope]:
         """A line is one envelope, and each answer that debvote refuses another one."""
@@ -103,20 +108,20 @@ class Model:
         good = tuple(pair for pair in answers.items() if pair[0] not in bad)
         return [*([Envelope(name, good, is_late)] if good else []), *(Envelope(name, (pair,), is_late) for pair in bad.items())]
 
-    def enter_letters(self, numbers: list[int], answers: Callable[[Letter], dict[str, str]]) -> None:
+    def enter_letters(self, numbers: list[int], typed: dict[str, str] | None = None) -> None:
         made = []
         for number in numbers:
             one = self.letters[number - 1]
-            made.append(Envelope(one.name, tuple(answers(one).items()), False, one.time, number))
-            one.waits = False
-        self.enter(made, [])
+            made.append(Envelope(one.name, tuple((typed or one.answers).items()), False, one.time, number))
+            one.waits, one.was_typed = False, typed is not None
+        self.enter(made)
 
     def undo(self) -> None:
-        numbers, lines = self.entered.pop()
-        self.came -= collections.Counter(lines)
+        numbers = self.entered.pop()
+        self.of_files.difference_update(numbers)
         for number in numbers:
             if (source := self.envelopes[number - 1].letter) is not None and number not in self.struck:
-                self.letters[source - 1].waits = True
+                self.letters[source - 1].waits = self.letters[source - 1].is_taken_back = True
         self.struck.update(numbers)
 
 
@@ -164,40 +169,37 @@ class ActsTest(QuestionsTest):
         self.write("file", "".join(f"{one_line(*one)}\n" for one in ballots))
         # an answer that is refused has an envelope of its own, and comes again by itself
         seen: collections.Counter = collections.Counter()
-        new = []
+        came, new = model.came(is_late), []
         for one in (made for ballot in ballots for made in model.of_line(*ballot, is_late=is_late)):
             seen[one.text] += 1
-            if seen[one.text] > model.came[one.text]:
+            if seen[one.text] > came[one.text]:
                 new.append(one)
         if new:
-            model.enter(new, [one.text for one in new])
+            model.enter(new, from_file=True)
         return Step(["add", "--yes", "--force", *words, "file"], model)
 
     def desk(self, model: Model, chance: random.Random) -> Step:
         words, is_late = self.came_words(model, chance)
         ballots = self.ballots(model, chance, 2)
-        model.enter([made for one in ballots for made in model.of_line(*one, is_late=is_late)], [])
-        return Step(["desk", *words], model, "".join(f"{one_line(*one)}\n" for one in ballots), is_desk=True)
+        model.enter([made for one in ballots for made in model.of_line(*one, is_late=is_late)])
+        return Step(["desk", "--force", *words], model, "".join(f"{one_line(*one)}\n" for one in ballots), is_desk=True)
 
     def mailing(self, model: Model, chance: random.Random) -> Step:
-        """Letters with a time each, not in their order; those that are later than all go in, in one act."""
+        """Letters with a time each, not in their order. All that wait and are later than all go in, in one act, but for those that were taken back."""
         made = []
         for _ in range(chance.randint(1, 3)):
             time = chance.choice([second for second in range(3600) if second not in {one.time for one in model.letters}])
-            one = Letter(chance.choice(NAMES), self.answers(chance, may_be_bad=False), time)
-            model.letters.append(one)
-            made.append((len(model.letters), one))
-        texts = (self.letter_of(number, one, chance) for number, one in made)
-        self.write("mail", mailbox(*texts))
-        if not model.is_closed:
-            going: list[int] = []
-            after = copy.deepcopy(model)
-            for number, one in sorted(made, key=lambda pair: pair[1].time):
-                if after.left_of(one) == one.answers:
-                    after.enter_letters([number], lambda one: one.answers)
-                    going.append(number)
-            if going:
-                model.enter_letters(going, lambda one: one.answers)
+            model.letters.append(Letter(chance.choice(NAMES), self.answers(chance, may_be_bad=False), time))
+            made.append(self.letter_of(len(model.letters), model.letters[-1], chance))
+        self.write("mail", mailbox(*made))
+        going, after = list[int](), copy.deepcopy(model)
+        for _, number in sorted((one.time, number) for number, one in enumerate(model.letters, start=1) if one.waits and not one.is_taken_back):
+            one = model.letters[number - 1]
+            if not model.is_closed and after.left_of(one) == one.answers:
+                after.enter_letters([number])
+                going.append(number)
+        if going:
+            model.enter_letters(going)
         return Step(["add", "--yes", "mail"], model)
 
     def letter_of(self, number: int, one: Letter, chance: random.Random) -> bytes:
@@ -207,17 +209,21 @@ class ActsTest(QuestionsTest):
         return letter(one.name, f"Hello,\n\n{text}\n", number=number, time=time)
 
     def entering(self, model: Model, chance: random.Random) -> Step | None:
-        """A letter that waits: without the answers of which there are later ones; where all have later ones, whole by force."""
+        """A letter that waits or was passed over, or what is typed for it: never if there are later answers to some of its questions alone, and by
+        force if there are to all."""
         numbers = [number for number, one in enumerate(model.letters, start=1) if one.waits]
         if not numbers or model.is_closed:
             return None
-        number = chance.choice(numbers)
-        left = model.left_of(model.letters[number - 1])
-        force = chance.random() < 0.5
-        if not left and not force:
-            return Step(["held", str(number), "--enter", "--yes"], model, statuses=(2, 9))
-        model.enter_letters([number], lambda one: one.answers if force and not left else left)
-        return Step(["held", str(number), "--enter", "--yes", *["--force"] * force], model)
+        number, is_forced, is_typed = chance.choice(numbers), chance.random() < 0.5, chance.random() < 0.5
+        one = model.letters[number - 1]
+        left = model.left_of(one)
+        given = chance.choice([one.answers, left or one.answers]) if is_typed else one.answers
+        words = ["held", str(number), *(["--as", one_line(one.name, given)] if is_typed else ["--enter"]), "--yes", *["--force"] * is_forced]
+        is_older, typed_before = not left.keys() & given.keys(), one.was_typed and not is_typed
+        if not (is_older or given.keys() <= left.keys()) or (not is_forced and (is_older or typed_before)):
+            return Step(words, model, statuses=(9,))
+        model.enter_letters([number], given if is_typed else None)
+        return Step(words, model)
 
     def undoing(self, model: Model, chance: random.Random) -> Step | None:
         if model.is_closed or not model.entered:
@@ -241,15 +247,8 @@ class ActsTest(QuestionsTest):
     def reopening(self, model: Model, chance: random.Random) -> Step | None:
         if not model.is_closed:
             return None
-        late = [number for number, one in enumerate(model.envelopes, start=1) if one.is_late and number not in model.struck | model.anew]
-        numbers = sorted(chance.sample(late, chance.randint(0, len(late))))
         model.is_closed, model.is_reopened = False, True
-        if not numbers:
-            return Step(["reopen", "--because", "a letter was forgotten"], model)
-        # they go in once more, as whole ballots
-        model.anew.update(numbers)
-        model.enter([dataclasses.replace(model.envelopes[number - 1], is_late=False) for number in numbers], [])
-        return Step(["reopen", "--because", "a box was forgotten", "--force", "--in-time", *map(str, numbers)], model)
+        return Step(["reopen", "--because", "a letter was forgotten"], model)
 
     # ------------------------------------------------------------ what holds after each
     def run_step(self, before: Model, step: Step, chance: random.Random) -> Model:

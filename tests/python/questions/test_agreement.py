@@ -12,7 +12,7 @@ def at(hour: int, minute: int = 0) -> str:
 
 
 class AgreementTest(QuestionsTest):
-    """Corrections of one question, a strike, a refused answer, a late one, and one that waited in part."""
+    """Corrections of one question, a strike, a refused answer, a late one, and one of a letter that has a later answer to its other question."""
 
     call_words = ("--to", "vote@club.example", "--at", "https://club.example/vote")
 
@@ -27,7 +27,7 @@ class AgreementTest(QuestionsTest):
             letter("dan", "dan C 2,1,3,4\n", number=5, time=at(11)),
         )
         self.add(letter("dan", "dan A 1,2 C 1,2,3,4\n", number=6, time=at(8)), letter("hal", "hal A 1,1\n", number=7, time=at(12)))
-        self.done("held", "6", "--enter", "--yes")
+        self.done("held", "6", "--as", "dan A 1,2", "--yes")
         self.add_lines("eve A 1,2 B 1,2,3,4 C 3,2,1,4", "fay A 2,1", "fay A 1,2 B 1,2,3", "gus B 1,2,3", words=["--force", "--because", "as they are"])
         struck = next(number for number, line in enumerate(self.lines(), start=1) if line == "fay A 1,2 B 1,2,3")
         self.done("strike", struck, "--because", "fay asked for it")
@@ -55,6 +55,7 @@ class AgreementTest(QuestionsTest):
 
     def test_all_say_the_same(self) -> None:
         before = self.shown()
+        self.demand_receipts()
         self.after_the_close()
         by_label = {label: {name: one[label] for name, one in self.wanted.items() if label in one} for label in self.polls}
         for label, wanted in by_label.items():
@@ -91,12 +92,10 @@ class AgreementTest(QuestionsTest):
             if name not in self.wanted:
                 self.assertIn("late", text)
                 continue
-            self.assertIn(in_a_letter(name, self.wanted[name]), text)
-            # the answers that are repeated are those alone
-            found = [f"{label} {ranks}" for label, ranks in re.findall(r"\(([A-C]) ([\d,-]+)\)", text)]
-            self.assertEqual(found, [f"{label} {ranks}" for label, ranks in self.wanted[name].items()])
+            self.assertIn(in_a_letter(self.folder, self.wanted[name]), text)
 
-    def test_receipts_say_it_before(self) -> None:
+    def demand_receipts(self) -> None:
+        """Before the close they say the same."""
         self.done("letters", "receipts")
         texts = {}
         for file in (self.folder / "letters/receipts").rglob("*.eml"):

@@ -35,7 +35,7 @@ class Clocks(QuestionsByBox):
     has_clock = True
 
     def test_a_click_that_the_clock_may_have_put_before_a_letter(self) -> None:
-        """Nothing is left out of it for that letter, and by force it is entered whole."""
+        """Nobody knows which is later: by force it is entered whole."""
         links = self.begun()
         self.host_off(-180)
         self.done("add", "--box", "--yes")
@@ -49,7 +49,7 @@ class Clocks(QuestionsByBox):
         self.assertNotIn("has voted since", said)
         enter, why = ("held", "2", "--enter", "--yes"), "its elector may have voted since, as the clock of the web host was off"
         self.assert_fault(self.election(*enter), 9, why)
-        self.assertNotIn("Left out", self.done(*enter, "--force").output)
+        self.done(*enter, "--force")
         self.assertIn("The current ballot: ada A 2,1 B 1,2,3 C 1,2: ", self.done("show", "ada").output)
 
 
@@ -62,21 +62,16 @@ class Clicks(QuestionsByBox):
         self.window = self.enterContext(Window(360, 640))
 
     def open(self, name: str) -> None:
-        files = (self.folder / "letters/call").rglob("*.eml")
-        [place] = [
-            "/".join(found)
-            for found in map(boxes.link_in, (file.read_bytes() for file in files))
-            if found[0] == name
-        ]
+        letters = (file.read_bytes() for file in (self.folder / "letters/call").rglob("*.eml"))
+        places = {found[0]: "/".join(found) for found in map(boxes.link_in, letters)}
         self.window.tell("Page.navigate", url="about:blank")
         self.window.until("location.href === 'about:blank'")
-        self.window.tell("Page.navigate", url=f"{self.host.at}#{place}")
+        self.window.tell("Page.navigate", url=f"{self.host.at}#{places[name]}")
         self.window.until("document.readyState === 'complete' && document.getElementById('Vote')")
 
     def answer(self, label: str, *ranks: str) -> None:
         """Touches the buttons of a question, or chooses in its lists."""
-        self.window.ask(
-            f"""(() => {{
+        self.window.ask(f"""(() => {{
           const fields = document.querySelectorAll("[data-label={label}] .rank");
           {json.dumps(ranks)}.forEach((rank, place) => {{
             const field = fields[place];
@@ -84,14 +79,11 @@ class Clicks(QuestionsByBox):
             field.value = rank;
             return field.dispatchEvent(new Event("input", {{ bubbles: true }}));
           }});
-        }})()"""
-        )
+        }})()""")
 
     def vote(self) -> None:
         self.window.ask("document.getElementById('Vote').click()")
-        self.window.until(
-            "document.getElementById('Sent').textContent.startsWith('It has arrived')"
-        )
+        self.window.until("document.getElementById('Sent').textContent.startsWith('It has arrived')")
 
     def test_some_answers_and_one_of_them_again(self) -> None:
         self.open("ada")
@@ -104,15 +96,14 @@ class Clicks(QuestionsByBox):
         self.answer("B", "2", "1", "-")
         self.vote()
         self.done("add", "--box", "--yes")
-        places = ",".join(PLACES)
+        fee, said = "It was read as: A (Raise the fee to 72 Euro): Yes", f"D (Where we meet): {', then '.join(PLACES[1:])}, then Nowhere."
         [told] = self.receipts().values()
         first, second = told.split("Your ballot of ")[1:]
         self.assertIn("Another ballot of yours, which was entered after it, counts instead.", first)
-        self.assertIn(f"It was read as ada (A 1,2) (D {places}),", first)
-        self.assertIn(
-            "It counts unless you send a later one. It came by the page of the vote.", second
-        )
-        self.assertIn(f"It was read as ada (A 1,2) (B 2,1,-) (D {places}),", second)
+        self.assertIn(f"{fee}; {said}", first)
+        counts = "It counts unless you send a later one. It came by the page of the vote."
+        self.assertIn(counts, second)
+        self.assertIn(f"{fee}; B (The chair): Mary Somerville, then Ada Lovelace; not ranked, and so behind all others: None of these; {said}", second)
         # opened again the page has no answers: one alone is sent, and others stay
         self.open("ada")
         self.answer("A", "1,1")
@@ -120,17 +111,11 @@ class Clicks(QuestionsByBox):
         self.done("add", "--box", "--yes")
         [told] = self.receipts().values()
         second, third = told.split("Your ballot of ")[1:]
-        self.assertIn(
-            "These of its answers do not count; others of yours, which were entered after them, count instead: A (Raise the fee to 72 Euro).",
-            second,
-        )
-        self.assertIn(
-            "It counts unless you send a later one. It came by the page of the vote. It was read as ada (A 1,1),",
-            third,
-        )
-        self.assertIn(
-            f"The current ballot: ada A 1,1 B 2,1,- D {places}: ", self.done("show", "ada").output
-        )
+        of_others = "These of its answers do not count; others of yours, which were entered after them, count instead"
+        self.assertIn(f"{of_others}: A (Raise the fee to 72 Euro).", second)
+        self.assertIn(f"{counts} It was read as: A (Raise the fee to 72 Euro): Abstain.", third)
+        standing = f"The current ballot: ada A 1,1 B 2,1,- D {','.join(PLACES)}: "
+        self.assertIn(standing, self.done("show", "ada").output)
 
     def shown(self, place: str) -> str:
         return str(self.window.ask(f"document.getElementById('{place}').textContent"))

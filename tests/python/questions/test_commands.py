@@ -24,11 +24,12 @@ class Desk(QuestionsTest):
         shown = desk.until("Ballot: ")
         self.assertIn("A Raise the fee to 72 Euro\n  1 Yes, 72 Euro\n  2 No, as it is\nB The chair of the board\n  1 Ada Lovelace\n", shown)
         self.assertIn("Type a ballot as ada A 1,2 B 1,2,3 C 1,2,3,4 (the elector, then for each question that is answered its label", shown)
-        shown = desk.after("Ada a: 1;2 b) 1, 2,3\n", ASKED)
+        shown = desk.after("Ada a: 1, 2 b) 1, 2,3\n", ASKED)
         self.assertIn(f"ada: {YES}; {CHAIR}\nada has a ballot: {NO}. It will be replaced.\nThese earlier answers of ada stay: C (A new roof): Slate", shown)
         self.assertIn(f"2 A replaced, B counted  ada: {YES}; {CHAIR}\n", desk.after("y\n", "Ballot: "))
         # a line that has not the form of a ballot is not asked about
-        self.assertIn("`ada 1,2` is no ballot: a ballot is a name, and for each question", desk.after("ada 1,2\n", "Ballot: "))
+        shown = desk.after("ada 1,2\n", "Ballot: ")
+        self.assertRegex(shown, r"`ada 1,2` is no ballot: a ballot is a name, and for each question.*\nIt was not entered\.\nBallot: $")
         # what is refused is an envelope of its own
         shown = desk.after("ben A 1,2,3 B 1,2,3\n", ASKED)
         self.assertIn(f"ben: {CHAIR}\nIt would be refused: ben A 1,2,3: bad rank count: 3 ranks, the poll has 2 options\n", shown)
@@ -70,49 +71,65 @@ class Desk(QuestionsTest):
 
 
 class Held(QuestionsTest):
-    def test_answers_with_later_ones_are_left_out(self) -> None:
-        """All that are left are entered; if none is, it stops, and by force all are."""
+    def test_a_ballot_of_which_some_answers_have_a_later_one(self) -> None:
+        """It is never entered whole, also by force: the line to type is named. Where all have one, by letter it is passed over, and else it needs force."""
         self.add(letter("ada", "ada A 1,2\n", number=1, time=at(11)), letter("ben", "ben A 2,1 B 3,2,1\n", number=2, time=at(11)))
         self.add(letter("ada", "ada A 2,1 B 1,2,3\n", number=3, time=at(9)), letter("ben", "ben A 1,2\n", number=4, time=at(9)))
-        self.assertIn("line 1: ada B 1,2,3\n", self.told("held"))
-        shown = self.told("held", "3", "--enter", "--yes", "--force")
-        self.assertIn("Left out of letter 3: A, since ada has a later answer\n", shown)
-        self.assertIn("3 counted  ada: B (", shown)
-        # one of which all are older is passed over, and typed it stops
+        self.add_lines("cleo A 1,2")
+        self.add(letter("cleo", "cleo A 2,1\n", number=5, time=at(9)))
+        self.assertRegex(self.told("held"), r"(?m)was entered already; has voted since\n +line 1: ada A 2,1 B 1,2,3\n")
+        for how in (["--enter"], ["--enter", "--force"], ["--as", "ada A 2,1 B 1,2,3"], ["--as", "ada A 1,2 B 1,2,3", "--force"]):
+            said = "letter 3: its elector has later answers to A; nothing was changed: enter the others: debvote-election held 3 --as 'ada B 1,2,3'"
+            self.assert_refused(["held", "3", *how, "--yes"], 9, said)
+        self.assertIn("4 counted  ada: B (", self.told("held", "3", "--as", "ada B 1,2,3", "--yes"))
+        self.assert_refused(["held", "5", "--enter", "--yes"], 9, "letter 5: its elector has voted since; nothing was changed: if this ballot must count, repeat it with --force")
+        self.assertIn("5 replaced  cleo: A (", self.told("held", "5", "--enter", "--force", "--yes"))
         self.assertEqual(self.numbers()["waiting"], 0)
         self.done("held", "4", "--wait")
         typed = ["held", "4", "--as", "ben B 1,2,3", "--yes"]
-        self.assert_refused(typed, 9, "its elector has voted since")
-        self.assertIn("4 replaced  ben: B (", self.told(*typed, "--force"))
-        self.assertEqual(self.lines(), ["ada A 1,2", "ben A 2,1 B 3,2,1", "ada B 1,2,3", "ben B 1,2,3"])
+        self.assert_refused(typed, 9, "letter 4: its elector has voted since")
+        self.assertIn("6 replaced  ben: B (", self.told(*typed, "--force"))
+        self.assertEqual(self.lines(), ["ada A 1,2", "ben A 2,1 B 3,2,1", "cleo A 1,2", "ada B 1,2,3", "cleo A 2,1", "ben B 1,2,3"])
 
-    def test_lines_of_one_elector_that_answer_different_questions(self) -> None:
-        """Both are entered, in one command or one after the other; what is left waits."""
-        self.add(letter("ada", "ada A 1,2\n\nand for the board\n\nada B 1,2,3\n", time=at(9)))
-        self.assertIn("letter 1 waits on; not entered yet: the answer of ada to B\n", self.told("held", "1", "--enter", "1", "--yes"))
-        self.assertRegex(self.told("held"), r"not entered yet: the answer of ada to B\n +line 5: ada B 1,2,3\n +other words")
-        self.assert_refused(["close", "--early"], 9, "these letters arrived in time, and wait: 1;")
-        said = "letter 1: its ballot of ada was entered; nothing was changed: to enter another one in its place, run debvote-election strike 1 --because TEXT first"
-        self.assert_refused(["held", "1", "--as", "ada A 2,1 B 1,2,3", "--yes"], 9, said)
-        self.assertIn("2 counted  ada: B (", self.told("held", "1", "--enter", "--yes"))
-        for _ in range(2):
-            self.done("undo", "--yes")
-        self.done("held", "1", "--enter", "1,5", "--yes")
-        self.add(letter("ben", "The fee, and Ada\n", number=2, time=at(9)))
-        self.done("held", "2", "--as", "ben A 1,2", "--as", "ben B 1,2,3", "--yes")
-        self.assertEqual((self.numbers()["waiting"], self.lines()), (0, ["ada A 1,2", "ada B 1,2,3", "ben A 1,2", "ben B 1,2,3"]))
-        # of answers to one question that differ one is meant
-        self.add(letter("cleo", "cleo A 1,2\nno:\ncleo A 2,1 C 1,2,3,4\n", number=3, time=at(9)))
-        self.assert_refused(["held", "3", "--enter", "1,3", "--yes"], 9, "letter 3: 2 of these lines are ballots of cleo; nothing was changed: name the one that counts")
-        self.done("held", "3", "--enter", "1", "--yes")
-        self.assertIn("Left out of letter 3: A, since it was entered\n", self.told("held", "3", "--enter", "3", "--yes"))
-        self.assertEqual((self.numbers()["waiting"], self.lines()[4:]), (0, ["cleo A 1,2", "cleo C 1,2,3,4"]))
+    def test_a_letter_is_dealt_with_as_a_whole(self) -> None:
+        """By --enter, if all its ballots say the same, or by --as: then it waits no more. An answer that is left is typed, and one that was entered never again."""
+        self.add(letter("ada", "ada A 1,2\n\nand for the board\n\nada B 1,2,3\n", time=at(9)), letter("ben", "ben\nA 1,2\n\nI say:\nBen A 1,2\n", time=at(9)), letter("cleo", "cleo A 1,2\nB: against\n", time=at(9)))
+        cure = "type the ballot that is meant with --as LINE"
+        self.assert_refused(["held", "1", "--enter", "--yes"], 9, f"letter 1: it has 2 ballots; nothing was changed: {cure}")
+        self.assert_refused(["held", "3", "--enter", "--yes"], 9, f"letter 3: it has 1 ballot, and other lines that look like answers; nothing was changed: {cure}")
+        self.assert_refused(["close", "--early"], 9, "these letters arrived in time, and wait: 1, 2, 3;")
+        self.assertIn("1 counted  ben: A (", self.told("held", "2", "--enter", "--yes"))
+        self.assert_refused(["held", "1", "--as", "ada A 1,2", "--as", "ada A 2,1 B 1,2,3", "--yes"], 9, "letter 1: 2 of these lines are ballots of ada; nothing was changed: name the one that counts")
+        self.done("held", "1", "--as", "ada A 1,2", "--yes")
+        self.done("held", "3", "--as", "cleo A 1,2", "--as", "cleo B 3,1,2", "--yes")
+        self.assertEqual(self.numbers()["waiting"], 0)
+        again = "letter 1: its ballot of ada was entered; nothing was changed: to enter another one in its place, run debvote-election strike 2 --because TEXT first"
+        self.assert_refused(["held", "1", "--as", "ada A 2,1 B 1,2,3", "--yes"], 9, again)
+        self.done("held", "1", "--as", "ada B 1,2,3", "--yes")
+        # no force is offered for what was entered
+        ended = self.assert_refused(["held", "1", "--as", "ada A 1,2", "--yes"], 9, "letter 1: its ballot of ada was entered; nothing was changed: there is nothing to do")
+        self.assertEqual(ended.faults.count("\n"), 1)
+        self.assertEqual(self.lines(), ["ben A 1,2", "ada A 1,2", "cleo A 1,2", "cleo B 3,1,2", "ada B 1,2,3"])
+
+    def test_of_a_couple(self) -> None:
+        """Who has no ballot of their letter is told with the command; the other's is entered by force, whenever it is, since the own mark is of one alone."""
+        self.change_roll("ben@club", "ada@club")
+        self.add(letter("ada", "ada\nA 1,2\n\nBen\nA 2,1\nB 1,2,3\n", time=at(9)))
+        self.assert_refused(["held", "1", "--enter", "--yes"], 9, "letter 1: it has 2 ballots;")
+        command = "has no ballot of letter 1; debvote-election held 1 --as LINE --force enters one\n"
+        self.assertIn(f"\nben {command}", self.told("held", "1", "--as", "ada A 1,2", "--yes"))
+        self.assertEqual(self.numbers()["waiting"], 0)
+        typed = ["held", "1", "--as", "ben A 2,1 B 1,2,3", "--yes"]
+        self.assert_refused(typed, 9, "letter 1: its sender and its subject do not show that it is of ben; nothing was changed: check who sent it; ")
+        self.assertNotIn("has no ballot of", self.told(*typed, "--force"))
+        self.assertEqual(self.lines(), ["ada A 1,2", "ben A 2,1 B 1,2,3"])
 
     def test_who_has_voted_since_answered_the_same_question(self) -> None:
-        self.add(letter("ada", "A 1,2\n", number=1, time=at(9)), letter("ada", "B 1,2,3\n", number=2, time=at(9)), letter("ada", "ada A 2,1\n", number=3, time=at(11)))
+        texts = ("ada A 1,2\nas ever\n", "ada B 1,2,3\nas ever\n")
+        self.add(*(letter("ada", text, number=number, time=at(9)) for number, text in enumerate(texts)), letter("ada", "ada A 2,1\n", number=3, time=at(11)))
         shown = self.told("held")
         self.assertEqual(shown.count("has voted since"), 1)
-        self.assertRegex(shown, r"has voted since\n +line 1: ada A 1,2\n")
+        self.assertRegex(shown, r"has voted since\n +line 1: ada A 1,2\n +written: as ever\n")
 
     def test_nothing_is_left_out_of_a_letter_whose_time_is_not_known(self) -> None:
         """Nobody knows which answer is the later one: it stops, and by force the whole letter is entered."""
@@ -120,18 +137,17 @@ class Held(QuestionsTest):
         self.assertIn("; may have voted since\n", self.told("held"))
         enter = ["held", "2", "--enter", "--yes"]
         self.assert_refused(enter, 9, "letter 2: its elector may have voted since, as nobody knows when it arrived")
-        self.assertNotIn("Left out", self.told(*enter, "--force"))
+        self.told(*enter, "--force")
         self.assertEqual(self.lines(), ["ada A 1,2", "ada A 2,1 B 1,2,3"])
 
-    def test_no_answer_is_left_out_for_a_late_one(self) -> None:
-        """It would count for nothing, as the late one does: it stops, and by force the whole letter is entered."""
+    def test_a_late_line_is_later_than_no_letter(self) -> None:
         self.done("close", "--early", "--force", "--because", "x", "--yes")
         self.done("desk", given="ada B 3,2,1\n")
         self.add(letter("ada", "ada A 1,2 B 1,2,3\n", number=1, time=at(9)))
+        self.assertNotIn("voted since", self.told("held", "1"))
+        self.assert_refused(["held", "1", "--enter", "--yes"], 9, "letter 1: it arrived in time, and the vote is closed; nothing was changed: if it has a ballot, run debvote-election reopen")
         self.done("reopen", "--because", "x")
-        self.assertIn("\nline 1: ada A 1,2 B 1,2,3\n", self.told("held", "1"))
-        self.assert_refused(["held", "1", "--enter", "--yes"], 9, "letter 1: its elector has voted since")
-        self.done("held", "1", "--enter", "--force", "--yes")
+        self.assertIn("1 ballot of letters went in; 0 letters wait", self.told("add", "--yes", "inbox.mbox"))
         self.assertIn("The current ballot: ada A 1,2 B 1,2,3: ", self.told("show", "ada"))
 
     def test_a_late_line_that_would_replace_a_later_answer(self) -> None:
@@ -140,23 +156,14 @@ class Held(QuestionsTest):
         self.done(*close)
         self.done("desk", given="ada A 1,2\nada B 1,2,3\n")
         self.done("reopen", "--because", "x")
-        self.add_lines("ada A 2,1", words=("--came-before-close", "yes"))
-        self.done(*close)
-        said = "--in-time: envelope 1 would replace envelope 3, a later ballot of the same elector"
-        self.assert_refused(["reopen", "--in-time", "1", "2", "--because", "x"], 9, said)
-        self.done("reopen", "--in-time", "2", "--because", "x")
+        words = ("--came-before-close", "yes")
+        self.add_lines("ada A 2,1", words=words)
+        said = "desk:1: `ada A 1,2` was late before, and would replace envelope 3, which came in time; it was not entered"
+        self.assertIn(said, self.told("desk", *words, given="ada A 1,2\nada B 1,2,3\n"))
         self.assertEqual(self.lines(), ["ada A 2,1", "ada B 1,2,3"])
-
-    def test_no_force_is_offered_for_what_was_entered(self) -> None:
-        """Half of a letter was left out, since a later answer is there: the other half is shown and entered, and that is all."""
-        self.add_lines("ada B 1,2,3")
-        self.add(letter("ada", "3 of us\nada A 2,1 B 2,1,3\n", number=1, time=at(9)))
-        self.assertIn("\nline 2: ada A 2,1\n", self.told("held", "1"))
-        self.done("held", "1", "--enter", "--yes")
-        for words in (["--enter"], ["--as", "ada A 2,1 B 1,2,3"]):
-            ended = self.election("held", "1", *words, "--yes")
-            self.assertEqual((ended.status, ended.faults.count("\n")), (9, 1), ended)
-            self.assertIn("letter 1: its ballot of ada was entered; nothing was changed: there is nothing to do", ended.faults)
+        self.done("desk", "--force", *words, given="ada A 1,2\n")
+        self.done(*close)
+        self.assertEqual(self.acts()[-1][1]["replaced_in_time"], 1)
 
     def test_what_is_typed_has_the_form_of_a_ballot_and_only_valid_answers(self) -> None:
         self.add(letter("ada", "I say yes\n", number=1))
@@ -195,90 +202,26 @@ class TakenAway(QuestionsTest):
         said = self.told("strike", "2", "--because", "it was ben's", "--yes")
         self.assertIn(f"The current ballot of ada: {YES}; {CHAIR}\n", said)
 
-    def test_an_answer_that_was_left_out_comes_back(self) -> None:
-        """The later answer of another letter is struck: the strike names the older one, and `held` enters it alone."""
-        self.add(letter("ada", "ada B 3,2,1\n", number=1, time=at(11)))
-        self.add(letter("ada", "ada A 1,2 B 1,2,3\n", number=2, time=at(9)))
-        self.done("held", "2", "--enter", "--yes")
-        self.assert_refused(["held", "2", "--enter", "--force", "--yes"], 9, "its ballot of ada was entered")
-        said = self.told("strike", "2", "--because", "wrong", "--yes")
-        self.assertNotIn("left out", said)
-        self.done("held", "2", "--enter", "--yes")
-        said = self.told("strike", "1", "--because", "forged", "--yes")
-        self.assertIn("\nletter 2, from ada@club.example, 2026-11-23 09:00:00 UTC: not entered yet: the answer of ada to B\n  line 1: ada B 1,2,3\n", said)
-        said = self.told("held", "2", "--enter", "--yes")
-        self.assertIn("Left out of letter 2: A, since it was entered\n4 counted  ada: B (", said)
-        self.assert_refused(["held", "2", "--as", "ada B 1,2,3", "--yes"], 9, "its ballot of ada was entered")
-        self.assertIn("The current ballot: ada A 1,2 B 1,2,3: ", self.told("show", "ada"))
-        # why is said once, the later answer first
-        self.told("strike", "4", "--because", "again", "--yes")
-        self.add(letter("ada", "ada A 2,1\n", number=3, time=at(12)))
-        said = self.told("held", "2", "--enter", "--yes")
-        self.assertEqual(said.count("Left out of letter 2: A, since "), 1, said)
-        self.assertIn("Left out of letter 2: A, since ada has a later answer\n", said)
-
-    def test_an_answer_that_was_left_out_waits_whatever_became_of_the_others(self) -> None:
-        """It stops the close. One that was struck was entered, and is none that was left out."""
+    def test_a_letter_whose_later_answer_is_taken_away_is_judged_anew(self) -> None:
+        """`strike` and `undo` name it, and the next `add` takes it whole."""
         for number, name in enumerate(("ada", "ben"), start=1):
             self.done("desk", given=f"{name} B 3,2,1\n")
             self.add(letter(name, f"{name} A 1,2 B 1,2,3\n", number=number, time=at(9)))
-            self.done("held", str(number), "--enter", "--yes")
-        self.assertNotIn("letter 1", self.told("strike", "2", "--because", "x", "--yes"))
-        self.assertIn("\n  line 1: ada B 1,2,3\n", self.told("strike", "1", "--because", "x", "--yes"))
-        self.assert_refused(["close", "--early"], 9, "these letters arrived in time, and wait: 1;")
-        self.done("held", "1", "--set-aside")
-        # ben votes on A again, and his desk's ballot is struck
-        self.add(letter("ben", "ben A 2,1\n", number=3, time=at(10)))
-        self.assertIn("\n  line 1: ben B 1,2,3\n", self.told("strike", "3", "--because", "x", "--yes"))
-        self.assertIn("Left out of letter 2: A, since ben has a later answer\n6 counted  ben: B (", self.told("held", "2", "--enter", "--yes"))
-        for number in (4, 5):
-            self.assertNotIn("letter 2", self.told("strike", str(number), "--because", "x", "--yes"))
-        self.assertEqual((self.numbers()["waiting"], self.lines()), (0, ["ben B 1,2,3"]))
+            self.assertEqual(self.numbers()["waiting"], 1)
+            said = self.told(*(["strike", "1", "--because", "x"] if name == "ada" else ["undo"]), "--yes")
+            self.assertIn(f"\nletter {number}, from {name}@club.example, 2026-11-23 09:00:00 UTC: it goes in with the next add of letters\n", said)
+            self.assertIn(f"  line 1: {name} A 1,2 B 1,2,3\n", said)
+            self.assertIn("1 ballot of letters went in; 0 letters wait", self.told("add", "--yes", "inbox.mbox"))
+        self.assertEqual(self.lines(), ["ada A 1,2 B 1,2,3", "ben A 1,2 B 1,2,3"])
 
-    def test_of_a_letter_with_ballots_of_two_the_answer_that_was_left_out_comes_back(self) -> None:
-        """Alone, so that no line has to be named."""
-        self.add(letter("ada", "ada A 1,2 B 1,2,3\nben A 2,1\n", number=1, time=at(9)), letter("ada", "ada B 3,2,1\n", number=2, time=at(11)))
-        self.done("held", "1", "--enter", "1,2", "--yes")
-        self.assertIn("\n  line 1: ada B 1,2,3\n", self.told("strike", "1", "--because", "x", "--yes"))
-        self.done("held", "1", "--enter", "--yes")
-        self.assertEqual((self.numbers()["waiting"], self.lines()), (0, ["ada A 1,2", "ben A 2,1", "ada B 1,2,3"]))
-
-    def test_an_answer_that_was_left_out_of_what_was_typed_comes_back(self) -> None:
-        """It is to be typed again, as `strike` and `undo` of the later answer say."""
-        for number, name in enumerate(("ada", "ben"), start=1):
-            self.done("desk", given=f"{name} B 3,2,1\n")
-            self.add(letter(name, "for it, and as listed\n", time=at(9)))
-            self.done("held", str(number), "--as", f"{name} A 1,2 B 1,2,3", "--yes")
-            self.done("undo", "--yes")
-            self.done("held", str(number), "--as", f"{name} A 2,1 B 2,1,3", "--yes")
-        said = self.told("strike", "1", "--because", "it was not her paper", "--yes")
-        self.assertIn("\nletter 1, from ada@club.example, 2026-11-23 09:00:00 UTC: not entered yet: the answer of ada to B\n  left out of what was typed: ada B 2,1,3\n", said)
-        self.assertEqual(said.count("left out"), 1)
-        self.assert_refused(["held", "1", "--enter", "--yes"], 9, "letter 1: it has 0 lines that can be entered")
-        self.done("held", "1", "--as", "ada B 2,1,3", "--yes")
-        self.assertIn("The current ballot: ada A 2,1 B 2,1,3: ", self.told("show", "ada"))
-        # of a later one that comes and is taken back
-        self.done("desk", given="ben B 1,2,3\n")
-        self.assertNotIn("left out", self.told("undo", "--yes"))
-        self.done("strike", "4", "--because", "x", "--yes")
-        self.done("desk", given="ben B 1,2,3\n")
-        self.assertIn("\n  left out of what was typed: ben B 2,1,3\n", self.told("undo", "--yes"))
-
-    def test_what_was_typed_stays_so_when_it_is_entered_anew(self) -> None:
+    def test_what_was_typed_stays_so_after_a_reopen(self) -> None:
         """Nothing of the letter's own line is entered beside it or in its place."""
         self.done("call", "--until", "2026-11-25 09:20", "--zone", "UTC")
         self.set_clock("2026-11-25T10:00:00+00:00")
         self.done("close", "--force", "--because", "x", "--yes")
         self.add(letter("ada", "ada A 2,1 B 1,2,3\n\nNo, the other way round, and nothing on the chair.\n", time="Wed, 25 Nov 2026 09:30:00 +0000"))
         self.done("held", "1", "--as", "ada A 1,2", "--yes")
-        self.done("reopen", "--in-time", "1", "--because", "a slow server")
-        said = "its ballot was typed; nothing was changed: type it again with debvote-election held 1 --as LINE"
-        self.assert_refused(["held", "1", "--enter", "--yes"], 9, said)
-        self.done("letters", "receipts")
-        [receipt] = (self.folder / "letters" / "receipts").rglob("ada.eml")
-        # of the late envelope nothing is told
-        said = " ".join(receipt.read_text().split())
-        self.assertEqual((said.count("The secretary typed it"), "it is late" in said), (1, False))
+        self.done("reopen", "--because", "a slow server")
         self.assertNotIn("--enter", self.told("undo", "--yes"))
         self.assert_refused(["held", "1", "--enter", "--yes"], 9, "its ballot was typed, and taken back; ")
 
@@ -301,55 +244,23 @@ class Told(QuestionsTest):
             texts[file.stem] = " ".join(data.decode().split())
         return texts
 
-    def test_our_letter_below_a_ballot_has_no_other_answer(self) -> None:
-        """As programs quote that mark nothing: a line of letter.txt is as its elector got it."""
-        self.write("letter.txt", "Dear all,\n\nthe fee is 12,50 Euro.\n")
-        self.done("call")
+    def test_our_letter_below_a_ballot_has_no_answer(self) -> None:
+        """As Outlook quotes it, it is a quotation; with no head above, as a sender may write it, it is looked at."""
         self.done("letters", "call")
         [file] = (self.folder / "letters" / "call").rglob("ada.eml")
         ours = parsed(file.read_bytes())
-        self.add(letter("ada", f"ada A 1,2\n\n{ours.get_content()}", head=f"In-Reply-To: {ours['Message-ID']}\n"))
-        self.assertEqual(self.lines(), ["ada A 1,2"])
+        for number, (head, lines) in enumerate({"": [], "From: Vote\nSent: 20 November 2026 09:00\nSubject: Vote\n\n": ["ada A 1,2"]}.items()):
+            self.add(letter("ada", f"ada A 1,2\n\n{head}{ours.get_content()}", number=number))
+            self.assertEqual(self.lines(), lines)
 
     def test_receipts_say_what_of_a_ballot_does_not_count(self) -> None:
         self.add_lines("ada A 1,2 B 1,2,3", "ada A 2,1", "ben A 1,2 B 1,2", words=["--force"])
         texts = self.letters("receipts")
         self.assertEqual(sorted(texts), ["ada", "ben"])
         not_all = "These of its answers do not count; others of yours, which were entered after them, count instead: A (Raise the fee to 72 Euro)."
-        self.assertIn(f"It counts unless you send a later one. {not_all} It was read as ada (A 1,2) (B 1,2,3), in words: {YES}; {CHAIR}.", texts["ada"])
-        self.assertIn(f"It was read as ada (A 2,1), in words: {NO}.", texts["ada"])
-        self.assertIn("It is not a valid ballot of this vote, so it does not count. One of its answers has 2 ranks, and the question has 3 options. |ben |B 1,2", texts["ben"])
-
-    def last_receipt(self) -> str:
-        return " ".join((self.folder / f"letters/receipts/{self.last_act()}/ada.eml").read_text().split())
-
-    def test_receipts_say_what_was_left_out_of_a_letter(self) -> None:
-        """Until that is entered, too."""
-        self.add_lines("ada B 3,2,1")
-        self.add(letter("ada", "ada A 1,2 B 1,2,3\n", number=1, time=at(9)))
-        self.done("held", "1", "--enter", "--yes")
-        left_out = "These of its answers were not entered, since you had later ones: B (The chair of the board)."
-        self.assertIn(f"{left_out} It was read as ada (A 1,2), in words: {YES}.", self.letters("receipts")["ada"])
-        self.done("strike", "1", "--because", "x", "--yes")
-        self.done("letters", "receipts")
-        self.assertIn("These of its answers are not entered yet: B (The chair of the board).", self.last_receipt())
-        self.assertNotIn("were not entered", self.last_receipt())
-        self.done("held", "1", "--enter", "--yes")
-        self.done("letters", "receipts")
-        self.assertIn("It was read as ada (B 1,2,3)", self.last_receipt())
-        self.assertNotIn("not entered", self.last_receipt())
-
-    def test_receipts_say_what_was_left_out_of_a_letter_of_two(self) -> None:
-        """To her of whom it is, also if her ballot came late, and is entered anew."""
-        self.done("call", "--until", "2026-11-25 09:20", "--zone", "UTC")
-        self.set_clock("2026-11-25T09:40:00+00:00")
-        self.add_lines("ada B 3,2,1")
-        self.done("close", "--force", "--because", "x", "--yes")
-        self.add(letter("ada", "as listed, and ben too\n", time="Wed, 25 Nov 2026 09:30:00 +0000"))
-        self.done("held", "1", "--as", "ada A 1,2 B 1,2,3", "--as", "ben A 2,1", "--force", "--yes")
-        self.done("reopen", "--in-time", "2", "3", "--because", "a slow server")
-        texts = self.letters("receipts")
-        self.assertEqual({name: text.count("These of its answers were not entered") for name, text in texts.items()}, {"ada": 1, "ben": 0})
+        self.assertIn(f"It counts unless you send a later one. {not_all} It was read as: {YES}; {CHAIR}.", texts["ada"])
+        self.assertIn(f"It was read as: {NO}.", texts["ada"])
+        self.assertIn("It is not a valid ballot of this vote, so it does not count. One of its answers has 2 ranks, and the question has 3 options. If you have not", texts["ben"])
 
     def test_who_has_answered_one_question_is_not_reminded(self) -> None:
         self.add_lines("ada B 1,2,3", "ben B 1,2", words=["--force"])

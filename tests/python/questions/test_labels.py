@@ -8,7 +8,8 @@ import shutil
 from collections.abc import Callable
 
 from tests.support import terminal
-from tests.support.letters import TEN, letter
+from tests.support.elections import any_own
+from tests.support.letters import MARK, TEN, letter
 from tests.support.questions import FEE, QuestionsTest, answering
 from tests.support.terminal import Terminal
 
@@ -18,7 +19,7 @@ MEMBERS = "name,who,mail\na,A. Adams,a@club.example\nben,Ben,ben@club.example\nb
 # lines that say one thing, and what is entered of them
 RIGHT = {
     "cleo A 1,2": "cleo A 1,2",
-    "Cleo: a) 1;2 b. 3, 2, 1": "cleo A 1,2 B 3,2,1",
+    "Cleo: a) 1, 2 b. 3, 2, 1": "cleo A 1,2 B 3,2,1",
     "cleo B 1,2,3 A 2,1": "cleo A 2,1 B 1,2,3",
     "cleo c1,2,3,4": "cleo C 1,2,3,4",
     "a A 1,2": "a A 1,2",
@@ -52,6 +53,12 @@ WRONG = [
     "A 1,2", "A cleo 1,2", "B 1,2,3 C 1,2,3,4",  # no name in front
     "Ben B 1,2,3", "ben b 1,2,3", "Dan C 1,2,3,4", "Dan C. 1,2,3,4",  # Ben, who answers B, or Ben B, who forgot the label
 ]  # fmt: skip
+
+
+def of(name: str, text: str, number: int, hour: int = 10) -> bytes:
+    """A letter of an elector, each later than the one before."""
+    subject, address = f"[{MARK}-{any_own(name)}]", f"{name.replace('-', '')}@club.example"
+    return letter(name, f"{text}\n", number=f"{hour}.{number}", sender=address, subject=subject, time=TEN.replace("10:00", f"{hour}:{number:02}"))
 
 
 class LabelsTest(QuestionsTest):
@@ -164,7 +171,8 @@ class OneNameOfTwo(QuestionsTest):
         for words, line in (((), "MAX a: 1,2"), (("--question", "A"), "Max 1,2")):
             self.assertIn(f"desk:1: {unclear}; it was not entered.", self.done("desk", *words, given=f"{line}\n").output)
         # in a letter it is that of whoever has the address alone
-        self.add(letter("max", "I told you.\n"), letter("max", "Max A 2,1\n"), letter("cleo", "Max A 1,1\n"))
+        of_max = f"[{MARK}-{any_own('max-2')}]"
+        self.add(letter("max", "I told you.\n", subject=of_max), letter("max", "Max A 2,1\n", subject=of_max, number=2), letter("cleo", "Max A 1,1\n"))
         self.assertIn(unclear, self.election("held", "1", "--as", "Max A 1,2", "--force", "--yes").faults)
         self.done("desk", given="max A 1,2\nmax: B 1,2,3\nMaximilian Mayer C 1,2,3,4\n")
         self.done("desk", "--question", "B", given="max 2,1,3\nmax-2 1,2,3\nMaximilian Mayer: 3,2,1\n")
@@ -186,31 +194,25 @@ class Words(LabelsTest):
 
 class Letters(LabelsTest):
     def test_letters(self) -> None:
-        """Each waits, and is shown by `held`; what is right goes in."""
+        """Each waits, and is shown by `held`; what is right goes in, in the order of the letters."""
         texts = [*WRONG, "cleo\nA 1,2\nand for the roof\nC 1,2,3,4", "cleo\nA 1,2\n-- \nB 1,2,3", "A 1,2\nB 1,2,3", "cleo A 1,2\n\nB 1,2", "cleo\nA 1,2 B", "B 1,2,3\ncleo\nA 1,2"]
-        senders = {"a": ["a 1,2"], "ben-b": ["ben-b 1,2,3"], "benb": ["Ben B 1,2,3", "ben b 1,2,3"]}
+        senders = {"a": ["a 1,2"], "ben-b": ["ben-b 1,2,3", "Ben B 1,2,3", "ben b 1,2,3"]}
         sender = {text: name for name, own in senders.items() for text in own}
-        made = [letter(sender.get(text, "cleo").replace("ben-b", "benb"), f"{text}\n", number=number, time=TEN.replace("10:00:00", f"10:00:{number:02}")) for number, text in enumerate(texts)]
+        made = [of(sender.get(text, "cleo"), text, number) for number, text in enumerate(texts)]
         self.assertIn(f"0 ballots of letters went in; {len(made)} letters wait", self.add(*made))
         self.demand_entered()
         held = self.done("held").output
         for number in range(1, len(made) + 1):
             self.assertRegex(held, rf"(?m)^ +{number}  ")
         self.assertEqual(self.numbers()["waiting"], len(made))
-        # what is right goes in, in the order of the letters, each later than the one before
-        mails = {"a": "a", "ben": "ben", "ben-b": "benb", "cleo": "cleo"}
-        right = [
-            letter(mails[entered.partition(" ")[0]], f"{text}\n", number=f"r{number}", time=TEN.replace("10:00", f"11:{number:02}"))
-            for number, (text, entered) in enumerate(RIGHT.items())
-        ]
+        right = [of(entered.partition(" ")[0], text, number, hour=11) for number, (text, entered) in enumerate(RIGHT.items())]
         self.assertIn(f"{len(right)} ballots of letters went in", self.add(*right))
         self.demand_entered(*RIGHT.values())
 
     def test_a_name_that_is_part_of_another(self) -> None:
         """Ben answers B although there is a Ben B: by the form, the letter or with a colon."""
         texts = ["ben\nA 1,2\nB 2,1,3", "ben B 1,2,3", "Ben\nB 3,2,1", "Ben: B 1,2,3", "Ben C 1,2,3,4\nB 3,2,1"]
-        made = [letter("ben", f"{text}\n", number=number, time=TEN.replace("10:00:00", f"10:00:{number:02}")) for number, text in enumerate(texts, start=1)]
-        self.assertIn("5 ballots of letters went in; 0 letters wait", self.add(*made))
+        self.assertIn("5 ballots of letters went in; 0 letters wait", self.add(*(of("ben", text, number) for number, text in enumerate(texts, start=1))))
         self.demand_entered("ben A 1,2 B 2,1,3", "ben B 1,2,3", "ben B 3,2,1", "ben B 1,2,3", "ben B 3,2,1 C 1,2,3,4")
 
     def test_as(self) -> None:
@@ -223,7 +225,7 @@ class Letters(LabelsTest):
         # a refused answer among the others stops here
         ended = self.election("held", "1", "--as", "cleo A 1,2,3 B 1,2,3", "--force", "--yes")
         self.assertNotEqual(ended.status, 0, ended)
-        self.done("held", "1", "--as", "cleo c) 1;2;3;4 A 1,2", "--yes")
+        self.done("held", "1", "--as", "cleo c) 1, 2,3,4 A 1,2", "--yes")
         self.demand_entered("cleo A 1,2 C 1,2,3,4")
 
 

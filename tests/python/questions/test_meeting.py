@@ -250,7 +250,7 @@ class Meeting(MeetingTest):
             text = " ".join(read.get_payload(decode=True).decode().split())  # type: ignore[union-attr]
             name = re.search(r"m\d\d", read["To"])[0]  # type: ignore[index]
             if name in self.wanted:
-                self.assertIn(in_a_letter(name, self.wanted[name]), text)
+                self.assertIn(in_a_letter(self.folder, self.wanted[name], "de"), text)
             for title, *_ in OPEN.values():
                 self.assertIn(title, text)
             for label in MOTIONS:
@@ -267,7 +267,7 @@ class Meeting(MeetingTest):
         self.command("call", "--until", "2099-12-04 18:00", "--zone", "Europe/Berlin", "--to", "wahl@club.example", "--yes")
         self.assertTrue((self.folder / "private/slips.html").exists())
         codes = dict(line.split(",")[::3] for line in self.read("private/codes.csv").decode().splitlines()[1:])
-        self.assertEqual(self.read("private/codes.csv").decode().splitlines()[0], "name,who,mail,code")
+        self.assertEqual(self.read("private/codes.csv").decode().splitlines()[0], "name,who,mail,code,mark")
         for name in MEMBERS[:36]:
             answers = answers_by(self.chance, SECRET)
             self.wanted[name] = dict(answers)

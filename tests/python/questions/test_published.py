@@ -1,6 +1,7 @@
 """The closing letter, the count and the published folder of several questions."""
 
 import csv
+import hashlib
 import html
 import io
 import json
@@ -77,7 +78,7 @@ class OpenTest(PublishedTest):
         self.assertEqual([name for _, name in listed], names)
         self.assertEqual(listed[-1][0], self.book.last_act().digest)
         self.assertEqual(self.sums_in("call/polls.sha256"), SUM.findall(self.in_shell("sha256sum ?/poll.toml title.txt", "call")))
-        self.assertIn("Lines in time, by question: A 3, B 2, C 4.", self.read("letters/closed.txt").decode())
+        self.assertIn("Lines in time, by question: 3 (A), 2 (B), 4 (C).", self.read("letters/closed.txt").decode())
         for label in self.polls:
             said = f"Checksum of the ballots of question {label}: {dict(map(reversed, listed))[f'{label}/ballots.txt']}\n"
             self.assertIn(said, ended.output)
@@ -86,6 +87,21 @@ class OpenTest(PublishedTest):
         for label in self.polls:
             self.assertEqual(self.read(f"result/{label}/closed.txt"), self.read("letters/closed.txt"))
             self.assertEqual(self.read(f"result/{label}/sheet.txt").decode(), sheets[label])
+
+    def test_the_page_of_all_questions(self) -> None:
+        """It has no list of options, so none has a number there; and it names each earlier result, of all questions."""
+        self.done("close", "--early")
+        self.publish(status=1)
+        page = " ".join(self.read("result/index.html").decode().split())
+        self.assertNotIn("<i>", page)
+        self.assertIn("<bdi>Ada Lovelace</bdi> against <bdi>Mary Somerville</bdi>: ", page)
+        checksum = hashlib.sha256(self.read("result/SHA256SUMS")).hexdigest()
+        self.publish("--casting", "B=Mary Somerville", *CAST, status=1)
+        page = " ".join(re.sub("<[^>]*>", "", self.read("result/index.html").decode()).split())
+        ended = "A Winner: Yes, 72 Euro. B A tie: Ada Lovelace, Mary Somerville. C A tie: Slate, Tiles."
+        self.assertIn(f"A result was published, whose SHA256SUMS has the checksum {checksum}. {ended}", page)
+        page = " ".join(re.sub("<[^>]*>", "", self.read("result/B/index.html").decode()).split())
+        self.assertIn(f"the checksum {checksum}. B A tie: Ada Lovelace, Mary Somerville.", page)
 
     def test_names_of_questions_and_casting_votes(self) -> None:
         self.assert_fault(self.election("count", "--question", "D"), 2, "there is no question D; nothing was counted: name one of A, B, C")
@@ -324,9 +340,9 @@ class OpenTest(PublishedTest):
         letter = " ".join(self.read("letters/result.txt").decode().split())
         self.assertEqual(letter.count("The vote was opened again"), 1)
         self.assertEqual(letter.count("struck envelope 5"), 1)
-        sums = ", ".join(f"{label} {digest}" for label, (digest, _) in zip(self.polls, second[1:]))
-        self.assertEqual(letter.count(f"The vote was closed. Lines in time: A 4, B 2, C 3. Checksum: {sums}."), 1)
-        self.assertIn("lines in time that came in: A 1, B 0, C 0; that were struck: A 0, B 0, C 0.", letter)
+        sums = ", ".join(f"{digest} ({label})" for label, (digest, _) in zip(self.polls, second[1:]))
+        self.assertEqual(letter.count(f"The vote was closed. Lines in time: 4 (A), 2 (B), 3 (C). Checksum: {sums}."), 1)
+        self.assertIn("lines in time that came in: 1 (A), 0 (B), 0 (C); that were taken out: 0 (A), 0 (B), 0 (C).", letter)
         found = re.findall("struck envelope 5|The vote was opened again|The vote was closed", letter)
         self.assertEqual(found, ["struck envelope 5", "The vote was closed", "The vote was opened again", "The vote was closed"])
         for label in self.polls:
@@ -464,7 +480,7 @@ class PagesTest(PublishedTest):
             self.assertIn("2 yes, 1 no, 0 abstained", window.ask("document.querySelector('.facts').textContent"))
             self.assertEqual(
                 window.ask(heads),
-                [["A Raise the fee to 72 Euro", "Yes, 72 Euro"], ["B The chair of the board", "Mary Somerville"], ["C A new roof", "1\xa0Slate and 2\xa0Tiles"]],
+                [["A Raise the fee to 72 Euro", "Yes, 72 Euro"], ["B The chair of the board", "Mary Somerville"], ["C A new roof", "Slate and Tiles"]],
             )
             roof = ["Tiles", "Slate", "As it is", "Straw", "The line: cleo 2,1,4,3"]
             wanted = ["cleo: counted", "No", "The line: cleo 2,1", "cleo is on the roll, and no ballot counts for this name.", "cleo: counted", *roof]
@@ -499,7 +515,7 @@ class PagesTest(PublishedTest):
             self.assertIn(of_list, page)
             self.assertIn(f'<a href="../index.html">{self.title}</a> · <b>{label}</b>', page)
         self.assertIn(of_list, self.read("result/index.html").decode())
-        self.assertIn(f"[{of_list[:16]}]", self.read("call/call.txt").decode())
+        self.assertIn(of_list, self.read("call/call.txt").decode())
 
 
 class ManyTest(PublishedTest):

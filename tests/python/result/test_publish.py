@@ -1,6 +1,7 @@
 """`publish`: the files, what was done, doubts, casting votes, secret votes, and the same bytes again."""
 
 import email
+import email.policy
 import hashlib
 import json
 import os
@@ -16,6 +17,9 @@ from unittest import mock
 from debvote_tools.book import queries
 from debvote_tools.book.election import fixed_by
 from debvote_tools.result.folder import NewFolder, beside
+from debvote_tools.text import times
+from debvote_tools.text.language import ENGLISH
+from debvote_tools.text.times import date_in_words
 
 from tests.support import elections, expecting, page_parts as pages
 from tests.support.called import CalledTest
@@ -29,6 +33,12 @@ quorum = 0
 """
 MEMBERS = "who,mail,name\nAda <Lovelace>,ada@x.example,\nZoë Müller,zoe@x.example,\nCleo,cleo@x.example,cleo\nDan,,dan\n"
 TIE = "ada-lovelace 1,2,3\nzoe-mueller 2,1,3\n"
+# what is told of an earlier result, and above it
+PLACE = "This result takes the place of an earlier one."
+SINCE = "A result was published, whose SHA256SUMS has the checksum"
+REOPENED = "The vote was opened again, for what had come before the first close"
+# the first day on which a casting vote can be given in an election that a test calls
+TODAY = str(times.now().astimezone().date())
 TEXT = "Who certifies this: <b>Anna</b>.\n"
 
 FORKED = unittest.skipIf(os.environ.get("DEBVOTE_FORKS") == "0", "what a test has patched is in its forks alone")
@@ -70,7 +80,7 @@ class OfElections(CalledTest, expecting.Expecting):
         self.write(f"texts/{number}.txt", text)
 
     def reopened_with(self, lines, words=(), because="lost letters"):
-        self.say("reopen", "--because", because, "--in-time")
+        self.say("reopen", "--because", because)
         self.add(lines, words=("--came-before-close", "yes"))
         self.say("close", *words)
 
@@ -269,10 +279,56 @@ class OfOpenVotes(OfElections):
             self.stops("publish", "result-2", said=[said], status=2, folder="result-2")
         self.expect("what somebody wrote is there", self.read("result-2/mine"), b"mine")
 
+    def test_a_result_that_takes_the_place_of_another(self):
+        """Page and letter name each earlier one, with its checksum, and how it ended; the subject says whether a sheet differs."""
+        self.closed(TIE, "--at", "https://x.example/")
+        cast = ("--casting", "Größe", "--cast-by", "Anna", "--cast-on", TODAY)
+        self.say("publish", "--language", "en", status=1)
+        self.expect("the first", (self.earlier(), self.subject()), ([], "Result: Wo wir uns treffen: Größe"))
+        sums = [self.checksum()]
+        self.say("publish", *cast, "--language", "en")
+        wanted = [f"{SINCE} {sums[0]}. A tie: 72 Euro, Größe."]
+        self.expect("a casting vote", (self.earlier(), self.subject()), (wanted, "Corrected result: Wo wir uns treffen: Größe"))
+        # again, also with the same words, it is the same
+        files, acts = self.files(), len(self.acts())
+        for words in ((), (*cast, "--language", "en"), ("--force",)):
+            self.say("publish", *words)
+        self.expect("again", (self.files() == files, len(self.acts())), (True, acts))
+        sums.append(self.checksum())
+        self.reopened_with("cleo 1,2,3\n")
+        self.replace("--language", "en")
+        wanted.append(f"{SINCE} {sums[1]}. Winner: Größe by casting vote.")
+        self.expect("another winner", self.earlier(), wanted)
+        done = self.what_was_done()
+        self.expect("in their order", [done.index(text) for text in wanted], [2, 3])
+        self.expect("and what came between", [text.partition(".")[0] for text in done[4:]], [REOPENED, "The vote was closed"])
+        self.write("about", TEXT)
+        sums.append(self.checksum())
+        self.say("publish", "--about", "about", "--language", "en")
+        self.expect("the same sheet as the last", self.earlier(), [*wanted, f"{SINCE} {sums[2]}. Winner: 72 Euro."])
+
+    def checksum(self):
+        return hashlib.sha256(self.read("result/SHA256SUMS")).hexdigest()
+
+    def earlier(self):
+        """The earlier results, as the page tells them above the result, and the letter in its list."""
+        told = [text.partition("): ")[2] for text in re.findall(rf"<p>{PLACE} (.*?)</p>", self.page(), re.S)]
+        told = [re.sub("<[^>]*>", "", " ".join(text.split())) for text in told]
+        letter = " ".join(self.letter().split())
+        self.expect("the letter", [letter.count(text) for text in told], [2] * len(told))
+        self.expect("no other", letter.count("A result was published"), 2 * len(told))
+        return told
+
+    def subject(self):
+        self.say("letters", "result", "--from", "vote@x.example")
+        file = max((self.folder / "letters" / "result").rglob("*.eml"), key=lambda file: int(file.parent.name))
+        subject = email.message_from_bytes(file.read_bytes(), policy=email.policy.default)["Subject"]
+        return subject.rpartition(" [")[0]
+
     def test_made_again_otherwise(self):
         """What was published is not made otherwise in silence; it can be published once more, with its letter. After another close it is new."""
         self.closed(TIE, "--at", "https://x.example/")
-        self.say("publish", "--casting", "72 Euro", "--cast-by", "Anna", "--cast-on", "2026-11-20")
+        self.say("publish", "--casting", "72 Euro", "--cast-by", "Anna", "--cast-on", TODAY)
         files, letter, acts = self.files(), self.letter(), len(self.acts())
         self.write("members.csv", MEMBERS.replace("zoe@x", "zoe@y"))
         self.say("roll", "--yes")
@@ -285,7 +341,8 @@ class OfOpenVotes(OfElections):
         self.expect("with its letter", self.letter() == letter, False)
         self.expect("and again", ("as it was published before" in self.say("publish"), len(self.acts())), (True, acts + 2))
         self.add("cleo 1,2,3\n")
-        self.say("reopen", "--because", "a lost letter", "--in-time", "3")
+        self.say("reopen", "--because", "a lost letter")
+        self.add("cleo 1,2,3\n", words=("--came-before-close", "yes"))
         self.say("strike", "1", "--because", "twice")
         self.say("close")
         self.expect("a tie again, without a casting vote", self.replace(status=1).splitlines()[0], "Tie: 1 2")
@@ -329,11 +386,13 @@ class OfOpenVotes(OfElections):
             self.say("roll", "--yes")
         self.say("close", "--early")
         self.add("zoe-mueller 1,2,3\ncleo 1,2,3\n")
-        self.say("reopen", "--because", "Zoë's letter lay in the <hall>", "--in-time", "2", "3")
+        self.say("reopen", "--because", "Zoë's letter lay in the <hall>")
+        self.add("zoe-mueller 1,2,3\ncleo 1,2,3\n", words=("--came-before-close", "yes"))
         self.say("strike", "1", "--because", "wrong hand")
         checksum = hashlib.sha256(b"zoe-mueller 1,2,3\ncleo 1,2,3\n").hexdigest()
         self.act("extend", {"keyring": "a checksum"})
-        self.act("close", {"questions": {"": {"lines": 2, "checksum": checksum}}, "early": True, "waiting": 2, "after_end": 1, "because": "in a hurry"})
+        detail = {"early": True, "waiting": 2, "after_end": 1, "replaced_in_time": 2, "because": "in a hurry"}
+        self.act("close", {"questions": {"": {"lines": 2, "checksum": checksum}}, **detail})
         self.say("publish", "--language", "en")
         because = " The reason, in the secretary's words:"
         end = "one could vote until Friday, 4 December 2099, 18:00 (UTC+01:00)."
@@ -350,22 +409,23 @@ class OfOpenVotes(OfElections):
             f"The secretary struck envelope 1: its line does not count.{because} wrong hand",
             f"The vote was closed. Lines in time: 2. Checksum: {checksum}. {early} 2 letters that had arrived in time were left waiting. "
             "1 letter that had arrived after the end did not go in. "
-            f"Since the close before this one, lines in time that came in: 2; that were struck: 1.{because} in a hurry",
+            "Since the close before this one, lines in time that came in: 2; that were taken out: 1. "
+            "2 late lines were entered again, as ones that had come before the first close, and replaced other ballots of their electors."
+            f"{because} in a hurry",
         ]
         self.expect("on the page", self.what_was_done(), [*called[:3], *told[:-1], called[3], told[-1]])
         self.expect("the late ones stay late", self.files()["late.txt"], b"zoe-mueller 1,2,3\ncleo 1,2,3\n")
-        refused, late = self.sections()["Refused-lines"].text(), "Late, and not counted"
-        found = "none came late." in refused, "do not count" in refused, late in self.say("status"), self.say("export", "copy")[:4]
-        self.expect("of what was entered anew nobody says that it does not count", found, (True, False, False, "Made"))
+        self.say("export", "copy")
         self.expect("it was late", self.read("copy/late.txt"), self.files()["late.txt"])
         self.expect("the times are in one zone", self.sections()["What-was-done"].text().count("(UTC+01:00): "), 11)
         self.say("publish", "--language", "de")
         letters = self.texts_of_messages()
         acts = re.findall(r"(?m)^- ((?:.+\n)+(?:  .+\n)*)", letters[0].partition("WAS GESCHEHEN IST\n\n")[2])
-        self.expect("in the letters", (len(letters), len(acts)), (3, len(called) + len(told)))
-        close = " ".join(acts[-1].split())
-        words = ("2 rechtzeitig eingetroffene Nachrichten", "1 Nachricht, die nach dem Ende", "(in a hurry)")
-        self.expect(f"the close: {close}", [word in close for word in words], [True] * 3)
+        # with the earlier publication
+        self.expect("in the letters", (len(letters), len(acts)), (3, len(called) + len(told) + 1))
+        close = " ".join(acts[-2].split())
+        words = ("2 rechtzeitig eingetroffene Nachrichten", "1 Nachricht, die nach dem Ende", "2 verspätete Zeilen", "(in a hurry)")
+        self.expect(f"the close: {close}", [word in close for word in words], [True] * 4)
 
     def test_what_comes_after_the_end(self):
         """Lines and ballots of a desk are told that came after the end; not those that were struck, nor letters, which wait."""
@@ -382,17 +442,17 @@ class OfOpenVotes(OfElections):
         self.add("zoe-mueller 1,2,3\ncleo 1,2,3\ndan 1,2,3\n")
         self.write("letter.eml", letter)
         self.say("add", "letter.eml")
-        self.say("held", "1", "--enter", "1", "--force")
+        self.say("held", "1", "--enter", "--force")
         self.say("strike", "3", "--because", "on paper")
         self.set_clock("2027-03-01T12:50:00+00:00")
         self.say("close")
         self.set_clock("2027-03-01T14:00:00+00:00")
-        self.say("reopen", "--because", "a lost letter", "--in-time")
+        self.say("reopen", "--because", "a lost letter")
         self.add("dan 1,3,2\n", words=("--came-before-close", "yes"))
         self.say("close")
         self.write("letter.eml", letter.replace("12:30", "12:40").replace("cleo 3", "zoe-mueller 3"))
         self.say("add", "letter.eml")
-        self.say("held", "2", "--enter", "1", "--force")
+        self.say("held", "2", "--enter", "--force")
         # a late one that arrived after the end is no doubt
         self.say("publish", "--language", "en")
         done = self.sections()["What-was-done"].text()
@@ -449,40 +509,43 @@ class OfOpenVotes(OfElections):
     def test_casting_votes(self):
         self.closed(TIE)
         self.expect("a tie", self.say("publish", status=1).splitlines()[0], "Tie: 1 2")
-        cast = ("--cast-by", "Anna <b>", "--cast-on", "2026-11-20")
+        cast = ("--cast-by", "Anna <b>", "--cast-on", TODAY)
         for words, said, status in [
             (("--casting", "72 Euro"), "it was given; nothing was published: say it with --cast-by", 2),
             (("--casting", "72 Euro", "--cast-by", "A", "--cast-on", "2999-01-01"), "2999-01-01 is in the future", 2),
             (("--casting", "72 Euro", "--cast-by", "A", "--cast-on", "1.1.2026"), "`1.1.2026` is not a day", 2),
             (("--casting", "72 Euro", "--cast-by", 'A "b', "--cast-on", "2026-01-01"), "without quotation marks", 2),
             *((words, "give --casting too", 2) for words in (cast, cast[:2], cast[2:])),
-            (("--casting", "Größe", *cast), "no option has this name", 8),
+            (("--casting", "Größer", *cast), "no option has this name", 8),
+            (("--casting", "72 Euro", "--cast-by", "A", "--cast-on", "0001-01-01"), "--cast-on: 0001-01-01 is before the call, which was on ", 2),
             (("--casting", "Nichts davon", *cast), "no casting vote can choose Nichts davon, which is not left; left are 1 72 Euro", 8),
         ]:
             self.stops("publish", *words, said=[said], status=status)
         self.say("publish", "--casting", "72 Euro", *cast, "--language", "en")
-        said = 'The secretary says that the casting vote was that of "Anna <b>", given on 20 November 2026. No count can show this.'
+        said = f'The secretary says that the casting vote was that of "Anna <b>", given on {date_in_words(times.now().astimezone(), ENGLISH)}. No count can show this.'
         self.expect("on the page", said in self.sections()["Result"].text(), True)
         won = "Winner: Option 1: 72 Euro by casting vote. Option 1: 72 Euro against Option 2: Größe: 1 to 1."
         self.expect("in the letter", [text in self.letter().replace("\n", " ") for text in (said, won)], [True, True])
-        earlier = ["an earlier publication has a casting vote for 72 Euro", "publish --casting '72 Euro' --cast-by 'Anna <b>' --cast-on 2026-11-20"]
+        earlier = ["an earlier publication has a casting vote for 72 Euro", "publish --casting '72 Euro' --cast-by 'Anna <b>' --cast-on "]
         for words in (("--casting", "Groesse", *cast), ("--language", "fr")):
             self.stops("publish", *words, said=earlier)
         # what no reason lets through is said, and no reason is asked for
         self.stops("publish", "--casting", "Nichts davon", *cast, said=["no casting vote can choose Nichts davon"], status=8)
         self.reopened_with("cleo 1,2,3\n")
+        ended = self.election("publish", "result-2", "--casting", "72 Euro", *cast, "--language", "en")
+        self.expect("one that decides nothing", "Note: it is no tie, so no casting vote decides it" in ended.faults, True)
         self.replace("--casting", "72 Euro", *cast, "--language", "en")
         texts = (self.sections()["Result"].text(), self.letter())
-        self.expect("one that decides nothing is not told", ["casting vote" in text for text in texts], [False, False])
+        self.expect("one that decides nothing is not told", ["that the casting vote was" in text for text in texts], [False, False])
         sums = lambda: re.findall("(?m)^  ([0-9a-f]{64})$", self.read("letters/closed.txt").decode())  # noqa: E731
         before = sums()[1]
         self.reopened_with("dan 2,1,3\n", because="a bag was forgotten")
         reasons = [reason in self.read("letters/closed.txt").decode() for reason in ("lost letters", "a bag was forgotten")]
         self.expect("the letter of the close takes the place of the last one", (sums()[-1], reasons), (before, [False, True]))
-        self.replace("--casting", "Groesse", *cast, "--force", "--because", "She had meant this", "--language", "en")
+        self.replace("--casting", "Größe", *cast, "--force", "--because", "She had meant this", "--language", "en")
         self.expect("another casting vote", self.doubts(), ["An earlier result of this vote was published with a casting vote for 72 Euro."])
         self.expect("the letter says whom it chose", "Winner: Option 2: Größe by casting vote" in self.letter(), True)
-        self.expect("since the second close", self.what_was_done()[-1].endswith("lines in time that came in: 1; that were struck: 0."), True)
+        self.expect("since the second close", self.what_was_done()[-1].endswith("lines in time that came in: 1; that were taken out: 0."), True)
         self.expect("and again", "as it was published before" in self.say("publish"), True)
         self.replace("--force", "--because", "It was none", "--language", "en", status=1)
         self.expect("one that is left out", self.doubts(), ["An earlier result of this vote was published with a casting vote for Größe."])
@@ -548,7 +611,7 @@ class OfOpenVotes(OfElections):
         self.say("close")
         self.write("about", f"about {hostile}")
         plain = tomllib.loads((self.folder / "call" / "poll.toml").read_text())["options"][0]
-        cast = ("--casting", plain, "--cast-by", f"by {hostile}", "--cast-on", "2026-11-20")
+        cast = ("--casting", plain, "--cast-by", f"by {hostile}", "--cast-on", TODAY)
         self.say("publish", *cast, "--about", "about", "--force", "--because", f"force {hostile}", "--language", "en")
         pages.try_page(self.expect, "hostile", self.folder / "result")
         seen = ["Result", "Who-had-enough-votes", "Find-your-ballot", "Check-it", "About-this-vote"]
@@ -620,7 +683,7 @@ class OfSecretVotes(OfElections):
         self.say("publish", status=1)
         self.expect("the same again is not asked for", (self.files() == files, len(self.acts())), (True, acts))
         self.state = self.scratch / "other computer of a secret vote"
-        ended = self.election("publish", "--moved", "--because", "of <Ada>")
+        ended = self.election("publish", "--moved", "--force", "--because", "of <Ada>")
         found = "these texts may tell" in ended.faults, ended.faults.count("  of <Ada>\n"), ended.status
         self.expect(f"a reason of --moved: {ended}", found, (True, 1, 9))
         self.expect("is an act, and no publication", [act.name for act in self.acts()[acts:]], ["moved"])
@@ -679,7 +742,8 @@ class OfSecretVotes(OfElections):
         kept = "another thing than it keeps"
         for task, change, said in (
             ("standing", "s/2,1,3/1,2,3/", kept),
-            ("count", "s/Voters: 2/Voters: 3/", kept),
+            ("explain", "s/2 of 4 electors/3 of 4 electors/", kept),
+            ("count", "s/Voters: 2/Voters: 3/", differs),
             ("count", "s/^Tie: .*/Winner: 1 x/", differs),
         ):
             other = f'case "$*" in "{task} "*/dev/stdin*) {elections.PROGRAM} "$@" | sed "{change}"; exit ;; esac'
@@ -691,7 +755,8 @@ class OfSecretVotes(OfElections):
         terminal.until("because: Cleo's letter? Only the log tells this reason. [y/n] ")
         terminal.type("n\n")
         self.expect("it is asked", terminal.end()[1], 9)
-        self.say("reopen", "--because", "Cleo's letter", "--in-time", "6", "7", "8")
+        self.say("reopen", "--because", "Cleo's letter")
+        self.add("cleo 1,2,3\nzoe-mueller 5,4,6\nada-lovelace 2,1,3\n", words=("--came-before-close", "yes", "--force"))
         self.say("close")
         self.stops("publish", "result-2", said=["a comparison with the earlier result shows how these voted: ada-lovelace, cleo"], folder="result-2")
         self.say("publish", "--yes", "result-2")
@@ -706,3 +771,5 @@ class OfSecretVotes(OfElections):
         self.checksums_of_letters(self.files("result-2"), "-")
         told = ["Cleo" in (self.folder / "result-2" / name).read_text() for name in ("index.html", "closed.txt")]
         self.expect("the reason stays in the log", told, [False, False])
+        close = "zuvor geschlossen, am .{20,60}, und wieder geöffnet. Dieses Schreiben tritt an die Stelle des Schreibens zu jenem Schluss, das diese Prüfsumme"
+        self.assertRegex(" ".join(self.read("letters/closed.txt").decode().split()), close)

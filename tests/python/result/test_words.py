@@ -53,13 +53,13 @@ class WordsTest(expecting.Expecting):
     def test_each_kind_of_what_was_done_is_told(self):
         """Also that the clock went back, and a plain close; each with its time."""
         time = datetime.datetime(2026, 12, 4, tzinfo=datetime.UTC)
-        places = {"until": time, "before": time, "number": 1, "envelope": 1, "noted": 1, "there": 1}
+        places = {"until": time, "before": time, "number": 1, "envelope": 1, "envelopes": "1-2", "noted": 1, "there": 1}
         told = templates_of("debvote_tools.result", ENGLISH, is_page=False).get_template("told.jinja").module
         kinds = {*told.DONE, "roll changed"}
-        self.expect("how many kinds", len(kinds), 15)
+        self.expect("how many kinds", len(kinds), 17)
         for done in kinds:
             self.expect(done, told.dated(Act(time, done, places))[:38], "Friday, 4 December 2026, 00:00 (UTC): ")
-        places = {"lines": 1, "checksum": "c", "early": False, "waiting": 0, "after_end": 0, "came": None, "struck": None}
+        places = {"lines": 1, "checksum": "c", "early": False, "waiting": 0, "after_end": 0, "came": None, "struck": None, "replaced": None}
         plain = "Friday, 4 December 2026, 00:00 (UTC): The vote was closed. Lines in time: 1. Checksum: c."
         self.expect("a plain close", told.dated(Act(time, "closed", places)), plain)
 
@@ -131,11 +131,6 @@ class WordsTest(expecting.Expecting):
                 self.expect(f"seed {seed}: the chain to {option}", found, (True, option, *end_of_chain(sheet, option), set()))
             met["default" if sheet.winner == sheet.default else "circle" if aside else "chain" if rivals > {*others} else "plain"] += 1
         self.expect(f"kinds of elections: {met}", len(met), 4)
-
-    def test_no_row_stands_for_one_other_alone(self):
-        rows = [{"over": number} for number in range(6)]
-        found = [(len(shown), more, shown == rows[: len(shown)]) for shown, more in (Why.few(rows[:number]) for number in range(6))]
-        self.expect("rows, and how many others", found, [(0, 0, True), (1, 0, True), (2, 0, True), (3, 0, True), (2, 2, True), (2, 3, True)])
 
     def test_shares(self):
         """How many have voted, in per cent: none alone is 0, all alone are 100, and it is rounded."""
