@@ -40,10 +40,11 @@ AS_WINDOWS = {
     for number in range(0x80, 0xA0)
     if number != ord("\x85")
 }
-# other control characters but tab and line feed: some programs omit them, or end a line there
-CONTROL = re.compile("[\0-\x08\v\f\x0e-\x1f\x7f\x85\u2028\u2029]|\r(?!\n)")
+# other control characters but tab and line feed: some programs omit them, or end a line there; a carriage return
+# before a line feed is none
+CONTROL = re.compile("[\0-\x08\v-\x1f\x7f\x85\u2028\u2029]")
 # mail servers write this field into the head of each letter
-RECEIVED = re.compile(rb"(?im)^received[ \t]*:")
+RECEIVED = re.compile(rb"\nreceived[ \t]*:", re.IGNORECASE)
 
 # the sender: an address in ASCII, perhaps with a name before it, or in a comment after it as old
 # programs wrote it, in any bytes (RFC 5322, 3.2.2 to 3.2.4 and 3.4)
@@ -163,7 +164,8 @@ def parse(raw: RawLetter) -> ParsedLetter:
     sender = sender_of(senders)
     if sender and not senders[0].isascii():
         letter.note_trouble(Reason.RAW_NAME())
-    body = body_of(letter)
+    parts = parts_of(letter)
+    body = body_of(parts)
     texts = (text for subject in subjects for text in (decoded(subject), subject))
     fields = (f"{name}:{value[:MAX_FIELD]}" for name, value in letter.fields)
     is_automatic = any(map(AUTOMATIC.match, fields))
@@ -182,7 +184,7 @@ def parse(raw: RawLetter) -> ParsedLetter:
         if is_automatic or is_server(sender)
         else (),
         body=body,
-        attachments=attachments_of(letter),
+        attachments=attachments_of(parts),
         link=letter.value("x-link") if raw.is_fetched else raw.link,
         asked_before=raw.asked_before,
         behind=raw.behind,
@@ -281,12 +283,18 @@ def identity_of(letter: Part, sender: str, body: Body) -> str:
 
 
 # ---- the body
-def body_of(letter: Part) -> Body:
-    """The one plain text of a letter, or what is shown of another letter."""
+def parts_of(letter: Part) -> Sequence[Part]:
+    """A letter, and the parts in it."""
     parts = list(itertools.islice(letter.walk(), MAX_PARTS))
     if len(parts) == MAX_PARTS:
         letter.note_trouble(Reason.TOO_MANY_PARTS())
-    if letter.fields and RECEIVED.search(letter.body_bytes):
+    return parts
+
+
+def body_of(parts: Sequence[Part]) -> Body:
+    """The one plain text of a letter with these parts, or what is shown of another letter."""
+    letter = parts[0]
+    if letter.fields and RECEIVED.search(b"\n" + letter.body_bytes):
         letter.note_trouble(Reason.PARTED_OFF())
     first = the_text(parts)
     if first.note_too_long(len(first.body_bytes), "bytes in a text", MAX_TEXT):
@@ -345,15 +353,15 @@ def text_in(part: Part) -> str:
     if part.is_cut:
         part.note_trouble(Reason.CUT())
     text = decoded_bytes(part.payload, charset or "utf-8").removeprefix("\ufeff")
-    if odd := CONTROL.search(text):
+    if odd := CONTROL.search(text.replace("\r\n", "\n")):
         part.note_trouble(Reason.CONTROL(character=f"U+{ord(odd[0]):04X}"))
     return text
 
 
-def attachments_of(letter: Part) -> tuple[str, ...]:
-    """The names of the files in a letter, or of what kind they are."""
+def attachments_of(parts: Sequence[Part]) -> tuple[str, ...]:
+    """The names of the files among these parts, or of what kind they are."""
     names = []
-    for part in itertools.islice(letter.walk(), MAX_PARTS):
+    for part in parts:
         if not part.kind.startswith("multipart/") and not (
             part.kind.startswith("text/") and part.is_shown
         ):

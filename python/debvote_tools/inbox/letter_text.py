@@ -102,26 +102,17 @@ class LetterText:
         self.written = [*self.own, *self.below, *self.signature]
         self.quoted = (*parts.heads, *parts.quoted)
         # what looks like an answer, where a ballot may be and where none may be
-        self.answers = {place for place in (*self.own, *self.below) if self.is_answer(place)}
-        self.has_answers_outside = any(
-            map(self.is_answer, (*self.signature, *parts.quoted))
-        ) or any(LIKE_RANKS.search(lines[place]) for place in self.signature)
+        self.answers = {*filter(self.is_answer, (*self.own, *self.below))}
+        outside = (*self.signature, *parts.quoted)
+        are_like_ranks = (LIKE_RANKS.search(lines[place]) for place in self.signature)
+        self.has_answers_outside = any(map(self.is_answer, outside)) or any(are_like_ranks)
 
     def is_said(self, place: int) -> bool:
         line = self.lines[place].strip()
         return line != "" and not (self.is_signed and MARKS.fullmatch(line))
 
     def is_answer(self, place: int) -> bool:
-        """Whether a line has ranks, or a label with a rank or a word of a motion behind it; or of one question
-        is such a word, alone or behind a name.
-        """
-        line, names = self.lines[place], self.names
-        if names.answers.search(line) is not None:
-            return True
-        answer = bare_text(line.strip("> \t")) if names.words and not names.labels else ""
-        ranked = names.with_ranks(answer)
-        name = ranked.rpartition(" ")[0].rstrip(" :")
-        return ranked != answer and (name == "" or names.meant_by(name) != [])
+        return self.names.are_answers(self.lines[place])
 
     def may_answer(self, place: int) -> bool:
         """Whether a line is an answer, or begins as one: with a label and a sign or a word behind it."""

@@ -16,7 +16,7 @@ import dataclasses
 import functools
 import re
 import unicodedata
-from collections.abc import Iterable, Mapping
+from collections.abc import Callable, Iterable, Mapping
 from typing import NamedTuple
 
 from debvote_tools.book.queries import Elector
@@ -38,6 +38,8 @@ NAME = re.compile(rb"[a-z0-9.-]+")
 
 # in characters: the longest name, as people write it
 MAX_NAME = 100
+# of so many lines that letters have it is kept what they are
+MOST_QUOTED = 1_000
 # what parts the words of a name, and what each name on a roll has
 NO_NAME, LATIN = re.compile(r"(?:[^\w.-]|[_\u02b0-\u02ff])+"), re.compile("[a-z0-9]")
 # the ranks of a ballot; and a name as people write it, with letters of any script, and ranks
@@ -151,6 +153,22 @@ class Names:
         real = self.electors_by_real_name
         return frozenset(name for name in self.roll if {*real.get(name, ())} - {name})
 
+    @functools.cached_property
+    def are_answers(self) -> Callable[[str], bool]:
+        """Whether a line of a letter `has_answers`. Many letters quote the same lines."""
+        return functools.lru_cache(MOST_QUOTED)(self.has_answers)
+
+    def has_answers(self, line: str) -> bool:
+        """Whether a line has ranks, or a label with a rank or a word of a motion behind it; or of one question
+        is such a word, alone or behind a name.
+        """
+        if self.answers.search(line) is not None:
+            return True
+        answer = bare_text(line.strip("> \t")) if self.words and not self.labels else ""
+        ranked = self.with_ranks(answer)
+        name = ranked.rpartition(" ")[0].rstrip(" :")
+        return ranked != answer and (name == "" or self.meant_by(name) != [])
+
     def label_behind_name(self, line: str) -> str:
         """The first label of a line, if it may belong to the name before it: not so in a line as it is
         entered, or with a colon behind the name.
@@ -263,6 +281,7 @@ def name_in(line: bytes) -> bytes:
     return found[0] if found else b""
 
 
+@functools.lru_cache(MOST_QUOTED)
 def has_code(text: str) -> bool:
     """Whether a text has what looks like a code or an alias."""
     return TYPED_CODE.search(text) is not None

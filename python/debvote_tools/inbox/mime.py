@@ -14,6 +14,7 @@ import re
 import string
 from collections.abc import Iterator
 
+from debvote_tools.grouping import grouped
 from debvote_tools.inbox.reasons import Reason, ReasonWithValues
 
 # in bytes: the longest letter and the longest head that are read; then the most parts, their
@@ -90,6 +91,7 @@ class Part:
         self.fields = [
             (name.decode().lower(), on_one_line(value)) for name, value in FIELD.findall(head)
         ]
+        self.by_name = grouped(self.fields)
         limit = MAX_HEAD if end is None else MAX_LETTER
         self.note_too_long(len(data), "bytes", limit)
         if LONE_RETURN.search(data):
@@ -130,7 +132,7 @@ class Part:
 
     def values(self, name: str) -> list[str]:
         """All fields of its head with this name, each on one line."""
-        return [value for key, value in self.fields if key == name]
+        return self.by_name.get(name, [])
 
     def value(self, name: str) -> str:
         return next(iter(self.values(name)), "")
