@@ -274,8 +274,10 @@ def arrival_of(received: str) -> datetime.datetime | None:
 
 def identity_of(letter: Part, sender: str, body: Body) -> str:
     """What copies of a letter share, though servers change head, attachments and line ends."""
-    lines = (line[line.startswith(">From ") :].rstrip() for line in body.lines)
-    text = "\n".join(lines).rstrip("\n")
+    text = "\n".join(body.lines)
+    if ">From " in text:
+        text = re.sub("^>From ", "From ", text, flags=re.MULTILINE)
+    text = "\n".join(map(str.rstrip, text.split("\n"))).rstrip("\n")
     if not body.lines:
         text = letter.body_bytes.decode("latin-1").replace("\r\n", "\n").rstrip()
     parts = [" ".join(letter.values("message-id")).strip(), sender, text]

@@ -124,6 +124,9 @@ def reader_of(kind: Any) -> Callable[[Any], Any]:
         of_fields = {name: reader_of(one) for name, one in typing.get_type_hints(kind).items()}
         return lambda kept: kind(**{name: of_fields[name](one) for name, one in kept.items()})
     of = typing.get_args(kind)
+    if of in ((str, ...), (int, ...)):
+        # most of what is kept are lines
+        return tuple
     if Ellipsis in of:
         return lambda kept: tuple(map(reader_of(of[0]), kept))
     if type(None) in of:

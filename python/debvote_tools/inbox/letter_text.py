@@ -93,7 +93,8 @@ class LetterText:
     """
 
     def __init__(self, lines: Sequence[str], names: Names, is_signed: bool) -> None:
-        self.lines, self.names, self.is_signed = [*map(composed, lines)], names, is_signed
+        self.lines = [line if line.isascii() else composed(line) for line in lines]
+        self.names, self.is_signed = names, is_signed
         parts = parted(self.lines)
         self.own, self.signature, self.below = (
             [*filter(self.is_said, places)] for places in parts[:3]
