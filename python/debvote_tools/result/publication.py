@@ -254,13 +254,14 @@ def acts_of(book: Book, history: History, again: DoneAct | None, *, is_secret: b
 
 
 def labels_after_end(book: Book, history: History) -> list[Collection[str]]:
-    """Of each line of a file or a desk that came after the end, and is in time, valid or not, the
-    labels of the questions that it answers. What was entered after the first close is left out: whoever
-    entered it said that it came before that close.
+    """Of each line that came after the end, and is in time, valid or not, the labels of the questions that
+    it answers. Of a letter it came when that arrived. A line of a file or a desk that was entered after the
+    first close is left out: whoever entered it said that it came before that close.
     """
     if history.until is None:
         return []
-    condition = f"{queries.TO_COUNT} AND letter IS NULL AND time > ? AND act < ?"
+    entered = "letter IS NULL AND time > ?1 AND act < ?2"
+    condition = f"{queries.TO_COUNT} AND ({entered} OR {queries.ARRIVED_AFTER})"
     first_close = history.closes[0].number if history.closes else history.last.number + 1
     values = as_text(history.until), first_close
     return [one.by_question for one in queries.envelopes(book, condition, *values)]
