@@ -14,6 +14,7 @@ from debvote_tools.cli.console import in_runs, is_terminal, is_yes, tell_aside
 from debvote_tools.cli.faults import Fault
 from debvote_tools.debvote import casting_words
 from debvote_tools.files import sha256_of
+from debvote_tools.grouping import grouped
 from debvote_tools.inbox.asked import is_unasked_since_end
 from debvote_tools.inbox.lines import name_in
 from debvote_tools.inbox.stopping import BOX, LETTERS, Pending, letters_cure, what_stops
@@ -313,8 +314,12 @@ def taken_out(act: DoneAct, book: Book, reason: str | None, *, is_secret: bool) 
             yield Act(act.time, done, {"envelope": one.number}, reason, one.by_question)
     elif lost := [one for one in queries.lost(book) if one.struck == act.number]:
         done = "taken back in secret" if is_secret else "lines taken back"
-        numbers = {"envelopes": in_runs(one.number for one in lost), "number": len(lost)}
-        yield Act(act.time, done, numbers, labels={key for one in lost for key in one.by_question})
+        numbers = grouped((label, one.number) for one in lost for label in one.by_question)
+        places = {
+            "envelopes": {label: in_runs(its) for label, its in numbers.items()},
+            "number": {label: len(its) for label, its in numbers.items()},
+        }
+        yield Act(act.time, done, places, labels=numbers.keys())
 
 
 def how_moved(detail: Detail, history: History) -> str:
