@@ -202,6 +202,12 @@ TO_COUNT, LATE = "NOT late AND struck IS NULL", "late AND struck IS NULL"
 LATE_BALLOTS = f"{LATE} AND answer IS NULL"
 REFUSED = f"{TO_COUNT} AND answer IS NOT NULL"
 
+# those of letters that arrived after a time (?1), also if the clock of their web host was ahead
+ARRIVED_AFTER = """letter IN (
+  SELECT letter FROM letter
+  WHERE unixepoch(known ->> 'arrived') + min(0, known ->> 'behind') > unixepoch(?1)
+)"""
+
 # the whole lines of the late ballots whose electors have another ballot in time, each with its envelope
 BESIDE_OTHERS = """SELECT envelope.line, other.envelope
 FROM entered AS one JOIN envelope USING (envelope)

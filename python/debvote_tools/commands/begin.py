@@ -457,4 +457,5 @@ def write_slips(election: Election, sealed: Sealed) -> None:
     files = {SLIPS: slips(call, electors)}
     if not call.has_codes_on_roll:
         files[CODES] = codes_csv(call, electors)
-    write_made(election.path(PRIVATE), files, OWN)
+    # a table of codes that are void may be there
+    write_made(election.path(PRIVATE), files, OWN, (SLIPS, CODES))

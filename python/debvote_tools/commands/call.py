@@ -87,10 +87,14 @@ class Arguments(Acting):
 def call(election: Election, arguments: Arguments) -> None:
     """Make the call for votes, a page and a letter; from then on the poll cannot change."""
     election.demand_right_book(arguments)
+    history = election.history()
+    if history.call is None and history.named("take back"):
+        # a run that was killed may have left some
+        remove_void(election, history)
     if arguments.take_back:
         take_back(election)
         return
-    if election.history().call is None:
+    if history.call is None:
         call_first(election, arguments)
     else:
         call_again(election, arguments)
@@ -147,6 +151,8 @@ def call_again(election: Election, arguments: Arguments) -> None:
         faults += filter(None, [unasked_fault(election, history, "at")])
     stop_at(faults)
     demand_no_change(election, history, arguments, said)
+    # a run that was killed is repeated with its words
+    said = {key: value for key, value in said.items() if value != history.announced(key)}
     before = current_call(election, history).letter_text
     # after a close no letter begins with it
     letter_text = before if history.closes else letter_text_in(election.folder)
@@ -192,21 +198,28 @@ def take_back(election: Election) -> None:
             for one in electors
         )
         queries.put_electors(act, lapsed)
-    write_made(election.path(CALL), {}, PUBLIC, queries.files_sealed(book, CALL))
-    (election.path(LETTERS) / EXTENSION).unlink(missing_ok=True)
-    # letters that nobody has sent yet have the mark and the codes that are void
-    for kind in ("call", "reminders"):
-        shutil.rmtree(election.path(LETTERS) / kind, ignore_errors=True)
+    remove_void(election, election.history())
     tell("Took the call back. If anybody has seen it, tell them that it is void.")
     if history.announced("box"):
         tell(f"Remove {SCRIPT} from the web host, until the next call.")
     first = "call"
     if coded:
-        write_made(election.path(PRIVATE), {}, OWN, (SLIPS, CODES))
         words = "their slips and table are removed: destroy what is printed"
         tell(f"All {coded} codes are void, and {words}.")
         first = "roll" if is_on_roll else "codes"
     tell(f"Next: put right what was wrong, then run {election.command(first)}")
+
+
+def remove_void(election: Election, history: History) -> None:
+    """Removes the files of the call that was taken back last, and of its codes, unless there are new ones."""
+    write_made(election.path(CALL), {}, PUBLIC, queries.files_sealed(election.book, CALL))
+    (election.path(LETTERS) / EXTENSION).unlink(missing_ok=True)
+    # letters that nobody has sent yet have the mark and the codes that are void
+    for kind in ("call", "reminders"):
+        shutil.rmtree(election.path(LETTERS) / kind, ignore_errors=True)
+    last = history.named("codes", "take back")[-1]
+    if last.name == "take back" and last.detail["codes"]:
+        write_made(election.path(PRIVATE), {}, OWN, (SLIPS, CODES))
 
 
 def sealed_by(

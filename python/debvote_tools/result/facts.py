@@ -122,6 +122,7 @@ class Act(Told):
             key: ", ".join(
                 f"{value[label]} ({label})" if len(labels) > 1 else str(value[label])
                 for label in labels
+                if label in value
             )
             if isinstance(value, dict)
             else value

@@ -14,6 +14,7 @@ from debvote_tools.cli.console import in_runs, is_terminal, is_yes, tell_aside
 from debvote_tools.cli.faults import Fault
 from debvote_tools.debvote import casting_words
 from debvote_tools.files import sha256_of
+from debvote_tools.grouping import grouped
 from debvote_tools.inbox.asked import is_unasked_since_end
 from debvote_tools.inbox.lines import name_in
 from debvote_tools.inbox.stopping import BOX, LETTERS, Pending, letters_cure, what_stops
@@ -254,13 +255,14 @@ def acts_of(book: Book, history: History, again: DoneAct | None, *, is_secret: b
 
 
 def labels_after_end(book: Book, history: History) -> list[Collection[str]]:
-    """Of each line of a file or a desk that came after the end, and is in time, valid or not, the
-    labels of the questions that it answers. What was entered after the first close is left out: whoever
-    entered it said that it came before that close.
+    """Of each line that came after the end, and is in time, valid or not, the labels of the questions that
+    it answers. Of a letter it came when that arrived. A line of a file or a desk that was entered after the
+    first close is left out: whoever entered it said that it came before that close.
     """
     if history.until is None:
         return []
-    condition = f"{queries.TO_COUNT} AND letter IS NULL AND time > ? AND act < ?"
+    entered = "letter IS NULL AND time > ?1 AND act < ?2"
+    condition = f"{queries.TO_COUNT} AND ({entered} OR {queries.ARRIVED_AFTER})"
     first_close = history.closes[0].number if history.closes else history.last.number + 1
     values = as_text(history.until), first_close
     return [one.by_question for one in queries.envelopes(book, condition, *values)]
@@ -312,8 +314,12 @@ def taken_out(act: DoneAct, book: Book, reason: str | None, *, is_secret: bool) 
             yield Act(act.time, done, {"envelope": one.number}, reason, one.by_question)
     elif lost := [one for one in queries.lost(book) if one.struck == act.number]:
         done = "taken back in secret" if is_secret else "lines taken back"
-        numbers = {"envelopes": in_runs(one.number for one in lost), "number": len(lost)}
-        yield Act(act.time, done, numbers, labels={key for one in lost for key in one.by_question})
+        numbers = grouped((label, one.number) for one in lost for label in one.by_question)
+        places = {
+            "envelopes": {label: in_runs(its) for label, its in numbers.items()},
+            "number": {label: len(its) for label, its in numbers.items()},
+        }
+        yield Act(act.time, done, places, labels=numbers.keys())
 
 
 def how_moved(detail: Detail, history: History) -> str:

@@ -115,6 +115,19 @@ class Again(CallTest):
         self.assert_fault(self.election("call", "--until", "2027-01-01 12:00"), 9, "closed")
         self.assertNotRegex(self.done("call").output, "send|letters call")
 
+    def test_a_run_that_was_killed_is_repeated_with_its_words(self) -> None:
+        """Behind its act, when the folders were not made yet: they are, and nothing else is done."""
+        self.done("call", "--take-back")
+        end, file = ("--until", "2026-12-05 18:00", "--zone", "Europe/Berlin"), "letters/extension.txt"
+        for name, words in (("call/poll.toml", (*UNTIL, "--to", "Club <vote@club.example>", "--at", "https://club.example/")), (file, end)):
+            [(before,)] = self.rows("SELECT max(act) FROM act")
+            # where the note of this act takes its place
+            self.traced("-e", "inject=rename:signal=KILL:when=1", words=("call", *words))
+            self.assertFalse((self.folder / name).exists())
+            self.done("call", *words)
+            self.assertTrue((self.folder / name).exists())
+            self.assertEqual(self.rows("SELECT max(act) FROM act"), [(int(str(before)) + 1,)])
+
     def test_what_is_added_and_what_not(self) -> None:
         for page, other in (("https://club.example/vote/", "moved/"), ("https://club.example/moved/", "vote/")):
             self.done("call", "--at", page)
@@ -135,6 +148,18 @@ class Again(CallTest):
         self.done("call", "--to", "other@club.example")
         self.assertIn(b"autumn", self.read("call/poll.toml"))
         self.assert_fault(self.election("call", *UNTIL[:1], "2026-11-01 10:00"), 2, "is past")
+
+    def test_taking_back_goes_on_where_it_was_killed(self) -> None:
+        """Letters that nobody has sent, and the files of the call, are void: the next run removes them, which may be another call."""
+        for words in (("call", "--take-back"), ("call", "--at", "nowhere")):
+            self.done("call", "--until", "2026-12-05 18:00", *UNTIL[2:])
+            self.done("letters", "call")
+            # behind the act, before the files are removed
+            self.traced("-e", "inject=unlink:signal=KILL:when=2", words=("call", "--take-back"))
+            self.assertTrue((self.folder / "call/poll.toml").exists())
+            self.assertNotEqual(self.election(*words).status, 0)
+            self.assertEqual([file.name for name in ("call", "letters") for file in (self.folder / name).iterdir()], [".lock"])
+            self.done("call", *UNTIL, "--to", "vote@club.example")
 
     def test_not_taken_back_once_something_came(self) -> None:
         self.done("desk", given="ada 1,2,3,4\n")
@@ -333,6 +358,14 @@ class Secret(CallTest):
             self.done(*words)
             names = [] if words[-1] == "--take-back" else ["codes.csv", "slips.html"]
             self.assertEqual(sorted(file.name for file in private.iterdir()), names)
+
+    def test_codes_that_are_void_are_taken_away(self) -> None:
+        """Also if the run that took the call back was killed behind its act, and the next codes are on the roll."""
+        for words, names in ((("call", "--take-back"), []), (("codes", "--on-roll"), ["slips.html"])):
+            self.called()
+            self.traced("-e", "inject=unlink:signal=KILL:when=2", words=("call", "--take-back"))
+            self.election(*words)
+            self.assertEqual([file.name for file in (self.folder / "private").iterdir()], names)
 
     def test_a_code_stays_with_its_person(self) -> None:
         """Also if the name is written in another way; whoever gets the name on the roll after them gets another code."""

@@ -1,6 +1,7 @@
 """`undo`: the last act that entered lines is taken back, and nothing else."""
 
 import json
+import re
 
 from debvote_tools.book import queries
 from debvote_tools.inbox.letter_lines import to_json
@@ -121,16 +122,18 @@ class Secret(CalledTest):
 
 class OfQuestions(QuestionsTest):
     def test_each_question_for_itself(self) -> None:
-        """What is entered again in parts is entered again; each page tells what has an answer to its question."""
-        self.add_lines("ada A 1,2 B 1,2,3", "ben A 1,2 B 1,2,3", "cleo C 1,2,3,4")
+        """What is entered again in parts is entered again; each page tells of the answers to its question, the letter of all."""
+        self.add_lines("ada A 1,2 B 1,2,3", "ben A 1,2 B 1,2,3", "cleo C 1,2,3,4", "dan C 2,1,3,4")
         self.told("undo")
         self.add_lines("ada A 1,2", "ada B 1,2,3", "ben A 1,2 B 2,1,3", "cleo C 1,2,3,4")
-        self.assertIn(" not entered again as they were: 1 (envelopes 2).\n", self.told("status"))
+        self.assertIn(" not entered again as they were: 2 (envelopes 2, 4).\n", self.told("status"))
         self.told("close")
         self.election("publish")
-        said = "Not entered again as they were: envelopes 2."
-        told = [said in " ".join(self.read(f"result/{label}/index.html").decode().split()) for label in "ABC"]
-        self.assertEqual(told, [False, True, False])
+        told = {"A": [], "B": ["envelopes 2"], "C": ["envelopes 4"], "": ["envelopes 2 (B), 4 (C)"]}
+        for label, envelopes in told.items():
+            file = f"result/{label}/index.html" if label else "letters/result.txt"
+            found = re.findall(r"Not entered again as they were: (.*?)\.", " ".join(self.read(file).decode().split()))
+            self.assertEqual(found, envelopes, file)
 
 
 class AtATerminal(CalledTest):

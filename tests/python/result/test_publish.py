@@ -428,7 +428,7 @@ class OfOpenVotes(OfElections):
         self.expect(f"the close: {close}", [word in close for word in words], [True] * 4)
 
     def test_what_comes_after_the_end(self):
-        """Lines and ballots of a desk are told that came after the end; not those that were struck, nor letters, which wait."""
+        """Lines, ballots of a desk and letters that the secretary entered are told that came after the end; not those that were struck."""
         letter = "Received: by mx; Mon, 1 Mar 2027 12:30:00 +0000\nFrom: cleo@x.example\n\ncleo 3,2,1\n"
         # the vote is not of the day of a call that was taken back
         self.set_clock("2027-02-20T10:00:00+00:00")
@@ -458,7 +458,7 @@ class OfOpenVotes(OfElections):
         done = self.sections()["What-was-done"].text()
         self.expect("when the vote was", "Vote of 26 February 2027 to 1 March 2027 · Result" in self.page(), True)
         for said in (
-            "2 lines came after the end, and are in time, since the vote was not closed yet.",
+            "3 lines came after the end, and are in time, since the vote was not closed yet.",
             "12:50 (UTC): The clock of the secretary's computer went back: the act before has a later time, Monday, 1 March 2027, 13:00 (UTC).",
         ):
             self.expect(said, said in done, True)
