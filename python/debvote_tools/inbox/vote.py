@@ -357,14 +357,17 @@ class Vote:
 
     def right_words(self) -> str:
         """A ballot line with what each rank is of, as `explain` has it."""
-        polls = self.questions if self.poll is None else {"": self.poll}
-        parts = [
-            f"{label} {', '.join(f'{at} {name}' for at, name in enumerate(poll.names, start=1))}"
-            for label, poll in polls.items()
-        ]
-        options = cut("; ".join(part.strip() for part in parts), MOST_OF_OPTIONS)
-        line = f"A ballot line of this poll: `{self.right_line}`: the ranks of {options}; 1 is the best"
-        return line if self.poll else f"{line}; a question may be left out"
+        polls = {"": self.poll} if self.poll else self.questions
+        options = "; ".join(
+            f"{label} {numbered(poll.names)}".strip() for label, poll in polls.items()
+        )
+        ranks_of = f"the ranks of {cut(options, MOST_OF_OPTIONS)}; 1 is the best"
+        words = f"A ballot line of this poll: `{self.right_line}`: {ranks_of}"
+        return words if self.poll else f"{words}; a question may be left out"
+
+
+def numbered(names: Iterable[str]) -> str:
+    return ", ".join(f"{number} {name}" for number, name in enumerate(names, start=1))
 
 
 def turned_rank(number: int, options: int) -> str:

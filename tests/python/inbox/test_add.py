@@ -343,13 +343,20 @@ class OtherOrder(CalledTest):
         said = "wrong: the lines look like a table; its columns may stand in another order than the options; nothing was added: "
         cure = "write each line as a name and its ranks in the order of the options, or add it anyway with --force"
         heads = "Name None,Sell,Repair,Dinghy", "Name;At the lake;In the town hall;Sell the house and meet there;Further discussion", "WHO\tA\tB\tC\tD", "a b c d e", "When;Who;A;B;C"
-        for rows in (*(f"{head}\n{self.ROWS}" for head in heads), "ada,1,2,3,4\nben,1,2,3,4\n", "ada 1 2 3 4\nben 1 2 3 4\n", "ada;1;2\nben\t1\t2\n"):
+        heads += "Name 4,1,2,3", "Name|A|B|C|D", "When/Who/Mail/Note/A/B/C/D"
+        below = (f"ada, 1,2,4,3\nben {RANKS}\n{head}\n{self.ROWS}" for head in heads if head != "Name 4,1,2,3")
+        for rows in (*(f"{head}\n{self.ROWS}" for head in heads), *below, "ada,1,2,3,4\nben,1,2,3,4\n", "ada 1 2 3 4\nben 1 2 3 4\n", "ada;1;2\nben\t1\t2\n"):
             self.write("wrong", rows)
             for asked in ((), ("--look",)):
                 self.assert_refused(("add", *asked, "wrong"), 9, said, cure)
         self.write("wrong", "Name;Lake;Hall;Sell;Further\nada 1;2;3;4\nben 2,1,3,4\n")
         self.assertIn("Added 3 lines (2 bad shape, 1 counted).\n", self.told("add", "--force", "wrong"))
         self.assertEqual(self.lines(), ["Name;Lake;Hall;Sell;Further", "ada 1;2;3;4", "ben 2,1,3,4"])
+
+    def test_what_looks_like_none(self) -> None:
+        """A refused ballot above others, a head without ranks below it, and notes of fewer words."""
+        rows = f"Mrs Lovelace {RANKS}\nada {RANKS}\n# by phone, Monday\nben {RANKS}\ncleo {RANKS}\nName;A;B;C;D\n"
+        self.assertIn("Added 6 lines (3 bad shape, 3 counted).", self.told("add", given=rows))
 
     def test_lines_of_a_table_and_semicolons_between_ranks(self) -> None:
         """Few are ballots if it has other signs, or words. Only blanks around commas are repaired."""
@@ -372,6 +379,8 @@ class RealNames(CalledTest):
         self.write("more", f"Ada Lovelace {RANKS}\nLovelace {RANKS}\n")
         said = f"more:1: `Ada Lovelace {RANKS}` was changed to `ada {RANKS}`\n1 counted  ada: {LAKE}\n"
         self.assertIn(said, self.told("add", "more"))
+        # a real name above a name on the roll is no head of a table
+        self.told("add", "--look", given=f"Cleo {RANKS}\nada {RANKS}\nben-1 {RANKS}\n")
         self.told("desk", given=f"ada lovelace: 1, 2, 4, 3.\nADA-LOVELACE 2,1,4,3\nCleo {RANKS}\n")
         self.assertEqual(self.lines(), [f"ada {RANKS}", f"Lovelace {RANKS}", f"ada {RANKS}", "ada 2,1,4,3", f"cleo-blum {RANKS}"])
         # the line as it came is refused for its name, and what it means for another reason
