@@ -93,8 +93,8 @@ abbrev pub is_head : PollContent → Bool → Text → Bool
 is_head poll is_below bytes = may_be_head (option_count poll) is_below bytes && names_no_elector poll bytes
 
 -- ---- files
--- Some line is a head where it stands, and a line of ranks is below it: the first one, or one of those below. Given is whether a line
--- of ranks is above all of them.
+-- Some line is a head where it stands, and a line of ranks is below it: the first line, or one of the others. Given is whether a line of
+-- ranks is above all of them.
 abbrev pub has_head : PollContent → Bool → List Text → Bool
 has_head poll is_below [] = false
 has_head poll is_below (bytes ∷ below) = (is_head poll is_below bytes && list_any is_of_ranks below) || has_head poll (is_below || is_of_ranks bytes) below

@@ -1,5 +1,5 @@
 //! What looks like a table, whose columns may stand in another order than the options.
-ghost use Rattle.std.specs.Prelude.{◌≡◌, ◌≤◌, ◌==◌, ◌&&◌, [], IfOk, filter, length};
+ghost use Rattle.std.specs.Prelude.{◌≡◌, ◌≤◌, ◌==◌, ◌&&◌, ◌||◌, not, [], IfOk, filter, length};
 ghost use Rattle.std.specs.List.{list_any};
 ghost use Rattle.vote_poll_text.specs.Adding.{Adds};
 ghost use Rattle.vote_explain_ballots.specs.Tables.{first_word, has_columns, has_each_rank, has_few_ranks, has_heads, is_column_sign, is_even, is_head, is_head_sign, is_of_ranks, is_parted_by, is_rank, is_sign, later_words, looks_like_table, may_be_head, names_no_elector, number_of, table_text, words_of};
@@ -60,7 +60,7 @@ fn number_of(word: &[u8]) -> usize
 }
 
 /// How many words behind the first of a line are ranks.
-fn rank_count(line: &[u8]) -> usize
+fn later_rank_count(line: &[u8]) -> usize
     ensures { result ≡ length (filter is_rank (later_words line.now)) }
 {
     let parts = line.split(|byte| is_sign(*byte));
@@ -160,7 +160,7 @@ fn has_heads(options: usize, line: &[u8]) -> bool
 fn has_few_ranks(line: &[u8]) -> bool
     ensures { result ≡ has_few_ranks line.now }
 {
-    let (ranks, words) = (rank_count(line), word_count(line).saturating_sub(1));
+    let (ranks, words) = (later_rank_count(line), word_count(line).saturating_sub(1));
     ranks <= words.saturating_sub(ranks)
 }
 
@@ -170,7 +170,7 @@ fn may_be_head(options: usize, is_below: bool, line: &[u8]) -> bool
     ensures { result ≡ may_be_head options is_below line.now }
 {
     if is_of_ranks(line) {
-        return !is_below & has_each_rank(options, line);
+        return !is_below && has_each_rank(options, line);
     }
     !(is_below & (options == 2)) & has_few_ranks(line) & has_heads(options, line)
 }
@@ -193,6 +193,13 @@ fn is_head(alloc: Global, poll: &Poll, is_below: bool, line: &[u8]) -> Result<bo
     names_no_elector(alloc, poll, line)
 }
 
+/// Whether the lines of ranks are even, with this line below those of which it is given.
+fn are_even_with(are_even: bool, line: &[u8]) -> bool
+    ensures { result ≡ (are_even && (not (is_of_ranks line.now) || is_even line.now)) }
+{
+    are_even && (!is_of_ranks(line) || is_even(line))
+}
+
 /// Whether a file with these lines looks like a table.
 fn looks_like_table(alloc: Global, poll: &Poll, lines: &Lines<'_>) -> Result<bool, AllocError>
     ensures { IfOk result (λ looks. looks ≡ looks_like_table poll.now lines.now) }
@@ -205,7 +212,7 @@ fn looks_like_table(alloc: Global, poll: &Poll, lines: &Lines<'_>) -> Result<boo
         let is_head = is_head(alloc, poll, has_one, line)?;
         is_table = is_table | (has_head & is_of_ranks);
         has_head = has_head | is_head;
-        are_even = are_even & (!is_of_ranks | is_even(line));
+        are_even = are_even_with(are_even, line);
         has_two = has_two | (has_one & is_of_ranks);
         has_one = has_one | is_of_ranks;
     }
