@@ -267,9 +267,7 @@ class Vote:
         if poll is None or all(line.is_right for line in lines):
             return False
         asked = [self.as_asked(line) for line in lines]
-        heads = (
-            place for place, line in enumerate(lines) if self.is_head_of_words(line.original.text)
-        )
+        heads = (place for place, line in enumerate(lines) if self.is_head_of_words(line))
         return any(
             self.debvote.findings(poll.as_bytes(), ballot_file(part)).are_table
             for first in {0, next(heads, 0)}
@@ -283,13 +281,15 @@ class Vote:
         if line.is_ballot:
             return line.as_meant
         text = line.original.text
-        ranked = text if self.is_head_of_words(text) else self.names.with_ranks(text)
+        ranked = text if self.is_head_of_words(line) else self.names.with_ranks(text)
         asked = text if ranked == text else f"{ranked.rpartition(' ')[0]} {ABSTAIN}"
         return asked.encode("utf-8", "surrogateescape")
 
-    def is_head_of_words(self, text: str) -> bool:
-        """Whether the words behind the first are words of a motion, and these are several, of nobody."""
-        first, *others = words_in(text) or [""]
+    def is_head_of_words(self, line: CheckedLine) -> bool:
+        """Whether a line, which is no ballot, has the name of no elector and several words of a motion."""
+        if line.is_ballot:
+            return False
+        first, *others = words_in(line.original.text) or [""]
         are_of_motion = len(others) > 1 and all(word in self.names.words for word in others)
         return are_of_motion and not self.names.on_roll(first)
 

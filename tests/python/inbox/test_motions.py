@@ -111,7 +111,7 @@ class Taken(LettersTest):
                 self.assert_stops(self.election(command, given=table), self.first_act - 1, 4 if command == "desk" else 9, said)
         # a head may have the words of the motion, and then it may be below ballots
         for head in ("Name Nein,Ja", "NAME | Nein | Ja | Enthaltung", "Name nein ja"):
-            for table in (f"{head}\nada 2,1\n", f"ben ja\n{head}\nada 2,1\n", f"ben 1,2\n{head}\nada ja\n"):
+            for table in (f"{head}\nada 2,1\n", f"ben ja\n{head}\nada 2,1\n", f"Kim No nein\n{head}\nada ja\n"):
                 for command in ("add", "desk"):
                     self.assert_stops(self.election(command, given=table), self.first_act - 1, 4 if command == "desk" else 9, said)
         # but a word is none of its ranks, and notes between ballots are no heads
