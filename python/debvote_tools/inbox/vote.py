@@ -74,11 +74,6 @@ class CheckedLine(NamedTuple):
         return self.finding is None
 
     @property
-    def is_right(self) -> bool:
-        """Whether it is a ballot as it came."""
-        return self.is_ballot and self.as_entered == self.original.unframed
-
-    @property
     def can_be_entered(self) -> bool:
         """As a ballot or as refused. Of several answers a line can't that has not their form, or has the
         name of several electors.
@@ -260,11 +255,11 @@ class Vote:
         return labels != [] and labels == [label for label in self.questions if label in labels]
 
     def are_table(self, lines: Sequence[CheckedLine]) -> bool:
-        """Whether lines look like a table to debvote; right ballots don't, nor do ballots of several
-        answers. Of a motion a head may also stand below ballots, if it has its words.
+        """Whether lines look like a table to debvote; ballots alone don't, nor do those of several answers.
+        Of a motion a head may also stand below ballots, if it has its words.
         """
         poll = self.questions.get("")
-        if poll is None or all(line.is_right for line in lines):
+        if poll is None or all(line.is_ballot for line in lines):
             return False
         asked = [self.as_asked(line) for line in lines]
         heads = (place for place, line in enumerate(lines) if self.is_head_of_words(line))

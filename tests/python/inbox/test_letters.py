@@ -317,7 +317,7 @@ class ReadOnce(LettersTest):
         return told, [task for task, _ in asked]
 
     def test_of_lines_twice_or_three_times(self) -> None:
-        """Three times where a line is no ballot as it came: then it is asked whether all look like a table."""
+        """Three times where a line is no ballot: then it is asked whether all look like a table."""
         lines = f"Ada {RANKS}\nGsu {RANKS}\nben {RANKS}\n"
         for words, given, at_most in (
             (("add", "--look"), lines, 3),
