@@ -381,7 +381,7 @@ fn memory_of_perform_on_explain(rt: HostRuntime) -> Result<(), Fail> {
         poll_name: None,
     };
     let findings =
-        "the ballot file has carriage returns at the ends of its lines of bad shape, as on Windows: this can be mended with tr -d '\\r' < 'my ballots' > 'my ballots'.new\nballots:1: bad rank count: 2 ranks, the poll has 4 options\n  1 | v0 1,2\n    |    ^^^\nballots:2: bad shape: column 11: carriage return; a ballot has a comma or its end there, or a second digit of the rank\n  2 | v1 1,2,3,4\\x0D\n    |           ^^^^\na ballot line of this poll: `v0 1,2,3,4`: the ranks of 1 A, 2 B, 3 C, 4 None; 1 is the best\n2 lines: 0 valid, 2 refused, 0 of them late; 0 of 9 electors have a ballot; refused lines count for nothing\n";
+        "the ballot file has carriage returns at the ends of its lines of bad shape, as on Windows: this can be mended with tr -d '\\r' < 'my ballots' > 'my ballots'.new\nballots:1: bad rank count: 2 ranks, the poll has 4 options\n  1 | v0 1,2\n    |    ^^^\nballots:2: bad shape: column 11: carriage return; a ballot has a comma or its end there, or a second digit of the rank\n  2 | v1 1,2,3,4\\x0D\n    |           ^^^^\na ballot line of this poll: `v0 2,3,4,1`: the ranks of 1 A, 2 B, 3 C, 4 None; 1 is the best\n2 lines: 0 valid, 2 refused, 0 of them late; 0 of 9 electors have a ballot; refused lines count for nothing\n";
     walk(&rt, rt.alloc(), &request, findings, Ended::Found)
 }
 

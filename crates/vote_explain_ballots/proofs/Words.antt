@@ -20,7 +20,7 @@ pub use Rattle.vote_steps.specs.History.{before_close, is_closed, is_valid, repl
 pub use Rattle.vote_sheet.specs.Texts.{Text}
 pub use Rattle.vote_explain_poll.specs.Findings.{AreLinesFor}
 pub use Rattle.vote_explain_poll.specs.Hints.{Adding}
-pub use Rattle.vote_explain_ballots.specs.Explained.{IsIfText, IsLineHint, IsRemarked, IsStrangerHint, SaysRefusal, finding, finding_head, parted, question, stranger_words}
+pub use Rattle.vote_explain_ballots.specs.Explained.{IsIfText, IsLineHint, IsRemarked, IsStrangerHint, SaysRefusal, finding, finding_head, parted, question, stranger_words, turned_rank}
 pub use Rattle.vote_explain_ballots.specs.Places.{IsColumn, IsExit, IsLinePrefix, IsPartAfter, has_byte, may_end, next_part}
 pub use Rattle.vote_explain_ballots.specs.Refusals.{AreReplies, EachRefusalIsListed, Refusal, RefusedAsBySteps, if_refusing, refusal, refusal_by, refusal_of, refusals, refusing_reply, reply_to_cast}
 pub use Rattle.vote_explain_ballots.specs.Tables.{is_even, is_head, is_of_ranks, is_rank, is_sign, words_of}

@@ -91,10 +91,14 @@ SaysRefusal is_text poll refusal text =
 abbrev pub parted : Text → ℕ → Text
 parted sign number = if number == 1 then codes " " else sign
 
--- the first elector, who gives each option its number as its rank
+-- the rank of an option in a ballot that ranks the last one first, and then the others in their order
+abbrev pub turned_rank : ℕ → ℕ → ℕ
+turned_rank options option = if option == options then 1 else option + 1
+
+-- the first elector, who ranks the last option first: with the numbers as ranks, who takes them for an order of choice sees no fault
 abbrev pub own_ballot : PollContent → Text
 own_ballot poll =
-    shown MOST_SHOWN (slice_index_or poll.roll 0 []) ++ flat_map (λ option. parted (codes ",") option.0 ++ decimal option.0) (enumerate_from 1 poll.options)
+    shown MOST_SHOWN (slice_index_or poll.roll 0 []) ++ flat_map (λ option. parted (codes ",") option.0 ++ decimal (turned_rank (option_count poll) option.0)) (enumerate_from 1 poll.options)
 
 -- the options in their order, each with its number
 abbrev pub own_options : PollContent → Text

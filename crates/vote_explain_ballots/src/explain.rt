@@ -1,11 +1,11 @@
 //! What is wrong with the lines of a ballot file, as a text.
-ghost use Rattle.std.specs.Prelude.{◌≡◌, [], IfOk, drop, length, slice_index_or, string_bytes};
+ghost use Rattle.std.specs.Prelude.{◌≡◌, ◌≤◌, [], IfOk, drop, length, slice_index_or, string_bytes};
 ghost use Rattle.vote_poll.specs.PollContent.{last_in_time};
 ghost use Rattle.vote_poll.specs.Readings.{is_ballot, reading};
 ghost use Rattle.vote_poll_text.specs.Adding.{Adds};
 ghost use Rattle.vote_steps.specs.HeldLines.{HoldsLines};
 ghost use Rattle.vote_sheet.specs.LastBallots.{refused_count};
-ghost use Rattle.vote_explain_ballots.specs.Explained.{AreTotals, IsExplained, counted_text, example_text, has_bad_line, numbers_text, order_words, own_ballot, own_options, parted, warnings_text};
+ghost use Rattle.vote_explain_ballots.specs.Explained.{AreTotals, IsExplained, counted_text, example_text, has_bad_line, numbers_text, order_words, own_ballot, own_options, parted, turned_rank, warnings_text};
 ghost use Rattle.vote_explain_ballots.specs.Refusals.{EachRefusalIsListed, RefusedAsBySteps};
 
 use crate::findings::Findings;
@@ -56,7 +56,15 @@ fn first_elector(poll: &Poll) -> &[u8]
     poll.voter_name(0).unwrap_or(b"")
 }
 
-/// A ballot line of the poll, whose first elector gives each option its number as its rank; and the options with their numbers.
+/// The rank of an option in a ballot that ranks the last one first, and then the others in their order.
+fn turned_rank(options: u8, option: u8) -> u8
+    requires { option ≤ options }
+    ensures { result ≡ turned_rank options option }
+{
+    if option == options { 1 } else { option + 1 }
+}
+
+/// A ballot line of the poll, in which the first elector ranks the last option first; and the options with their numbers.
 fn own_ballot(alloc: Global, poll: &Poll) -> Result<(String, String), AllocError>
     ensures { IfOk result (λ own. (string_bytes own.0 ≡ own_ballot poll.now) × (string_bytes own.1 ≡ own_options poll.now)) }
 {
@@ -64,7 +72,7 @@ fn own_ballot(alloc: Global, poll: &Poll) -> Result<(String, String), AllocError
     push_shown(&mut ballot, first_elector(poll), MOST_SHOWN)?;
     for before in 0..poll.options() {
         push_parted(&mut ballot, ",", before + 1)?;
-        write!(ballot, "{}", before + 1)?;
+        write!(ballot, "{}", turned_rank(poll.options(), before + 1))?;
         push_parted(&mut options, ", ", before + 1)?;
         write!(options, "{} ", before + 1)?;
         options.push_str(poll.option_name(before + 1))?;

@@ -1,10 +1,11 @@
 //! What looks like a table, whose columns may stand in another order than the options.
-ghost use Rattle.std.specs.Prelude.{◌≡◌, ◌≤◌, ◌&&◌, [], IfOk, length, slice_index_or};
+ghost use Rattle.std.specs.Prelude.{◌≡◌, ◌≤◌, ◌==◌, ◌&&◌, ◌||◌, not, [], IfOk, filter, length};
 ghost use Rattle.std.specs.List.{list_any};
 ghost use Rattle.vote_poll_text.specs.Adding.{Adds};
-ghost use Rattle.vote_explain_ballots.specs.Tables.{has_columns, has_heads, is_column_sign, is_even, is_head, is_of_ranks, is_parted_by, is_rank, is_sign, looks_like_table, table_text, words_of};
+ghost use Rattle.vote_explain_ballots.specs.Tables.{first_word, has_columns, has_each_rank, has_few_ranks, has_heads, is_column_sign, is_even, is_head, is_head_sign, is_of_ranks, is_parted_by, is_rank, is_sign, later_words, looks_like_table, may_be_head, names_no_elector, number_of, table_text, words_of};
 
 use std::alloc::{AllocError, Global};
+use vote_explain_poll::unmarked;
 use vote_poll::{Lines, MAX_OPTIONS, Poll};
 
 /// Whether a byte is a sign that parts columns.
@@ -29,11 +30,11 @@ fn word_count(line: &[u8]) -> usize
     parts.filter(|word| !word.is_empty()).count()
 }
 
-/// The first word of a line, or nothing.
+/// The first word of a line, behind a byte-order mark, or nothing.
 fn first_word(line: &[u8]) -> &[u8]
-    ensures { result.now ≡ slice_index_or (words_of line.now) 0 [] }
+    ensures { result.now ≡ first_word line.now }
 {
-    let parts = line.split(|byte| is_sign(*byte));
+    let parts = unmarked(line).split(|byte| is_sign(*byte));
     let mut words = parts.filter(|word| !word.is_empty());
     words.nth(0).unwrap_or(b"")
 }
@@ -43,6 +44,47 @@ fn is_rank(word: &[u8]) -> bool
     ensures { result ≡ is_rank word.now }
 {
     matches!(word, [b'0'..=b'9' | b'-'] | [b'0'..=b'9', b'0'..=b'9'])
+}
+
+/// The number of a rank, which is 0 of a hyphen.
+fn number_of(word: &[u8]) -> usize
+    ensures { result ≡ number_of word.now }
+{
+    match word {
+        [digit] => digit.saturating_sub(b'0') as usize,
+        [tens, digit] => {
+            10 * tens.saturating_sub(b'0') as usize + digit.saturating_sub(b'0') as usize
+        }
+        _ => 0,
+    }
+}
+
+/// How many words behind the first of a line are ranks.
+fn later_rank_count(line: &[u8]) -> usize
+    ensures { result ≡ length (filter is_rank (later_words line.now)) }
+{
+    let parts = line.split(|byte| is_sign(*byte));
+    let words = parts.filter(|word| !word.is_empty());
+    words.skip(1).filter(|word| is_rank(word)).count()
+}
+
+/// Whether a word behind the first of a line has this number.
+fn has_rank(line: &[u8], option: usize) -> bool
+    ensures { result ≡ list_any (λ word. number_of word == option) (later_words line.now) }
+{
+    let parts = line.split(|byte| is_sign(*byte));
+    let words = parts.filter(|word| !word.is_empty());
+    words.skip(1).any(|word| number_of(word) == option)
+}
+
+/// Whether a line has as many words behind its first as there are options, and each number of an option.
+fn has_each_rank(options: usize, line: &[u8]) -> bool
+    requires { options ≤ MAX_OPTIONS }
+    ensures { result ≡ has_each_rank options line.now }
+{
+    let mut numbers = 1..options + 1;
+    let has_all = numbers.all(|option| has_rank(line, option));
+    (word_count(line) == options + 1) & has_all
 }
 
 /// Whether a line has a word and ranks behind it.
@@ -78,13 +120,27 @@ fn is_even(line: &[u8]) -> bool
     !has_column_sign(line) | by_one
 }
 
-/// Whether a line has as many columns by a sign as there are options, or one or two more.
+/// Whether a byte is a sign that parts the columns of a head.
+fn is_head_sign(byte: u8) -> bool
+    ensures { result ≡ is_head_sign byte }
+{
+    is_column_sign(byte) || matches!(byte, b'|' | b'/')
+}
+
+/// Whether a sign that parts the columns of a head is in a line.
+fn has_head_sign(line: &[u8]) -> bool
+    ensures { result ≡ list_any is_head_sign line.now }
+{
+    line.iter().any(|byte| is_head_sign(*byte))
+}
+
+/// Whether a line has as many columns by a sign as there are options, or up to four more.
 fn has_columns(options: usize, line: &[u8], sign: u8) -> bool
     requires { options ≤ MAX_OPTIONS }
     ensures { result ≡ has_columns options line.now sign }
 {
     let columns = line.iter().filter(|byte| **byte == sign).count() + 1;
-    options <= columns && columns <= options + 2
+    options <= columns && columns <= options + 4
 }
 
 /// Whether a line has as many columns as a head.
@@ -94,42 +150,73 @@ fn has_heads(options: usize, line: &[u8]) -> bool
 {
     let has_columns = has_columns(options, line, b',')
         | has_columns(options, line, b';')
-        | has_columns(options, line, b'\t');
-    has_columns | (!has_column_sign(line) & (word_count(line) == options + 1))
+        | has_columns(options, line, b'\t')
+        | has_columns(options, line, b'|')
+        | has_columns(options, line, b'/');
+    has_columns | (!has_head_sign(line) & (word_count(line) == options + 1))
 }
 
-/// Whether a line is as the head of a table, if it is where one may be.
-fn is_head(alloc: Global, poll: &Poll, line: &[u8], may_be: bool) -> Result<bool, AllocError>
-    ensures { IfOk result (λ is. is ≡ (may_be && is_head poll.now line.now)) }
+/// Whether at most half of the words behind the first of a line are ranks.
+fn has_few_ranks(line: &[u8]) -> bool
+    ensures { result ≡ has_few_ranks line.now }
 {
-    if !may_be {
+    let (ranks, words) = (later_rank_count(line), word_count(line).saturating_sub(1));
+    ranks <= words.saturating_sub(ranks)
+}
+
+/// Whether a line has the words of a head where it stands, which may be below a line of ranks.
+fn may_be_head(options: usize, is_below: bool, line: &[u8]) -> bool
+    requires { options ≤ MAX_OPTIONS }
+    ensures { result ≡ may_be_head options is_below line.now }
+{
+    if is_of_ranks(line) {
+        return !is_below && has_each_rank(options, line);
+    }
+    !(is_below & (options == 2)) & has_few_ranks(line) & has_heads(options, line)
+}
+
+/// Whether the first word of a line, in small letters, is the name of no elector.
+fn names_no_elector(alloc: Global, poll: &Poll, line: &[u8]) -> Result<bool, AllocError>
+    ensures { IfOk result (λ none. none ≡ names_no_elector poll.now line.now) }
+{
+    let word = first_word(line).to_ascii_lowercase(alloc)?;
+    Ok(poll.voter_of(&word).is_none())
+}
+
+/// Whether a line is a head where it stands, which may be below a line of ranks.
+fn is_head(alloc: Global, poll: &Poll, is_below: bool, line: &[u8]) -> Result<bool, AllocError>
+    ensures { IfOk result (λ is. is ≡ is_head poll.now is_below line.now) }
+{
+    if !may_be_head(poll.options() as usize, is_below, line) {
         return Ok(false);
     }
-    let word = first_word(line).to_ascii_lowercase(alloc)?;
-    let is_no_elector = poll.voter_of(&word).is_none();
-    Ok(has_heads(poll.options() as usize, line) & is_no_elector)
+    names_no_elector(alloc, poll, line)
 }
 
-/// Whether a file with these lines looks like a table. This is known at the first line of ranks below a head, and at the first one
-/// with two signs.
+/// Whether the lines of ranks are even, with this line below those of which it is given.
+fn are_even_with(are_even: bool, line: &[u8]) -> bool
+    ensures { result ≡ (are_even && (not (is_of_ranks line.now) || is_even line.now)) }
+{
+    are_even && (!is_of_ranks(line) || is_even(line))
+}
+
+/// Whether a file with these lines looks like a table.
 fn looks_like_table(alloc: Global, poll: &Poll, lines: &Lines<'_>) -> Result<bool, AllocError>
     ensures { IfOk result (λ looks. looks ≡ looks_like_table poll.now lines.now) }
 {
-    let (mut has_one, mut has_two) = (false, false);
-    let (mut has_head, mut are_even) = (false, true);
+    let (mut has_one, mut has_two, mut are_even) = (false, false, true);
+    let (mut has_head, mut is_table) = (false, false);
     for place in 0..lines.len() {
         let line = lines.line(place);
         let is_of_ranks = is_of_ranks(line);
-        let is_head = is_head(alloc, poll, line, !has_one & !is_of_ranks)?;
+        let is_head = is_head(alloc, poll, has_one, line)?;
+        is_table = is_table | (has_head & is_of_ranks);
         has_head = has_head | is_head;
-        are_even = are_even & (!is_of_ranks | is_even(line));
+        are_even = are_even_with(are_even, line);
         has_two = has_two | (has_one & is_of_ranks);
         has_one = has_one | is_of_ranks;
-        if has_one & (has_head | !are_even) {
-            return Ok(has_head);
-        }
     }
-    Ok((has_one & has_head) | (has_two & are_even))
+    Ok(is_table | (has_two & are_even))
 }
 
 /// Adds whether a file with these lines looks like a table.

@@ -108,6 +108,9 @@ fn push_quorum(words: &mut String, electors: usize) -> Result<(), AllocError>
 const A_RATIO: &str =
     "; ratio S: S votes for it against each vote for the default: 1 for half, 2 for two thirds, 3 for three quarters";
 
+/// What a last envelope is.
+const A_LAST_ENVELOPE: &str = ": the number of the last line of the ballot file that is in time";
+
 /// Adds where the default option stands, with so many other options.
 fn push_default(words: &mut String, others: usize) -> Result<(), AllocError> {
     let number = others.saturating_add(1);
@@ -183,7 +186,8 @@ fn push_wanted(words: &mut String, key: PollKey) -> Result<(), AllocError> {
         }
         PollKey::Quorum => Ok(()),
         PollKey::LastEnvelope => {
-            write!(words, "; a whole number from 0 to {MAX_LINES} is wanted")
+            write!(words, "; a whole number from 0 to {MAX_LINES} is wanted")?;
+            words.push_str(A_LAST_ENVELOPE)
         }
     }
 }
@@ -316,11 +320,14 @@ impl<'f> Hints<'f> {
                 write!(words, "{found} found; a roll has 1 to {MAX_ELECTORS} names")
             }
             PollFault::VoterName(place) => self.push_voter(words, place),
-            PollFault::LastEnvelope => write!(
-                words,
-                "{} found; a last envelope is a whole number from 0 to {MAX_LINES}",
-                keys.last_envelope.unwrap_or(0)
-            ),
+            PollFault::LastEnvelope => {
+                write!(
+                    words,
+                    "{} found; a last envelope is a whole number from 0 to {MAX_LINES}",
+                    keys.last_envelope.unwrap_or(0)
+                )?;
+                words.push_str(A_LAST_ENVELOPE)
+            }
             PollFault::Wording => {
                 push_quoted(words, keys.wording.unwrap_or(""))?;
                 words.push_str(" found; a wording is at_least or more_than")

@@ -231,18 +231,11 @@ def file_lines(vote: Vote, files: Sequence[GivenFile]) -> list[FileLines]:
     for file, lines in zip(files, lists):
         its_lines = by_file[file.name]
         # of a table no ranks are repaired
-        if is_table := not is_right_as_it_came(its_lines[0]) and vote.are_table(lines):
+        if is_table := vote.are_table(its_lines):
             unrepaired = (line.original for line in its_lines)
             its_lines = vote.checked_lines([one.written(one.unframed) for one in unrepaired])
         found.append(FileLines(file, its_lines, [one for one in lines if one.is_empty], is_table))
     return found
-
-
-def is_right_as_it_came(line: CheckedLine) -> bool:
-    """Whether a line is a ballot without a change: below one no line is the head of a table, and the lines
-    of a table are none.
-    """
-    return line.is_ballot and line.as_entered == line.original.unframed
 
 
 def compared_with_book(

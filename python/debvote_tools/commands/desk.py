@@ -63,8 +63,8 @@ class Desk:
     next_line: int = 1
     # whether the input has ended
     is_over: bool = False
-    # the lines that came at a pipe, until one of them is a ballot
-    above: list[Line] | None = dataclasses.field(default_factory=list[Line])
+    # what came at a pipe: the first ballot, and all lines that are none
+    above: list[CheckedLine] = dataclasses.field(default_factory=list[CheckedLine])
     # what was said last of an end or a close that has passed
     notes: Sequence[str] = ()
 
@@ -105,14 +105,13 @@ class Desk:
         return line.written(f"{name}{colon} {self.vote.label} {ranks}".encode())
 
     def demand_no_table(self, lines: list[CheckedLine]) -> None:
-        """Stops at the head of a table: below a ballot no line is one."""
-        if self.above is None:
-            return
-        self.above += [line.original for line in lines]
-        if self.vote.are_table(self.above):
+        """Stops at ranks below the head of a table, before they are cast."""
+        came = [*self.above, *lines]
+        if self.vote.are_table(came):
             raise Fault("desk", TABLE, IN_ORDER, Status.BAD_BALLOTS)
-        if any(line.is_ballot for line in lines):
-            self.above = None
+        # no other ballot is a head, nor a line of a table
+        first = next((line for line in came if line.is_ballot), None)
+        self.above = [line for line in came if line is first or not line.is_ballot]
 
     def enter(self, lines: list[CheckedLine], elector: int | None = None, *, asks: bool) -> None:
         carried_out(self.vote.book, lambda: what_is_cast(self, lines, elector, asks))

@@ -3,12 +3,13 @@
 A change is made only if the line can mean one thing. These are changed: the byte-order mark at the
 start, carriage returns at line ends, blanks at either end, around commas and between name and
 ranks, capital letters of the name; and what mail programs and word processors write: quotation
-marks around the line, asterisks for bold letters, a full stop at its end, semicolons between all
-ranks in place of commas, a colon after the name, no-break spaces, a dash in place of a hyphen. A
-name that is that of one elector alone, on the roll or really, becomes the one on the roll, and in a
-motion a word becomes ranks (`Vote.as_meant`); in a letter its sender decides whose real name it is
-(`LetterCase.elector_of`). Of a ballot of several answers each is changed so, and
-labels become capital letters in their order. Nothing is guessed: no rank, no name, no order.
+marks around the line, asterisks for bold letters, a full stop at its end, a colon after the name,
+no-break spaces, a dash in place of a hyphen. A name that is that of one elector alone, on the roll or
+really, becomes the one on the roll, and in a motion a word becomes ranks (`Vote.as_meant`); in a
+letter its sender decides whose real name it is (`LetterCase.elector_of`). Of a ballot of several
+answers each is changed so, and labels become capital letters in their order. No other sign between
+ranks becomes a comma: with semicolons a table of scores was counted. Nothing is guessed: no rank, no
+name, no order.
 """
 
 import codecs
@@ -101,6 +102,11 @@ class Line(NamedTuple):
     def written(self, text: bytes) -> "Line":
         """The line as if this had come, in which nothing has to be repaired."""
         return self._replace(unframed=text, repaired=text, named=text)
+
+    @property
+    def text(self) -> str:
+        """As it came."""
+        return self.unframed.decode("utf-8", "surrogateescape")
 
     @property
     def place(self) -> str:
@@ -345,10 +351,8 @@ def without_typography(text: str) -> str:
     """A line without what mail programs and word processors put there."""
     bare = COLON.sub(r"\1 ", bare_text(text))
     name, blank, ranks = bare.partition(" ")
-    # with both a comma may be that of a decimal
-    delimiter = "," if "," in ranks else ";"
-    cells = [cell.strip(" \t") for cell in ranks.split(delimiter)]
-    if delimiter == "," and not any(cell in DASHES for cell in cells if cell):
+    cells = [cell.strip(" \t") for cell in ranks.split(",")]
+    if not any(cell in DASHES for cell in cells if cell):
         return bare
     return name + blank + ",".join("-" if cell and cell in DASHES else cell for cell in cells)
 

@@ -9,7 +9,7 @@ from typing import NamedTuple
 
 from debvote_tools.book import queries
 from debvote_tools.book.election import Election, History
-from debvote_tools.cli.console import LEAVING_OUT, count_of, in_runs, shown_line
+from debvote_tools.cli.console import LEAVING_OUT, count_of, cut, in_runs, shown_line
 from debvote_tools.cli.faults import Fault
 from debvote_tools.debvote import Finding, Findings
 from debvote_tools.files import BALLOTS_LIMIT, LINES_LIMIT
@@ -26,6 +26,7 @@ from debvote_tools.inbox.lines import (
 from debvote_tools.poll.box import without_links
 from debvote_tools.text.ballots import answers_of, ballot_file, line_of, part_of, ranks_by_label
 from debvote_tools.text.language import ENGLISH
+from debvote_tools.text.motions import ABSTAIN, words_in
 
 # the cure where lines look like a table
 IN_ORDER = "write each line as a name and its ranks in the order of the options"
@@ -43,6 +44,9 @@ WITHOUT_LABEL = "a ballot here is a name and its ranks, without a label"
 
 # the reply to a line that came after the close
 LATE_REPLY = "late"
+
+# in characters: what is told of the options beside a ballot line
+MOST_OF_OPTIONS = 600
 
 # the number that makes a name different from others
 NUMBER = re.compile(r"-\d+\Z")
@@ -152,10 +156,6 @@ class Vote:
             return as_read, unclear
         return line.repaired if as_read == given else with_small_name(as_read), unclear
 
-    def with_ranks(self, line: bytes) -> bytes:
-        text = self.names.with_ranks(line.decode("utf-8", "surrogateescape"))
-        return text.encode("utf-8", "surrogateescape")
-
     def why_too_long(self, line: Line) -> str | None:
         """Why a line is no ballot, if it is longer than any."""
         words = f"the line has {len(line.unframed)} bytes, and a ballot has a few dozen"
@@ -254,14 +254,39 @@ class Vote:
         labels = found[2].split(" ")[1::2] if found else []
         return labels != [] and labels == [label for label in self.questions if label in labels]
 
-    def are_table(self, lines: Sequence[Line]) -> bool:
-        """Whether lines look like a table to debvote, as they came, but with ranks in place of words; one
-        line alone is none.
+    def are_table(self, lines: Sequence[CheckedLine]) -> bool:
+        """Whether lines look like a table to debvote; ballots alone don't, nor do those of several answers.
+        Of a motion a head may also stand below ballots, if it has its words.
         """
-        given = [self.with_ranks(line.unframed) for line in lines]
-        return len(lines) > 1 and any(
-            found.are_table for *_, found in self.findings_by_question(given)
+        poll = self.questions.get("")
+        if poll is None or all(line.is_ballot for line in lines):
+            return False
+        asked = [self.as_asked(line) for line in lines]
+        heads = (place for place, line in enumerate(lines) if self.is_head_of_words(line))
+        return any(
+            self.debvote.findings(poll.as_bytes(), ballot_file(part)).are_table
+            for first in {0, next(heads, 0)}
+            for part in in_parts(asked[first:])
         )
+
+    def as_asked(self, line: CheckedLine) -> bytes:
+        """A line as debvote is asked whether it is one of a table: a ballot as it is meant, another line
+        as it came. A word of a motion counts as a rank, but is none of the ranks of a head.
+        """
+        if line.is_ballot:
+            return line.as_meant
+        text = line.original.text
+        ranked = text if self.is_head_of_words(line) else self.names.with_ranks(text)
+        asked = text if ranked == text else f"{ranked.rpartition(' ')[0]} {ABSTAIN}"
+        return asked.encode("utf-8", "surrogateescape")
+
+    def is_head_of_words(self, line: CheckedLine) -> bool:
+        """Whether a line, which is no ballot, has the name of no elector and several words of a motion."""
+        if line.is_ballot:
+            return False
+        first, *others = words_in(line.original.text) or [""]
+        are_of_motion = len(others) > 1 and all(word in self.names.words for word in others)
+        return are_of_motion and not self.names.on_roll(first)
 
     def findings_by_question(
         self, lines: Sequence[bytes]
@@ -320,19 +345,31 @@ class Vote:
 
     @property
     def right_line(self) -> str:
-        right = self.questions.line("CODE" if self.has_codes else self.questions.roll[0], str)
+        name = "CODE" if self.has_codes else self.questions.roll[0]
+        right = self.questions.line(name, turned_rank)
         part = part_of(right.encode(), self.label)
         return right if part is None else part.decode()
 
     def right_words(self) -> str:
-        if self.poll is None:
-            ranks = "its label and a rank or a hyphen for each option"
-            return f"A valid line: {self.right_line} (an elector of the roll, and for each question that is answered {ranks})"
-        name = "a code of the roll" if self.has_codes else "an elector of the roll"
-        ranks = (
-            f"{len(self.poll.names)} ranks with commas between, a rank or a hyphen for each option"
+        """A ballot line with what each rank is of, as `explain` has it."""
+        polls = {"": self.poll} if self.poll else self.questions
+        options = "; ".join(
+            f"{label} {numbered(poll.names)}".strip() for label, poll in polls.items()
         )
-        return f"A valid line in this poll: {self.right_line} ({name}, a space, and {ranks})"
+        ranks_of = f"the ranks of {cut(options, MOST_OF_OPTIONS)}; 1 is the best"
+        words = f"A ballot line of this poll: `{self.right_line}`: {ranks_of}"
+        return words if self.poll else f"{words}; a question may be left out"
+
+
+def numbered(names: Iterable[str]) -> str:
+    return ", ".join(f"{number} {name}" for number, name in enumerate(names, start=1))
+
+
+def turned_rank(number: int, options: int) -> str:
+    """The rank of an option in a ballot that ranks the last one first: with the numbers as ranks, who
+    takes them for an order of choice sees no fault.
+    """
+    return str(number % options + 1)
 
 
 # what is said of an answer that is the first one, or another one, of its elector to its question. Here

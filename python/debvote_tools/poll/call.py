@@ -162,7 +162,7 @@ class CallData:
         """A ballot with gaps in place of the ranks, where an elector is to write them: one line, or the
         name and each answer with its label.
         """
-        return re.split(" (?=[A-Z] )", self.questions.line(name, lambda _: "_"))
+        return re.split(" (?=[A-Z] )", self.questions.line(name, lambda *_: "_"))
 
     @property
     def roll_file(self) -> str:

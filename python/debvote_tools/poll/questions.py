@@ -63,12 +63,12 @@ class Questions(dict[str, SealedPoll]):
         polls = {place_of(label, POLL_FILE): poll.as_bytes() for label, poll in self.items()}
         return polls | self.beside
 
-    def line(self, name: str, rank: Callable[[int], str]) -> str:
-        """A ballot, or the form of one, with a rank for each option, by its number."""
-        answers = {
-            label: ",".join(map(rank, range(1, len(poll.names) + 1)))
-            for label, poll in self.items()
-        }
+    def line(self, name: str, rank: Callable[[int, int], str]) -> str:
+        """A ballot, or the form of one, with a rank for each option, by its number and how many there are."""
+        answers = dict[str, str]()
+        for label, poll in self.items():
+            count = len(poll.names)
+            answers[label] = ",".join(rank(number, count) for number in range(1, count + 1))
         return line_of(name, answers)
 
     def words(self, language: Language) -> Words:

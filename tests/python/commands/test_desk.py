@@ -32,7 +32,7 @@ class TerminalTest(CalledTest):
 class AtATerminal(TerminalTest):
     def test_a_ballot_is_shown_and_cast(self) -> None:
         desk = self.at_terminal("  1 At the lake\n  2 In the town hall\n  3 Sell the house and meet there\n  4 Further discussion\n"
-                                "Type a ballot as ada 1,2,3,4 (the elector, then a rank for each option in this order); q ends.\n")
+                                "Type a ballot as ada 2,3,4,1 (the elector, then a rank for each option in this order); q ends.\n")
         before, changed = self.last_act(), "desk:1: `Ada 1, 2,4,3` was changed to `ada 1,2,4,3`\n"
         self.assertTrue(desk.after("Ada 1, 2,4,3\n", CAST).endswith(f"{changed}ada: {LAKE}\n{CAST}"))
         self.assertEqual(self.last_act(), before)
@@ -69,7 +69,7 @@ class AtATerminal(TerminalTest):
         }.items():
             shown = desk.after(f"{line}\nperhaps\nn\n", CAST_REFUSED)
             # the terminal shows what was typed ahead before it or behind it
-            self.assertRegex(shown, rf"\n(n\n)?It would be refused: {re.escape(words)}\nA valid line [^\n]*\nIt would")
+            self.assertRegex(shown, rf"\n(n\n)?It would be refused: {re.escape(words)}\nA ballot line of this poll: `ada 2,3,4,1`: [^\n]*; 1 is the best\nIt would")
             # the question is asked in the same words again
             desk.until(CAST_REFUSED)
             desk.until("Ballot: ")
@@ -171,7 +171,7 @@ class NamesAreCompleted(TerminalTest):
     def test_a_part_of_one_name(self) -> None:
         desk = self.at_terminal()
         # a tab, as whoever knows it from a shell types it
-        for typed in ("Clara 1,2,4,3", "lang\t1,2,4,3", "LANGE Clara 1,2, 4,3", "Clara Müller 1,2,4,3", "clara muller\t1;2;4;3"):
+        for typed in ("Clara 1,2,4,3", "lang\t1,2,4,3", "LANGE Clara 1,2, 4,3", "Clara Müller 1,2,4,3", "clara muller\t1, 2,4,3"):
             shown = desk.after(f"{typed}\n", CAST)
             self.assertIn("` was completed to `clara-muller-lange`\nclara-muller-lange: At the lake, ", shown)
             desk.after("n\n", "Ballot: ")
@@ -206,7 +206,7 @@ class NamesAreCompleted(TerminalTest):
 
     def test_no_code_is_completed(self) -> None:
         self.act("codes", {"on_roll": True})
-        desk = self.at_terminal("Type a ballot as CODE 1,2,3,4 (the code, then a rank ")
+        desk = self.at_terminal("Type a ballot as CODE 2,3,4,1 (the code, then a rank ")
         for typed in ("clara 1,2,4,3", "anna 1,2,4,3", "anna-maier 1,2,4,3", "Meier 1,2,4,3"):
             shown = desk.after(f"{typed}\n", CAST_REFUSED)
             self.assertEqual([name for name in self.names if name in shown], [])
@@ -269,7 +269,7 @@ class FromAPipe(CalledTest):
         output = self.told("desk", given=b"Ada 1,2,4,3\r\n\nq\ny\ngsu 1,2,4,3\n")
         changed = "desk:1: `Ada 1,2,4,3` was changed to `ada 1,2,4,3`\n"
         words = "2 bad shape  q: column 2: end of line; a ballot has a space there, or more of the name: a to z, 0 to 9, . or -\n"
-        empty, unknown = "desk:2: it is empty, and was left out\n", "gsu is not on the roll\nA valid line in this poll: "
+        empty, unknown = "desk:2: it is empty, and was left out\n", "gsu is not on the roll\nA ballot line of this poll: "
         for part in (f"{changed}1 counted  ada: ", empty, words, unknown):
             self.assertIn(part, output)
         self.assertEqual(self.lines(), ["ada 1,2,4,3", "q", "y", "gsu 1,2,4,3"])
@@ -286,7 +286,7 @@ class FromAPipe(CalledTest):
         self.assertEqual(self.last_act(), before)
 
     def test_the_head_of_a_table_stops_it(self) -> None:
-        """The columns may stand in another order than the options. Below a ballot no line is a head."""
+        """The columns may stand in another order than the options. Nothing of what came in one go with it goes in."""
         said = "desk: the lines look like a table; its columns may stand in another order than the options; "
         rows = "Name None,Sell,Repair,Dinghy\nada 4,1,2,3\n"
         self.assert_refused(("desk",), 4, said, "write each line as a name and its ranks in the order of the options", given=rows)
@@ -296,7 +296,14 @@ class FromAPipe(CalledTest):
         output, faults = desk.communicate("ada 4,1,2,3\n")
         self.assertIn(said, output + (faults or ""))
         self.assertEqual(self.lines(), ["Name None,Sell,Repair,Dinghy"])
-        self.assertIn("2 counted  ada: ", self.told("desk", given=f"ada 4,1,2,3\n{rows}"))
+        self.assert_refused(("desk",), 4, said, given=f"ada 4,1,2,3\n{rows}")
+        desk = self.desk()
+        for line, reply in ((f"ben {RANKS}", "2 counted  ben"), ("Name A/B/C/D", "3 bad shape  Name")):
+            self.assertTrue(self.answer(desk, f"{line}\n").startswith(reply))
+        self.assertIn(said, "".join(desk.communicate("dan\nada 4,1,2,3\n")))
+        self.assertEqual(len(self.lines()), 3)
+        # a refused ballot is no head
+        self.told("desk", given=f"Mrs Lovelace {RANKS}\nada {RANKS}\nName 1,1,2,3\nben {RANKS}\n")
 
     def test_many_lines_in_one_go(self) -> None:
         lines = [f"ada {number // 99 + 1},{number % 99 + 1},1,2" for number in range(9000)]

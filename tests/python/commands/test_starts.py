@@ -76,7 +76,7 @@ class Starts(elections.ElectionTest):
         # all are repaired; or a table, of which nothing is
         self.started("add", "-", given="Ada: 1,2, 3,4\nBen 1, 2, 3, 4\n")
         self.started("add", "--force", "-", given="Name;a;b;c;d\nada 1,2,3,4\nBen 1, 2, 3, 4\n")
-        # below a ballot no line is the head of a table
+        # it is asked only of the file with a refused line whether it looks like a table
         for number in range(3):
             self.write(f"odd{number}", f"ada 1,2,3,4\nBen 1, 2, 3, {number + 1}\ncleo 1,2,{number},4\n")
         self.started("add", "odd0", "odd1", "odd2", most=2)

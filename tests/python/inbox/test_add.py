@@ -13,8 +13,8 @@ from tests.support import elections
 from tests.support.called import HALL, LAKE, OTHER_RANKS, RANKS, CalledTest
 
 RIGHT = (
-    "A valid line in this poll: ada 1,2,3,4 (an elector of the roll, a space, and 4 ranks with commas between, "
-    "a rank or a hyphen for each option)"
+    "A ballot line of this poll: `ada 2,3,4,1`: the ranks of 1 At the lake, 2 In the town hall, 3 Sell the house and meet there, "
+    "4 Further discussion; 1 is the best"
 )
 NEXT = "Next: debvote-election status; add more ballots with debvote-election add FILE, and when the vote is over: debvote-election close"
 
@@ -110,18 +110,18 @@ class Added(CalledTest):
         self.assertEqual(self.lines(), [" Cleo 1,2,3 ", "dan 1,2,4,3", "Gsu 1,2,4,3"])
 
     def test_lines_of_a_word_processor_bytes_and_hints(self) -> None:
-        came = "“ada” 1,2,4,3\nben\u00a01,2,4,3\ncleo 1,2,–,3\nA>B>C\ndan 1.\n1,2,3,4\n"
+        came = "ben\u00a01,2,4,3\n“ada” 1,2,4,3\ncleo 1,2,–,3\nA>B>C\ndan 1.\n1,2,3,4\n"
         output = self.told("add", "--force", given=came)
         for told in (
-            "1 bad shape  “ada” 1,2,4,3: column 1: left curly quote; a ballot has the name there: a to z, 0 to 9, . or -\n",
-            "standard input:2: `ben\\u00A01,2,4,3` was changed to `ben 1,2,4,3`\n2 counted  ben: ",
+            "2 bad shape  “ada” 1,2,4,3: column 1: left curly quote; a ballot has the name there: a to z, 0 to 9, . or -\n",
+            "standard input:1: `ben\\u00A01,2,4,3` was changed to `ben 1,2,4,3`\n1 counted  ben: ",
             "standard input:3: `cleo 1,2,–,3` was changed to `cleo 1,2,-,3`\n3 counted  cleo: ",
             '5 bad shape  dan 1.: column 6: "."; a ballot has a comma or its end there, or a second digit of the rank\n'
             "  it goes in as it came; written as `dan 1` it is refused too: bad rank count: 1 rank, the poll has 4 options\n",
             '6 bad shape  1,2,3,4: column 2: ","; a ballot has a space there, or more of the name: a to z, 0 to 9, . or -\n',
         ):
             self.assertIn(told, output)
-        self.assertEqual(output.count("A valid line in this poll"), 1)
+        self.assertEqual(output.count(RIGHT), 1)
         self.assertEqual(self.lines(), came.replace("\u00a0", " ").replace("–", "-").splitlines())
         # bytes that are no text
         output = self.told("add", "--force", given=b"ad\xff 1,2\x1b[2J\n\x00\n")
@@ -343,7 +343,9 @@ class OtherOrder(CalledTest):
         said = "wrong: the lines look like a table; its columns may stand in another order than the options; nothing was added: "
         cure = "write each line as a name and its ranks in the order of the options, or add it anyway with --force"
         heads = "Name None,Sell,Repair,Dinghy", "Name;At the lake;In the town hall;Sell the house and meet there;Further discussion", "WHO\tA\tB\tC\tD", "a b c d e", "When;Who;A;B;C"
-        for rows in (*(f"{head}\n{self.ROWS}" for head in heads), "ada,1,2,3,4\nben,1,2,3,4\n", "ada 1 2 3 4\nben 1 2 3 4\n", "ada;1;2\nben\t1\t2\n"):
+        heads += "Name 4,1,2,3", "Name|A|B|C|D", "When/Who/Mail/Note/A/B/C/D"
+        below = (f"ada, 1,2,4,3\nben {RANKS}\n{head}\n{self.ROWS}" for head in heads if head != "Name 4,1,2,3")
+        for rows in (*(f"{head}\n{self.ROWS}" for head in heads), *below, "ada,1,2,3,4\nben,1,2,3,4\n", "ada 1 2 3 4\nben 1 2 3 4\n", "ada;1;2\nben\t1\t2\n"):
             self.write("wrong", rows)
             for asked in ((), ("--look",)):
                 self.assert_refused(("add", *asked, "wrong"), 9, said, cure)
@@ -351,13 +353,18 @@ class OtherOrder(CalledTest):
         self.assertIn("Added 3 lines (2 bad shape, 1 counted).\n", self.told("add", "--force", "wrong"))
         self.assertEqual(self.lines(), ["Name;Lake;Hall;Sell;Further", "ada 1;2;3;4", "ben 2,1,3,4"])
 
+    def test_what_looks_like_none(self) -> None:
+        """A refused ballot above others, a head without ranks below it, and notes of fewer words."""
+        rows = f"Mrs Lovelace {RANKS}\nada {RANKS}\n# by phone, Monday\nben {RANKS}\ncleo {RANKS}\nName;A;B;C;D\n"
+        self.assertIn("Added 6 lines (3 bad shape, 3 counted).", self.told("add", given=rows))
+
     def test_lines_of_a_table_and_semicolons_between_ranks(self) -> None:
-        """Few are ballots if it has other signs, or words; both signs between ranks may be decimals."""
+        """Few are ballots if it has other signs, or words. Only blanks around commas are repaired."""
         for rows in ("ada|1|2|3|4\nben|1|2|3|4\n", "ada;1;2;3;4\nben;1;2;3;x\n", "ada 1\nben 2\n"):
             self.write("wrong", rows)
             self.assert_refused(("add", "wrong"), 9, "wrong: debvote takes none of the 2 lines as ballots")
-        self.told("add", given="ada 1;2;4;3\nben 1; 2 ;4; 3\ncleo 1, 2, 4, 3\ndan 1;2,4;3\n")
-        self.assertEqual(self.lines(), ["ada 1,2,4,3", "ben 1,2,4,3", "cleo 1,2,4,3", "dan 1;2,4;3"])
+        self.told("add", given="ada 1,2,4,3\nben 1; 2 ;4; 3\ncleo 1, 2, 4, 3\ndan 1;2,4;3\n")
+        self.assertEqual(self.lines(), ["ada 1,2,4,3", "ben 1; 2 ;4; 3", "cleo 1,2,4,3", "dan 1;2,4;3"])
 
 
 class RealNames(CalledTest):
@@ -372,7 +379,9 @@ class RealNames(CalledTest):
         self.write("more", f"Ada Lovelace {RANKS}\nLovelace {RANKS}\n")
         said = f"more:1: `Ada Lovelace {RANKS}` was changed to `ada {RANKS}`\n1 counted  ada: {LAKE}\n"
         self.assertIn(said, self.told("add", "more"))
-        self.told("desk", given=f"ada lovelace: 1; 2; 4; 3.\nADA-LOVELACE 2,1,4,3\nCleo {RANKS}\n")
+        # a real name above a name on the roll is no head of a table
+        self.told("add", "--look", given=f"Cleo {RANKS}\nada {RANKS}\nben-1 {RANKS}\n")
+        self.told("desk", given=f"ada lovelace: 1, 2, 4, 3.\nADA-LOVELACE 2,1,4,3\nCleo {RANKS}\n")
         self.assertEqual(self.lines(), [f"ada {RANKS}", f"Lovelace {RANKS}", f"ada {RANKS}", "ada 2,1,4,3", f"cleo-blum {RANKS}"])
         # the line as it came is refused for its name, and what it means for another reason
         said = "6 bad shape  Ada Lovelace 1,2: column 1: ", "written as `ada 1,2` it is refused too: bad rank count: 2 ranks, the poll has 4 options\n"

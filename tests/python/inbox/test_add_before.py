@@ -29,7 +29,7 @@ class Before(CalledTest):
         self.assertNotIn("came before, and", output)
         # then it is no act, and the file is not kept a second time; nor are copies in any order, with other line ends and repairs
         self.assertEqual((self.last_act(), len(self.sources())), (before, 1))
-        for copy in ("\ufeff" + MONDAY.replace("\n", "\r\n"), "ben 1,2,4,3\nada 1,2,4,3\n", "ada 1;2;4;3.\nben:1,2,4,3"):
+        for copy in ("\ufeff" + MONDAY.replace("\n", "\r\n"), "ben 1,2,4,3\nada 1,2,4,3\n", "ada 1, 2,4,3.\nben:1,2,4,3"):
             self.write("more", copy)
             self.assert_ignored(2, 0)
         # of three equal lines one came before: whoever goes back to a first ballot sends it again
@@ -55,7 +55,7 @@ class Before(CalledTest):
         self.assertIn("12 replaced  eve: ", self.told("add", given=f"eve {RANKS}\n"))
         # refused lines are known by their text
         self.told("add", given="Zoe 1,2,4,3\n")
-        self.write("more", "Zoe 1,2,4,3\nzoe 1,2,4,3\nada 1,2,4,3\nben 1,2,4,3\n")
+        self.write("more", "ada 1,2,4,3\nZoe 1,2,4,3\nzoe 1,2,4,3\nben 1,2,4,3\n")
         self.assert_ignored(3, 1)
         self.assertEqual(self.lines()[12:], ["Zoe 1,2,4,3", "zoe 1,2,4,3"])
         # late ones, too

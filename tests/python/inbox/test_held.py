@@ -176,7 +176,7 @@ class Listed(HeldTest):
     def test_all_of_the_lines_of_a_ballot(self) -> None:
         """Runs of lines that say the same are one ballot; a line that begins as an answer has to be typed."""
         for number, (text, said) in enumerate((
-            (f"ada\n{RANKS}\n\nYes, really.\n", ""), (f"ada {RANKS}\nand once more\nAda: 1; 2; 4; 3\n", ""),
+            (f"ada\n{RANKS}\n\nYes, really.\n", ""), (f"ada {RANKS}\nand once more\nAda: 1, 2, 4, 3\n", ""),
             (f"ada {RANKS}\nor 2,1,4,3\n", "1 ballot, and other lines that look like answers"),
             (f"ada {RANKS}\n\n-- \n1,2\n", "1 ballot, and other lines that look like answers"),
             (RANKS, "0 ballots, and other lines that look like answers"), (f"ada {RANKS} please", "0 ballots, and other lines that look like answers"),
@@ -291,7 +291,7 @@ class Entered(HeldTest):
 
     def test_what_the_secretary_types(self) -> None:
         """The ballot has the time of the letter, and is tied to it, so nobody is told that the letter waits. Who types has read it."""
-        said = self.told("held", 2, "--as", "Ben: 2; 1; 4; 3")
+        said = self.told("held", 2, "--as", "Ben: 2, 1, 4, 3")
         self.assertIn(f"letter 2, from ben@club.example, 2026-11-23 10:00:00 UTC: ben: {HALL}\n  no ballot found\n", said)
         self.assertIn("\n  written: I am for the hall\n1 counted  ben: In the town hall", said)
         [envelope] = self.envelopes()
@@ -303,7 +303,7 @@ class Entered(HeldTest):
         for line, part in (
             (
                 "ben 1,2",
-                "--as: `ben 1,2` is no ballot of this poll: bad rank count: 2 ranks, the poll has 4 options; nothing was changed: A valid line in this poll",
+                "--as: `ben 1,2` is no ballot of this poll: bad rank count: 2 ranks, the poll has 4 options; nothing was changed: A ballot line of this poll",
             ),
             ("bne 1,2,4,3", "bad not on roll: bne is not on the roll"),
             (f"ben {RANKS}\nada {RANKS}", "it is not one line"),
@@ -427,7 +427,7 @@ class Couple(HeldTest):
         self.assert_refused(("held", 1, "--enter"), 9, "letter 1: it has 3 ballots; nothing was changed: type the ballot that is meant with --as LINE")
         said = "letter 1: 2 of these lines are ballots of ada; nothing was changed: name the one that counts"
         self.assert_refused(("held", 1, "--as", self.ada, "--as", f"ada {OTHER}"), 9, said)
-        said = self.told("held", 1, "--as", "Ada 1;2;4;3", "--as", self.ben, "--force")
+        said = self.told("held", 1, "--as", "Ada 1, 2,4,3", "--as", self.ben, "--force")
         self.assertIn(f"1 counted  ada: {LAKE}\n2 counted  ben: {HALL}\n{self.left('cleo')}", said)
         self.assert_left(0, self.ada, self.ben)
         self.assertEqual(self.acts()[-1], ("enter", {"letters": [1], "lines": []}))

@@ -94,13 +94,13 @@ class Adding(LettersTest):
     def test_a_line_for_each_ballot(self) -> None:
         """Greetings, farewells, signatures, quotations and what a telephone adds are no words to be read. What goes in is told as it is written."""
         usual = (
-            "Dear all,\n\nAda: 1; 2; 4; 3.\n\nMany thanks and best wishes\nAda\n\nSent from my iPhone\n\n"
+            "Dear all,\n\nAda: 1, 2, 4, 3.\n\nMany thanks and best wishes\nAda\n\nSent from my iPhone\n\n"
             "On Mon, 23 Nov 2026 at 09:00, Vote <vote@club.example> wrote:\n> Vote now"
         )
         outlook = f"cleo {RANKS}\n\n-- \nCleo, 030 1234\n\nVon: Vote <vote@club.example>\nGesendet: Montag, 23. November 2026 10:00\nBetreff: Vote [{elections.ANY_MARK}]\n\nVote now"
         said = self.add(letter("ben", f"ben {RANKS}\n\nBut if it rains\nGreetings"), letter("ada", usual), letter("cleo", outlook), words=("--look",))
         self.assertTrue(
-            said.startswith(f"ada (inbox.mbox, message 2, written `Ada: 1; 2; 4; 3.`): {LAKE}\ncleo (inbox.mbox, message 3): {LAKE}\nletter  arrived "), said
+            said.startswith(f"ada (inbox.mbox, message 2, written `Ada: 1, 2, 4, 3.`): {LAKE}\ncleo (inbox.mbox, message 3): {LAKE}\nletter  arrived "), said
         )
         self.assertIn("]\n        line 1 is a ballot, and there are other lines\n        line 1: ben 1,2,4,3\n        written: But if it rains\n", said)
 
@@ -317,7 +317,7 @@ class ReadOnce(LettersTest):
         return told, [task for task, _ in asked]
 
     def test_of_lines_twice_or_three_times(self) -> None:
-        """Three times where a line is no ballot as it came: then it is asked whether all look like a table."""
+        """Three times where a line is no ballot: then it is asked whether all look like a table."""
         lines = f"Ada {RANKS}\nGsu {RANKS}\nben {RANKS}\n"
         for words, given, at_most in (
             (("add", "--look"), lines, 3),

@@ -15,14 +15,14 @@ class Lines(unittest.TestCase):
             b"ada 1,2": (
                 b"  ada 1,2\t ", b"ada   1,2", b"ada\t1,2", b"ada \t 1,2",
                 # what can mean one thing only
-                b"ada\xc2\xa01,2", b"ada\xe2\x80\xaf1,2", b"ada 1,2.", b"ada:1,2", b"Ada : 1,2", b"ada 1;2", b'"ada 1,2"', b"'ada 1,2.'", b'"ada 1,2".',
+                b"ada\xc2\xa01,2", b"ada\xe2\x80\xaf1,2", b"ada 1,2.", b"ada:1,2", b"Ada : 1,2", b'"ada 1,2"', b"'ada 1,2.'", b'"ada 1,2".',
                 "\u201cada 1,2\u201d".encode(), "\u00bbada 1,2\u00ab".encode(), b"**ada 1,2**", b"*ada* 1,2", b"ada *1,2*",
             ),
-            b"ada 1,2,3": (b"ada 1 , 2,\t3", b"ada 1; 2;3", b"ada 1,*2*,3"),
+            b"ada 1,2,3": (b"ada 1 , 2,\t3", b"ada 1,*2*,3"),
             b"ada.b-9 1,2": (b"Ada.B-9 1,2",),
             b"ada -,1": (b"ADA -,1",),
-            b"ada 1,2,-": (b"ada 1 ;\t2 ; -",),
-            b"ada 1,-,2": ("\u201eAda: 1; \u2013; 2.\u201c".encode(),),
+            b"ada 1,2,-": (b"ada 1 ,\t2 , -",),
+            b"ada 1,-,2": ("\u201eAda: 1, \u2013, 2.\u201c".encode(),),
             b"ada 1,-,-": ("ada 1,\u2014,\u2212".encode(),),
         }.items():  # fmt: skip
             for came in lines:
@@ -32,7 +32,7 @@ class Lines(unittest.TestCase):
         # a line tabulator, quotation marks within the line, points, a capital that is no rank, letters not in ASCII, half a point, ..
         for came in (
             b"ada 1,2\x0b", b'"ada" 1,2', b'"ada 1,2', b"ada 1,2..", b"ada 1.,2", b"ada 1*2*3", b"ada *1,2", b"ada 1,X", "Ädä 1,2".encode(), "anna\u2013maria 1,2".encode(),
-            "ada 1\u20132".encode(), b"ada 1 2,3", b"A>B>C", b"ada:b", b"ada 1:2", b"\xff 1,2", b"ada 1,2,", b"ada 1,,2", b"ada 1;2,5;3", b"ada 1,5; 2", b"ada;1;2",
+            "ada 1\u20132".encode(), b"ada 1 2,3", b"A>B>C", b"ada:b", b"ada 1:2", b"\xff 1,2", b"ada 1,2,", b"ada 1,,2", b"ada 1;2", b"ada 1; 2;3", b"ada 1;2,5;3", b"ada 1,5; 2", b"ada;1;2",
         ):  # fmt: skip
             self.assertEqual(repaired_line(came), came)
 

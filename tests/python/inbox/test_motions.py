@@ -109,6 +109,14 @@ class Taken(LettersTest):
             table = f"Name;Vote\n{row}\n"
             for command in ("add", "desk"):
                 self.assert_stops(self.election(command, given=table), self.first_act - 1, 4 if command == "desk" else 9, said)
+        # a head may have the words of the motion, and then it may be below ballots
+        for head in ("Name Nein,Ja", "NAME | Nein | Ja | Enthaltung", "Name nein ja"):
+            for table in (f"{head}\nada 2,1\n", f"ben ja\n{head}\nada 2,1\n", f"Kim No nein\n{head}\nada ja\n"):
+                for command in ("add", "desk"):
+                    self.assert_stops(self.election(command, given=table), self.first_act - 1, 4 if command == "desk" else 9, said)
+        # but a word is none of its ranks, and notes between ballots are no heads
+        self.told("add", "--look", given="adda ja\nben ja\n# by phone, Monday\ncleo 1,2\nper Telefon\ndan nein\nben ja nein\neve ja\nper Brief, danke\nfay ja\n")
+        self.told("add", "--look", given="Mrs Bennet nein\nben ja\n")
         self.told("add", given="ada ja\nben: Nein!\n")
         self.told("desk", given="Cleo ja\ndan enthaltung\n")
         self.assertEqual(self.lines(), ["ada 1,2", "ben 2,1", "cleo 1,2", "dan 1,1"])

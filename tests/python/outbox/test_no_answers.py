@@ -79,7 +79,7 @@ class OfSecretary(OutTest):
     call_words = None
     texts = {"letter.txt": "Dear all,\n\nwe have rooms 1, 2, 3, 4.\n", "texts/1.txt": "See 1;2;-;4\n\nor 2,1\n"}
     named = ["poll.toml: Pay 1,2,3,4 Euro", "texts/1.txt:1: See 1;2;-;4", "letter.txt:3: we have rooms 1, 2, 3, 4."]
-    refused = ["ada 1,2,3,4", "Ada: 1; 2; -; 4", "*Maria Braun* 1,2,3,4"]
+    refused = ["ada 1,2,3,4", "Ada: 1, 2, -, 4", "*Maria Braun* 1,2,3,4"]
     poll = OutTest.poll.replace("At the lake", "Pay 1,2,3,4 Euro")
     members = "name,who,mail\nada,,ada@club.example\nben,,\ncleo,Maria Braun,\n"
 

@@ -23,7 +23,7 @@ class Desk(QuestionsTest):
         desk = Terminal(self)
         shown = desk.until("Ballot: ")
         self.assertIn("A Raise the fee to 72 Euro\n  1 Yes, 72 Euro\n  2 No, as it is\nB The chair of the board\n  1 Ada Lovelace\n", shown)
-        self.assertIn("Type a ballot as ada A 1,2 B 1,2,3 C 1,2,3,4 (the elector, then for each question that is answered its label", shown)
+        self.assertIn("Type a ballot as ada A 2,1 B 2,3,1 C 2,3,4,1 (the elector, then for each question that is answered its label", shown)
         shown = desk.after("Ada a: 1, 2 b) 1, 2,3\n", ASKED)
         self.assertIn(f"ada: {YES}; {CHAIR}\nada has a ballot: {NO}. It will be replaced.\nThese earlier answers of ada stay: C (A new roof): Slate", shown)
         self.assertIn(f"2 A replaced, B counted  ada: {YES}; {CHAIR}\n", desk.after("y\n", "Ballot: "))
@@ -52,7 +52,7 @@ class Desk(QuestionsTest):
     def test_of_one_question(self) -> None:
         desk = Terminal(self, "desk", "--question", "b")
         shown = desk.until("Ballot: ")
-        self.assertIn("B The chair of the board\n  1 Ada Lovelace\n  2 Mary Somerville\n  3 None of these\nType a ballot as ada 1,2,3 (", shown)
+        self.assertIn("B The chair of the board\n  1 Ada Lovelace\n  2 Mary Somerville\n  3 None of these\nType a ballot as ada 2,3,1 (", shown)
         self.assertNotIn("new roof", shown)
         self.assertIn(f"ada: {CHAIR}\n", desk.after("Ada: 1, 2, 3\n", ASKED))
         self.assertIn(f"1 counted  ada: {CHAIR}\n", desk.after("y\n", "Ballot: "))
@@ -64,7 +64,7 @@ class Desk(QuestionsTest):
         said = self.done("desk", "--question", "a", given="ben 1\nben\nben A yes\nben A 1,2\n").output
         self.assertIn("`ben` is no ballot: a ballot here is a name and its ranks, without a label; it was not entered.\n", said)
         self.assertIn("`ben A 1,2` is no ballot: a ballot here is a name and its ranks, without a label; it was not entered.\n", said)
-        self.assertIn("A valid line in this poll: ada 1,2 (an elector of the roll, a space, and 2 ranks with commas between", said)
+        self.assertIn("A ballot line of this poll: `ada 2,1`: the ranks of 1 ", said)
         self.assertNotIn("its label", said)
         for label in ("D", "AB"):
             self.assert_refused(["desk", "--question", label], 2, "--question: the labels are A, B, C; nothing was entered: ")

@@ -1,4 +1,4 @@
-use Rattle.vote_explain_ballots.proofs.Words.{◌≡◌, ◌+◌, ◌++◌, ◌∙◌, List, Some, ap, append_assoc, arith, codes, decimal, enumerate_from, flat_map, length-enumerate_from, rules, slice_get, string_bytes, subst, take_all, ℕ, parted, shown}
+use Rattle.vote_explain_ballots.proofs.Words.{◌≡◌, ◌+◌, ◌++◌, ◌∙◌, List, Some, ap, append_assoc, arith, codes, decimal, enumerate_from, flat_map, length, length-enumerate_from, rules, slice_get, string_bytes, subst, take_all, ℕ, parted, shown, turned_rank}
 use Rattle.vote_explain_ballots.proofs.Listing.{row_more}
 use Rattle.vote_explain_ballots.proofs.explain.own_ballot.Goals as goal
 
@@ -15,10 +15,10 @@ loop-before-preserved c =
     let options = c.args.poll.now.options in
     let name = c.option_name.result.now in
     let at : slice_get options l.before ≡ Some name = subst (λ k. slice_get options k ≡ Some name) (omega arith) c.option_name.ensures in
-    let ranked : string_bytes c.write.new.self ≡ string_bytes c.push_parted.new.text ++ decimal n = search rules in
+    let ranked : string_bytes c.write.new.self ≡ string_bytes c.push_parted.new.text ++ decimal (turned_rank (length options) n) = search rules in
     let numbered : string_bytes c.write-in-loop-before.new.self ≡ string_bytes c.push_parted-in-loop-before.new.text ++ (decimal n ++ codes " ") = search rules in
     record {
-      ballot = grown _ _ (parted (codes ",") n) (decimal n) _ _ _ _ l.invariant.ballot c.in_ok-push_parted.ensures ranked (row_more (λ option. parted (codes ",") option.0 ++ decimal option.0) options l.before name at);
+      ballot = grown _ _ (parted (codes ",") n) (decimal (turned_rank (length options) n)) _ _ _ _ l.invariant.ballot c.in_ok-push_parted.ensures ranked (row_more (λ option. parted (codes ",") option.0 ++ decimal (turned_rank (length options) option.0)) options l.before name at);
       options = named _ (parted (codes ", ") n) (decimal n) (codes " ") name _ _ _ _ _ l.invariant.options c.in_ok-push_parted-2.ensures numbered c.in_ok-push_str.ensures.bytes
           (row_more (λ option. parted (codes ", ") option.0 ++ decimal option.0 ++ codes " " ++ option.1) options l.before name at);
     }
@@ -28,7 +28,7 @@ returns c =
     let l = c.loop-before in
     let all = take_all l.before (enumerate_from 1 c.args.poll.now.options) (omega (arith, length-enumerate_from 1 c.args.poll.now.options)) in
     let begun = c.in_ok-push_shown.ensures ∙ ap (λ t. t ++ shown 60 c.first_elector.result.now) c.new-ballot.ensures.bytes ∙ ap (shown 60) c.first_elector.ensures in (
-      l.invariant.ballot ∙ ap (λ row. string_bytes c.push_shown.new.text ++ flat_map (λ option. parted (codes ",") option.0 ++ decimal option.0) row) all
-          ∙ ap (λ t. t ++ flat_map (λ option. parted (codes ",") option.0 ++ decimal option.0) (enumerate_from 1 c.args.poll.now.options)) begun,
+      l.invariant.ballot ∙ ap (λ row. string_bytes c.push_shown.new.text ++ flat_map (λ option. parted (codes ",") option.0 ++ decimal (turned_rank (length c.args.poll.now.options) option.0)) row) all
+          ∙ ap (λ t. t ++ flat_map (λ option. parted (codes ",") option.0 ++ decimal (turned_rank (length c.args.poll.now.options) option.0)) (enumerate_from 1 c.args.poll.now.options)) begun,
       l.invariant.options ∙ ap (flat_map (λ option. parted (codes ", ") option.0 ++ decimal option.0 ++ codes " " ++ option.1)) all,
     )
