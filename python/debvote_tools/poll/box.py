@@ -2,7 +2,8 @@
 a click, and `add --box` asks it for them.
 
 The key of the box never leaves the book: whoever has it makes the link of each elector from name
-and own mark. The host gets digests alone; the word that asks makes no link.
+and own mark, and opens each ballot (`sealed_ballots.py`). The host gets digests alone; the word that
+asks makes no link.
 """
 
 import contextlib
@@ -81,6 +82,23 @@ def third_part(key: bytes, name: str, own: str) -> str:
     return "".join(OWN_SIGNS[number // place % len(OWN_SIGNS)] for place in places)
 
 
+def personal_link(key: bytes, name: str, own: str) -> str:
+    """What is behind the address of the page in the personal link of an elector with this own mark."""
+    return f"{name}/{own}/{third_part(key, name, own)}"
+
+
+def proof_of(mark: str, link: str) -> str:
+    """What shows the host that somebody has a personal link to the page of the poll with this mark, and
+    nothing of the link.
+    """
+    return sha256_of(f"{mark} {link}".encode())
+
+
+def proof_digest(mark: str, link: str) -> str:
+    """What the host knows of a link: it makes no proof."""
+    return sha256_of(proof_of(mark, link).encode())
+
+
 @functools.cache
 def links_of(book: Book) -> frozenset[str]:
     """The third parts of all personal links of a book."""
@@ -103,12 +121,11 @@ def without_links(book: Book, text: str) -> str:
 # ---- the script
 def script_of(key: bytes, mark: str, owns: Mapping[str, str]) -> bytes:
     """The script for the vote of a poll with this mark, and these own marks by names."""
-    digests = {
-        name: sha256_of(f"{mark} {name} {third_part(key, name, own)}".encode())
-        for name, own in owns.items()
-    }
-    word = f"{sha256_of(asking_word(key).encode())} {page_of(key, mark)}"
-    lines = "".join(f"{name} {digest}\n" for name, digest in ({mark: word} | digests).items())
+    links = (personal_link(key, name, own) for name, own in owns.items())
+    # their order tells no name
+    digests = sorted(proof_digest(mark, link) for link in links)
+    first = f"{mark} {sha256_of(asking_word(key).encode())} {page_of(key, mark)}"
+    lines = "".join(f"{line}\n" for line in (first, *digests))
     return f"{resources('debvote_tools.poll', SCRIPT)}{lines}".encode()
 
 
