@@ -1,14 +1,16 @@
 """Seals a ballot as the page of a vote does, each time with the same own key."""
 
 import base64
+import datetime
 import hashlib
+import re
 
 from cryptography.hazmat.primitives import hashes, serialization
 from cryptography.hazmat.primitives.asymmetric import ec
 from cryptography.hazmat.primitives.ciphers.aead import AESGCM
 from cryptography.hazmat.primitives.kdf.hkdf import HKDF
 
-from debvote_tools.poll.box import proof_of
+from debvote_tools.poll.box import proof_digest
 from debvote_tools.poll.sealed_ballots import ORDER, opener
 
 CURVE = ec.SECP256R1()
@@ -39,14 +41,24 @@ def inside(line: str, link: str, sent: str) -> str:
     return f"{line}\n{link}\n{sent}\n"
 
 
-def body(public: bytes, page: str, mark: str, link: str, number: int, text: str) -> str:
-    """What the page sends by a personal link; `number` makes the Message-ID."""
-    name = f"{number:032x}"
-    return f"{page} {proof_of(mark, link)} {name}\n{sealed(public, mark, name, text)}\n"
+def record(
+    page: str, mark: str, link: str, number: int, time_: str, text: str, proof: str = ""
+) -> str:
+    """The record of what was sealed, as the host keeps it if it arrived at this time, as FORMATS has it."""
+    when = datetime.datetime.fromisoformat(time_)
+    return (
+        f"From box@page.invalid {when:%a %b %d %H:%M:%S %Y}\n"
+        f"Received: by box; {when:%a, %d %b %Y %H:%M:%S} +0000\n"
+        f"X-Proof: {proof or proof_digest(mark, link)}\nX-Page: {page}\n"
+        f"From: box@page.invalid\nSubject: [{mark}]\n"
+        f"Message-ID: <{number:032x}@page.invalid>\n\n{text}\n-- \n\n"
+    )
 
 
-def line_of(key: bytes, mark: str, number: str, text: str) -> str:
-    """The line of a ballot that was sealed; what can't be opened is told as it is."""
+def line_in(key: bytes, record: str) -> str:
+    """The line that is sealed in a record; what can't be opened is told as it is."""
+    [(mark, number)] = re.findall(r"\[(\w{16})\]\nMessage-ID: <(\w{32})@", record)
+    text = record.partition("\n\n")[2].partition("\n")[0]
     try:
         return opener(key, mark)(number, text).partition("\n")[0]
     except ValueError:

@@ -105,15 +105,13 @@ class Scripts(unittest.TestCase):
         self.assertEqual(list_digest(script), hashlib.sha256(lines.encode()).hexdigest())
         rows = [line.split(" ") for line in lines.removesuffix("\n").split("\n")]
         word = hashlib.sha256(asking_word(KEY).encode()).hexdigest()
-        wanted = {
-            name: hashlib.sha256(f"{MARK} {name} {by_hand(KEY, name, own)}".encode()).hexdigest()
-            for name, own in OWNS.items()
-        }
-        of_vote = [MARK, word, page_of(KEY, MARK)]
-        self.assertEqual(rows, [of_vote, *(list(row) for row in wanted.items())])
-        # no secret is in it, in no form
+        places = (f"{name}/{own}/{by_hand(KEY, name, own)}" for name, own in OWNS.items())
+        proofs = (hashlib.sha256(f"{MARK} {place}".encode()).hexdigest() for place in places)
+        wanted = sorted(hashlib.sha256(proof.encode()).hexdigest() for proof in proofs)
+        self.assertEqual(rows, [[MARK, word, page_of(KEY, MARK)], *([one] for one in wanted)])
+        # no secret is in it, in no form, nor a name
         links = [third_part(KEY, *one) for one in OWNS.items()]
-        for secret in (KEY.hex(), asking_word(KEY), *OWNS.values(), *links):
+        for secret in (KEY.hex(), asking_word(KEY), *OWNS.values(), *links, "ben-lee", "m.12"):
             self.assertNotIn(secret.encode(), script)
         self.assertNotIn(KEY, script)
 
