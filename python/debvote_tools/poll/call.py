@@ -18,6 +18,7 @@ from debvote_tools.text.rendering import render_letter, render_page, resources
 from debvote_tools.poll import box
 from debvote_tools.poll.questions import Questions
 from debvote_tools.poll.sealed import SealedPoll, in_brackets
+from debvote_tools.poll.sealed_ballots import public_key
 
 # a first line that greets: it ends as one does, or begins so in one of the languages
 GREETING = re.compile(
@@ -93,6 +94,13 @@ class CallData:
         return self.box_key != b""
 
     @property
+    def has_gap(self) -> bool:
+        """Whether what the page shows has a gap in place of the name: of a secret vote, unless the page
+        takes ballots, which are sealed.
+        """
+        return not (self.is_by_name or self.has_box)
+
+    @property
     def is_extended(self) -> bool:
         """Whether the end is not the one that the poll was sealed with, which the call said at
         first.
@@ -113,16 +121,21 @@ class CallData:
 
     def link_of(self, elector: Elector | None) -> str | None:
         """The address of the page, as the personal link of an elector whose own mark may be told."""
-        if elector is None or not (elector.mark and self.at and self.is_by_name):
+        if elector is None or not (elector.mark and self.at) or self.has_gap:
             return self.at
         name, own = elector.name, elector.mark
-        third = f"/{box.third_part(self.box_key, name, own)}" if self.has_box else ""
-        return f"{self.at}#{name}/{own}{third}"
+        link = box.personal_link(self.box_key, name, own) if self.has_box else f"{name}/{own}"
+        return f"{self.at}#{link}"
 
     @property
     def page(self) -> str:
         """What this page posts with each ballot."""
         return box.page_of(self.box_key, self.questions.mark)
+
+    @property
+    def seal(self) -> str:
+        """The key to which this page seals ballots."""
+        return public_key(self.box_key, self.questions.mark)
 
     @property
     def mail_to(self) -> str:
@@ -217,7 +230,7 @@ def call_page(call: CallData) -> bytes:
     if call.has_box:
         styles += ["box.css"]
         scripts += ["box.js"]
-        words |= box.SENTENCES
+        words |= box.SENTENCES if call.is_by_name else box.SENTENCES | box.SECRET_SENTENCES
     return render_page(
         PACKAGE,
         "page.html",
