@@ -25,14 +25,18 @@ def point_of(number: int) -> bytes:
     return public.public_bytes(*how)
 
 
-def sealed(public: bytes, mark: str, number: str, text: str, length: int = LENGTH, own: int = 0) -> str:
-    """A text that is sealed to a public point, by the private key `own` or one that the text makes."""
+def sealed(public: bytes, mark: str, number: str, text: str, own: int = 0) -> str:
+    """A text that is sealed to a public point, by the private key `own` or one that the text makes. A
+    longer one than a ballot on four options has another length.
+    """
+    data = text.ljust(LENGTH, "\n").encode()
+    data += b"\n" * (-len(data) % 3)
     seed = int.from_bytes(hashlib.sha512(f"{number} {text}".encode("utf-8", "replace")).digest())
     private = ec.derive_private_key(own or seed % (ORDER - 1) + 1, CURVE)
     point = point_of(private.private_numbers().private_value)
     shared = private.exchange(ec.ECDH(), ec.EllipticCurvePublicKey.from_encoded_point(CURVE, public))
     key = HKDF(hashes.SHA256(), 32, None, b"debvote box 2\n" + point + public).derive(shared)
-    data = AESGCM(key).encrypt(bytes(12), text.ljust(length, "\n").encode(), f"{mark} {number}".encode())
+    data = AESGCM(key).encrypt(bytes(12), data, f"{mark} {number}".encode())
     return base64.urlsafe_b64encode(point + data).decode().rstrip("=")
 
 

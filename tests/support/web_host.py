@@ -85,9 +85,7 @@ def text_of(name: str, line: str, number: int, place: str = "", public: bytes = 
     """A ballot that is sealed; by the device, too, the one with the greater number is the later one."""
     sent = datetime.datetime(2026, 1, 1, tzinfo=datetime.UTC) + datetime.timedelta(seconds=number)
     text = sealing.inside(line, place or place_of(name), f"{sent:%Y-%m-%dT%H:%M:%S}.000Z")
-    # a longer one has another length
-    length = max(sealing.LENGTH, len(text))
-    return sealing.sealed(public, MARK, f"{number:032x}", text, length + -length % 3)
+    return sealing.sealed(public, MARK, f"{number:032x}", text)
 
 
 def ballot(

@@ -562,18 +562,24 @@ def kept_digests(book: Book) -> set[tuple[str, bool]]:
 
 
 class KeptRecord(NamedTuple):
-    """A record of the box that came: from which address, its digest, link and first line."""
+    """A record of the box that came: from which address, its digest, that of the record as it came, and
+    what was sealed: link, line, and when it was sent by the device of its elector.
+    """
 
     at: str
     digest: str
+    sealed: str
     link: str
     line: str
+    sent: datetime.datetime
 
 
 def records_since(book: Book, act: int) -> list[KeptRecord]:
     """The records of the box that came since an act."""
-    words = "SELECT detail ->> '$.box.at', known ->> 'digest', known ->> 'link', coalesce(known ->> '$.body.lines[0]', '') FROM letter JOIN act USING (act) WHERE act > ? AND detail ->> '$.box.at' IS NOT NULL"
-    return [KeptRecord(*row) for row in book.rows(words, act)]
+    columns = ("digest", "sealed", "link", "$.body.lines[0]", "sent")
+    known = ", ".join(f"known ->> '{column}'" for column in columns)
+    words = f"SELECT detail ->> '$.box.at' AS at, {known} FROM letter JOIN act USING (act) WHERE act > ? AND at IS NOT NULL"
+    return [KeptRecord(*row[:5], from_text(row[5])) for row in book.rows(words, act)]
 
 
 def source_of(book: Book, source: int) -> bytes:

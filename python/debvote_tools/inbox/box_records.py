@@ -1,8 +1,7 @@
-"""Asks the box of a vote, on the web host, for all that it has, and makes letters of its records. What
-becomes of them is decided elsewhere.
+"""Asks the box of a vote, on the web host, for all that it has. Its records are opened as letters in
+`opened_records.py`; what becomes of them is decided elsewhere.
 """
 
-import collections
 import contextlib
 import dataclasses
 import datetime
@@ -10,21 +9,21 @@ import http.client
 import re
 import ssl
 import urllib.parse
-from collections.abc import Iterator, Sequence
+from collections.abc import Iterator
 from typing import NamedTuple
 
 from debvote_tools.book import queries
-from debvote_tools.book.book import Book, Detail
+from debvote_tools.book.book import Detail
 from debvote_tools.book.election import BOX_KEY
-from debvote_tools.book.queries import KeptRecord
-from debvote_tools.cli.console import count_of, shown_text
+from debvote_tools.cli.console import count_of, listed, shown_text
 from debvote_tools.cli.faults import Fault, bad_words
 from debvote_tools.inbox.asked import has_list_of_now, last_box
 from debvote_tools.inbox.letter import YEAR
 from debvote_tools.inbox.mailbox import BEGIN, RawLetter
+from debvote_tools.inbox.opened_records import MOST, opened_records, whose_proofs
 from debvote_tools.inbox.vote import Vote
 from debvote_tools.patience import within
-from debvote_tools.poll.box import SCRIPT, asking_word, links_of, script_address
+from debvote_tools.poll.box import SCRIPT, asking_word, script_address
 from debvote_tools.text import times
 
 # in seconds and in bytes: how long an answer may take and be
@@ -32,7 +31,7 @@ PATIENCE, LONGEST_ANSWER = 60, 33_554_432
 
 # how an answer begins, with the version of the protocol; how each record ends
 HEAD = re.compile(
-    rf"box 1 ([0-9a-f]{{16}}) ([0-9a-f]{{64}}) ({YEAR}-\d\d-\d\dT\d\d:\d\d:\d\dZ)\n".encode()
+    rf"box 2 ([0-9a-f]{{16}}) ([0-9a-f]{{64}}) ({YEAR}-\d\d-\d\dT\d\d:\d\d:\d\dZ)\n".encode()
 )
 END = b"\n-- \n\n"
 # what a request may begin with, and an answer to one with another word
@@ -53,15 +52,8 @@ UPLOAD = f"upload {SCRIPT} of the folder call to where PHP 8.1 or later runs and
 
 # in seconds: how far the clock of the box may be from ours unsaid
 MOST_OFF = 60
-# how many records of one link are kept in all, as many as the script takes, and of one name by links
-# that this book did not make
-MOST = 20
-
-# a record as the script writes it, with its letter, its link and its name
-RECORD = re.compile(
-    rb"From [^\n]+\n(Received: by box; [^\n]+\nX-Link: ([2-9a-hj-km-np-z]{16})\n(?:X-Page: [0-9a-f]{16}\n)?From: box@page\.invalid\nSubject: \[[0-9a-f]{16}\]\n"
-    rb"Message-ID: <[0-9a-f]{32}@page\.invalid>\n\n([a-z0-9.-]{1,32}) [A-Z0-9, -]+\n-- \n)\n"
-)
+# how many electors are named
+MOST_NAMED = 20
 
 
 class HostAnswer(NamedTuple):
@@ -174,22 +166,27 @@ def cut_off(address: str) -> Fault:
 # ---- its records, as letters
 def asked_box(vote: Vote) -> tuple[list[RawLetter], Detail, list[str]]:
     """Asks the box of this vote: what it has, as letters, what the act keeps of it, and what is said."""
-    history, book = vote.election.history(), vote.book
+    history, book, mark = vote.election.history(), vote.book, vote.election.sealed().public.mark
     if not history.announced("box"):
         cure = f"add files; see {vote.election.command('status')}"
         raise bad_words("--box", "the call was made without it", cure)
     at = history.announced("at")
-    asked = ask(at, vote.questions.mark, asking_word(queries.sealed(book, BOX_KEY)))
+    asked = ask(at, mark, asking_word(queries.sealed(book, BOX_KEY)))
     # of another host neither the clock nor the records say anything of this one
     before = last_box(history, at)
     kept = queries.records_since(book, vote.call.number)
-    letters, others = records_in(vote, asked, before, kept)
+    parts = (part.partition(b"\n")[2] + END[:-1] for part in asked.records.split(END)[:-1])
+    raws = [RawLetter(f"box, record {number}", part) for number, part in enumerate(parts, start=1)]
+    found = opened_records(vote, raws, kept)
+    letters = [clocked(raw, asked, before, count) for raw, count in found.letters]
     box: Detail = {
         "at": at,
         "time": asked.time.isoformat(),
         "records": len(letters),
         "gone": len({one.digest for one in kept if one.at == at} - {raw.digest for raw in letters}),
-        "others": others,
+        "others": found.others,
+        "unopened": found.unopened,
+        "lost": whose_proofs(vote, found, asked.time),
         "behind": asked.behind,
         "list": asked.list_digest,
     }
@@ -214,27 +211,11 @@ def box_words(box: Detail, before: Detail) -> Iterator[str]:
     if box["others"]:
         others = f"{count_of(box['others'], 'record')} of no elector, or more than {MOST} of one"
         yield f"Note: {others}, passed over. The page sends none: ask who keeps the web host."
-
-
-def records_in(
-    vote: Vote, asked: Asked, before: Detail, kept: Sequence[KeptRecord]
-) -> tuple[list[RawLetter], int]:
-    """The records as letters, and how many there are beside them: of no elector, or above the most that
-    are kept, also with those that came before.
-    """
-    counts = collections.Counter(whose(vote.book, one.link, one.line) for one in kept)
-    digests = {one.digest for one in kept}
-    letters = list[RawLetter]()
-    parts = asked.records.split(END)[:-1]
-    for found in filter(None, (RECORD.fullmatch(part + END) for part in parts)):
-        link, name = found[2].decode(), found[3].decode()
-        key = whose(vote.book, link, name)
-        where = f"box, record {len(letters) + 1}"
-        raw = clocked(RawLetter(where, found[1], link=link), asked, before, counts[key])
-        counts[key] += raw.digest not in digests
-        if name in vote.names.roll and counts[key] <= MOST:
-            letters.append(raw)
-    return letters, len(parts) - len(letters)
+    if box["unopened"] > before.get("unopened", 0):
+        names = listed([*box["lost"]], MOST_NAMED)
+        whose = f", by the links of {names}, who are to vote again" if names else ""
+        records = count_of(box["unopened"], "record")
+        yield f"Note: {records} can't be opened, passed over{whose}. An older page may have sent such a one, or the web host have made it."
 
 
 def clocked(raw: RawLetter, asked: Asked, before: Detail, count: int) -> RawLetter:
@@ -250,7 +231,3 @@ def clocked(raw: RawLetter, asked: Asked, before: Detail, count: int) -> RawLett
         latest=asked.time + datetime.timedelta(seconds=count),
     )
 
-
-def whose(book: Book, link: str, line: str) -> str:
-    """Of which records at most so many are kept: those of a link that this book made, or of a name."""
-    return link if link in links_of(book) else line.partition(" ")[0]

@@ -133,6 +133,9 @@ class ParsedLetter:
     behind: int = 0
     is_fetched: bool = False
     latest: datetime.datetime | None = None
+    sealed: str = ""
+    sent: datetime.datetime | None = None
+    sent_before: datetime.datetime | None = None
     # what the page posted with it
     page: str = ""
 
@@ -188,6 +191,9 @@ def parse(raw: RawLetter) -> ParsedLetter:
         behind=raw.behind,
         is_fetched=raw.is_fetched,
         latest=raw.latest,
+        sealed=raw.sealed,
+        sent=raw.sent,
+        sent_before=raw.sent_before,
         page=decoded(letter.value("x-page")),
     )
 

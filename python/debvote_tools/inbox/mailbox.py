@@ -99,6 +99,11 @@ class RawLetter:
     behind: int = 0
     # the latest time that it can have, as the box was asked then
     latest: datetime.datetime | None = None
+    # SHA-256 of the record as it came, when it was sent by the device of its elector, and the last such time of
+    # their records that came before it
+    sealed: str = ""
+    sent: datetime.datetime | None = None
+    sent_before: datetime.datetime | None = None
     # whether it is a record that was fetched with the file of the box
     is_fetched: bool = False
 

@@ -127,6 +127,14 @@ class Reason(enum.Enum):
         "it is older than {asked}, when the box of the web host was asked and did not have it",
         LOOKED_AT,
     )
+    OTHER_TIME = (
+        "by the clock of its device it was sent at {sent}, more than ten minutes from the time of the web host: one of the two clocks is wrong, or the host dated it anew",
+        LOOKED_AT,
+    )
+    NOT_SENT_LATER = (
+        "by the clocks of their devices it is not later than a ballot of its elector that came before it: the web host may have exchanged the two, or a clock was wrong",
+        LOOKED_AT,
+    )
     CLOCK_AT_THE_END = (
         "it came near the end or the close, and the clock of the web host was off by {seconds} seconds",
         LOOKED_AT,

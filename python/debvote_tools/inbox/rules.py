@@ -25,7 +25,7 @@ from debvote_tools.inbox.reasons import Reason, ReasonWithValues
 from debvote_tools.poll.box import page_of, third_part
 from debvote_tools.poll.sealed import MARKS, marks_in
 
-# how far the clock of a mail server or of an elector may be ahead
+# how far the clock of a mail server may be ahead, and that of an elector be off
 AHEAD = datetime.timedelta(minutes=10)
 # the most digits in which a mark differs from one that was copied by hand
 MISCOPIED = 2
@@ -265,10 +265,24 @@ class LetterCase:
         return any(last <= self.circumstances.called for last in self.arrivals[1:])
 
     @property
+    def has_other_time(self) -> bool:
+        """Whether a record was sent by its device at quite another time than the host dates it."""
+        if self.read.arrived is None or self.read.sent is None:
+            return False
+        by_our_clock = self.read.arrived + datetime.timedelta(seconds=self.read.behind)
+        return abs(by_our_clock - self.read.sent) > AHEAD
+
+    @property
     def arrivals(self) -> list[datetime.datetime]:
-        """When it arrived, at the earliest and at the latest: the clock of a web host may be off."""
+        """When it arrived, at the earliest and at the latest: the clock of a web host may be off, and it may
+        date a record anew.
+        """
         arrived, off = self.read.arrived, datetime.timedelta(seconds=self.read.behind)
-        return sorted((arrived, arrived + off)) if arrived else []
+        if arrived is None:
+            return []
+        other = self.read.sent if self.has_other_time else None
+        times = [arrived, arrived + off, other or arrived]
+        return [min(times), max(times)]
 
     def arrived_after(self, *ends: datetime.datetime | None) -> bool:
         """Whether it is known to have arrived after one of these times."""
@@ -325,11 +339,14 @@ def why_not_readable(case: LetterCase) -> ReasonWithValues | None:
 
 def why_not_in_time(case: LetterCase) -> ReasonWithValues | None:
     """It arrived after the call, and not after the end or the first close; and if the box had it when
-    it was asked before, that asking brought it.
+    it was asked before, that asking brought it. The device of its elector says the same time, and a
+    later one than of all that came before it.
     """
-    arrived, circumstances, asked = case.read.arrived, case.circumstances, case.read.asked_before
-    if arrived is None:
+    read, circumstances, asked = case.read, case.circumstances, case.read.asked_before
+    if (arrived := read.arrived) is None:
         return Reason.NO_ARRIVAL()
+    if read.sent and case.has_other_time:
+        return Reason.OTHER_TIME(sent=read.sent)
     if case.arrived_before_call:
         return Reason.BEFORE_THE_CALL(called=circumstances.called)
     (first, last), end, close = case.arrivals, circumstances.end, circumstances.first_close
@@ -338,10 +355,12 @@ def why_not_in_time(case: LetterCase) -> ReasonWithValues | None:
     if close is not None and first > close:
         return Reason.AFTER_THE_CLOSE(close=close)
     if any(last > one for one in circumstances.ends):
-        return Reason.CLOCK_AT_THE_END(seconds=abs(case.read.behind))
+        return Reason.CLOCK_AT_THE_END(seconds=abs(read.behind))
     if asked is not None and arrived < asked:
         return Reason.NOT_THERE_BEFORE(asked=asked)
-    latest = case.read.latest or circumstances.now + AHEAD
+    if read.sent and read.sent_before and read.sent <= read.sent_before:
+        return Reason.NOT_SENT_LATER()
+    latest = read.latest or circumstances.now + AHEAD
     return Reason.IN_THE_FUTURE(arrived=arrived) if arrived > latest else None
 
 

@@ -19,6 +19,7 @@ from debvote_tools.inbox.judging import judged
 from debvote_tools.inbox.letter_lines import ReadLetter, read_letters, to_json
 from debvote_tools.inbox.mailbox import RawLetter
 from debvote_tools.inbox.box_records import asked_box
+from debvote_tools.inbox.opened_records import MOST, opened_records
 from debvote_tools.inbox.rules import LetterCase, LetterOutcome
 from debvote_tools.inbox.vote import Vote
 from debvote_tools.inbox.stopping import other_votes_words
@@ -40,6 +41,11 @@ def take_letters(
     """
     came, detail, words = asked_box(vote) if of_box else (given, {}, [])
     raws = [raw for raw in came if raw.why_not_read is None]
+    if fetched := [raw for raw in raws if raw.is_fetched]:
+        found = opened_records(vote, fetched)
+        raws = [raw for raw in raws if not raw.is_fetched] + [raw for raw, _ in found.letters]
+        if others := found.others + found.unopened:
+            words = [f"Note: {count_of(others, 'record')} can't be opened, or are of no elector or more than {MOST} of one, passed over."]
     new = new_of(vote, raws)
     read = read_letters(vote, new)
     if words:

@@ -8,7 +8,7 @@ import time
 from collections.abc import Callable, Iterator, Sequence
 
 from tests.support import boxes
-from tests.support.web_host import NEEDS_PHP, ballot
+from tests.support.web_host import NEEDS_PHP
 
 CLICKING = ["ada", "ben", "cleo", "dan"]
 RANKS, OTHER = "1,2,3,4", "4,3,2,1"
@@ -62,7 +62,7 @@ class End(boxes.BoxElectionTest):
     @contextlib.contextmanager
     def begun_click(self, name: str, ranks: str, link: str) -> Iterator[Callable[[], bytes]]:
         """A click whose last byte is sent by a call, which returns the answer."""
-        sent = ballot(name, ranks, next(self.numbers), link, self.page())
+        sent = self.ballot(name, ranks, link, next(self.numbers))
         head = f"POST /vote.php HTTP/1.1\r\nHost: x\r\nContent-Length: {len(sent)}\r\n\r\n".encode()
         with socket.create_connection(("127.0.0.1", self.host.port)) as connection:
             connection.sendall(head + sent[:-1])

@@ -219,7 +219,7 @@ class Clicks(boxes.BoxElectionTest):
         self.done("letters", "call")
         self.assertEqual(self.rows("SELECT data FROM sealed WHERE name = 'box key'"), key)
         self.assertNotEqual(self.page(), page)
-        answer = self.host.send(ballot("ada", "1,2,3,4", 1, self.links()["ada"], page))
+        answer = self.host.send(self.ballot("ada", "1,2,3,4", self.links()["ada"], 1_000, page))
         self.assertEqual((answer.status, answer.word), (409, "old:"))
         self.click("ada", "1,2,3,4", self.links()["ada"])
         self.done("add", "--box", "--yes")
@@ -407,7 +407,7 @@ class Clicks(boxes.BoxElectionTest):
         true = script.read_bytes()
         for year in ("0001", "9999"):
             time_ = f"{year}-12-31T23:59:59"
-            said = f"box 1 {mark} {list_digest(true)} {time_}Z\n"
+            said = f"box 2 {mark} {list_digest(true)} {time_}Z\n"
             size = f"header('Content-Length: {len(said)}')"
             script.write_text(f"<?php {size}; echo '{said}';")
             why = f"it does not answer as a box: {said[:20]}"

@@ -77,7 +77,7 @@ class Refused(unittest.TestCase):
             opener(KEY, MARK)(f"{2:032x}", SEALED)
 
     def test_a_text_that_is_not_ascii(self) -> None:
-        text = sealing.sealed(key_pair(KEY, MARK)[1], MARK, NUMBER, INSIDE.replace("1,2", "\u00b9,2"), 137)
+        text = sealing.sealed(key_pair(KEY, MARK)[1], MARK, NUMBER, INSIDE.replace("1,2", "\u00b9,2"))
         with self.assertRaises(ValueError):
             opener(KEY, MARK)(NUMBER, text)
 
