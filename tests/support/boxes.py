@@ -1,6 +1,5 @@
 """Elections with a box on a web host of this computer, to which their electors click."""
 
-import base64
 import datetime
 import email
 import itertools
@@ -9,7 +8,7 @@ import pathlib
 import re
 import shutil
 
-from debvote_tools.poll.box import personal_link, proof_of
+from debvote_tools.poll.box import personal_link
 
 from tests.support import elections, sealing
 from tests.support.web_host import HOST_OFF, Answer, Host, clock_of_php, request_of
@@ -33,6 +32,8 @@ class BoxElectionTest(elections.ElectionTest):
     workers = 1
     # whether the clock of the host can be set
     has_clock = False
+    # by how many seconds the clocks of the devices are ahead
+    devices_off = 0
 
     def setUp(self) -> None:
         super().setUp()
@@ -102,16 +103,15 @@ class BoxElectionTest(elections.ElectionTest):
 
     def sealed(self, line: str, place: str, number: int, sent: datetime.datetime | None = None) -> str:
         """A ballot as the page seals it, which was sent now or at another time."""
-        when = sent or datetime.datetime.now(datetime.UTC)
+        when = sent or datetime.datetime.now(datetime.UTC) + datetime.timedelta(seconds=self.devices_off)
         text = sealing.inside(line, place, f"{when.astimezone(datetime.UTC):%Y-%m-%dT%H:%M:%S}.{when.microsecond // 1_000:03}Z")
-        public = base64.b64decode(self.of_page("seal"))
-        return sealing.sealed(public, self.of_page("mark"), f"{number:032x}", text)
+        return sealing.sealed(self.of_page("seal"), self.of_page("mark"), f"{number:032x}", text)
 
     def ballot(self, name: str, ranks: str, link: str, number: int, page: str = "") -> bytes:
         """What the page sends; of one number the same bytes again."""
         if number not in self.bodies:
             place = self.place_of(name, link)
-            proof = proof_of(self.of_page("mark"), place)
+            proof = sealing.proof_of(self.of_page("mark"), place)
             head = f"{page or self.page()} {proof} {number:032x}"
             self.bodies[number] = request_of(head, self.sealed(f"{name} {ranks}", place, number))
         return self.bodies[number]

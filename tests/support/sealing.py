@@ -10,8 +10,9 @@ from cryptography.hazmat.primitives.asymmetric import ec
 from cryptography.hazmat.primitives.ciphers.aead import AESGCM
 from cryptography.hazmat.primitives.kdf.hkdf import HKDF
 
+from debvote_tools.files import sha256_of
 from debvote_tools.poll.box import proof_digest
-from debvote_tools.poll.sealed_ballots import ORDER, opener
+from debvote_tools.poll.sealed_ballots import ORDER, key_pair
 
 CURVE = ec.SECP256R1()
 # of a ballot on four options
@@ -25,11 +26,16 @@ def point_of(number: int) -> bytes:
     return public.public_bytes(*how)
 
 
-def sealed(public: bytes, mark: str, number: str, text: str, own: int = 0) -> str:
-    """A text that is sealed to a public point, by the private key `own` or one that the text makes. A
+def proof_of(mark: str, link: str) -> str:
+    """What a page sends of a personal link."""
+    return sha256_of(f"{mark} {link}".encode())
+
+
+def sealed(public_key: str, mark: str, number: str, text: str, own: int = 0) -> str:
+    """A text that is sealed to a public key, by the private key `own` or one that the text makes. A
     longer one than a ballot on four options has another length.
     """
-    data = text.ljust(LENGTH, "\n").encode()
+    public, data = base64.b64decode(public_key), text.ljust(LENGTH, "\n").encode()
     data += b"\n" * (-len(data) % 3)
     seed = int.from_bytes(hashlib.sha512(f"{number} {text}".encode("utf-8", "replace")).digest())
     private = ec.derive_private_key(own or seed % (ORDER - 1) + 1, CURVE)
@@ -64,6 +70,6 @@ def line_in(key: bytes, record: str) -> str:
     [(mark, number)] = re.findall(r"\[(\w{16})\]\nMessage-ID: <(\w{32})@", record)
     text = record.partition("\n\n")[2].partition("\n")[0]
     try:
-        return opener(key, mark)(number, text).partition("\n")[0]
+        return key_pair(key, mark)[1](number, text).partition("\n")[0]
     except ValueError:
         return text

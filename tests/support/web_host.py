@@ -20,7 +20,7 @@ import unittest.mock
 from collections.abc import Callable, Iterable, Mapping, Sequence
 from typing import NamedTuple
 
-from debvote_tools.poll.box import asking_word, page_of, proof_of, third_part, records_file, script_of
+from debvote_tools.poll.box import asking_word, page_of, third_part, records_file, script_of
 from debvote_tools.poll.sealed_ballots import key_pair
 
 from tests.support import sealing
@@ -35,7 +35,7 @@ SECONDS = 60
 MARK, KEY = "1ac5041b936c7fc1", bytes(range(32))
 OWNS = {"ada": "23456789ab", "ben-lee": "3456789abc", "cleo.x": "456789abcd"}
 WORD, FILE, PAGE = asking_word(KEY), records_file(KEY), page_of(KEY, MARK)
-PUBLIC = key_pair(KEY, MARK)[1]
+PUBLIC = key_pair(KEY, MARK)[0]
 LINKS = {name: third_part(KEY, name, own) for name, own in OWNS.items()}
 # the first line of the file, and the end of each record
 FIRST, END = b"<?php exit; ?>\n", b"\n-- \n\n"
@@ -81,7 +81,7 @@ def place_of(name: str, link: str | None = None, own: str | None = None) -> str:
     return f"{name}/{own or OWNS.get(name, '2' * 10)}/{third}"
 
 
-def text_of(name: str, line: str, number: int, place: str = "", public: bytes = PUBLIC) -> str:
+def text_of(name: str, line: str, number: int, place: str = "", public: str = PUBLIC) -> str:
     """A ballot that is sealed; by the device, too, the one with the greater number is the later one."""
     sent = datetime.datetime(2026, 1, 1, tzinfo=datetime.UTC) + datetime.timedelta(seconds=number)
     text = sealing.inside(line, place or place_of(name), f"{sent:%Y-%m-%dT%H:%M:%S}.000Z")
@@ -94,7 +94,7 @@ def ballot(
     """What this page sends; `number` makes the Message-ID."""
     place = place_of(name, link, own)
     text = text_of(name, f"{name} {ranks}", number, place)
-    return request_of(f"{page} {proof_of(MARK, place)} {number:032x}", text)
+    return request_of(f"{page} {sealing.proof_of(MARK, place)} {number:032x}", text)
 
 
 def record(name: str, line: str, number: int, time_: str, page: str = PAGE) -> str:

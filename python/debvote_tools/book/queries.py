@@ -562,24 +562,23 @@ def kept_digests(book: Book) -> set[tuple[str, bool]]:
 
 
 class KeptRecord(NamedTuple):
-    """A record of the box that came: from which address, its digest, that of the record as it came, and
-    what was sealed: link, line, and when it was sent by the device of its elector.
+    """A record of the box that came: from which address, its digest, its link and its elector, and when it
+    was sent by their device.
     """
 
     at: str
     digest: str
-    sealed: str
     link: str
-    line: str
-    sent: datetime.datetime
+    elector: str
+    sent: str
 
 
 def records_since(book: Book, act: int) -> list[KeptRecord]:
     """The records of the box that came since an act."""
-    columns = ("digest", "sealed", "link", "$.body.lines[0]", "sent")
-    known = ", ".join(f"known ->> '{column}'" for column in columns)
-    words = f"SELECT detail ->> '$.box.at' AS at, {known} FROM letter JOIN act USING (act) WHERE act > ? AND at IS NOT NULL"
-    return [KeptRecord(*row[:5], from_text(row[5])) for row in book.rows(words, act)]
+    line = "known ->> '$.body.lines[0]'"
+    columns = f"detail ->> '$.box.at' AS at, known ->> 'digest', known ->> 'link', substr({line}, 1, instr({line}, ' ') - 1), known ->> 'sent' AS sent"
+    words = f"SELECT {columns} FROM letter JOIN act USING (act) WHERE act > ? AND at IS NOT NULL ORDER BY sent"
+    return [KeptRecord(*row) for row in book.rows(words, act)]
 
 
 def source_of(book: Book, source: int) -> bytes:

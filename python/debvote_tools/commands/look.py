@@ -33,7 +33,12 @@ from debvote_tools.cli.console import (
 from debvote_tools.cli.faults import Fault, bad_words
 from debvote_tools.files import whole_folder, write_whole
 from debvote_tools.inbox import letter_words
-from debvote_tools.inbox.asked import asked_last, asked_words, unasked_fault
+from debvote_tools.inbox.asked import (
+    asked_last,
+    asked_words,
+    unasked_fault,
+    with_lost_records,
+)
 from debvote_tools.inbox.fates import Fate, fates_of
 from debvote_tools.inbox.lines import has_code
 from debvote_tools.inbox.stopping import Pending, pending_letters, taken_out_words
@@ -87,6 +92,7 @@ def state_of(election: Election, history: History) -> tuple[State, list[Envelope
         if has_codes
         else [elector.name for elector in electors if elector.name not in counting],
         "box": asked_last(election, history),
+        "lost": with_lost_records(election, history),
         "not_reached": {elector.name: why for elector, why, _ in unreached},
         "printed": printed,
         "act": history.last.number,
@@ -150,6 +156,7 @@ def state_words(
         yield taken_out_words(election, history)
     yield f"Electors with a valid ballot: {state['voters']} of {state['electors']}"
     yield from asked_words(history)
+    yield from named("Ballots that nobody can open, and no later ones, by the links of", state["lost"])
     yield from named("Electors without a ballot", state["without_ballot"])
     yield from refused_words(refused, has_codes=history.has_codes_on_roll)
     if state["waiting"]:
@@ -262,7 +269,8 @@ def fate_words(vote: Vote, history: History, fate: Fate, came: Sequence[Envelope
             struck = f"struck by {act.name} at {act_time(act.time)}"
             marks.append(f"{struck}: {because}" if because else struck)
         marked = f" ({'; '.join(marks)})" if marks else ""
-        yield f"envelope {envelope.number}, {act_time(envelope.time)}: {said}{marked}"
+        sent = letter_words.sent_words(fate.came_by)
+        yield f"envelope {envelope.number}, {act_time(envelope.time)}{sent}: {said}{marked}"
 
 
 def refused_line(vote: Vote, envelope: Envelope) -> str:

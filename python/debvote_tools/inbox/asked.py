@@ -3,6 +3,7 @@ it. What an asking brings is in `box_records.py`.
 """
 
 import datetime
+import itertools
 
 from debvote_tools.book import queries
 from debvote_tools.book.book import Detail, from_text
@@ -68,6 +69,18 @@ def asked_words(history: History) -> list[str]:
         records, time = count_of(box["records"], "record"), act_time(history.askings[-1].time)
         return [f"Box of the web host: {records} when it was asked last, {time}"]
     return ["Box of the web host: not asked yet"] if history.announced("box") else []
+
+
+def with_lost_records(election: Election, history: History) -> list[str]:
+    """The electors by whose links a record came that nobody can open, and who have no later ballot."""
+    lost = (act.detail["box"]["lost"].items() for act in history.askings)
+    came = dict(itertools.chain.from_iterable(lost))
+    ballots = queries.ballots_of(election.book, came)
+    return [
+        name
+        for name, time in sorted(came.items())
+        if all(one.time <= from_text(time) for one in ballots.get(name, ()))
+    ]
 
 
 def is_unasked(history: History, since: datetime.datetime | None) -> bool:

@@ -1,7 +1,11 @@
-"""Asks the box of a vote, on the web host, for all that it has. Its records are opened as letters in
-`opened_records.py`; what becomes of them is decided elsewhere.
+"""Asks the box of a vote, on the web host, for all that it has, and makes letters of its records. What
+becomes of them is decided elsewhere.
+
+A record that an elector's page sealed is a letter, with line and link where the seal stood. All others
+wait for nobody: whoever writes into the files of the web host can make them.
 """
 
+import collections
 import contextlib
 import dataclasses
 import datetime
@@ -9,21 +13,31 @@ import http.client
 import re
 import ssl
 import urllib.parse
-from collections.abc import Iterator
+from collections.abc import Iterator, Sequence
 from typing import NamedTuple
 
 from debvote_tools.book import queries
-from debvote_tools.book.book import Detail
+from debvote_tools.book.book import Detail, from_text
 from debvote_tools.book.election import BOX_KEY
+from debvote_tools.book.queries import KeptRecord
 from debvote_tools.cli.console import count_of, listed, shown_text
 from debvote_tools.cli.faults import Fault, bad_words
 from debvote_tools.inbox.asked import has_list_of_now, last_box
-from debvote_tools.inbox.letter import YEAR
+from debvote_tools.files import sha256_of
+from debvote_tools.inbox.letter import YEAR, arrival_of
 from debvote_tools.inbox.mailbox import BEGIN, RawLetter
-from debvote_tools.inbox.opened_records import MOST, opened_records, whose_proofs
 from debvote_tools.inbox.vote import Vote
 from debvote_tools.patience import within
-from debvote_tools.poll.box import SCRIPT, asking_word, script_address
+from debvote_tools.poll.box import (
+    LINK_LENGTH,
+    SCRIPT,
+    asking_word,
+    personal_link,
+    proof_digest,
+    script_address,
+)
+from debvote_tools.poll.sealed import OWN, OWN_SIGNS
+from debvote_tools.poll.sealed_ballots import key_pair
 from debvote_tools.text import times
 
 # in seconds and in bytes: how long an answer may take and be
@@ -52,8 +66,21 @@ UPLOAD = f"upload {SCRIPT} of the folder call to where PHP 8.1 or later runs and
 
 # in seconds: how far the clock of the box may be from ours unsaid
 MOST_OFF = 60
-# how many electors are named
-MOST_NAMED = 20
+# how many records of one link are kept in all, as many as the script takes; how many electors are named
+MOST = MOST_NAMED = 20
+
+# a record as the script writes it, without the line above it: when it arrived, the digest of the proof
+# by which it came, the mark of the poll, its number, and what is sealed
+RECORD = re.compile(
+    r"(?P<head>Received: by box; [^\n]+\n)X-Proof: (?P<proof>[0-9a-f]{64})\n(?P<rest>X-Page: [0-9a-f]{16}\nFrom: box@page\.invalid\n"
+    r"Subject: \[(?P<mark>[0-9a-f]{16})\]\nMessage-ID: <(?P<number>[0-9a-f]{32})@page\.invalid>\n\n)(?P<sealed>[A-Za-z0-9_-]+)\n-- \n"
+)
+PROOF = re.compile(r"X-Proof: (\w+)")
+# what is sealed: a line, the personal link of the elector on it, and the time by their device
+INSIDE = re.compile(
+    rf"(?P<line>(?P<name>[a-z0-9.-]{{1,32}}) [A-Z0-9, -]+)\n(?P<place>(?P=name)/(?P<own>{OWN})/(?P<link>[{OWN_SIGNS}]{{{LINK_LENGTH}}}))\n"
+    rf"(?P<sent>{YEAR}-\d\d-\d\dT\d\d:\d\d:\d\d\.\d{{3}}Z)"
+)
 
 
 class HostAnswer(NamedTuple):
@@ -175,18 +202,16 @@ def asked_box(vote: Vote) -> tuple[list[RawLetter], Detail, list[str]]:
     # of another host neither the clock nor the records say anything of this one
     before = last_box(history, at)
     kept = queries.records_since(book, vote.call.number)
-    parts = (part.partition(b"\n")[2] + END[:-1] for part in asked.records.split(END)[:-1])
-    raws = [RawLetter(f"box, record {number}", part) for number, part in enumerate(parts, start=1)]
-    found = opened_records(vote, raws, kept)
-    letters = [clocked(raw, asked, before, count) for raw, count in found.letters]
+    letters, others, unopened = records_in(vote, asked, before, kept)
+    came = {raw.digest for raw in letters}
     box: Detail = {
         "at": at,
         "time": asked.time.isoformat(),
         "records": len(letters),
-        "gone": len({one.digest for one in kept if one.at == at} - {raw.digest for raw in letters}),
-        "others": found.others,
-        "unopened": found.unopened,
-        "lost": whose_proofs(vote, found, asked.time),
+        "gone": sum(one.at == at and one.digest not in came for one in kept),
+        "others": len(others),
+        "unopened": len(unopened),
+        "lost": whose(vote, [*others, *unopened], asked.time),
         "behind": asked.behind,
         "list": asked.list_digest,
     }
@@ -216,6 +241,91 @@ def box_words(box: Detail, before: Detail) -> Iterator[str]:
         whose = f", by the links of {names}, who are to vote again" if names else ""
         records = count_of(box["unopened"], "record")
         yield f"Note: {records} can't be opened, passed over{whose}. An older page may have sent such a one, or the web host have made it."
+
+
+def arrived(raw: RawLetter) -> datetime.datetime:
+    """When a record arrived, by the host; at last if that is no time."""
+    received = raw.data.partition(b"\n")[0].decode("latin-1")
+    return arrival_of(received) or datetime.datetime.max.replace(tzinfo=datetime.UTC)
+
+
+def records_in(
+    vote: Vote, asked: Asked, before: Detail, kept: Sequence[KeptRecord]
+) -> tuple[list[RawLetter], list[RawLetter], list[RawLetter]]:
+    """The records as letters; those of no elector, or above the most that are kept of a link, also with those
+    that came before it; and those that can't be opened. What was kept is not opened again.
+
+    The host can exchange the times of two, and not what is sealed in them: each has the last time by the
+    device of all that came before it.
+    """
+    counts, known = collections.Counter(one.link for one in kept), {one.digest for one in kept}
+    latest = {one.elector: from_text(one.sent) for one in kept}
+    key = queries.sealed(vote.book, BOX_KEY)
+    letters, others, unopened = list[RawLetter](), list[RawLetter](), list[RawLetter]()
+    parts = [part.partition(b"\n")[2] + END[:-1] for part in asked.records.split(END)[:-1]]
+    raws = [
+        RawLetter(f"box, record {number}", part, record=sha256_of(part))
+        for number, part in enumerate(parts, start=1)
+    ]
+    for raw in sorted(raws, key=arrived):
+        if raw.digest in known:
+            letters.append(raw)
+            continue
+        elector, letter = opened(key, raw)
+        if not elector:
+            unopened.append(raw)
+        elif elector not in vote.names.roll or counts[letter.link] >= MOST:
+            others.append(raw)
+        else:
+            letter = dataclasses.replace(letter, sent_before=latest.get(elector))
+            letters.append(clocked(letter, asked, before, counts[letter.link]))
+            counts[letter.link] += 1
+            latest[elector] = max(filter(None, [letter.sent, letter.sent_before]))
+    return letters, others, unopened
+
+
+def opened(key: bytes, raw: RawLetter) -> tuple[str, RawLetter]:
+    """The elector whose page sealed a record for its poll, number and proof, and the letter that it is; or
+    nobody, and the record. The key of the box alone shows that a link is true, also one whose own mark the
+    book lacks.
+    """
+    record = RECORD.fullmatch(raw.data.decode("latin-1"))
+    if record is None:
+        return "", raw
+    with contextlib.suppress(ValueError):
+        text = key_pair(key, record["mark"])[1](record["number"], record["sealed"])
+        inside = INSIDE.fullmatch(text)
+        if inside and inside["place"] == personal_link(key, inside["name"], inside["own"]):
+            if proof_digest(record["mark"], inside["place"]) == record["proof"]:
+                return inside["name"], letter_of(raw, record, inside)
+    return "", raw
+
+
+def letter_of(raw: RawLetter, record: re.Match[str], inside: re.Match[str]) -> RawLetter:
+    """A record as a letter, whose bytes say which record it was."""
+    fields = f"X-Link: {inside['link']}\nX-Sealed: {sha256_of(raw.data)}\nX-Sent: {inside['sent']}\n"
+    text = f"{record['head']}{fields}{record['rest']}{inside['line']}\n-- \n"
+    sent = datetime.datetime.fromisoformat(inside["sent"])
+    return dataclasses.replace(raw, data=text.encode("latin-1"), link=inside["link"], sent=sent)
+
+
+def whose(
+    vote: Vote, records: Sequence[RawLetter], asked: datetime.datetime
+) -> dict[str, str]:
+    """The electors by whose proofs these records came, each with when the last one did, at the latest when
+    the box was asked.
+    """
+    key, mark = queries.sealed(vote.book, BOX_KEY), vote.election.sealed().public.mark
+    owns = queries.own_marks(vote.book).items() if records else ()
+    names = {
+        proof_digest(mark, personal_link(key, its.elector, own)): its.elector for own, its in owns
+    }
+    proofs = ((PROOF.search(raw.data.decode("latin-1")), arrived(raw)) for raw in records)
+    return {
+        names[proof[1]]: min(time, asked).isoformat()
+        for proof, time in proofs
+        if proof and proof[1] in names
+    }
 
 
 def clocked(raw: RawLetter, asked: Asked, before: Detail, count: int) -> RawLetter:

@@ -103,7 +103,7 @@ class ParsedLetter:
     """What the bytes of a letter say and, if letters have to be signed, what gpgv says of it."""
 
     where: str
-    # SHA-256 of its bytes, and of the link of a record: see `RawLetter`
+    # SHA-256 of its bytes, or of the record as it came: see `RawLetter`
     digest: str
     # the same for all copies: a digest of its Message-ID, sender and text; or of its good signature
     # and what that signs, since anybody can change the rest
@@ -133,7 +133,6 @@ class ParsedLetter:
     behind: int = 0
     is_fetched: bool = False
     latest: datetime.datetime | None = None
-    sealed: str = ""
     sent: datetime.datetime | None = None
     sent_before: datetime.datetime | None = None
     # what the page posted with it
@@ -186,12 +185,11 @@ def parse(raw: RawLetter) -> ParsedLetter:
         else (),
         body=body,
         attachments=attachments_of(letter),
-        link=letter.value("x-link") if raw.is_fetched else raw.link,
+        link=raw.link,
         asked_before=raw.asked_before,
         behind=raw.behind,
         is_fetched=raw.is_fetched,
         latest=raw.latest,
-        sealed=raw.sealed,
         sent=raw.sent,
         sent_before=raw.sent_before,
         page=decoded(letter.value("x-page")),

@@ -101,16 +101,11 @@ def personal_link(key: bytes, name: str, own: str) -> str:
     return f"{name}/{own}/{third_part(key, name, own)}"
 
 
-def proof_of(mark: str, link: str) -> str:
-    """What shows the host that somebody has a personal link to the page of the poll with this mark, and
-    nothing of the link.
-    """
-    return sha256_of(f"{mark} {link}".encode())
-
-
 def proof_digest(mark: str, link: str) -> str:
-    """What the host knows of a link: it makes no proof."""
-    return sha256_of(proof_of(mark, link).encode())
+    """What the host knows of a link to the page of the poll with this mark: the digest of the proof that
+    the page sends, which is one of the link.
+    """
+    return sha256_of(sha256_of(f"{mark} {link}".encode()).encode())
 
 
 @functools.cache

@@ -18,7 +18,7 @@ from debvote_tools.text.rendering import render_letter, render_page, resources
 from debvote_tools.poll import box
 from debvote_tools.poll.questions import Questions
 from debvote_tools.poll.sealed import SealedPoll, in_brackets
-from debvote_tools.poll.sealed_ballots import public_key
+from debvote_tools.poll.sealed_ballots import key_pair
 
 # a first line that greets: it ends as one does, or begins so in one of the languages
 GREETING = re.compile(
@@ -135,7 +135,7 @@ class CallData:
     @property
     def seal(self) -> str:
         """The key to which this page seals ballots."""
-        return public_key(self.box_key, self.questions.mark)
+        return key_pair(self.box_key, self.questions.mark)[0]
 
     @property
     def mail_to(self) -> str:

@@ -158,6 +158,7 @@ class End(boxes.BoxElectionTest):
         self.done("letters", "call")
         links = self.links()
         for name, seconds in zip(CLICKING, (-240, -60, 60, 240)):
+            self.devices_off = 7200 + seconds
             self.host_off(7200 + seconds + ahead)
             self.click(name, RANKS, links[name])
         self.off(7200 + 300)

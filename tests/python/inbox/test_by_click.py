@@ -3,6 +3,7 @@
 import dataclasses
 import datetime
 import email
+import hashlib
 import json
 import pathlib
 import re
@@ -10,20 +11,24 @@ import resource
 import shutil
 import time
 import unittest
+import unittest.mock
 import zoneinfo
 from concurrent.futures import ThreadPoolExecutor
 
+from debvote_tools.book import queries
 from debvote_tools.book.election import Election
 from debvote_tools.inbox.judging import Ballot
 from debvote_tools.inbox.letter import ParsedLetter
+from debvote_tools.inbox import box_records
 from debvote_tools.inbox.box_records import MOST
-from debvote_tools.poll.box import asking_word, list_digest, page_of, third_part
-from debvote_tools.poll.sealed import OWN_SIGNS
+from debvote_tools.inbox.vote import Vote
+from debvote_tools.poll.box import asking_word, list_digest, page_of, proof_digest, third_part
+from debvote_tools.poll.sealed_ballots import key_pair
 
-from tests.support import at_browser, boxes, elections
+from tests.support import at_browser, boxes, elections, sealing
 from tests.support.letters import OWN, at, judged, letter, mailbox, outcome, outcomes, parsed
 from tests.support.program import PROGRAM
-from tests.support.web_host import FIRST, MARK, NEEDS_PHP, Liar, ballot, passed_on, request_of, record
+from tests.support.web_host import END, FIRST, MARK, NEEDS_PHP, Liar, passed_on, request_of, record
 
 BERLIN = zoneinfo.ZoneInfo("Europe/Berlin")
 HTTPS = ("--at", "https://club.example/vote/")
@@ -81,8 +86,8 @@ class CallWithBox(elections.ElectionTest):
         ended = self.done("roll", "--yes")
         self.assertIn("Upload call/vote.php again, since these electors have new links", ended.output)
         self.assertNotEqual(self.read("call/vote.php"), script)
-        changed = [old != new for old, new in zip(script.splitlines(), self.read("call/vote.php").splitlines(), strict=True)]
-        self.assertEqual(sum(changed), 1)
+        before, after = script.splitlines(), self.read("call/vote.php").splitlines()
+        self.assertEqual((len({*before} - {*after}), len({*after} - {*before}), len(before)), (1, 1, len(after)))
         # taken back: without --box there is no script, with it the key is the same
         self.done("call", "--take-back")
         self.done("call", *HTTPS)
@@ -226,14 +231,14 @@ class Clicks(boxes.BoxElectionTest):
         self.assertEqual(self.standing(), {"ada": "1,2,3,4"})
 
     def test_a_record_that_does_not_say_of_which_page_it_is(self) -> None:
-        """A script of before kept it, or it is from another page: nobody knows what its elector read."""
+        """Another script kept it: nobody knows what its elector read."""
         links = self.begun()
         for name in ("ada", "ben", "cleo"):
             self.click(name, "1,2,3,4", links[name])
         said = f"X-Page: {self.page()}\n".encode()
         before, of_ada, of_ben, rest = self.file().read_bytes().split(said)
-        data = before + of_ada + b"X-Page: 0123456789abcdef\n" + of_ben + said + rest
-        self.file().write_bytes(data)
+        other = b"X-Page: 0123456789abcdef\n"
+        self.file().write_bytes(before + other + of_ada + other + of_ben + said + rest)
         why = "it does not say that it came by the page of this call, and another"
         self.assertEqual(self.done("add", "--box", "--yes").output.count(why), 2)
         self.assertEqual(self.standing(), {"cleo": "1,2,3,4"})
@@ -270,10 +275,13 @@ class Clicks(boxes.BoxElectionTest):
         links = self.begun()
         self.click("ada", "1,2,3,4", links["ada"])
         data = self.file().read_bytes()
-        # whoever has the file has none of another link
-        self.write("fetched.php", data + data.removeprefix(FIRST).replace(links["ada"].encode(), b"2" * 16))
-        self.done("add", "--yes", "fetched.php")
-        self.done("held", "1", "2", "--set-aside")
+        # whoever has the file can make none of another proof
+        other = data.removeprefix(FIRST).replace(proof_digest(self.mark(), self.place_of("ada", links["ada"])).encode(), b"2" * 64)
+        self.write("fetched.php", data + other)
+        said = self.done("add", "--yes", "fetched.php").output
+        self.assertIn("Note: 1 record of the file can't be opened, and passed over.", said)
+        self.assertIn("1 new letter; 0 came before.", said)
+        self.done("held", "1", "--set-aside")
         self.done("add", "--box", "--yes")
         self.assertEqual(self.standing(), {"ada": "1,2,3,4"})
         text = self.receipts()["ada"]
@@ -281,7 +289,6 @@ class Clicks(boxes.BoxElectionTest):
         for said in (
             "It came by the page of the vote. It was read as: At the lake, then In the town hall,",
             "came by the page of the vote, with your link. It was not entered. The reason: the secretary has looked at it, and set it aside.",
-            "A ballot in your name came by the page of the vote, but not with your present link. The secretary has set it aside.",
         ):
             self.assertIn(said, text)
 
@@ -339,48 +346,233 @@ class Clicks(boxes.BoxElectionTest):
                 self.assertIn(f"may be earlier or later than another ballot of {name}", self.done("add", "--yes", "inbox.mbox").output)
 
     def test_a_dishonest_host(self) -> None:
+        """What it makes or changes waits for nobody, and what it dates anew waits."""
         links = self.begun()
-        # cleo has another link than she had
-        self.write("members.csv", elections.members_of(elections.NAMES).replace("cleo@club", "cleo@new"))
-        self.done("roll", "--yes")
         self.click("ada", "1,2,3,4", links["ada"])
         self.done("add", "--box", "--yes")
-        mark, page = self.mark(), self.page()
-        at = str(self.boxes_kept()[-1]["time"])
+        at = str(self.boxes_kept()[-1]["time"])[:19]
         real = self.file().read_bytes()
-        drop, ago = FIRST, time.strftime("%Y-%m-%dT%H:%M:%S", time.gmtime(time.time() - 1800))
-        backdated = (
-            record("x", "ben 1,2,3,4", 99, ago, mark, page).replace("2" * 16, links["ben"]).encode()
-        )
-        unknown = b"".join(
-            record("x", "cleo 1,2,3,4", number, at[:19], mark, page)
-            .replace("2" * 16, "2" * 15 + sign)
-            .encode()
-            for number, sign in enumerate(OWN_SIGNS[: MOST + 10], start=100)
-        )
-        former = record("x", "cleo 1,2,3,4", 98, ago, mark, page).replace("2" * 16, links["cleo"]).encode()
-        nobody = record("x", "nobody 1,2,3,4", 999, at[:19], mark, page).encode()
-        odd = nobody.replace(b"nobody", b"dan").replace(
-            b"From: box@page.invalid\n", b"From: dan@club.example\n"
-        )
-        changed = real.replace(b"ada 1,2,3,4", b"ada 4,3,2,1")
+        ago = time.strftime("%Y-%m-%dT%H:%M:%S", time.gmtime(time.time() - 1800))
+        backdated = self.record("ben 1,2,3,4", links["ben"], 99, ago)
+        # it knows the digests of proofs, and the key to which ballots are sealed
+        proof = proof_digest(self.mark(), self.place_of("cleo", links["cleo"])).encode()
+        forged = self.record("cleo 1,2,3,4", "2" * 16, 100, at)
+        forged = re.sub(rb"X-Proof: \w+", b"X-Proof: " + proof, forged)
+        unknown = b"".join(forged.replace(b"<00", b"<%02x" % number) for number in range(2 * MOST))
+        nobody = self.record("nobody 1,2,3,4", third_part(self.key, "nobody", "2" * 10), 999, at)
+        odd = backdated.replace(b"From: box@page.invalid\n", b"From: dan@club.example\n")
         replayed = re.sub(rb"\d\d:\d\d:\d\d", b"00:00:01", real)
-        for what, data, gone, others, records in (
-            ("dropped", drop, 1, 0, 0),
-            ("backdated", real + backdated, 0, 0, 2),
-            ("of who never came", real + backdated + unknown + former, 0, 10, MOST + 3),
-            ("again, by others", real + backdated + unknown.replace(b"<0000", b"<1111"), MOST + 1, MOST + 10, 2),
-            ("of nobody, and of another form", real + backdated + nobody + odd, MOST + 1, 2, 2),
-            ("changed", changed, MOST + 3, 0, 1),
-            ("replayed", replayed, MOST + 4, 0, 1),
+        cleo, nothing = {"cleo"}, set[str]()
+        for what, data, gone, others, unopened, records, lost in (
+            ("dropped", FIRST, 1, 0, 0, 0, nothing),
+            ("backdated", real + backdated, 0, 0, 0, 2, nothing),
+            ("of who never came", real + backdated + unknown, 0, 0, 2 * MOST, 2, cleo),
+            ("of nobody, and of another form", real + backdated + nobody + odd, 0, 1, 1, 2, {"ben"}),
+            ("changed", real.replace(b"X-Proof", b"x-proof"), 2, 0, 1, 0, nothing),
+            ("replayed", replayed, 2, 0, 0, 1, nothing),
         ):
             with self.subTest(what):
                 self.file().write_bytes(data)
-                ended = self.done("add", "--box", "--yes")
-                kept = self.boxes_kept()[-1]
-                self.assertEqual((kept["gone"], kept["others"], kept["records"]), (gone, others, records), ended.output)
+                ended, kept = self.done("add", "--box", "--yes"), self.boxes_kept()[-1]
+                found = [kept[key] for key in ("gone", "others", "unopened", "records")]
+                self.assertEqual((*found, {*kept["lost"]}), (gone, others, unopened, records, lost), ended.output)
                 self.assertEqual(self.standing(), {"ada": "1,2,3,4"})
-        self.assertIn("it is older than", self.done("held").output + ended.output)
+        self.assertIn("it is older than", self.done("held").output)
+
+    def test_a_host_that_exchanges_the_times_of_two_ballots(self) -> None:
+        """The older one would count. Asked at once, or of two askings."""
+        links = self.begun()
+        for name in ("ada", "ben"):
+            self.click(name, "1,2,3,4", links[name])
+            self.click(name, "4,3,2,1", links[name])
+        time.sleep(2.1)
+        data = self.file().read_bytes().removeprefix(FIRST)
+        first, second, of_ben, later = [part + END for part in data.split(END)[:-1]]
+        times = [one.splitlines()[:2] for one in (first, second)]
+        exchanged = [b"\n".join([*head, *one.splitlines()[2:], b""]) for one, head in ((second, times[0]), (first, times[1]))]
+        # of ben the second comes first
+        self.file().write_bytes(FIRST + b"".join([*exchanged, later]))
+        why = "by the clocks of their devices it is not later than a ballot of its elector that came before it"
+        self.assertIn(why, self.done("add", "--box", "--yes").output)
+        time.sleep(1.1)
+        self.done("add", "--box", "--yes")
+        asked = datetime.datetime.fromisoformat(str(self.boxes_kept()[-1]["time"]))
+        dated = re.sub(rb"\d\d:\d\d:\d\d", f"{asked:%H:%M:%S}".encode(), of_ben)
+        self.file().write_bytes(self.file().read_bytes() + dated)
+        self.assertIn(why, self.done("add", "--box", "--yes").output)
+        self.assertEqual(self.standing(), {"ada": "4,3,2,1", "ben": "4,3,2,1"})
+        # what waits is entered by who knows better
+        self.assertEqual(self.done("held").output.count(why), 2)
+
+    def test_a_host_that_drops_a_ballot_and_dates_an_older_one_anew(self) -> None:
+        """A click of ten was dated eleven, and replaced a letter of half past ten."""
+        links = self.begun()
+        now = datetime.datetime.now(datetime.UTC)
+        hour = now - datetime.timedelta(minutes=11)
+        written = letter("ada", "ada 4,3,2,1\n", time=f"{now - datetime.timedelta(minutes=5):%a, %d %b %Y %H:%M:%S} +0000")
+        self.write("inbox.mbox", mailbox(self.of_this_vote(written)))
+        self.done("add", "--yes", "inbox.mbox")
+        data = self.record("ada 1,2,3,4", links["ada"], 5, f"{now:%Y-%m-%dT%H:%M:%S}", hour)
+        # within ten minutes nobody sees it
+        near = self.record("ben 1,2,3,4", links["ben"], 6, f"{now:%Y-%m-%dT%H:%M:%S}", now - datetime.timedelta(minutes=9))
+        self.file().write_bytes(FIRST + data + near)
+        self.off(1)
+        said = self.done("add", "--box", "--yes").output
+        self.assertIn("more than ten minutes from the time of the web host", said)
+        self.assertEqual(self.standing(), {"ada": "4,3,2,1", "ben": "1,2,3,4"})
+        # beside the time of the host `show` has that of the device, which is the one that its elector knows
+        said, berlin = self.done("show", "ben").output, now.astimezone(BERLIN)
+        nine = berlin - datetime.timedelta(minutes=9)
+        self.assertIn(f"envelope 2, {berlin:%Y-%m-%d %H:%M:%S} UTC+01:00, sent {nine:%Y-%m-%d %H:%M:%S} UTC+01:00: At the lake", said)
+        self.assertIn(f"{nine:%H:%M:%S} (UTC+01:00) has arrived. It counts" if nine.second else "has arrived. It counts", self.receipts()["ben"])
+
+    def test_one_that_is_in_time_by_either_time_stops_a_close(self) -> None:
+        links = self.begun()
+        now = datetime.datetime.now(datetime.UTC)
+        self.done("desk", given="cleo 1,2,3,4\n")
+        time.sleep(1.1)
+        self.done("add", "--box")
+        self.done("close", "--early")
+        for number, (name, arrived, sent) in enumerate((("ada", 900, 0), ("ben", 0, 900), ("dan", 900, 1800)), start=7):
+            when, there = (now + datetime.timedelta(seconds=seconds) for seconds in (arrived, sent))
+            data = self.record(f"{name} 1,2,3,4", links[name], number, f"{when:%Y-%m-%dT%H:%M:%S}", there)
+            self.file().write_bytes(self.file().read_bytes() + data)
+        self.off(2000)
+        self.done("add", "--box", "--yes")
+        self.assertEqual(self.election("count").faults.count("these letters arrived in time, and wait: 1, 2;"), 1, self.election("count").faults)
+
+    def test_what_was_asked_before_is_not_opened_again(self) -> None:
+        links = self.begun()
+        self.click("ada", "1,2,3,4", links["ada"])
+        self.click("ben", "1,2,3,4", links["ben"])
+        self.done("add", "--box", "--yes")
+        [data, other] = [bytes(data) for data, in self.rows("SELECT data FROM source ORDER BY source")]  # type: ignore[arg-type]
+        record = self.file().read_bytes().removeprefix(FIRST).split(END)[0].partition(b"\n")[2] + END[:-1]
+        fields = dict(line.split(b": ", 1) for line in data.partition(b"\n\n")[0].splitlines())
+        self.assertEqual(fields[b"X-Sealed"].decode(), hashlib.sha256(record).hexdigest())
+        self.assertEqual((fields[b"X-Link"].decode(), data.partition(b"\n\n")[2]), (links["ada"], b"ada 1,2,3,4\n-- \n"))
+        self.assertRegex(fields[b"X-Sent"], rb"^20\d\d-\d\d-\d\dT\d\d:\d\d:\d\d\.\d{3}Z$")
+        # with another key nothing could be opened, and both are known
+        vote = Vote(Election(self.folder, PROGRAM.parent))
+        asked = box_records.Asked(datetime.datetime.now(datetime.UTC), 0, "", self.file().read_bytes().removeprefix(FIRST))
+        kept = queries.records_since(vote.book, 0)
+        with unittest.mock.patch("debvote_tools.inbox.box_records.key_pair") as opening:
+            letters, others, unopened = box_records.records_in(vote, asked, {}, kept)
+        self.assertEqual((opening.called, len(letters), others, unopened), (False, 2, [], []))
+        self.assertEqual({one.digest for one in letters}, {one.digest for one in kept})
+
+    def test_each_that_does_not_open_alone_beside_good_ones(self) -> None:
+        links = self.begun()
+        self.click("ada", "1,2,3,4", links["ada"])
+        good = self.file().read_bytes()
+        now = f"{datetime.datetime.now(datetime.UTC):%Y-%m-%dT%H:%M:%S}"
+        one = self.record("ben 1,2,3,4", links["ben"], 50, now)
+        sealed = one.partition(b"\n\n")[2].partition(b"\n")[0]
+        place, mark = self.place_of("ben", links["ben"]), self.mark()
+        digests = {name: proof_digest(mark, self.place_of(name, links[name])).encode() for name in ("ada", "ben")}
+
+        def with_text(text: str) -> bytes:
+            other = sealing.sealed(self.of_page("seal"), mark, f"{50:032x}", text)
+            return one.replace(sealed, other.encode())
+
+        sent = f"{datetime.datetime.now(datetime.UTC):%Y-%m-%dT%H:%M:%S}.000Z"
+        bad = {
+            "another number": one.replace(b"<00", b"<01"),
+            "another proof": one.replace(digests["ben"], digests["ada"]),
+            "another mark": one.replace(mark.encode(), b"0" * 16),
+            "another key": one.replace(sealed, sealing.sealed(key_pair(b"x" * 32, mark)[0], mark, f"{50:032x}", f"ben 1,2,3,4\n{place}\n{sent}").encode()),
+            "a sign changed": one.replace(sealed, sealed[:150] + (b"B" if sealed[150:151] == b"A" else b"A") + sealed[151:]),
+            "a cut tag": one.replace(sealed, sealed[:-4]),
+            "two lines": with_text(f"ben 1,2,3,4\nben 4,3,2,1\n{place}\n{sent}"),
+            "no line": with_text(f"{place}\n{sent}"),
+            "an empty one": with_text(f"\n{place}\n{sent}"),
+            "other digits": with_text(f"ben \u00b9,2,3,4\n{place}\n{sent}"),
+            "another's line": with_text(f"ada 4,3,2,1\n{place}\n{sent}"),
+            "another's line, and that renamed": with_text(f"ada 4,3,2,1\n{place.replace('ben', 'ada')}\n{sent}"),
+            "no time": with_text(f"ben 1,2,3,4\n{place}\n"),
+            "no such time": with_text(f"ben 1,2,3,4\n{place}\n2026-13-01T12:00:00.000Z"),
+            "more": with_text(f"ben 1,2,3,4\n{place}\n{sent}\nx"),
+        }
+        for number, (what, data) in enumerate(bad.items()):
+            with self.subTest(what):
+                self.file().write_bytes(good + data)
+                said = self.done("add", "--box", "--yes").output
+                kept = self.boxes_kept()[-1]
+                self.assertEqual((kept["unopened"], kept["records"], kept["others"]), (1, 1, 0), said)
+                # of ada a later ballot is in
+                self.assertEqual([*kept["lost"]], ["ada" if what == "another proof" else "ben"] if what != "another mark" else ["ben"])  # type: ignore[misc]
+                # it is told when the number grows
+                self.assertEqual("1 record can't be opened" in said, number == 0)
+                self.assertEqual(self.standing(), {"ada": "1,2,3,4"})
+        self.assertEqual(self.done("held").output.splitlines()[0], "No letter waits.")
+
+    def test_forged_records_take_the_place_of_no_true_one(self) -> None:
+        """The host knows the digest of each proof, and how a record looks."""
+        links = self.begun()
+        now = f"{datetime.datetime.now(datetime.UTC):%Y-%m-%dT%H:%M:%S}"
+        forged = [
+            re.sub(rb"X-Proof: \w+", b"X-Proof: " + proof_digest(self.mark(), self.place_of(name, links[name])).encode(), one)
+            for name in elections.NAMES
+            for number in range(2 * MOST)
+            for one in [self.record(f"{name} 4,3,2,1", "2" * 16, 500 + number, now)]
+        ]
+        self.file().write_bytes(FIRST + b"".join(forged))
+        for name in elections.NAMES:
+            data = self.record(f"{name} 1,2,3,4", links[name], 9, now)
+            self.file().write_bytes(self.file().read_bytes() + data)
+        said = self.done("add", "--box", "--yes").output
+        self.assertEqual(self.standing(), dict.fromkeys(elections.NAMES, "1,2,3,4"), said)
+
+    def test_who_is_to_vote_again(self) -> None:
+        """By whose proof came what nobody can open: named until a later ballot comes."""
+        links = self.begun()
+        self.click("ada", "1,2,3,4", links["ada"])
+        self.done("add", "--box", "--yes")
+        self.assertEqual(json.loads(self.done("status", "--json").output)["lost"], [])
+        for number, name in enumerate(("ada", "ben"), start=900):
+            proof = sealing.proof_of(self.mark(), self.place_of(name, links[name]))
+            time.sleep(1.1)
+            self.assertEqual(self.host.send(request_of(f"{self.page()} {proof} {number:032x}", "A" * 300)).word, "received")
+        said = self.done("add", "--box", "--yes").output
+        self.assertIn("Note: 2 records can't be opened, passed over, by the links of ada, ben, who are to vote again.", said)
+        self.assertEqual(json.loads(self.done("status", "--json").output)["lost"], ["ada", "ben"])
+        self.assertIn("Ballots that nobody can open, and no later ones, by the links of (2):\n  ada ben\n", self.done("status").output)
+        self.done("letters", "reminders")
+        texts = {
+            file.stem: " ".join(email.message_from_bytes(file.read_bytes()).get_payload(decode=True).decode().split())  # type: ignore[union-attr]
+            for file in (self.folder / "letters/reminders").rglob("*.eml")
+        }
+        lost, none = "A ballot came by your link that nobody can open: vote again.", "No ballot of yours that counts has come yet."
+        self.assertEqual({name for name, text in texts.items() if lost in text}, {"ada", "ben"})
+        self.assertEqual({name for name, text in texts.items() if none in text}, {*elections.NAMES} - {"ada"})
+        time.sleep(1.1)
+        self.click("ada", "4,3,2,1", links["ada"])
+        self.done("add", "--box", "--yes")
+        self.assertEqual(json.loads(self.done("status", "--json").output)["lost"], ["ben"])
+        fault = "ballots came by the links of these electors that nobody can open, and no later ones: ben; nothing was changed"
+        self.assert_fault(self.election("close", "--early"), 9, fault, "ask them to vote again")
+        self.done("close", "--early", "--force", "--because", "Ben was told.")
+        # it stops nothing more, nor a later close
+        time.sleep(1.1)
+        self.done("add", "--box", "--yes")
+        self.assertEqual(self.election("count").status, 0)
+        self.done("reopen", "--because", "A letter was found.")
+        self.done("close", "--early")
+
+    def test_the_most_of_a_link(self) -> None:
+        """One more is no letter, and its elector is named. A host that takes more acknowledges them."""
+        links = self.begun()
+        begin = datetime.datetime.now(datetime.UTC) - datetime.timedelta(seconds=60)
+        for number in range(MOST + 1):
+            when = f"{begin + datetime.timedelta(seconds=number):%Y-%m-%dT%H:%M:%S}"
+            data = self.record(f"ada {number % 4 + 1},1,1,1", links["ada"], number, when)
+            self.file().write_bytes(self.file().read_bytes() + data)
+            # over all askings
+            if number in (MOST // 2, MOST):
+                self.done("add", "--box", "--yes")
+        kept = self.boxes_kept()[-1]
+        self.assertEqual((kept["records"], kept["others"], kept["unopened"], [*kept["lost"]]), (MOST, 1, 0, ["ada"]))  # type: ignore[misc]
+        self.assertEqual(json.loads(self.done("status", "--json").output)["lost"], ["ada"])
 
     def test_a_record_that_is_ahead_of_the_clock_of_its_host(self) -> None:
         """It would beat what its elector sends later. Of those of one second each has one of its own."""
@@ -389,15 +581,16 @@ class Clicks(boxes.BoxElectionTest):
             self.click("ben", f"{number % 4 + 1},1,1,1", links["ben"])
         self.click("ada", "1,2,3,4", links["ada"])
         ahead = time.strftime("%Y-%m-%dT%H:%M:%S", time.gmtime(time.time() + 300))
-        forged = record("x", "ada 4,3,2,1", 99, ahead, self.mark(), self.page())
         whole = self.file().read_bytes()
-        self.file().write_bytes(whole + forged.replace("2" * 16, links["ada"]).encode())
+        # the host dates it so
+        now = datetime.datetime.now(datetime.UTC)
+        self.file().write_bytes(whole + self.record("ada 4,3,2,1", links["ada"], 99, ahead, now))
         said = self.done("add", "--box", "--yes").output
         self.assertIn("10 ballots of letters went in; 1 letter waits", said)
         self.assertIn("or that of the web host when it was asked", said)
         self.file().write_bytes(whole)
         self.click("ada", "2,1,3,4", links["ada"])
-        self.off(600)
+        self.off(400)
         self.done("add", "--box", "--yes")
         self.assertEqual(self.standing(), {"ada": "2,1,3,4", "ben": "1,1,1,1"})
 
@@ -415,8 +608,8 @@ class Clicks(boxes.BoxElectionTest):
         script.write_bytes(true)
         self.assertEqual(len(self.boxes_kept()), 1)
         self.click("ada", "1,2,3,4", links["ada"])
-        far = record("x", "ben 1,2,3,4", 99, time_, mark, self.page()).replace("2" * 16, links["ben"])
-        self.file().write_bytes(self.file().read_bytes() + far.encode())
+        now = datetime.datetime.now(datetime.UTC)
+        self.file().write_bytes(self.file().read_bytes() + self.record("ben 1,2,3,4", links["ben"], 99, time_, now))
         self.off(180)
         self.assertIn("1 ballot of letters went in", self.done("add", "--box", "--yes").output)
         self.assertIn("no Received line at its top says when it arrived", self.done("held").output)
@@ -511,12 +704,10 @@ class Clicks(boxes.BoxElectionTest):
 
     def test_a_record_of_the_second_of_an_asking_and_of_the_one_before(self) -> None:
         links = self.begun()
-        asked, mark = str(self.boxes_kept()[-1]["time"])[:19], self.mark()
+        asked = str(self.boxes_kept()[-1]["time"])[:19]
         before = datetime.datetime.fromisoformat(asked) - datetime.timedelta(seconds=1)
         data = b"".join(
-            record("x", f"{name} 1,2,3,4", number, when, mark, self.page())
-            .replace("2" * 16, links[name])
-            .encode()
+            self.record(f"{name} 1,2,3,4", links[name], number, when)
             for number, (name, when) in enumerate((("ada", asked), ("ben", before.isoformat())))
         )
         self.file().write_bytes(FIRST + data)
@@ -922,15 +1113,21 @@ class Many(boxes.BoxElectionTest):
 
     def test_ten_thousand_records(self) -> None:
         """In less than 30 seconds of this computer, whatever else it does."""
-        links, mark, page = self.begun(), self.mark(), self.page()
+        links = self.begun()
         # after the asking of before, and not later than the next
         time.sleep(1.1)
         begin = datetime.datetime.now(datetime.UTC)
-        data = b"".join(
-            record("x", f"{name} {number % 4 + 1},2,3,4", 1000 * turn + number, (begin + datetime.timedelta(seconds=turn)).isoformat()[:19], mark, page)
-            .replace("2" * 16, links[name]).encode()
-            for turn in range(20) for number, name in enumerate(self.names)
-        )  # fmt: skip
+        mark, page, seal = self.mark(), self.page(), self.of_page("seal")
+        owns = {str(name): str(own) for name, own in self.rows("SELECT name, mark FROM elector_now")}
+
+        def of(name: str, number: int, turn: int) -> str:
+            when = begin + datetime.timedelta(seconds=turn)
+            place = f"{name}/{owns[name]}/{links[name]}"
+            text = sealing.inside(f"{name} {number % 4 + 1},2,3,4", place, f"{when:%Y-%m-%dT%H:%M:%S}.000Z")
+            sealed = sealing.sealed(seal, mark, f"{1000 * turn + number:032x}", text)
+            return sealing.record(page, mark, place, 1000 * turn + number, when.isoformat()[:19], sealed)
+
+        data = "".join(of(name, number, turn) for turn in range(20) for number, name in enumerate(self.names)).encode()
         self.file().write_bytes(FIRST + data)
         before = resource.getrusage(resource.RUSAGE_CHILDREN)
         self.assertIn("The box has 10000 records.\n10000 new letters; 0 came before.\n", self.done("add", "--box", "--yes").output)
@@ -945,9 +1142,12 @@ class Clocks(unittest.TestCase):
     KEY = bytes(range(32))
 
     def record_at(self, name: str, ranks: str, when: datetime.datetime, behind: int, link: str | None = None) -> ParsedLetter:
-        data = record("x", f"{name} {ranks}", int(f"{when:%H%M}{ranks[0]}"), f"{when:%Y-%m-%dT%H:%M:%S}").partition("\n")[2]
+        """A record that was opened; by its device it was sent as it arrived."""
+        data = record(name, "", int(f"{when:%H%M}{ranks[0]}"), f"{when:%Y-%m-%dT%H:%M:%S}").partition("\n")[2]
+        head, _, _ = data.partition("\n\n")
         own = third_part(self.KEY, name, OWN[name]) if link is None else link
-        return dataclasses.replace(parsed(data.encode().removesuffix(b"\n")), link=own, behind=behind)
+        sent = when + datetime.timedelta(seconds=behind)
+        return dataclasses.replace(parsed(f"{head}\n\n{name} {ranks}\n-- \n".encode()), link=own, behind=behind, sent=sent)
 
     def outcomes(self, *letters: ParsedLetter | bytes, **how: object) -> list[str]:
         return outcomes(*letters, box_key=self.KEY, **how)

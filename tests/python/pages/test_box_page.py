@@ -17,11 +17,11 @@ from collections.abc import Callable, Iterable
 from typing import Any
 
 from debvote_tools.inbox.box_records import MOST
-from debvote_tools.poll.box import SENTENCES, proof_digest, proof_of, third_part, records_file, script_of
+from debvote_tools.poll.box import SENTENCES, proof_digest, third_part, records_file, script_of
 from debvote_tools.poll.call import CallData, call_files
 from debvote_tools.poll.questions import Questions
 from debvote_tools.poll.sealed import with_roll
-from debvote_tools.poll.sealed_ballots import opener
+from debvote_tools.poll.sealed_ballots import key_pair
 from debvote_tools.text.language import LANGUAGES, language_of
 from debvote_tools.text.rendering import checksum_source
 
@@ -319,7 +319,7 @@ class Clicks(RealBoxTest):
         said = self.sent()
         [record] = self.file.read_text().removeprefix(FIRST.decode()).split(END_OF_RECORD.decode())[:-1]
         number = re.findall(r"<(\w+)@", record)[0]
-        line, link, sent = opener(KEY, MARK)(number, record.rpartition("\n")[2]).split("\n")
+        line, link, sent = key_pair(KEY, MARK)[1](number, record.rpartition("\n")[2]).split("\n")
         self.assertEqual((line, link), ("ada 1,2,3,4", PLACES["ada"][1:]))
         self.assertRegex(sent, r"^20\d\d-\d\d-\d\dT\d\d:\d\d:\d\d\.\d{3}Z$")
         spoken = f"new Date('{sent}').toLocaleString('en', {{ dateStyle: 'medium', timeStyle: 'medium' }})"
@@ -333,7 +333,7 @@ class Clicks(RealBoxTest):
         self.window.ask(f"location.hash = '{PLACES['ada']}'")
         self.window.until("document.getElementById('Sent').textContent === ''")
         self.assertRegex(self.sent(), "^It has arrived")
-        proof = proof_of(MARK, PLACES["ada"][1:])
+        proof = sealing.proof_of(MARK, PLACES["ada"][1:])
         for number in range(MOST - 2):
             sent = request_of(f"{CALL.page} {proof} {number:032x}", "A" * 300)
             self.assertEqual(self.host.send(sent).word, "received")
@@ -676,7 +676,7 @@ class Answers(BoxPageTest):
         self.window.ask(f"location.hash = '{PLACES['ada']}'")
         self.until_arrived()
         [request] = [request for request in host.requests if request.startswith(b"POST")]
-        proof = proof_of(MARK, PLACES["ada"][1:])
+        proof = sealing.proof_of(MARK, PLACES["ada"][1:])
         posted = rf"\r\n\r\n{CALL.page} {proof} [0-9a-f]{{32}}\n[\w-]{{292}}\n\Z"
         self.assertRegex(request, posted.encode())
         heads = request.partition(b"\r\n\r\n")[0].lower()

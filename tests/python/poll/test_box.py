@@ -10,7 +10,7 @@ import unittest.mock
 
 from debvote_tools.cli.faults import Fault
 from debvote_tools.inbox.box_records import MOST
-from debvote_tools.poll.box import SCRIPT, SENTENCES, asking_word, key_of, list_digest, page_of
+from debvote_tools.poll.box import SCRIPT, SECRET_SENTENCES, SENTENCES, asking_word, key_of, list_digest, page_of
 from debvote_tools.poll.box import records_file, script_address, script_of, third_part
 from debvote_tools.poll.box import without_links
 from debvote_tools.poll.sealed import OWN_LENGTH, OWN_SIGNS, new_own_mark
@@ -73,16 +73,21 @@ class Words(unittest.TestCase):
     def test_what_the_page_says_of_each_answer(self) -> None:
         """Who reads that a ballot was not taken does not send it again, and who reads that it arrived waits."""
         for word, begin in {
-            "received": "It has arrived, {time}. ",
-            "late": "It has arrived, {time}, after {end}, the end that this page knows. If the vote was extended it may still count",
+            "received": "It has arrived, sent {time}. The secretary fetches it, and you get a receipt by e-mail that names this time, ",
+            "late": "It has arrived, sent {time}, after {end}, the end that this page knows. If the vote was extended it may still count",
             "changed": "The choice has been changed, and is not sent yet.",
             "old": "It was not taken: this page is an older one. Load it again. If this comes again, answer your newest letter.",
             "unknown": "It was not taken: this page does not know your link. Open the newest letter",
             "many": "It was not taken: too many ballots came by your link. Send your ballot by e-mail.",
             "lost": "It was not taken. Send your ballot by e-mail.",
             "unsure": "Nobody knows whether it has arrived. Press the button again: it counts once.",
+            "unsealed": "This browser can't seal a ballot. Open the link in another one.",
         }.items():
             self.assertTrue(SENTENCES[word].startswith(begin), word)
+        # nobody is asked to send a secret ballot by e-mail, or told that a receipt says what is in it
+        for word, said in (SENTENCES | SECRET_SENTENCES).items():
+            for part in ("your ballot by e-mail", "how it was read", "answer your"):
+                self.assertNotIn(part, said, word)
 
 
 class Scripts(unittest.TestCase):

@@ -13,10 +13,11 @@ import time
 import unittest
 
 from debvote_tools.poll.box import END_OF_CODE, SCRIPT, asking_word, list_digest, page_of
-from debvote_tools.poll.box import proof_digest, proof_of, script_of, third_part
+from debvote_tools.poll.box import proof_digest, script_of, third_part
 from debvote_tools.poll.questions import LABELS
 from debvote_tools.text.rendering import resources
 
+from tests.support import sealing
 from tests.support.web_host import END, FILE, FIRST, KEY, LINKS, MARK, NEEDS_PHP, OWNS, PAGE, STRACE, WORD
 from tests.support.web_host import ASK, HOST_OFF, Answer, BoxTest, Host
 from tests.support.web_host import ballot, clock_of_php, place_of, record, request_of
@@ -37,7 +38,7 @@ def digest_of(name: str) -> str:
 
 
 # bodies that are no request of the page
-GOOD, OF_ADA, PROOF = ballot("ada", "1,2", 77), LINKS["ada"], proof_of(MARK, place_of("ada")).encode()
+GOOD, OF_ADA, PROOF = ballot("ada", "1,2", 77), LINKS["ada"], sealing.proof_of(MARK, place_of("ada")).encode()
 ASKED = ["ada 1,2", "ask", "ask ", f"ASK {WORD}", f"ask {WORD.upper()}", f"ask {WORD[:-1]}"]
 ASKED += [f"ask {WORD}0", f" ask {WORD}"]
 # of what is sealed, what of it may be another sign
