@@ -57,7 +57,8 @@ class Arguments(Acting):
         "With --because: write the call or reminders although nobody has seen whether the box of the web host works, and say in them "
         "that the page takes no ballots; or the letters of the close although it was not asked since"
     )
-    yes: bool = flag("With reminders: answer yes when asked whether to remind again within a day")
+    codes: bool = flag("With call, in a secret vote with a box: write the code into each letter, too")
+    yes: bool = flag("Answer yes when asked whether to remind again within a day, or to write codes")
 
 
 def letters(election: Election, arguments: Arguments) -> int:
@@ -76,12 +77,19 @@ def letters(election: Election, arguments: Arguments) -> int:
         demand_due(election, history, arguments.kind)
         with election.book.act("announce", {"at": arguments.at}, seen=history.last.number):
             pass
+    if arguments.codes and not arguments.yes:
+        demand_codes_beside_links()
     letter_folder.make_own(election.path(LETTERS) / arguments.kind)
     # two runs at once would send each letter twice
     with locked(election.path(LETTERS) / ".lock"):
         because = arguments.because if arguments.force else None
         due = letters_due(
-            election, arguments.kind, sender, is_sending=arguments.send, because=because
+            election,
+            arguments.kind,
+            sender,
+            is_sending=arguments.send,
+            because=because,
+            has_codes=arguments.codes,
         )
         if due.reminded and not arguments.yes and not reminds_again(due.reminded):
             tell("Nobody was reminded.")
@@ -97,6 +105,16 @@ def letters(election: Election, arguments: Arguments) -> int:
     # that an address that an elector had before refuses a letter is no fault
     is_refused = any(one.state != TAKEN and is_present(one, due.electors) for one in tried)
     return Status.DOUBT if is_refused else Status.DONE
+
+
+def demand_codes_beside_links() -> None:
+    """Stops unless somebody at a terminal says that letters may have both."""
+    words = "who reads such a letter can vote in that name, and finds the alias"
+    if not console.is_terminal():
+        cure = "give codes on slips; or, if it is right, repeat the command with --yes"
+        raise Fault("--codes", words, cure)
+    if not console.is_yes(f"With --codes {words}. Write them?"):
+        raise Fault("--codes", "you did not say yes", "give codes on slips")
 
 
 def reminds_again(before: datetime.datetime) -> bool:
@@ -183,9 +201,9 @@ def demand_words(arguments: Arguments) -> None:
     if not arguments.send and (options := given(arguments, "server", "user", "password_file")):
         cure = "give --send too, or leave this out"
         faults.append(bad_words(", ".join(options), "only with --send", cure))
-    for option, kind in (("at", "result"), ("yes", "reminders")):
-        if arguments.kind != kind and given(arguments, option):
-            faults.append(bad_words(f"--{option}", f"only with {kind}", "leave it out"))
+    for option, kinds in (("at", ["result"]), ("codes", ["call"]), ("yes", ["reminders", "call"])):
+        if arguments.kind not in kinds and given(arguments, option):
+            faults.append(bad_words(f"--{option}", f"only with {kinds[0]}", "leave it out"))
     with kept_in(faults):
         if arguments.at is not None:
             demand_web_address(arguments.at)

@@ -9,7 +9,7 @@ from typing import NamedTuple
 
 from debvote_tools.book import queries
 from debvote_tools.book.election import Election, History
-from debvote_tools.cli.console import LEAVING_OUT, count_of, in_runs, shown_line
+from debvote_tools.cli.console import LEAVING_OUT, count_of, in_runs, shown_line, shows
 from debvote_tools.cli.faults import Fault
 from debvote_tools.debvote import Finding, Findings
 from debvote_tools.files import BALLOTS_LIMIT, LINES_LIMIT
@@ -91,6 +91,10 @@ class CheckedLine(NamedTuple):
         return answers_of(self.as_entered.decode("ascii"))
 
 
+# what is told in place of a ballot that nobody may read; it takes the answers, as who tells them does
+HIDDEN = "(shown at a terminal alone)".format
+
+
 class Vote:
     """An election as it was called, and what debvote says of its lines. Stops before the call. Lines have
     the labels of several questions, or answer the one of the given label without it.
@@ -100,10 +104,12 @@ class Vote:
         self.election, self.book, self.debvote = election, election.book, election.debvote
         history = election.history()
         self.call = election.called(history)
-        if history.announced("box"):
-            LEAVING_OUT.set(functools.partial(without_links, self.book))
         # as ballots are counted
         self.questions = questions = election.questions
+        # cron sends what a command says by mail
+        is_hidden = bool(history.announced("box")) and questions.is_secret and not shows()
+        if history.announced("box"):
+            LEAVING_OUT.set(functools.partial(without_links, self.book, has_ranks=not is_hidden))
         # the one question that is answered without a label, if there is one
         self.label, self.poll = label, questions.get(label)
         # the roll has codes: none is printed that was not typed
@@ -112,7 +118,8 @@ class Vote:
         # what debvote has said of lines
         self.known = dict[bytes, Mapping[str, Finding]]()
         # most ballots have one of a few orders
-        self.answers_in_words = functools.lru_cache(4096)(questions.in_words())
+        in_words = questions.in_words()
+        self.answers_in_words = HIDDEN if is_hidden else functools.lru_cache(4096)(in_words)
 
     def history(self) -> History:
         """The acts until now. Stops after another call: lines were read by the poll of this one."""

@@ -131,10 +131,16 @@ def is_present(letter: OutgoingLetter, electors: Mapping[int, Elector]) -> bool:
 
 
 def letters_due(
-    election: Election, kind: str, sender: str, *, is_sending: bool, because: str | None
+    election: Election,
+    kind: str,
+    sender: str,
+    *,
+    is_sending: bool,
+    because: str | None,
+    has_codes: bool = False,
 ) -> LettersDue:
     """The letters of a kind that are due. Stops if none may go out now; `because` is the reason for
-    which they go out although the box was not asked.
+    which they go out although the box was not asked. Those of a call may have codes beside links.
     """
     of_kinds = {
         "call": calls_due,
@@ -150,7 +156,7 @@ def letters_due(
     call_data, forced = call_data_of(election, history, kind, because)
     electors = {elector.number: elector for elector in queries.electors(book)}
     noted_before = outgoing.outgoing_letters(book, kind)
-    composer = Composer(call_data, is_over)
+    composer = Composer(call_data, is_over, has_codes)
     not_reached, _ = unreached_and_printed(election, history)
     tried = {elector.number for elector, why, _ in not_reached if why != NO_LETTER}
     tried_again = {

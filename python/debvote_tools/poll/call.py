@@ -70,6 +70,8 @@ class CallData:
     box_key: bytes = b""
     # it takes none now, as letters say
     is_without_box: bool = False
+    # in a secret vote with such a page: electors get their codes on slips
+    has_slips: bool = True
     # what the secretary writes at the head of letters to electors; empty without it
     letter_text: str = ""
     # in a secret vote with names on the roll: ballots are published under aliases
@@ -94,10 +96,13 @@ class CallData:
         return self.box_key != b""
 
     @property
+    def is_by_click(self) -> bool:
+        """Whether electors are asked to vote by a click alone: in a secret vote an e-mail can be read."""
+        return self.has_box and not self.is_by_name
+
+    @property
     def has_gap(self) -> bool:
-        """Whether what the page shows has a gap in place of the name: of a secret vote, unless the page
-        takes ballots, which are sealed.
-        """
+        """Whether a ballot on the page has a gap in place of the name, which nobody types there."""
         return not (self.is_by_name or self.has_box)
 
     @property
@@ -230,7 +235,7 @@ def call_page(call: CallData) -> bytes:
     if call.has_box:
         styles += ["box.css"]
         scripts += ["box.js"]
-        words |= box.SENTENCES if call.is_by_name else box.SENTENCES | box.SECRET_SENTENCES
+        words |= box.SENTENCES | (box.SECRET_SENTENCES if call.is_by_click else {})
     return render_page(
         PACKAGE,
         "page.html",
@@ -279,6 +284,7 @@ def current_call(
         else None,
         is_signed=bool(value_of("signed")),
         box_key=box.key_of(election.book) if value_of("box") else b"",
+        has_slips=not value_of("no_slips"),
         letter_text=queries.sealed(election.book, LETTER_TEXT).decode(),
         has_aliases=sealed.is_aliased,
         has_codes_on_roll=now.has_codes_on_roll,
