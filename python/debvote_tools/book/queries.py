@@ -68,6 +68,12 @@ def sealed(book: Book, name: str, act: int | None = None) -> bytes:
     return bytes(book.value(f"SELECT coalesce(({words}), x'')", name, act))
 
 
+def every_sealed(book: Book, name: str) -> list[bytes]:
+    """All that was ever sealed under a name, the last one last."""
+    words = "SELECT data FROM sealed WHERE name = ? ORDER BY act"
+    return [bytes(data) for data, in book.rows(words, name)]
+
+
 def sealed_polls(book: Book, name: str, act: int) -> dict[str, bytes]:
     """The polls that an act sealed under a name, by their labels, which are behind it."""
     words = "SELECT ltrim(substr(name, length(?1) + 1)), data FROM sealed WHERE act = ?2 AND (name = ?1 OR name GLOB ?1 || ' ?') ORDER BY name"

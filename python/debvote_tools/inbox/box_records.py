@@ -22,7 +22,7 @@ from debvote_tools.book.election import BOX_KEY
 from debvote_tools.book.queries import KeptRecord
 from debvote_tools.cli.console import count_of, listed, shown_text
 from debvote_tools.cli.faults import Fault, bad_words
-from debvote_tools.inbox.asked import has_list_of_now, last_box
+from debvote_tools.inbox.asked import has_list_of_now, has_page_of_now, last_box, pages_of
 from debvote_tools.files import sha256_of
 from debvote_tools.inbox.letter import YEAR, arrival_of
 from debvote_tools.inbox.mailbox import BEGIN, RawLetter
@@ -133,9 +133,9 @@ def ask(at: str | None, mark: str, word: str) -> Asked:
     return Asked(time, int(behind.total_seconds()), digest, records)
 
 
-def answer_of(address: str, body: bytes) -> HostAnswer:
-    """What is answered to a request. Stops if it does not come whole. No redirect is followed: the
-    word is for this address alone.
+def answer_of(address: str, body: bytes | None = None) -> HostAnswer:
+    """What is answered to a request, for a page if it has no body. Stops if it does not come whole. No
+    redirect is followed: the word is for this address alone.
     """
     parts = urllib.parse.urlsplit(address)
     try:
@@ -144,7 +144,7 @@ def answer_of(address: str, body: bytes) -> HostAnswer:
             context = ssl.create_default_context()
             connection = http.client.HTTPSConnection(parts.netloc, context=context)
         with within(PATIENCE), contextlib.closing(connection):
-            connection.request("POST", parts.path, body, FIELDS)
+            connection.request("GET" if body is None else "POST", parts.path, body, FIELDS)
             response, time = connection.getresponse(), times.now()
             data = response.read(LONGEST_ANSWER + 1)
         if len(data) > LONGEST_ANSWER:
@@ -216,12 +216,27 @@ def asked_box(vote: Vote) -> tuple[list[RawLetter], Detail, list[str]]:
         "list": asked.list_digest,
     }
     words = [*box_words(box, before)]
+    # after a publication the result takes its place
+    if not history.publications:
+        box["page"] = sha256_of(answer_of(at).body)
+        words += page_words(vote, box)
     if not has_list_of_now(vote.election, asked.list_digest):
         older = (
             "as an older one: upload that of the folder, since who has a new link cannot vote there"
         )
         words.append(f"Note: the web host has another {SCRIPT} than the folder call, {older}.")
     return letters, {"box": box}, words
+
+
+def page_words(vote: Vote, box: Detail) -> Iterator[str]:
+    """What is said of the page at the address of the box."""
+    if has_page_of_now(vote.election, box):
+        return
+    if box["page"] in pages_of(vote.election):
+        yield "Note: the page there is the one of before: upload the folder call, then run this again."
+        return
+    why = "a script in it would see what is chosen, and could vote in the name of who opens it"
+    yield f"Note: the page there is not that of the folder call: {why}. Upload the folder, and run this again; if it is still so, take another web host."
 
 
 def box_words(box: Detail, before: Detail) -> Iterator[str]:

@@ -55,7 +55,7 @@ class CallWithBox(elections.ElectionTest):
         self.write("poll.toml", "secret = true\n" + elections.POLL)
         self.done("codes")
         ended = self.election("call", "--box", "--keyring", "x")
-        for part in ("needs an address", "have to be signed", "the vote is secret, and whoever keeps"):
+        for part in ("needs an address", "have to be signed"):
             self.assertIn(part, ended.faults)
 
     def test_the_folder_the_key_and_another_call(self) -> None:
@@ -629,10 +629,13 @@ class Clicks(boxes.BoxElectionTest):
                 [*pool.map(lambda number: self.done("add", "--box", "--yes"), range(3))]
             [(key,)] = self.rows("SELECT data FROM sealed WHERE name = 'box key'")
             assert isinstance(key, bytes)
-            self.assertEqual(len(between.requests), 4)
+            asked = [request for request in between.requests if request.startswith(b"POST")]
+            pages = [request for request in between.requests if request.startswith(b"GET / ")]
+            self.assertEqual((len(asked), len(pages), len(between.requests)), (4, 4, 8))
             for request in between.requests:
                 self.assertNotIn(key.hex().encode(), request)
                 self.assertNotIn(key, request)
+            for request in asked:
                 self.assertIn(b"\r\n\r\n" + request_of(f"ask {asking_word(key)}"), request)
         self.assertEqual(self.standing(), dict.fromkeys(elections.NAMES, "1,2,3,4"))
         self.assertEqual(self.rows("SELECT count(*) FROM letter"), [(len(elections.NAMES),)])
@@ -730,7 +733,7 @@ class Asked(boxes.BoxElectionTest):
         # a wrong address can be put right, as long as no letter has a link to it
         self.done("call", "--at", self.host.at.replace("http:", "https:"))
         self.done("call", "--at", self.host.at)
-        fault = "call: nobody has seen yet whether the box of the web host works, with the links of now; nothing was written: upload the folder call, then run debvote-election add --box"
+        fault = "call: nobody has seen yet whether the box of the web host works, with page and links of now; nothing was written: upload the folder call, then run debvote-election add --box"
         self.assert_fault(self.election("letters", "call"), 9, fault)
         self.assert_fault(self.election("add", "--box"), 9, f"{self.host.at}vote.php: it answers 404", "nothing was added")
         # what is written all the same says that the page takes none, and the log why
@@ -753,7 +756,7 @@ class Asked(boxes.BoxElectionTest):
             self.done(*words)
             # no letter may have a link that the host does not know
             for kind in ("call", "reminders"):
-                fault = f"{kind}: nobody has seen yet whether the box of the web host works, with the links of now"
+                fault = f"{kind}: nobody has seen yet whether the box of the web host works, with page and links of now"
                 self.assert_fault(self.election("letters", kind), 9, fault, "upload the folder call")
             self.upload()
         self.assertEqual(json.loads(self.done("status", "--json").output)["box"]["is_present"], False)
@@ -903,6 +906,78 @@ class Asked(boxes.BoxElectionTest):
 
 
 @NEEDS_PHP
+class Pages(boxes.BoxElectionTest):
+    """An asking fetches the page, too: a forgotten upload, and a host that puts a script into it."""
+
+    other = "Note: the page there is not that of the folder call: a script in it would see what is chosen, and could vote in the name of who opens it."
+    before = "Note: the page there is the one of before: upload the folder call, then run this again."
+    doubt = "was not that of the call."
+
+    def change(self) -> None:
+        page = self.web / "index.html"
+        page.write_text(page.read_text().replace("</body>", "<script>alert(1)</script></body>"))
+
+    def is_present(self) -> bool:
+        return bool(json.loads(self.done("status", "--json").output)["box"]["is_present"])
+
+    def test_a_page_that_nobody_uploaded(self) -> None:
+        """An extension makes a new one, which goes up before its letters go out."""
+        self.call()
+        (self.web / "index.html").unlink()
+        self.assertIn(self.other, self.done("add", "--box").output)
+        fault = "call: nobody has seen yet whether the box of the web host works, with page and links of now"
+        self.assert_fault(self.election("letters", "call"), 9, fault, "upload the folder call")
+        self.upload()
+        self.assertNotIn("Note: the page", self.done("add", "--box").output)
+        self.done("letters", "call")
+        self.done("call", "--until", "2099-12-06 18:00")
+        self.assertIn(self.before, self.done("add", "--box").output)
+        self.assertFalse(self.is_present())
+        for kind in ("call", "reminders"):
+            self.assert_fault(self.election("letters", kind), 9, "with page and links of now")
+        fault = "--box: the page on the web host was not that of the call; nothing was changed: upload the folder call, then run debvote-election add --box; or close anyway with --force"
+        self.assert_fault(self.election("close", "--early"), 9, fault)
+        self.upload()
+        self.done("add", "--box")
+        self.assertTrue(self.is_present())
+        self.done("letters", "call")
+        # what this book made is no doubt, nor what lay there before the first letter
+        self.done("desk", given="ada 1,2,3,4\n")
+        self.closed_and_published()
+        self.assertNotIn(self.doubt, self.read("result/index.html").decode() + self.read("letters/result.txt").decode())
+        # the result takes the place of the page
+        shutil.copytree(self.folder / "result", self.web, dirs_exist_ok=True)
+        self.assertNotIn("Note: the page", self.done("add", "--box").output)
+
+    def closed_and_published(self, *words: str) -> None:
+        self.done("close", "--early", *words)
+        time.sleep(1.1)
+        self.done("add", "--box", "--yes")
+        self.done("publish", *words)
+
+    def test_a_page_with_a_script_more(self) -> None:
+        links = self.begun()
+        self.click("ada", "1,2,3,4", links["ada"])
+        self.change()
+        # a look keeps nothing
+        self.assertIn(self.other, self.done("add", "--box", "--look").output)
+        self.assertTrue(self.is_present())
+        for _ in range(2):
+            self.assertIn(self.other, self.done("add", "--box", "--yes").output)
+        self.assertEqual(self.standing(), {"ada": "1,2,3,4"})
+        self.assert_fault(self.election("close", "--early"), 9, "the page on the web host was not that of the call")
+        self.closed_and_published("--force", "--because", "The host has another owner.")
+        said = " ".join(re.sub("<[^>]+>", "", self.read("result/index.html").decode()).split())
+        self.assertEqual(len(re.findall(rf"When the secretary asked the web host on \w+, .{{20,60}}, the page at {self.host.at} was not that of the call", said)), 1, said[:3000])
+        self.assertIn(self.doubt, " ".join(self.read("letters/result.txt").decode().split()))
+        # seen, put right, and told all the same
+        self.done("reopen", "--because", "The page is put right.")
+        self.upload()
+        self.done("add", "--box", "--yes")
+        self.done("close", "--early")
+
+
+@NEEDS_PHP
 class Moved(boxes.BoxElectionTest):
     """`call --at` another web host, after letters went out with links to the page of before."""
 
@@ -938,12 +1013,13 @@ class Moved(boxes.BoxElectionTest):
         self.demand_reached()
         self.upload()
         self.done("add", "--box")
-        self.done("call", "--until", "2099-12-06 18:00")
-        self.demand_written(is_extension=False)
+        for day, is_extension in ((6, False), (7, True)):
+            self.done("call", "--until", f"2099-12-0{day} 18:00", "--at", self.host.at)
+            self.demand_reached(*elections.NAMES if is_extension else ())
+            self.upload()
+            self.done("add", "--box")
+            self.demand_written(is_extension=is_extension)
         self.demand_reached(*elections.NAMES)
-        self.done("call", "--until", "2099-12-07 18:00", "--at", self.host.at)
-        self.demand_reached(*elections.NAMES)
-        self.demand_written(is_extension=True)
         # the address of the result is not one of the page
         self.done("desk", given="ada 1,2,3,4\n")
         time.sleep(1.1)
