@@ -904,6 +904,31 @@ class Asked(boxes.BoxElectionTest):
         self.done("publish")
         self.assertNotIn(b"that the secretary did not get", self.read("result/index.html"))
 
+    def test_a_new_link_for_who_has_used_one_up(self) -> None:
+        links = self.begun()
+        for number in range(MOST):
+            self.click("ada", f"{number % 4 + 1},1,1,1", links["ada"])
+        self.assertEqual(self.sent("ada", "4,3,2,1", links["ada"], 999).word, "many:")
+        self.off(60)
+        self.done("add", "--box", "--yes")
+        for words, fault in ((("nobody",), "--new-link: no elector on the roll has the name nobody"), (("ada",), "ada (Ada): a new link. Is that right?")):
+            self.assertIn(fault, self.election("roll", "--new-link", *words).faults)
+        said = self.done("roll", "--new-link", "ada", "--yes").output
+        self.assertIn("ada: a new link\n", said)
+        self.assertIn("Upload call/vote.php again, since these electors have new links", said)
+        self.upload()
+        self.done("add", "--box")
+        self.done("letters", "call")
+        new = self.links()
+        self.assertEqual([name for name, link in new.items() if link != links.get(name)], ["ada"])
+        self.click("ada", "4,3,2,1", new["ada"])
+        self.off(120)
+        self.done("add", "--box", "--yes")
+        self.assertEqual(self.standing(), {"ada": "4,3,2,1"})
+        self.done("close", "--early")
+        fault = "--new-link: no elector has a link that could be replaced"
+        self.assert_fault(self.election("roll", "--new-link", "ada"), 2, fault)
+
 
 @NEEDS_PHP
 class Pages(boxes.BoxElectionTest):
