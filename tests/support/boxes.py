@@ -128,7 +128,7 @@ class BoxElectionTest(elections.ElectionTest):
         name, when = line.partition(" ")[0], datetime.datetime.fromisoformat(time)
         place = self.place_of(name, link)
         text = self.sealed(line, place, number, sent or when.replace(tzinfo=datetime.UTC))
-        return sealing.record(self.page(), self.of_page("mark"), place, number, time, text).encode()
+        return sealing.record(self.of_page("mark"), place, number, time, text).encode()
 
     def click(self, name: str, ranks: str, link: str) -> Answer:
         answer = self.sent(name, ranks, link, next(self.numbers))

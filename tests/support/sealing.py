@@ -51,15 +51,13 @@ def inside(line: str, link: str, sent: str) -> str:
     return f"{line}\n{link}\n{sent}\n"
 
 
-def record(
-    page: str, mark: str, link: str, number: int, time_: str, text: str, proof: str = ""
-) -> str:
+def record(mark: str, link: str, number: int, time_: str, text: str) -> str:
     """The record of what was sealed, as the host keeps it if it arrived at this time, as FORMATS has it."""
     when = datetime.datetime.fromisoformat(time_)
     return (
         f"From box@page.invalid {when:%a %b %d %H:%M:%S %Y}\n"
         f"Received: by box; {when:%a, %d %b %Y %H:%M:%S} +0000\n"
-        f"X-Proof: {proof or proof_digest(mark, link)}\nX-Page: {page}\n"
+        f"X-Proof: {proof_digest(mark, link)}\n"
         f"From: box@page.invalid\nSubject: [{mark}]\n"
         f"Message-ID: <{number:032x}@page.invalid>\n\n{text}\n-- \n\n"
     )

@@ -97,9 +97,9 @@ def ballot(
     return request_of(f"{page} {sealing.proof_of(MARK, place)} {number:032x}", text)
 
 
-def record(name: str, line: str, number: int, time_: str, page: str = PAGE) -> str:
-    """The record of a ballot that arrived from this page at this time."""
-    return sealing.record(page, MARK, place_of(name), number, time_, text_of(name, line, number))
+def record(name: str, line: str, number: int, time_: str) -> str:
+    """The record of a ballot that arrived at this time."""
+    return sealing.record(MARK, place_of(name), number, time_, text_of(name, line, number))
 
 
 def free_port() -> int:

@@ -142,7 +142,8 @@ MAX_NAMED = 200
 class RollArguments(Acting):
     yes: bool = flag("After the call: take the new addresses and keys without a question")
     new_link: str | None = option(
-        "NAME", "After a call with a box: make a new link for this elector, for whom the box takes no more"
+        "NAME",
+        "After a call with a box: make a new link for this elector, for whom the box takes no more",
     )
 
 
@@ -162,8 +163,11 @@ def roll(election: Election, arguments: RollArguments) -> None:
         went = outgoing.call_addresses(book, history.call.number) if is_secret else {}
         changes = {one: changes_in_words(one, went) for one in roll.electors if one.changes}
         if (name := arguments.new_link) is not None:
-            demand_link(election, history, name)
-            changes |= {one: "a new link" for one in roll.electors if one.name == name}
+            named = [one for one in roll.electors if one.name == name]
+            if not named or not history.announced("box") or history.closes:
+                words = f"{shown_text(name)} has no link that could be replaced"
+                raise bad_words("--new-link", words, f"name an elector of {after}, or leave it out")
+            changes |= dict.fromkeys(named, "a new link")
         changed = {
             one: words for one, words in changes.items() if arguments.yes or agreed(one, words)
         }
@@ -212,15 +216,6 @@ def keep_electors(book: Book, roll: Roll, seen: int) -> None:
                 known = known._replace(code="", alias="")
             after[name] = known._replace(position=position, who=who, addresses=addresses, key=key)
         queries.put_electors(act, (now for name, now in after.items() if before.get(name) != now))
-
-
-def demand_link(election: Election, history: History, name: str) -> None:
-    """Stops unless an elector of this name has a link to a box that still takes ballots."""
-    if not history.announced("box") or history.closes:
-        raise bad_words("--new-link", "no elector has a link that could be replaced", "leave it out")
-    if name not in election.questions.roll:
-        words = f"no elector on the roll has the name {shown_text(name)}"
-        raise bad_words("--new-link", words, f"{election.command('status')} shows the names")
 
 
 def change_addresses(

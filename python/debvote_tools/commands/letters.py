@@ -57,8 +57,12 @@ class Arguments(Acting):
         "With --because: write the call or reminders although nobody has seen whether the box of the web host works, and say in them "
         "that the page takes no ballots; or the letters of the close although it was not asked since"
     )
-    codes: bool = flag("With call, in a secret vote with a box: write the code into each letter, too")
-    yes: bool = flag("Answer yes when asked whether to remind again within a day, or to write codes")
+    codes: bool = flag(
+        "With call, in a secret vote with a box: write the code into each letter, too"
+    )
+    yes: bool = flag(
+        "Answer yes when asked whether to remind again within a day, or to write codes"
+    )
 
 
 def letters(election: Election, arguments: Arguments) -> int:
@@ -110,11 +114,9 @@ def letters(election: Election, arguments: Arguments) -> int:
 def demand_codes_beside_links() -> None:
     """Stops unless somebody at a terminal says that letters may have both."""
     words = "who reads such a letter can vote in that name, and finds the alias"
-    if not console.is_terminal():
+    if not (console.is_terminal() and console.is_yes(f"With codes: {words}. Write them?")):
         cure = "give codes on slips; or, if it is right, repeat the command with --yes"
         raise Fault("--codes", words, cure)
-    if not console.is_yes(f"With --codes {words}. Write them?"):
-        raise Fault("--codes", "you did not say yes", "give codes on slips")
 
 
 def reminds_again(before: datetime.datetime) -> bool:

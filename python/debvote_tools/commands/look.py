@@ -156,7 +156,9 @@ def state_words(
         yield taken_out_words(election, history)
     yield f"Electors with a valid ballot: {state['voters']} of {state['electors']}"
     yield from asked_words(history)
-    yield from named("Ballots that nobody can open, and no later ones, by the links of", state["lost"])
+    yield from named(
+        "Ballots that nobody can open, and no later ones, by the links of", state["lost"]
+    )
     yield from named("Electors without a ballot", state["without_ballot"])
     yield from refused_words(refused, has_codes=history.has_codes_on_roll)
     if state["waiting"]:

@@ -3,7 +3,6 @@ it. What an asking brings is in `box_records.py`.
 """
 
 import datetime
-import itertools
 
 from debvote_tools.book import queries
 from debvote_tools.book.book import Detail, DoneAct, from_text
@@ -67,16 +66,13 @@ def has_page_of_now(election: Election, box: Detail) -> bool:
 
 def other_pages(election: Election, history: History) -> list[DoneAct]:
     """The askings that found a page that this book never made, since the first letter of the call was
-    written: of each day and address the first.
+    written.
     """
-    kinds = ((act.number, act.detail["kind"]) for act in history.since_call("letters out"))
-    written = next((number for number, kind in kinds if kind == "call"), history.last.number)
-    found, known = dict[tuple[datetime.date, str], DoneAct](), {None, *pages_of(election)}
-    for act in history.askings:
-        box, day = act.detail["box"], act.time.astimezone(history.zone).date()
-        if act.number > written and box.get("page") not in known:
-            found.setdefault((day, box["at"]), act)
-    return [*found.values()]
+    letters = history.since_call("letters out")
+    written = [act.number for act in letters if act.detail["kind"] == "call"]
+    since = [act for act in history.askings if written and act.number > written[0]]
+    known = {None, *pages_of(election)}
+    return [act for act in since if act.detail["box"].get("page") not in known]
 
 
 def asked_last(election: Election, history: History) -> Detail | None:
@@ -99,8 +95,7 @@ def asked_words(history: History) -> list[str]:
 
 def with_lost_records(election: Election, history: History) -> list[str]:
     """The electors by whose links a record came that nobody can open, and who have no later ballot."""
-    lost = (act.detail["box"]["lost"].items() for act in history.askings)
-    came = dict(itertools.chain.from_iterable(lost))
+    came = last_box(history).get("lost", {})
     ballots = queries.ballots_of(election.book, came)
     return [
         name

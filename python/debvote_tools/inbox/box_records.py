@@ -72,7 +72,7 @@ MOST = MOST_NAMED = 20
 # a record as the script writes it, without the line above it: when it arrived, the digest of the proof
 # by which it came, the mark of the poll, its number, and what is sealed
 RECORD = re.compile(
-    r"(?P<head>Received: by box; [^\n]+\n)X-Proof: (?P<proof>[0-9a-f]{64})\n(?P<rest>X-Page: [0-9a-f]{16}\nFrom: box@page\.invalid\n"
+    r"(?P<head>Received: by box; [^\n]+\n)X-Proof: (?P<proof>[0-9a-f]{64})\n(?P<rest>From: box@page\.invalid\n"
     r"Subject: \[(?P<mark>[0-9a-f]{16})\]\nMessage-ID: <(?P<number>[0-9a-f]{32})@page\.invalid>\n\n)(?P<sealed>[A-Za-z0-9_-]+)\n-- \n"
 )
 PROOF = re.compile(r"X-Proof: (\w+)")
@@ -211,7 +211,7 @@ def asked_box(vote: Vote) -> tuple[list[RawLetter], Detail, list[str]]:
         "gone": sum(one.at == at and one.digest not in came for one in kept),
         "others": len(others),
         "unopened": len(unopened),
-        "lost": whose(vote, [*others, *unopened], asked.time),
+        "lost": last_box(history).get("lost", {}) | whose(vote, [*others, *unopened], asked.time),
         "behind": asked.behind,
         "list": asked.list_digest,
     }
@@ -312,21 +312,14 @@ def opened(key: bytes, raw: RawLetter) -> tuple[str, RawLetter]:
         inside = INSIDE.fullmatch(text)
         if inside and inside["place"] == personal_link(key, inside["name"], inside["own"]):
             if proof_digest(record["mark"], inside["place"]) == record["proof"]:
-                return inside["name"], letter_of(raw, record, inside)
+                fields = f"X-Link: {inside['link']}\nX-Sealed: {sha256_of(raw.data)}\nX-Sent: {inside['sent']}\n"
+                data = f"{record['head']}{fields}{record['rest']}{inside['line']}\n-- \n".encode()
+                sent, link = datetime.datetime.fromisoformat(inside["sent"]), inside["link"]
+                return inside["name"], dataclasses.replace(raw, data=data, link=link, sent=sent)
     return "", raw
 
 
-def letter_of(raw: RawLetter, record: re.Match[str], inside: re.Match[str]) -> RawLetter:
-    """A record as a letter, whose bytes say which record it was."""
-    fields = f"X-Link: {inside['link']}\nX-Sealed: {sha256_of(raw.data)}\nX-Sent: {inside['sent']}\n"
-    text = f"{record['head']}{fields}{record['rest']}{inside['line']}\n-- \n"
-    sent = datetime.datetime.fromisoformat(inside["sent"])
-    return dataclasses.replace(raw, data=text.encode("latin-1"), link=inside["link"], sent=sent)
-
-
-def whose(
-    vote: Vote, records: Sequence[RawLetter], asked: datetime.datetime
-) -> dict[str, str]:
+def whose(vote: Vote, records: Sequence[RawLetter], asked: datetime.datetime) -> dict[str, str]:
     """The electors by whose proofs these records came, each with when the last one did, at the latest when
     the box was asked.
     """
@@ -355,4 +348,3 @@ def clocked(raw: RawLetter, asked: Asked, before: Detail, count: int) -> RawLett
         behind=behind if abs(behind) > MOST_OFF else 0,
         latest=asked.time + datetime.timedelta(seconds=count),
     )
-

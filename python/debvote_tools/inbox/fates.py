@@ -34,12 +34,6 @@ class Fate(NamedTuple):
     came_by: LetterCase | None = None
 
     @property
-    def sent(self) -> datetime.datetime | None:
-        """When what came by the page of the vote was sent, by the device of its elector."""
-        letter = self.letter or self.came_by
-        return letter.read.sent if letter else None
-
-    @property
     def why_refused(self) -> str | None:
         """Why debvote refuses the line of an envelope; None of a ballot."""
         return None if self.envelope is None else self.envelope.why_refused

@@ -135,8 +135,6 @@ class ParsedLetter:
     latest: datetime.datetime | None = None
     sent: datetime.datetime | None = None
     sent_before: datetime.datetime | None = None
-    # what the page posted with it
-    page: str = ""
 
     @property
     def needs_signature(self) -> bool:
@@ -192,7 +190,6 @@ def parse(raw: RawLetter) -> ParsedLetter:
         latest=raw.latest,
         sent=raw.sent,
         sent_before=raw.sent_before,
-        page=decoded(letter.value("x-page")),
     )
 
 

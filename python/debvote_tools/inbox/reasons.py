@@ -115,10 +115,6 @@ class Reason(enum.Enum):
         "it came by the page of the vote with a link that is not that of {elector} now: a new address or a new call makes a new one, and a book that was put back lacks some",
         LOOKED_AT,
     )
-    OTHER_PAGE = (
-        "it does not say that it came by the page of this call, and another page may have shown other options; look whether its options were the same",
-        "The reason: it came by an older page of the vote. To vote, open the link in the newest letter of this vote.",
-    )
     FETCHED = (
         "it is in the file of the box, which others may have changed: run add --box, or enter it if the box does not answer",
         LOOKED_AT,

@@ -22,7 +22,7 @@ from debvote_tools.inbox.letter_lines import BallotLine, ReadLetter
 from debvote_tools.inbox.letter_text import MAX_BALLOTS, MAX_WORDS, ReadLine
 from debvote_tools.inbox.mime import address_key
 from debvote_tools.inbox.reasons import Reason, ReasonWithValues
-from debvote_tools.poll.box import page_of, third_part
+from debvote_tools.poll.box import third_part
 from debvote_tools.poll.sealed import MARKS, marks_in
 
 # how far the clock of a mail server may be ahead, and that of an elector be off
@@ -434,14 +434,13 @@ def why_not_of_this_vote(case: LetterCase) -> ReasonWithValues | None:
 
 
 def why_other_mark(case: LetterCase) -> ReasonWithValues | None:
-    """It has no mark of another vote, or of a call that was taken back; nor did it come by such a page, as
-    a script of before took it: the ranks would be those of other options.
+    """It has no mark of another vote, or of a call that was taken back: the ranks would be those of other
+    options.
     """
     now = case.circumstances
     others = (mark for mark in sorted(case.marks) if not are_alike(mark, now.mark))
     if (mark := next(others, None)) is None:
-        is_of_other = case.read.link and case.read.page != page_of(now.box_key, now.mark)
-        return Reason.OTHER_PAGE() if is_of_other else None
+        return None
     is_old = any(are_alike(mark, one) for one in now.marks)
     return Reason.OLD_MARK(mark=mark) if is_old else Reason.OTHER_MARK(mark=mark)
 

@@ -73,10 +73,15 @@ def what_stops(
 
 
 def what_stops_a_first_close(election: Election, history: History) -> dict[str, Fault]:
-    found, anyway = dict[str, Fault](), "or close anyway with --force --because TEXT (the result page says so)"
+    found, anyway = (
+        dict[str, Fault](),
+        "or close anyway with --force --because TEXT (the result page says so)",
+    )
     if lost := with_lost_records(election, history):
         words = f"ballots came by the links of these electors that nobody can open, and no later ones: {', '.join(lost)}"
-        cure = f"ask them to vote again ({election.command('letters', 'reminders')} says it); {anyway}"
+        cure = (
+            f"ask them to vote again ({election.command('letters', 'reminders')} says it); {anyway}"
+        )
         found[LOST] = Fault(None, words, cure)
     if not has_page_of_now(election, last_box(history)):
         cure = f"upload the folder call, then run {election.command('add', '--box')}; {anyway}"

@@ -91,8 +91,9 @@ class CheckedLine(NamedTuple):
         return answers_of(self.as_entered.decode("ascii"))
 
 
-# what is told in place of a ballot that nobody may read; it takes the answers, as who tells them does
-HIDDEN = "(shown at a terminal alone)".format
+def hidden(_: str) -> str:
+    """What is told in place of a ballot that nobody may read."""
+    return "(shown at a terminal alone)"
 
 
 class Vote:
@@ -118,8 +119,8 @@ class Vote:
         # what debvote has said of lines
         self.known = dict[bytes, Mapping[str, Finding]]()
         # most ballots have one of a few orders
-        in_words = questions.in_words()
-        self.answers_in_words = HIDDEN if is_hidden else functools.lru_cache(4096)(in_words)
+        in_words = hidden if is_hidden else questions.in_words()
+        self.answers_in_words = functools.lru_cache(4096)(in_words)
 
     def history(self) -> History:
         """The acts until now. Stops after another call: lines were read by the poll of this one."""

@@ -284,8 +284,7 @@ def reminders_due(run: Run) -> LettersDue:
         goes_in = any(one.became is LetterOutcome.GOES_IN for one in came)
         if goes_in:
             return run.composer.receipt(elector, told)
-        name = elector.name
-        return run.composer.reminder(elector, told, counts=name in counting, is_lost=name in lost)
+        return run.composer.reminder(elector, told, is_lost=elector.name in lost)
 
     last = max((letter.for_act for letter in run.noted_before), default=0)
     due = to_each(run, last, says)

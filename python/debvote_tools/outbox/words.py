@@ -158,15 +158,12 @@ class Composer:
                 break
         return Said(self.subject("call", is_extension=is_extension), text)
 
-    def reminder(
-        self, elector: Elector, fates: Sequence[Fate], *, counts: bool, is_lost: bool
-    ) -> Said:
+    def reminder(self, elector: Elector, fates: Sequence[Fate], *, is_lost: bool) -> Said:
         """A letter to an elector without a ballot that counts, or whose last one is lost. If a line or a
         letter of theirs has come, it says what became of it, and that they can send a right line now.
         """
         has_come = any(one.is_own or one.envelope for one in fates)
-        own = {"fates": fates, "has_come": has_come, "counts": counts, "is_lost": is_lost}
-        return self.said("reminders", elector, **own)
+        return self.said("reminders", elector, fates=fates, has_come=has_come, is_lost=is_lost)
 
     def receipt(self, elector: Elector, fates: Sequence[Fate]) -> Said:
         """What became of what came from an elector. It has the right line if the last of it was
@@ -213,7 +210,8 @@ class Composer:
             is_done = fate.became in (LetterOutcome.SET_ASIDE, LetterOutcome.OLDER)
             said = (OF_RECORD if letter.read.link else OF_LETTER)[fate.is_own, is_done]
         # the web host has another time, and can't change this one
-        time = (fate.sent or fate.time).replace(microsecond=0).astimezone(zone)
+        came = letter or fate.came_by
+        time = (came and came.read.sent or fate.time).replace(microsecond=0).astimezone(zone)
         sentences = [language.say(said, time=time_in_words(time, language))]
         sentences += self.more_of(fate, name)
         if letter is not None and fate.is_own and letter.reason is not None:

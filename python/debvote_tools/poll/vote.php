@@ -29,7 +29,7 @@ if (!preg_match(BALLOT, $body, $found)) answer(400, 'bad: no ballot');
 if ($shown !== $page) answer(409, 'old: another page');
 $proof = hash('sha256', $proof);
 if (!str_contains($list, "\n$proof\n")) answer(403, 'unknown: no such link');
-$rest = " +0000\nX-Proof: $proof\nX-Page: $page\nFrom: box@page.invalid\nSubject: [$mark]\nMessage-ID: <$id@page.invalid>\n\n$sealed" . END;
+$rest = " +0000\nX-Proof: $proof\nFrom: box@page.invalid\nSubject: [$mark]\nMessage-ID: <$id@page.invalid>\n\n$sealed" . END;
 answer(200, 'received ' . gmdate(ISO, kept($proof, $id, $rest, ...opened($word))));
 
 function answer(int $status, string $line, string $records = ''): never

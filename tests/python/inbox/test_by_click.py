@@ -22,13 +22,13 @@ from debvote_tools.inbox.letter import ParsedLetter
 from debvote_tools.inbox import box_records
 from debvote_tools.inbox.box_records import MOST
 from debvote_tools.inbox.vote import Vote
-from debvote_tools.poll.box import asking_word, list_digest, page_of, proof_digest, third_part
+from debvote_tools.poll.box import asking_word, list_digest, proof_digest, third_part
 from debvote_tools.poll.sealed_ballots import key_pair
 
 from tests.support import at_browser, boxes, elections, sealing
 from tests.support.letters import OWN, at, judged, letter, mailbox, outcome, outcomes, parsed
 from tests.support.program import PROGRAM
-from tests.support.web_host import END, FIRST, MARK, NEEDS_PHP, Liar, passed_on, request_of, record
+from tests.support.web_host import END, FIRST, NEEDS_PHP, Liar, passed_on, request_of, record
 
 BERLIN = zoneinfo.ZoneInfo("Europe/Berlin")
 HTTPS = ("--at", "https://club.example/vote/")
@@ -229,26 +229,6 @@ class Clicks(boxes.BoxElectionTest):
         self.click("ada", "1,2,3,4", self.links()["ada"])
         self.done("add", "--box", "--yes")
         self.assertEqual(self.standing(), {"ada": "1,2,3,4"})
-
-    def test_a_record_that_does_not_say_of_which_page_it_is(self) -> None:
-        """Another script kept it: nobody knows what its elector read."""
-        links = self.begun()
-        for name in ("ada", "ben", "cleo"):
-            self.click(name, "1,2,3,4", links[name])
-        said = f"X-Page: {self.page()}\n".encode()
-        before, of_ada, of_ben, rest = self.file().read_bytes().split(said)
-        other = b"X-Page: 0123456789abcdef\n"
-        self.file().write_bytes(before + other + of_ada + other + of_ben + said + rest)
-        why = "it does not say that it came by the page of this call, and another"
-        self.assertEqual(self.done("add", "--box", "--yes").output.count(why), 2)
-        self.assertEqual(self.standing(), {"cleo": "1,2,3,4"})
-        for name, text in self.receipts().items():
-            is_told = "The reason: it came by an older page of the vote. To vote, open the link in the newest letter of this vote." in text
-            self.assertEqual(is_told, name != "cleo", name)
-        for words in (("held", "1", "--enter"), ("held", "2", "--enter")):
-            self.assert_fault(self.election(*words), 9, why, "repeat it with --force")
-            self.done(*words, "--force")
-        self.assertEqual(self.standing(), dict.fromkeys(("ada", "ben", "cleo"), "1,2,3,4"))
 
     def test_by_ftp_and_then_by_key(self) -> None:
         links = self.begun()
@@ -911,7 +891,7 @@ class Asked(boxes.BoxElectionTest):
         self.assertEqual(self.sent("ada", "4,3,2,1", links["ada"], 999).word, "many:")
         self.off(60)
         self.done("add", "--box", "--yes")
-        for words, fault in ((("nobody",), "--new-link: no elector on the roll has the name nobody"), (("ada",), "ada (Ada): a new link. Is that right?")):
+        for words, fault in ((("nobody",), "--new-link: nobody has no link that could be replaced"), (("ada",), "ada (Ada): a new link. Is that right?")):
             self.assertIn(fault, self.election("roll", "--new-link", *words).faults)
         said = self.done("roll", "--new-link", "ada", "--yes").output
         self.assertIn("ada: a new link\n", said)
@@ -926,7 +906,7 @@ class Asked(boxes.BoxElectionTest):
         self.done("add", "--box", "--yes")
         self.assertEqual(self.standing(), {"ada": "4,3,2,1"})
         self.done("close", "--early")
-        fault = "--new-link: no elector has a link that could be replaced"
+        fault = "--new-link: ada has no link that could be replaced"
         self.assert_fault(self.election("roll", "--new-link", "ada"), 2, fault)
 
 
@@ -1218,7 +1198,7 @@ class Many(boxes.BoxElectionTest):
         # after the asking of before, and not later than the next
         time.sleep(1.1)
         begin = datetime.datetime.now(datetime.UTC)
-        mark, page, seal = self.mark(), self.page(), self.of_page("seal")
+        mark, seal = self.mark(), self.of_page("seal")
         owns = {str(name): str(own) for name, own in self.rows("SELECT name, mark FROM elector_now")}
 
         def of(name: str, number: int, turn: int) -> str:
@@ -1226,7 +1206,7 @@ class Many(boxes.BoxElectionTest):
             place = f"{name}/{owns[name]}/{links[name]}"
             text = sealing.inside(f"{name} {number % 4 + 1},2,3,4", place, f"{when:%Y-%m-%dT%H:%M:%S}.000Z")
             sealed = sealing.sealed(seal, mark, f"{1000 * turn + number:032x}", text)
-            return sealing.record(page, mark, place, 1000 * turn + number, when.isoformat()[:19], sealed)
+            return sealing.record(mark, place, 1000 * turn + number, when.isoformat()[:19], sealed)
 
         data = "".join(of(name, number, turn) for turn in range(20) for number, name in enumerate(self.names)).encode()
         self.file().write_bytes(FIRST + data)
@@ -1265,13 +1245,6 @@ class Clocks(unittest.TestCase):
                 self.outcomes(self.record_at("ada", "1,2,3,4", at(10), 0, link)),
                 ["waits: other link"],
             )
-        # of another page, or of none that it says
-        for page in ("", "0" * 16, page_of(self.KEY, "0" * 16), page_of(b"", MARK)):
-            other = dataclasses.replace(self.record_at("ada", "1,2,3,4", at(10), 0), page=page)
-            self.assertEqual(self.outcomes(other), ["waits: other page"])
-        # nor is more of it kept of a stranger's letter than of another field
-        long = parsed(b"X-Page: " + b"\xe9" * 100_000 + b"\n" + letter("ada", "ada 1,2,3,4"))
-        self.assertLessEqual(len(long.page.encode()), 6_000)
         # fetched with the file of the box it waits; and the same bytes of a mailbox are a letter of a stranger
         fetched = dataclasses.replace(self.record_at("ada", "1,2,3,4", at(10), 0), is_fetched=True)
         self.assertEqual(self.outcomes(fetched), ["waits: fetched"])
@@ -1323,6 +1296,27 @@ class Clocks(unittest.TestCase):
             given = letter("ada", "ada 4,3,2,1", sender="x@y.example")
             [case] = judged(given, ballots={"ada": there})
             self.assertEqual(case.voted_since, {"ada": is_sure}, there)
+
+    def test_what_its_device_dates_otherwise_waits(self) -> None:
+        """By more than ten minutes from the time of the host, which may be off by as much as is known."""
+        for minutes, behind, wanted in (
+            (10, 0, "in: ada 1,2,3,4"), (-10, 0, "in: ada 1,2,3,4"), (11, 0, "waits: other time"), (-11, 0, "waits: other time"),
+            (60, 3_600, "in: ada 1,2,3,4"), (0, 3_600, "waits: other time"), (-60, -3_600, "in: ada 1,2,3,4"),
+        ):  # fmt: skip
+            sent = at(10) + datetime.timedelta(minutes=minutes)
+            one = dataclasses.replace(self.record_at("ada", "1,2,3,4", at(10), behind), sent=sent)
+            self.assertEqual(self.outcomes(one), [wanted], (minutes, behind))
+        # it stops a close if either time is before it
+        for sent, arrived, in_time in ((at(11), at(13), True), (at(13), at(11), True), (at(13), at(14), False), (at(10), at(11), True)):
+            one = dataclasses.replace(self.record_at("ada", "1,2,3,4", arrived, 0), sent=sent)
+            [case] = judged(one, box_key=self.KEY, end=at(12))
+            self.assertEqual((outcome(case), case.arrived_in_time), ("waits: other time", in_time))
+
+    def test_what_its_device_does_not_date_later_than_one_before_waits(self) -> None:
+        for seconds, wanted in ((-1, "in: ada 1,2,3,4"), (0, "waits: not sent later"), (1, "waits: not sent later")):
+            before = at(10) + datetime.timedelta(seconds=seconds)
+            one = dataclasses.replace(self.record_at("ada", "1,2,3,4", at(10), 0), sent_before=before)
+            self.assertEqual(self.outcomes(one), [wanted], seconds)
 
     def test_what_is_later_than_the_asking_that_brought_it_waits(self) -> None:
         for second, wanted in ((0, "in: ada 1,2,3,4"), (-1, "waits: in the future")):

@@ -81,5 +81,5 @@ class Sentences(unittest.TestCase):
         # these are of letters beside others, of what an act decided, and of a gpgv that hangs
         found |= {"came before", "parted off", "taken back", "put back", "set aside", "struck", "slow signature", "perhaps copy"}
         # and of records of the box (test_by_click.py)
-        found |= {"other link", "other page", "fetched", "not there before", "clock at the end", "clocks"}
+        found |= {"other link", "fetched", "not there before", "clock at the end", "clocks", "other time", "not sent later"}
         self.assertEqual({label(reason()) for reason in Reason} - found, set())
