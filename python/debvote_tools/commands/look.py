@@ -42,7 +42,7 @@ from debvote_tools.inbox.asked import (
 from debvote_tools.inbox.fates import Fate, fates_of
 from debvote_tools.inbox.lines import has_code
 from debvote_tools.inbox.stopping import Pending, pending_letters, taken_out_words
-from debvote_tools.inbox.vote import IS_CODE, Vote, envelope_words
+from debvote_tools.inbox.vote import IS_CODE, Vote, envelope_words, hides_ballots
 from debvote_tools.outbox.reached import unreached_and_printed
 from debvote_tools.poll.questions import Questions, place_of
 from debvote_tools.text import times
@@ -160,7 +160,9 @@ def state_words(
         "Ballots that nobody can open, and no later ones, by the links of", state["lost"]
     )
     yield from named("Electors without a ballot", state["without_ballot"])
-    yield from refused_words(refused, has_codes=history.has_codes_on_roll)
+    yield from refused_words(
+        refused, is_hidden=history.has_codes_on_roll or hides_ballots(election)
+    )
     if state["waiting"]:
         yield f"{letter_words.wait_words(state['waiting'])} until you have looked at them: {election.command('held')}"
     if state["stopping"]:
@@ -180,9 +182,9 @@ def named(what: str, names: list[str] | None) -> Iterator[str]:
         yield from (f"{what} ({len(names)}):", wrapped(names))
 
 
-def refused_words(refused: list[Envelope], *, has_codes: bool) -> Iterator[str]:
+def refused_words(refused: list[Envelope], *, is_hidden: bool) -> Iterator[str]:
     """Lines, each with what debvote says of it. With codes on the roll they would tell codes."""
-    if has_codes and refused:
+    if is_hidden and refused:
         yield f"Refused: {envelope_words([one.number for one in refused])}"
     elif refused:
         who = "of electors without a ballot to the question, or of nobody known"

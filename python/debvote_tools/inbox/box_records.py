@@ -295,6 +295,8 @@ def records_in(
             letter = dataclasses.replace(letter, sent_before=latest.get(elector))
             letters.append(clocked(letter, asked, before, counts[letter.link]))
             counts[letter.link] += 1
+            # the same one again takes no place
+            known.add(raw.digest)
             latest[elector] = max(filter(None, [letter.sent, letter.sent_before]))
     return letters, others, unopened
 
@@ -305,7 +307,8 @@ def opened(key: bytes, raw: RawLetter) -> tuple[str, RawLetter]:
     book lacks.
     """
     record = RECORD.fullmatch(raw.data.decode("latin-1"))
-    if record is None:
+    # a book without a box has no key
+    if record is None or not key:
         return "", raw
     with contextlib.suppress(ValueError):
         text = key_pair(key, record["mark"])[1](record["number"], record["sealed"])
@@ -328,7 +331,8 @@ def whose(vote: Vote, records: Sequence[RawLetter], asked: datetime.datetime) ->
     names = {
         proof_digest(mark, personal_link(key, its.elector, own)): its.elector for own, its in owns
     }
-    proofs = ((PROOF.search(raw.data.decode("latin-1")), arrived(raw)) for raw in records)
+    in_order = sorted(records, key=arrived)
+    proofs = ((PROOF.search(raw.data.decode("latin-1")), arrived(raw)) for raw in in_order)
     return {
         names[proof[1]]: min(time, asked).isoformat()
         for proof, time in proofs

@@ -91,6 +91,14 @@ class CheckedLine(NamedTuple):
         return answers_of(self.as_entered.decode("ascii"))
 
 
+def hides_ballots(election: Election) -> bool:
+    """Whether no output has ballots: cron sends by mail what a command says, and ballots of a secret vote
+    with a box come by no mail.
+    """
+    is_by_click = election.history().announced("box") and election.questions.is_secret
+    return bool(is_by_click) and not shows()
+
+
 def hidden(_: str) -> str:
     """What is told in place of a ballot that nobody may read."""
     return "(shown at a terminal alone)"
@@ -107,8 +115,7 @@ class Vote:
         self.call = election.called(history)
         # as ballots are counted
         self.questions = questions = election.questions
-        # cron sends what a command says by mail
-        is_hidden = bool(history.announced("box")) and questions.is_secret and not shows()
+        is_hidden = hides_ballots(election)
         if history.announced("box"):
             LEAVING_OUT.set(functools.partial(without_links, self.book, has_ranks=not is_hidden))
         # the one question that is answered without a label, if there is one

@@ -15,7 +15,7 @@ from tests.support.letters import BALLOT, MARK, OTHER, at, judged, label, letter
 
 # values of each name that a reason may have
 VALUES: dict[str, str | int | datetime.datetime] = {
-    "length": 7, "limit": 8, "number": 3, "digest": 2, "called": at(9), "first": at(9), "between": at(9), "end": at(9), "close": at(9), "time": at(9), "asked": at(9), "until": at(9), "seconds": 180,
+    "length": 7, "limit": 8, "number": 3, "digest": 2, "called": at(9), "first": at(9), "between": at(9), "end": at(9), "close": at(9), "time": at(9), "asked": at(9), "sent": at(9), "until": at(9), "seconds": 180,
     "what": "text", "charset": "x-none", "character": "U+000D", "sender": "a@x", "elector": "ada", "listed": "b@x", "mark": "0123456789abcdef", "key": "A" * 40,
 }  # fmt: skip
 

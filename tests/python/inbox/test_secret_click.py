@@ -113,7 +113,7 @@ class SecretClicks(boxes.BoxElectionTest):
         said = self.done("add", "--box", "--look").output
         said += self.done("add", "--box", "--yes").output
         self.assertIn("3 ballots of letters went in; 1 letter waits", said)
-        self.done("desk", given="dan 2,1,3,4\n")
+        self.done("desk", given="dan 2,1,3,4\neve 2 1 3 1 7\n")
         said += self.done("held").output + self.done("held", "4").output
         for name in elections.NAMES:
             said += self.done("show", name).output
@@ -121,7 +121,7 @@ class SecretClicks(boxes.BoxElectionTest):
         said += self.done("add", "--box", "--yes").output
         self.assertIn("(shown at a terminal alone)", said)
         aliases = dict(self.rows("SELECT alias, name FROM elector_now"))
-        for part in ("1,2,3", "4,3,2,1", "2,1", "At the lake, then", "Further discussion, then", "In the town hall, then", *map(str, aliases)):
+        for part in ("1,2,3", "4,3,2,1", "2,1", "2 1 3 1 7", "At the lake, then", "Further discussion, then", "In the town hall, then", *map(str, aliases)):
             self.assertNotIn(part, said)
         self.assertEqual(self.standing(), {"ada": "4,3,2,1", "ben": "2,1,-,4", "dan": "2,1,3,4"})
         texts = self.receipts()
