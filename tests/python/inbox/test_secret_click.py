@@ -123,7 +123,7 @@ class SecretClicks(boxes.BoxElectionTest):
         aliases = dict(self.rows("SELECT alias, name FROM elector_now"))
         for part in ("1,2,3", "4,3,2,1", "2,1", "2 1 3 1 7", "At the lake, then", "Further discussion, then", "In the town hall, then", *map(str, aliases)):
             self.assertNotIn(part, said)
-        self.assertEqual(self.standing(), {"ada": "4,3,2,1", "ben": "2,1,-,4", "dan": "2,1,3,4"})
+        self.assertEqual(self.standing(), {"ada": "4,3,2,1", "ben": "2,1,-,4", "dan": "2,1,3,4", "eve": "2 1 3 1 7"})
         texts = self.receipts()
         self.assertIn("has arrived. It counts unless you send a later one. It came by the page of the vote.", texts["ada"])
         for text in texts.values():
