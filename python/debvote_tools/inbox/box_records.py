@@ -22,7 +22,7 @@ from debvote_tools.book.election import BOX_KEY
 from debvote_tools.book.queries import KeptRecord
 from debvote_tools.cli.console import count_of, listed, shown_text
 from debvote_tools.cli.faults import Fault, bad_words
-from debvote_tools.inbox.asked import has_list_of_now, has_page_of_now, last_box, pages_of
+from debvote_tools.inbox.asked import has_list_of_now, last_box, pages_of
 from debvote_tools.files import sha256_of
 from debvote_tools.inbox.letter import YEAR, arrival_of
 from debvote_tools.inbox.mailbox import BEGIN, RawLetter
@@ -63,6 +63,15 @@ FIELDS = {
 }
 
 UPLOAD = f"upload {SCRIPT} of the folder call to where PHP 8.1 or later runs and may write; then run the command again"
+
+# what is said of a page that is not that of the call: one that this book made before, and another one
+PAGE_OF_BEFORE = (
+    "Note: the page there is the one of before: upload the folder call, then run this again."
+)
+OTHER_PAGE = (
+    "Note: the page there is not that of the folder call: a script in it would see what is chosen, and could vote in the name of who opens it. "
+    "Upload the folder, and run this again; if it is still so, take another web host."
+)
 
 # in seconds: how far the clock of the box may be from ours unsaid
 MOST_OFF = 60
@@ -218,25 +227,16 @@ def asked_box(vote: Vote) -> tuple[list[RawLetter], Detail, list[str]]:
     words = [*box_words(box, before)]
     # after a publication the result takes its place
     if not history.publications:
-        box["page"] = sha256_of(answer_of(at).body)
-        words += page_words(vote, box)
+        page, pages = sha256_of(answer_of(at).body), pages_of(vote.election)
+        box["page"] = page
+        if page != pages[-1]:
+            words.append(PAGE_OF_BEFORE if page in pages else OTHER_PAGE)
     if not has_list_of_now(vote.election, asked.list_digest):
         older = (
             "as an older one: upload that of the folder, since who has a new link cannot vote there"
         )
         words.append(f"Note: the web host has another {SCRIPT} than the folder call, {older}.")
     return letters, {"box": box}, words
-
-
-def page_words(vote: Vote, box: Detail) -> Iterator[str]:
-    """What is said of the page at the address of the box."""
-    if has_page_of_now(vote.election, box):
-        return
-    if box["page"] in pages_of(vote.election):
-        yield "Note: the page there is the one of before: upload the folder call, then run this again."
-        return
-    why = "a script in it would see what is chosen, and could vote in the name of who opens it"
-    yield f"Note: the page there is not that of the folder call: {why}. Upload the folder, and run this again; if it is still so, take another web host."
 
 
 def box_words(box: Detail, before: Detail) -> Iterator[str]:

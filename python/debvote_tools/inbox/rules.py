@@ -262,27 +262,24 @@ class LetterCase:
     @property
     def arrived_before_call(self) -> bool:
         """Whether it is known to have arrived before the call."""
-        return any(last <= self.circumstances.called for last in self.arrivals[1:])
+        return any(last <= self.circumstances.called for last in self.arrivals[-1:])
 
     @property
-    def has_other_time(self) -> bool:
-        """Whether a record was sent by its device at quite another time than the host dates it."""
-        if self.read.arrived is None or self.read.sent is None:
-            return False
-        by_our_clock = self.read.arrived + datetime.timedelta(seconds=self.read.behind)
-        return abs(by_our_clock - self.read.sent) > AHEAD
+    def other_times(self) -> list[datetime.datetime]:
+        """When a record was sent by its device, if the host dates it quite otherwise."""
+        arrived, sent = self.read.arrived, self.read.sent
+        if arrived is None or sent is None:
+            return []
+        apart = arrived + datetime.timedelta(seconds=self.read.behind) - sent
+        return [sent] if abs(apart) > AHEAD else []
 
     @property
     def arrivals(self) -> list[datetime.datetime]:
-        """When it arrived, at the earliest and at the latest: the clock of a web host may be off, and it may
-        date a record anew.
+        """When it may have arrived, the earliest time first and the latest last: the clock of a web host may
+        be off, and it may date a record anew.
         """
         arrived, off = self.read.arrived, datetime.timedelta(seconds=self.read.behind)
-        if arrived is None:
-            return []
-        other = self.read.sent if self.has_other_time else None
-        times = [arrived, arrived + off, other or arrived]
-        return [min(times), max(times)]
+        return sorted((arrived, arrived + off, *self.other_times)) if arrived else []
 
     def arrived_after(self, *ends: datetime.datetime | None) -> bool:
         """Whether it is known to have arrived after one of these times."""
@@ -345,11 +342,12 @@ def why_not_in_time(case: LetterCase) -> ReasonWithValues | None:
     read, circumstances, asked = case.read, case.circumstances, case.read.asked_before
     if (arrived := read.arrived) is None:
         return Reason.NO_ARRIVAL()
-    if read.sent and case.has_other_time:
-        return Reason.OTHER_TIME(sent=read.sent)
+    if case.other_times:
+        return Reason.OTHER_TIME(sent=case.other_times[0])
     if case.arrived_before_call:
         return Reason.BEFORE_THE_CALL(called=circumstances.called)
-    (first, last), end, close = case.arrivals, circumstances.end, circumstances.first_close
+    first, *_, last = case.arrivals
+    end, close = circumstances.end, circumstances.first_close
     if end is not None and first > end:
         return Reason.AFTER_THE_END(end=end)
     if close is not None and first > close:

@@ -101,11 +101,6 @@ class CallData:
         return self.has_box and not self.is_by_name
 
     @property
-    def has_gap(self) -> bool:
-        """Whether a ballot on the page has a gap in place of the name, which nobody types there."""
-        return not (self.is_by_name or self.has_box)
-
-    @property
     def is_extended(self) -> bool:
         """Whether the end is not the one that the poll was sealed with, which the call said at
         first.
@@ -126,7 +121,8 @@ class CallData:
 
     def link_of(self, elector: Elector | None) -> str | None:
         """The address of the page, as the personal link of an elector whose own mark may be told."""
-        if elector is None or not (elector.mark and self.at) or self.has_gap:
+        is_linked = self.is_by_name or self.has_box
+        if elector is None or not (elector.mark and self.at and is_linked):
             return self.at
         name, own = elector.name, elector.mark
         link = box.personal_link(self.box_key, name, own) if self.has_box else f"{name}/{own}"

@@ -41,8 +41,8 @@ def key_pair(key: bytes, mark: str) -> tuple[str, Callable[[str, str], str]]:
 
     def opened(number: str, text: str) -> str:
         data = base64.b64decode(text, b"-_", validate=True)
-        # a compressed point is shorter
-        point = data[:POINT].ljust(POINT, b"\0")
+        # behind a shorter point, which may be compressed, is nothing that could be opened
+        point = data[:POINT]
         own = ec.EllipticCurvePublicKey.from_encoded_point(ec.SECP256R1(), point)
         secret = hmac.digest(NO_SALT, private.exchange(ec.ECDH(), own), "sha256")
         one_key = hmac.digest(secret, PURPOSE + point + public + FIRST_BLOCK, "sha256")

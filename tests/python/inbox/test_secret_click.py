@@ -87,6 +87,18 @@ class SecretClicks(boxes.BoxElectionTest):
                 self.assertNotIn(part, text)
         for part in INVITING:
             self.assertNotIn(part, self.read("call/call.txt").decode())
+        self.done("letters", "reminders")
+        for file in (self.folder / "letters/reminders").rglob("*.eml"):
+            text = text_of(file.read_bytes())
+            self.assertIn(links[file.stem], text)
+            for part in INVITING:
+                self.assertNotIn(part, text)
+        # a slip has the code, and nothing of an e-mail
+        slips = self.read("private/slips.html").decode()
+        for name, code in self.codes().items():
+            self.assertIn(code[:4], slips, name)
+        for part in ("Send your ballot to", "At the end of the subject", *links.values()):
+            self.assertNotIn(part, slips)
         # no name or alias of anybody is on the host
         aliases = [str(alias) for alias, in self.rows("SELECT alias FROM elector_now")]
         for name in ("index.html", "vote.php"):
