@@ -107,7 +107,7 @@ class BoxElectionTest(elections.ElectionTest):
         text = sealing.inside(line, place, f"{when.astimezone(datetime.UTC):%Y-%m-%dT%H:%M:%S}.{when.microsecond // 1_000:03}Z")
         return sealing.sealed(self.of_page("seal"), self.of_page("mark"), f"{number:032x}", text)
 
-    def ballot(self, name: str, ranks: str, link: str, number: int, page: str = "") -> bytes:
+    def body_of(self, name: str, ranks: str, link: str, number: int, page: str = "") -> bytes:
         """What the page sends; of one number the same bytes again."""
         if number not in self.bodies:
             place = self.place_of(name, link)
@@ -117,7 +117,7 @@ class BoxElectionTest(elections.ElectionTest):
         return self.bodies[number]
 
     def sent(self, name: str, ranks: str, link: str, number: int) -> Answer:
-        return self.host.send(self.ballot(name, ranks, link, number))
+        return self.host.send(self.body_of(name, ranks, link, number))
 
     def record(
         self, line: str, link: str, number: int, time: str, sent: datetime.datetime | None = None

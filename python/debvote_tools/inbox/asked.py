@@ -61,7 +61,7 @@ def pages_of(election: Election) -> list[str]:
 
 def has_page_of_now(election: Election, box: Detail) -> bool:
     """Whether an asking found the page of now, or was after a publication, which takes its place."""
-    return box.get("page") in (None, pages_of(election)[-1])
+    return box.get("page") in (None, *pages_of(election)[-1:])
 
 
 def other_pages(election: Election, history: History) -> list[DoneAct]:

@@ -158,7 +158,7 @@ class Composer:
                 break
         return Said(self.subject("call", is_extension=is_extension), text)
 
-    def reminder(self, elector: Elector, fates: Sequence[Fate], *, is_lost: bool) -> Said:
+    def reminder(self, elector: Elector, fates: Sequence[Fate], *, is_lost: bool = False) -> Said:
         """A letter to an elector without a ballot that counts, or whose last one is lost. If a line or a
         letter of theirs has come, it says what became of it, and that they can send a right line now.
         """

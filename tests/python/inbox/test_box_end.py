@@ -62,7 +62,7 @@ class End(boxes.BoxElectionTest):
     @contextlib.contextmanager
     def begun_click(self, name: str, ranks: str, link: str) -> Iterator[Callable[[], bytes]]:
         """A click whose last byte is sent by a call, which returns the answer."""
-        sent = self.ballot(name, ranks, link, next(self.numbers))
+        sent = self.body_of(name, ranks, link, next(self.numbers))
         head = f"POST /vote.php HTTP/1.1\r\nHost: x\r\nContent-Length: {len(sent)}\r\n\r\n".encode()
         with socket.create_connection(("127.0.0.1", self.host.port)) as connection:
             connection.sendall(head + sent[:-1])

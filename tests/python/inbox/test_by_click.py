@@ -225,7 +225,7 @@ class Clicks(boxes.BoxElectionTest):
         self.done("letters", "call")
         self.assertEqual(self.rows("SELECT data FROM sealed WHERE name = 'box key'"), key)
         self.assertNotEqual(self.page(), page)
-        answer = self.host.send(self.ballot("ada", "1,2,3,4", self.links()["ada"], 1_000, page))
+        answer = self.host.send(self.body_of("ada", "1,2,3,4", self.links()["ada"], 1_000, page))
         self.assertEqual((answer.status, answer.word), (409, "old:"))
         self.click("ada", "1,2,3,4", self.links()["ada"])
         self.done("add", "--box", "--yes")
