@@ -76,7 +76,7 @@ class Arguments(Acting):
     )
     slips: str | None = option(
         None,
-        "With --box in a secret vote: whether slips with codes will be handed out, as page and letters say (default: ask at the terminal)",
+        "In a secret vote with a box: whether slips with codes will be handed out, as the page says (default: ask at the terminal)",
         choices=("yes", "no"),
     )
     keyring: str | None = option(
