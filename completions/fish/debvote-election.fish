@@ -38,7 +38,7 @@ complete -c debvote-election -n "__fish_seen_subcommand_from call" -l zone -x -d
 complete -c debvote-election -n "__fish_seen_subcommand_from call" -l to -x -d "The mail address to which ballots are sent; as 'NAME <ADDRESS>' letters to electors come from this name."
 complete -c debvote-election -n "__fish_seen_subcommand_from call" -l at -x -d "The web address of the page for the call, and later for the result."
 complete -c debvote-election -n "__fish_seen_subcommand_from call" -l names -d "Say in the call that real names will be published with the result."
-complete -c debvote-election -n "__fish_seen_subcommand_from call" -l box -d "Let electors vote by a click on the page, which seals each ballot: call/vote.php keeps it on the web host until add --box."
+complete -c debvote-election -n "__fish_seen_subcommand_from call" -l box -d "Let electors vote by a click on the page, which seals each ballot: call/vote.php keeps ballots on the web host until add --box."
 complete -c debvote-election -n "__fish_seen_subcommand_from call" -l slips -x -a "yes no" -d "In a secret vote with a box: whether slips with codes will be handed out, as the page says (default: ask at the terminal)."
 complete -c debvote-election -n "__fish_seen_subcommand_from call" -l keyring -r -F -d "Say in the call that letters must be signed, each with its elector's key in members.csv; this file has the keys."
 complete -c debvote-election -n "__fish_seen_subcommand_from call" -l take-back -d "Take the call back; possible until a ballot or a letter has come."

@@ -72,7 +72,7 @@ class Arguments(Acting):
     )
     names: bool = flag("Say in the call that real names will be published with the result")
     box: bool = flag(
-        "Let electors vote by a click on the page, which seals each ballot: call/vote.php keeps it on the web host until add --box"
+        "Let electors vote by a click on the page, which seals each ballot: call/vote.php keeps ballots on the web host until add --box"
     )
     slips: str | None = option(
         None,
