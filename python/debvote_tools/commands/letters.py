@@ -203,9 +203,10 @@ def demand_words(arguments: Arguments) -> None:
     if not arguments.send and (options := given(arguments, "server", "user", "password_file")):
         cure = "give --send too, or leave this out"
         faults.append(bad_words(", ".join(options), "only with --send", cure))
-    for option, kinds in (("at", ["result"]), ("codes", ["call"]), ("yes", ["reminders", "call"])):
-        if arguments.kind not in kinds and given(arguments, option):
-            faults.append(bad_words(f"--{option}", f"only with {kinds[0]}", "leave it out"))
+    asked = "call" if arguments.codes else "reminders"
+    for option, kind in (("at", "result"), ("codes", "call"), ("yes", asked)):
+        if arguments.kind != kind and given(arguments, option):
+            faults.append(bad_words(f"--{option}", f"only with {kind}", "leave it out"))
     with kept_in(faults):
         if arguments.at is not None:
             demand_web_address(arguments.at)

@@ -73,10 +73,8 @@ def what_stops(
 
 
 def what_stops_a_first_close(election: Election, history: History) -> dict[str, Fault]:
-    found, anyway = (
-        dict[str, Fault](),
-        "or close anyway with --force --because TEXT (the result page says so)",
-    )
+    found = dict[str, Fault]()
+    anyway = "or close anyway with --force --because TEXT (the result page says so)"
     if lost := with_lost_records(election, history):
         words = f"ballots came by the links of these electors that nobody can open, and no later ones: {', '.join(lost)}"
         cure = (
