@@ -264,8 +264,8 @@ def letters_pending_in(fates: Mapping[str, Sequence[Fate]]) -> int:
 
 def reminders_due(run: Run) -> LettersDue:
     """A letter to each elector whose ballot does not count yet, or whose last one nobody can open; a
-    receipt, if only a yes in `add` is lacking. A run of this day goes on if it was cut off, or the server refused some for now: then those are
-    reminded, too, who came to it since. Else each run is a new one.
+    receipt, if only a yes in `add` is lacking. A run of this day goes on if it was cut off, or the server
+    refused some for now: then those are reminded, too, who came to it since. Else each run is a new one.
     """
     fates = fates_of(run.election, run.history)
     counting = queries.what_counts(run.election.book)
