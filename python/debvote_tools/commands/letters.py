@@ -81,18 +81,15 @@ def letters(election: Election, arguments: Arguments) -> int:
         demand_due(election, history, arguments.kind)
         with election.book.act("announce", {"at": arguments.at}, seen=history.last.number):
             pass
-    if arguments.codes and not arguments.yes:
-        demand_codes_beside_links()
     letter_folder.make_own(election.path(LETTERS) / arguments.kind)
     # two runs at once would send each letter twice
     with locked(election.path(LETTERS) / ".lock"):
-        because = arguments.because if arguments.force else None
         due = letters_due(
             election,
             arguments.kind,
             sender,
             is_sending=arguments.send,
-            because=because,
+            because=arguments.because if arguments.force else None,
             has_codes=arguments.codes,
         )
         if due.reminded and not arguments.yes and not reminds_again(due.reminded):
@@ -103,8 +100,7 @@ def letters(election: Election, arguments: Arguments) -> int:
         lost = write_lost(due, place.parent)
         tried = [] if server is None else send_letters(due, server)
     tell(*notes_on(due, {place: [*due.going_again, *due.new], **lost}))
-    is_sent = server is not None
-    tell(*(sent_words(due, tried) if is_sent else written_words(due, place, written, lost)))
+    tell(*(sent_words(due, tried) if server else written_words(due, place, written, lost)))
     tell(*unreached_words(election))
     # that an address that an elector had before refuses a letter is no fault
     is_refused = any(one.state != TAKEN and is_present(one, due.electors) for one in tried)
@@ -198,7 +194,7 @@ def unreached_words(election: Election) -> Iterator[str]:
 
 
 def demand_words(arguments: Arguments) -> None:
-    """Stops at all that is wrong with them alone."""
+    """Stops at all that is wrong with them alone, and unless codes in letters are agreed to."""
     faults = list[Fault]()
     if not arguments.send and (options := given(arguments, "server", "user", "password_file")):
         cure = "give --send too, or leave this out"
@@ -217,6 +213,8 @@ def demand_words(arguments: Arguments) -> None:
         if arguments.server is not None:
             smtp.server_of(arguments.server)
     stop_at(faults)
+    if arguments.codes and not arguments.yes:
+        demand_codes_beside_links()
 
 
 def remembered(history: History) -> Detail | None:
