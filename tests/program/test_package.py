@@ -157,7 +157,7 @@ class PackageTest(expecting.Expecting):
         fields = run(["dpkg-deb", "-f", self.package, "Version", "Depends", "Recommends", "Suggests"])[0]
         newest = max(tuple(map(int, found.split("."))) for found in re.findall(r"GLIBC_([\d.]+)", run(["objdump", "-p", PROGRAM])[0]))
         libc = f"libc6 (>= {'.'.join(map(str, newest))})"
-        needs = f"Depends: {libc}, python3 (>= 3.11), python3-jinja2\nRecommends: gpg, gpgv\nSuggests: graphviz\n"
+        needs = f"Depends: {libc}, python3 (>= 3.11), python3-jinja2\nRecommends: gpg, gpgv, python3-cryptography\nSuggests: graphviz\n"
         self.expect("the fields", fields, f"Version: {version}\n{needs}")
         sums = (self.package.parent / "SHA256SUMS").read_text()
         self.expect("the sum", sums, f"{hashlib.sha256(self.package.read_bytes()).hexdigest()}  {self.package.name}\n")

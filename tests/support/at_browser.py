@@ -11,6 +11,7 @@ import subprocess
 import tempfile
 import unittest
 import urllib.parse
+from collections.abc import Iterator
 from typing import Any
 
 BROWSER = shutil.which("chromium") or shutil.which("chromium-browser")
@@ -135,6 +136,14 @@ class Window:
             self.rest += data
         text, self.rest = self.rest.split(b"\0", 1)
         return dict(json.loads(text))
+
+    @contextlib.contextmanager
+    def before_each_page(self, script: str) -> Iterator[None]:
+        """Within this each page finds what a script made before its own."""
+        self.tell("Page.enable")
+        number = self.tell("Page.addScriptToEvaluateOnNewDocument", source=script)["identifier"]
+        yield
+        self.tell("Page.removeScriptToEvaluateOnNewDocument", identifier=number)
 
     def open(self, page: pathlib.Path, place: str = "") -> None:
         """Opens a page, at a place of it that begins with #."""

@@ -8,8 +8,10 @@ import pathlib
 import re
 import shutil
 
-from tests.support import elections
-from tests.support.web_host import HOST_OFF, Answer, Host, ballot, clock_of_php
+from debvote_tools.poll.box import personal_link
+
+from tests.support import elections, sealing
+from tests.support.web_host import HOST_OFF, Answer, Host, clock_of_php, request_of
 
 UNTIL = ("--until", "2099-12-04 18:00", "--zone", "Europe/Berlin")
 LINK = re.compile(r"#([a-z0-9.-]+)/(\w{10})/(\w{16})\b")
@@ -30,12 +32,15 @@ class BoxElectionTest(elections.ElectionTest):
     workers = 1
     # whether the clock of the host can be set
     has_clock = False
+    # by how many seconds the clocks of the devices are ahead
+    devices_off = 0
 
     def setUp(self) -> None:
         super().setUp()
         self.settings = clock_of_php(self.scratch) if self.has_clock else []
         self.begin_host("web")
         self.numbers = itertools.count(1)
+        self.bodies: dict[int, bytes] = {}
 
     def begin_host(self, folder: str) -> None:
         self.web = self.scratch / folder
@@ -75,12 +80,55 @@ class BoxElectionTest(elections.ElectionTest):
         self.done("letters", "call")
         return self.links()
 
+    def of_page(self, what: str) -> str:
+        """What the page that is uploaded knows: its poll, the key to which it seals, and what it posts."""
+        return re.findall(rf'data-{what}="([^"]+)"', (self.web / "index.html").read_text())[0]
+
     def page(self) -> str:
-        """What the page that is uploaded posts with each ballot."""
-        return re.findall(r'data-page="(\w+)"', (self.web / "index.html").read_text())[0]
+        return self.of_page("page")
+
+    @property
+    def key(self) -> bytes:
+        """That of the box."""
+        [(key,)] = self.rows("SELECT data FROM sealed WHERE name = 'box key'")
+        assert isinstance(key, bytes)
+        return key
+
+    def place_of(self, name: str, link: str) -> str:
+        """What is behind the address in the personal link that has this third part."""
+        words = "SELECT DISTINCT mark FROM elector_state JOIN elector USING (elector) WHERE name = ?"
+        owns = [str(own) for own, in self.rows(words, name) if own]
+        places = [personal_link(self.key, name, own) for own in owns]
+        return next((one for one in places if one.endswith(link)), f"{name}/{'2' * 10}/{link}")
+
+    def sealed(self, line: str, place: str, number: int, sent: datetime.datetime | None = None) -> str:
+        """A ballot as the page seals it, which was sent now or at another time."""
+        when = sent or datetime.datetime.now(datetime.UTC) + datetime.timedelta(seconds=self.devices_off)
+        text = sealing.inside(line, place, f"{when.astimezone(datetime.UTC):%Y-%m-%dT%H:%M:%S}.{when.microsecond // 1_000:03}Z")
+        return sealing.sealed(self.of_page("seal"), self.of_page("mark"), f"{number:032x}", text)
+
+    def body_of(self, name: str, ranks: str, link: str, number: int, page: str = "") -> bytes:
+        """What the page sends; of one number the same bytes again."""
+        if number not in self.bodies:
+            place = self.place_of(name, link)
+            proof = sealing.proof_of(self.of_page("mark"), place)
+            head = f"{page or self.page()} {proof} {number:032x}"
+            self.bodies[number] = request_of(head, self.sealed(f"{name} {ranks}", place, number))
+        return self.bodies[number]
 
     def sent(self, name: str, ranks: str, link: str, number: int) -> Answer:
-        return self.host.send(ballot(name, ranks, number, link, self.page()))
+        return self.host.send(self.body_of(name, ranks, link, number))
+
+    def record(
+        self, line: str, link: str, number: int, time: str, sent: datetime.datetime | None = None
+    ) -> bytes:
+        """A record that somebody wrote into the file of the host, who has a personal link with this third part:
+        it arrived at this time, and was sent then by the device, too, or at another time.
+        """
+        name, when = line.partition(" ")[0], datetime.datetime.fromisoformat(time)
+        place = self.place_of(name, link)
+        text = self.sealed(line, place, number, sent or when.replace(tzinfo=datetime.UTC))
+        return sealing.record(self.of_page("mark"), place, number, time, text).encode()
 
     def click(self, name: str, ranks: str, link: str) -> Answer:
         answer = self.sent(name, ranks, link, next(self.numbers))

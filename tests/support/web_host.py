@@ -21,6 +21,9 @@ from collections.abc import Callable, Iterable, Mapping, Sequence
 from typing import NamedTuple
 
 from debvote_tools.poll.box import asking_word, page_of, third_part, records_file, script_of
+from debvote_tools.poll.sealed_ballots import key_pair
+
+from tests.support import sealing
 
 PHP, STRACE = shutil.which("php"), shutil.which("strace")
 NEEDS_PHP = unittest.skipUnless(PHP, "php is not installed")
@@ -32,6 +35,7 @@ SECONDS = 60
 MARK, KEY = "1ac5041b936c7fc1", bytes(range(32))
 OWNS = {"ada": "23456789ab", "ben-lee": "3456789abc", "cleo.x": "456789abcd"}
 WORD, FILE, PAGE = asking_word(KEY), records_file(KEY), page_of(KEY, MARK)
+PUBLIC = key_pair(KEY, MARK)[0]
 LINKS = {name: third_part(KEY, name, own) for name, own in OWNS.items()}
 # the first line of the file, and the end of each record
 FIRST, END = b"<?php exit; ?>\n", b"\n-- \n\n"
@@ -71,22 +75,31 @@ def request_of(*lines: str) -> bytes:
 ASK = request_of(f"ask {WORD}")
 
 
-def ballot(name: str, ranks: str, number: int, link: str | None = None, page: str = PAGE) -> bytes:
+def place_of(name: str, link: str | None = None, own: str | None = None) -> str:
+    """What is behind the address in a personal link with this third part and this own mark."""
+    third = LINKS.get(name, "2" * 16) if link is None else link
+    return f"{name}/{own or OWNS.get(name, '2' * 10)}/{third}"
+
+
+def text_of(name: str, line: str, number: int, place: str = "", public: str = PUBLIC) -> str:
+    """A ballot that is sealed; by the device, too, the one with the greater number is the later one."""
+    sent = datetime.datetime(2026, 1, 1, tzinfo=datetime.UTC) + datetime.timedelta(seconds=number)
+    text = sealing.inside(line, place or place_of(name), f"{sent:%Y-%m-%dT%H:%M:%S}.000Z")
+    return sealing.sealed(public, MARK, f"{number:032x}", text)
+
+
+def ballot(
+    name: str, ranks: str, number: int, link: str | None = None, page: str = PAGE, own: str = ""
+) -> bytes:
     """What this page sends; `number` makes the Message-ID."""
-    link = LINKS.get(name, "") if link is None else link
-    return request_of(f"{page} {name} {ranks}", link, f"{number:032x}")
+    place = place_of(name, link, own)
+    text = text_of(name, f"{name} {ranks}", number, place)
+    return request_of(f"{page} {sealing.proof_of(MARK, place)} {number:032x}", text)
 
 
-def record(name: str, line: str, number: int, time_: str, mark: str = MARK, page: str = PAGE) -> str:
-    """The record of a ballot that arrived from this page at this time, as FORMATS has it."""
-    when = datetime.datetime.fromisoformat(time_)
-    return (
-        f"From box@page.invalid {when:%a %b %d %H:%M:%S %Y}\n"
-        f"Received: by box; {when:%a, %d %b %Y %H:%M:%S} +0000\n"
-        f"X-Link: {LINKS.get(name, '2' * 16)}\nX-Page: {page}\n"
-        f"From: box@page.invalid\nSubject: [{mark}]\n"
-        f"Message-ID: <{number:032x}@page.invalid>\n\n{line}\n-- \n\n"
-    )
+def record(name: str, line: str, number: int, time_: str) -> str:
+    """The record of a ballot that arrived at this time."""
+    return sealing.record(MARK, place_of(name), number, time_, text_of(name, line, number))
 
 
 def free_port() -> int:
@@ -155,6 +168,11 @@ class Host:
         """What the server wrote."""
         return pathlib.Path(self.log.name).read_bytes()
 
+    def seconds(self) -> float:
+        """How many seconds of the processor it took."""
+        its = pathlib.Path(f"/proc/{self.process.pid}/stat").read_text().rpartition(")")[2].split()
+        return (int(its[11]) + int(its[12])) / os.sysconf("SC_CLK_TCK")
+
     def requests(self) -> list[str]:
         """The requests of pages until now. The server writes of one after it has answered it, and before it
         answers the next.
@@ -200,8 +218,8 @@ class Host:
         return parts
 
     def lines(self) -> list[str]:
-        """The lines of the ballots that it has."""
-        return [record.rpartition("\n")[2] for record in self.records()]
+        """The lines of the ballots that it has, opened."""
+        return [sealing.line_in(KEY, record) for record in self.records()]
 
 
 class Liar:

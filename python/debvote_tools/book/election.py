@@ -29,10 +29,10 @@ RESULT_LETTER = "result.txt"
 # secret vote so the polls that have names, and so, with nothing in it, that a poll is a motion; the
 # title of several questions; the keys of those whose letters have to be signed; what the secretary
 # writes at the head of letters, in the file of the same name; the key of the box, which never leaves
-# the book, and its script
+# the book, its script, and its page
 POLL, POLL_WITH_NAMES, KEYRING, LETTER_TEXT = "poll", "poll with names", "keyring", "letter.txt"
 MOTION, TITLE = "motion", "title"
-BOX_KEY, BOX_SCRIPT = "box key", f"{CALL}/vote.php"
+BOX_KEY, BOX_SCRIPT, BOX_PAGE = "box key", f"{CALL}/vote.php", f"{CALL}/index.html"
 
 
 # how far the election is; after `reopen` it is called again

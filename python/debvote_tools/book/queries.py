@@ -68,6 +68,12 @@ def sealed(book: Book, name: str, act: int | None = None) -> bytes:
     return bytes(book.value(f"SELECT coalesce(({words}), x'')", name, act))
 
 
+def every_sealed(book: Book, name: str) -> list[bytes]:
+    """All that was ever sealed under a name, the last one last."""
+    words = "SELECT data FROM sealed WHERE name = ? ORDER BY act"
+    return [bytes(data) for data, in book.rows(words, name)]
+
+
 def sealed_polls(book: Book, name: str, act: int) -> dict[str, bytes]:
     """The polls that an act sealed under a name, by their labels, which are behind it."""
     words = "SELECT ltrim(substr(name, length(?1) + 1)), data FROM sealed WHERE act = ?2 AND (name = ?1 OR name GLOB ?1 || ' ?') ORDER BY name"
@@ -568,17 +574,22 @@ def kept_digests(book: Book) -> set[tuple[str, bool]]:
 
 
 class KeptRecord(NamedTuple):
-    """A record of the box that came: from which address, its digest, link and first line."""
+    """A record of the box that came: from which address, its digest, its link and its elector, and when it
+    was sent by their device.
+    """
 
     at: str
     digest: str
     link: str
-    line: str
+    elector: str
+    sent: str
 
 
 def records_since(book: Book, act: int) -> list[KeptRecord]:
     """The records of the box that came since an act."""
-    words = "SELECT detail ->> '$.box.at', known ->> 'digest', known ->> 'link', coalesce(known ->> '$.body.lines[0]', '') FROM letter JOIN act USING (act) WHERE act > ? AND detail ->> '$.box.at' IS NOT NULL"
+    line = "known ->> '$.body.lines[0]'"
+    columns = f"detail ->> '$.box.at' AS at, known ->> 'digest', known ->> 'link', substr({line}, 1, instr({line}, ' ') - 1), known ->> 'sent' AS sent"
+    words = f"SELECT {columns} FROM letter JOIN act USING (act) WHERE act > ? AND at IS NOT NULL ORDER BY sent"
     return [KeptRecord(*row) for row in book.rows(words, act)]
 
 

@@ -141,6 +141,10 @@ MAX_NAMED = 200
 
 class RollArguments(Acting):
     yes: bool = flag("After the call: take the new addresses and keys without a question")
+    new_link: str | None = option(
+        "NAME",
+        "After a call with a box: make a new link for this elector, for whom the box takes no more",
+    )
 
 
 def roll(election: Election, arguments: RollArguments) -> None:
@@ -158,10 +162,16 @@ def roll(election: Election, arguments: RollArguments) -> None:
         is_secret = election.questions.is_secret
         went = outgoing.call_addresses(book, history.call.number) if is_secret else {}
         changes = {one: changes_in_words(one, went) for one in roll.electors if one.changes}
+        if (name := arguments.new_link) is not None:
+            named = [one for one in roll.electors if one.name == name]
+            if not named or not history.announced("box") or history.closes:
+                words = f"{shown_text(name)} has no link that could be replaced"
+                raise bad_words("--new-link", words, f"name an elector of {after}, or leave it out")
+            changes |= dict.fromkeys(named, "a new link")
         changed = {
             one: words for one, words in changes.items() if arguments.yes or agreed(one, words)
         }
-        change_addresses(election, history, changed)
+        change_addresses(election, history, changed, arguments.new_link)
         after = election.command("status")
         if changed and not history.closes:
             after = f"{election.command('letters', 'call')}, for the new addresses"
@@ -208,9 +218,11 @@ def keep_electors(book: Book, roll: Roll, seen: int) -> None:
         queries.put_electors(act, (now for name, now in after.items() if before.get(name) != now))
 
 
-def change_addresses(election: Election, history: History, changed: Mapping[Member, str]) -> None:
+def change_addresses(
+    election: Election, history: History, changed: Mapping[Member, str], new_link: str | None
+) -> None:
     """The act after the call. A new address makes a new own mark, and a new link to the box: who reads
-    the old one knows both.
+    the old one knows both. An elector may get a new link alone.
     """
     if not changed:
         tell("Nothing was changed.")
@@ -224,7 +236,8 @@ def change_addresses(election: Election, history: History, changed: Mapping[Memb
     letters_before = letters_now(vote)
     for member in changed:
         if known := member.known:
-            mark = new_own_mark() if "address" in member.changes else known.mark
+            is_new = "address" in member.changes or member.name == new_link
+            mark = new_own_mark() if is_new else known.mark
             now.append(known._replace(addresses=member.addresses, key=member.key, mark=mark))
     book, files = election.book, dict[str, bytes]()
     if history.announced("box") and not history.closes:

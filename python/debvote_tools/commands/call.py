@@ -12,7 +12,7 @@ from debvote_tools.text import times
 from debvote_tools.book import queries
 from debvote_tools.book.book import ActName, Detail
 from debvote_tools.poll.call import call_files, call_letter, CallData, current_call, until_of
-from debvote_tools.cli.console import act_time, tell
+from debvote_tools.cli.console import act_time, is_terminal, is_yes, tell
 from debvote_tools.result.publication import agreed_texts
 from debvote_tools.commands.begin import CODES, SLIPS, demand_read, write_slips
 from debvote_tools.book.election import (
@@ -72,7 +72,12 @@ class Arguments(Acting):
     )
     names: bool = flag("Say in the call that real names will be published with the result")
     box: bool = flag(
-        "Let electors vote by a click on the page: call/vote.php keeps the ballots on the web host until add --box"
+        "Let electors vote by a click on the page, which seals each ballot: call/vote.php keeps ballots on the web host until add --box"
+    )
+    slips: str | None = option(
+        None,
+        "In a secret vote with a box: whether slips with codes will be handed out, as the page says (default: ask at the terminal)",
+        choices=("yes", "no"),
     )
     keyring: str | None = option(
         "FILE",
@@ -114,12 +119,14 @@ def call_first(election: Election, arguments: Arguments) -> None:
     with kept_in(faults):
         found = checked(election, deadline=said.get("until"), address=said.get("to"))
         questions = found.questions
-        faults += faults_in_secret(arguments) if questions.is_secret else ()
+        faults += faults_in_secret(arguments, is_on_roll) if questions.is_secret else ()
         if found.lacks_codes:
             cure = f"run {election.command('codes')} first"
             raise Fault(None, "the vote is secret, and electors have no codes", cure)
     stop_at(faults)
     electors = queries.electors(election.book)
+    if arguments.box and questions.is_secret:
+        said["no_slips"] = not are_slips_handed_out(arguments.slips)
     said |= {
         "names": arguments.names,
         "box": arguments.box,
@@ -134,7 +141,7 @@ def call_first(election: Election, arguments: Arguments) -> None:
     # nobody knows whose a code on the roll is
     marked = [] if is_on_roll else [one._replace(mark=new_own_mark()) for one in electors]
     if arguments.box:
-        files |= box_files(election.book, questions.mark, {one.name: one.mark for one in marked})
+        files |= box_files(election.book, public.mark, {one.name: one.mark for one in marked})
     with election.book.act("call", said, seen=history.last.number) as act:
         act.insert_all("sealed", "name, data", files.items())
         queries.put_electors(act, marked)
@@ -187,6 +194,7 @@ def take_back(election: Election) -> None:
     if queries.has_come(book, call_act.number):
         words = "ballots or letters have come, and electors rely on the call"
         raise Fault(None, words, "finish this vote, or hold it anew in another folder")
+    stop_at([*filter(None, [unasked_fault(election, history, "at")])])
     electors, is_on_roll = queries.electors(book), history.has_codes_on_roll
     coded = len(electors) if election.questions.is_secret else 0
     detail: Detail = {"call": call_act.number, "codes": coded}
@@ -283,13 +291,22 @@ def announced(arguments: Arguments, history: History, faults: list[Fault]) -> De
     return said
 
 
-def faults_in_secret(arguments: Arguments) -> Iterator[Fault]:
+def faults_in_secret(arguments: Arguments, is_on_roll: bool) -> Iterator[Fault]:
     if arguments.names:
         cure = "leave it out: in a secret vote no names are published"
         yield bad_words("--names", "the vote is secret", cure)
-    if arguments.box:
-        words = "the vote is secret, and whoever keeps the web host would see it"
+    if arguments.box and is_on_roll:
+        words = "codes are on the roll, and the result would show whoever keeps the web host whose each is"
         yield bad_words("--box", words, LEAVE_OUT)
+
+
+def are_slips_handed_out(answer: str | None) -> bool:
+    """Whether electors get their codes, without which they do not find their ballots in the result."""
+    if answer is None and not is_terminal():
+        words = "nobody says whether slips with codes will be handed out, as page and letters say"
+        raise Fault("--slips", words, "give --slips yes, or --slips no")
+    question = "Will slips with codes be handed out, with which electors find their ballots?"
+    return is_yes(question) is True if answer is None else answer == "yes"
 
 
 def demand_no_change(
@@ -388,6 +405,7 @@ def box_in_words(election: Election, data: CallData) -> Iterator[str]:
     ask, asked_at = election.command("add", "--box"), last_box(election.history()).get("at")
     if asked_at not in (None, data.at):
         yield f"Note: the page at {asked_at} still takes ballots, which add --box fetches no more: remove its {SCRIPT}, then fetch its file {records_file(data.box_key)} by FTP, and add it: {election.command('add', 'FILE')}."
+    yield f"Make a copy of the book now: {election.command('backup', 'FILE')}. Without the book nobody can open what lies on the web host."
     yield f"To ask for the ballots of the page each hour, by cron: {cron_line(election)}"
     first = f"run {ask}, then " if asked_at == data.at else ""
     yield f"{first}upload the files of {election.path(CALL)} to {data.at}, {SCRIPT} too, then run {ask}, which tries whether it works"

@@ -57,7 +57,12 @@ class Arguments(Acting):
         "With --because: write the call or reminders although nobody has seen whether the box of the web host works, and say in them "
         "that the page takes no ballots; or the letters of the close although it was not asked since"
     )
-    yes: bool = flag("With reminders: answer yes when asked whether to remind again within a day")
+    codes: bool = flag(
+        "With call, in a secret vote with a box: write the code into each letter, too"
+    )
+    yes: bool = flag(
+        "Answer yes when asked whether to remind again within a day, or to write codes"
+    )
 
 
 def letters(election: Election, arguments: Arguments) -> int:
@@ -79,9 +84,13 @@ def letters(election: Election, arguments: Arguments) -> int:
     letter_folder.make_own(election.path(LETTERS) / arguments.kind)
     # two runs at once would send each letter twice
     with locked(election.path(LETTERS) / ".lock"):
-        because = arguments.because if arguments.force else None
         due = letters_due(
-            election, arguments.kind, sender, is_sending=arguments.send, because=because
+            election,
+            arguments.kind,
+            sender,
+            is_sending=arguments.send,
+            because=arguments.because if arguments.force else None,
+            has_codes=arguments.codes,
         )
         if due.reminded and not arguments.yes and not reminds_again(due.reminded):
             tell("Nobody was reminded.")
@@ -91,12 +100,19 @@ def letters(election: Election, arguments: Arguments) -> int:
         lost = write_lost(due, place.parent)
         tried = [] if server is None else send_letters(due, server)
     tell(*notes_on(due, {place: [*due.going_again, *due.new], **lost}))
-    is_sent = server is not None
-    tell(*(sent_words(due, tried) if is_sent else written_words(due, place, written, lost)))
+    tell(*(sent_words(due, tried) if server else written_words(due, place, written, lost)))
     tell(*unreached_words(election))
     # that an address that an elector had before refuses a letter is no fault
     is_refused = any(one.state != TAKEN and is_present(one, due.electors) for one in tried)
     return Status.DOUBT if is_refused else Status.DONE
+
+
+def demand_codes_beside_links() -> None:
+    """Stops unless somebody at a terminal says that letters may have both."""
+    words = "who reads such a letter can vote in that name, and finds the alias"
+    if not (console.is_terminal() and console.is_yes(f"With codes: {words}. Write them?")):
+        cure = "give codes on slips; or, if it is right, repeat the command with --yes"
+        raise Fault("--codes", words, cure)
 
 
 def reminds_again(before: datetime.datetime) -> bool:
@@ -178,12 +194,13 @@ def unreached_words(election: Election) -> Iterator[str]:
 
 
 def demand_words(arguments: Arguments) -> None:
-    """Stops at all that is wrong with them alone."""
+    """Stops at all that is wrong with them alone, and unless codes in letters are agreed to."""
     faults = list[Fault]()
     if not arguments.send and (options := given(arguments, "server", "user", "password_file")):
         cure = "give --send too, or leave this out"
         faults.append(bad_words(", ".join(options), "only with --send", cure))
-    for option, kind in (("at", "result"), ("yes", "reminders")):
+    asked = "call" if arguments.codes else "reminders"
+    for option, kind in (("at", "result"), ("codes", "call"), ("yes", asked)):
         if arguments.kind != kind and given(arguments, option):
             faults.append(bad_words(f"--{option}", f"only with {kind}", "leave it out"))
     with kept_in(faults):
@@ -196,6 +213,8 @@ def demand_words(arguments: Arguments) -> None:
         if arguments.server is not None:
             smtp.server_of(arguments.server)
     stop_at(faults)
+    if arguments.codes and not arguments.yes:
+        demand_codes_beside_links()
 
 
 def remembered(history: History) -> Detail | None:

@@ -33,11 +33,16 @@ from debvote_tools.cli.console import (
 from debvote_tools.cli.faults import Fault, bad_words
 from debvote_tools.files import whole_folder, write_whole
 from debvote_tools.inbox import letter_words
-from debvote_tools.inbox.asked import asked_last, asked_words, unasked_fault
+from debvote_tools.inbox.asked import (
+    asked_last,
+    asked_words,
+    unasked_fault,
+    with_lost_records,
+)
 from debvote_tools.inbox.fates import Fate, fates_of
 from debvote_tools.inbox.lines import has_code
 from debvote_tools.inbox.stopping import Pending, pending_letters, taken_out_words
-from debvote_tools.inbox.vote import IS_CODE, Vote, envelope_words
+from debvote_tools.inbox.vote import IS_CODE, Vote, envelope_words, hides_ballots
 from debvote_tools.outbox.reached import unreached_and_printed
 from debvote_tools.poll.questions import Questions, place_of
 from debvote_tools.text import times
@@ -87,6 +92,7 @@ def state_of(election: Election, history: History) -> tuple[State, list[Envelope
         if has_codes
         else [elector.name for elector in electors if elector.name not in counting],
         "box": asked_last(election, history),
+        "lost": with_lost_records(election, history),
         "not_reached": {elector.name: why for elector, why, _ in unreached},
         "printed": printed,
         "act": history.last.number,
@@ -150,8 +156,13 @@ def state_words(
         yield taken_out_words(election, history)
     yield f"Electors with a valid ballot: {state['voters']} of {state['electors']}"
     yield from asked_words(history)
+    yield from named(
+        "Ballots that nobody can open, and no later ones, by the links of", state["lost"]
+    )
     yield from named("Electors without a ballot", state["without_ballot"])
-    yield from refused_words(refused, has_codes=history.has_codes_on_roll)
+    yield from refused_words(
+        refused, is_hidden=history.has_codes_on_roll or hides_ballots(election)
+    )
     if state["waiting"]:
         yield f"{letter_words.wait_words(state['waiting'])} until you have looked at them: {election.command('held')}"
     if state["stopping"]:
@@ -171,9 +182,9 @@ def named(what: str, names: list[str] | None) -> Iterator[str]:
         yield from (f"{what} ({len(names)}):", wrapped(names))
 
 
-def refused_words(refused: list[Envelope], *, has_codes: bool) -> Iterator[str]:
+def refused_words(refused: list[Envelope], *, is_hidden: bool) -> Iterator[str]:
     """Lines, each with what debvote says of it. With codes on the roll they would tell codes."""
-    if has_codes and refused:
+    if is_hidden and refused:
         yield f"Refused: {envelope_words([one.number for one in refused])}"
     elif refused:
         who = "of electors without a ballot to the question, or of nobody known"
@@ -262,7 +273,8 @@ def fate_words(vote: Vote, history: History, fate: Fate, came: Sequence[Envelope
             struck = f"struck by {act.name} at {act_time(act.time)}"
             marks.append(f"{struck}: {because}" if because else struck)
         marked = f" ({'; '.join(marks)})" if marks else ""
-        yield f"envelope {envelope.number}, {act_time(envelope.time)}: {said}{marked}"
+        sent = letter_words.sent_words(fate.came_by)
+        yield f"envelope {envelope.number}, {act_time(envelope.time)}{sent}: {said}{marked}"
 
 
 def refused_line(vote: Vote, envelope: Envelope) -> str:

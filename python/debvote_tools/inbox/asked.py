@@ -5,10 +5,11 @@ it. What an asking brings is in `box_records.py`.
 import datetime
 
 from debvote_tools.book import queries
-from debvote_tools.book.book import Detail, from_text
-from debvote_tools.book.election import BOX_SCRIPT, Election, History
+from debvote_tools.book.book import Detail, DoneAct, from_text
+from debvote_tools.book.election import BOX_PAGE, BOX_SCRIPT, Election, History
 from debvote_tools.cli.console import act_time, count_of
 from debvote_tools.cli.faults import Fault
+from debvote_tools.files import sha256_of
 from debvote_tools.poll.box import list_digest
 from debvote_tools.text.times import now
 
@@ -26,7 +27,7 @@ WITHOUT_PAGE = f"write letters that say that the page takes no ballots, {FORCE}"
 CLOSE = f"close {FORCE} (the result page says so)"
 NEEDS = {
     "call": (
-        "nobody has seen yet whether the box of the web host works, with the links of now",
+        "nobody has seen yet whether the box of the web host works, with page and links of now",
         WITHOUT_PAGE,
     ),
     "reminders": (
@@ -53,12 +54,34 @@ def has_list_of_now(election: Election, digest: str) -> bool:
     return digest == list_digest(queries.sealed(election.book, BOX_SCRIPT))
 
 
+def pages_of(election: Election) -> list[str]:
+    """The digests of the pages that this book made, that of now last."""
+    return list(map(sha256_of, queries.every_sealed(election.book, BOX_PAGE)))
+
+
+def has_page_of_now(election: Election, box: Detail) -> bool:
+    """Whether an asking found the page of now, or was after a publication, which takes its place."""
+    return box.get("page") in (None, *pages_of(election)[-1:])
+
+
+def other_pages(election: Election, history: History) -> list[DoneAct]:
+    """The askings that found a page that this book never made, since the first letter of the call was
+    written.
+    """
+    letters = history.since_call("letters out")
+    written = [act.number for act in letters if act.detail["kind"] == "call"]
+    since = [act for act in history.askings if written and act.number > written[0]]
+    known = {None, *pages_of(election)}
+    return [act for act in since if act.detail["box"].get("page") not in known]
+
+
 def asked_last(election: Election, history: History) -> Detail | None:
-    """What the box had when it was asked last, and whether it had the list of now."""
+    """What the box had when it was asked last, and whether it had list and page of now."""
     if not (box := last_box(history)):
         return None
     is_here = box["at"] == history.announced("at")
-    is_present = is_here and has_list_of_now(election, box["list"])
+    is_right = has_list_of_now(election, box["list"]) and has_page_of_now(election, box)
+    is_present = is_here and is_right
     return {key: box[key] for key in ("time", "records", "behind")} | {"is_present": is_present}
 
 
@@ -68,6 +91,17 @@ def asked_words(history: History) -> list[str]:
         records, time = count_of(box["records"], "record"), act_time(history.askings[-1].time)
         return [f"Box of the web host: {records} when it was asked last, {time}"]
     return ["Box of the web host: not asked yet"] if history.announced("box") else []
+
+
+def with_lost_records(election: Election, history: History) -> list[str]:
+    """The electors by whose links a record came that nobody can open, and who have no later ballot."""
+    came = last_box(history).get("lost", {})
+    ballots = queries.ballots_of(election.book, came)
+    return [
+        name
+        for name, time in sorted(came.items())
+        if all(one.time <= from_text(time) for one in ballots.get(name, ()))
+    ]
 
 
 def is_unasked(history: History, since: datetime.datetime | None) -> bool:

@@ -104,7 +104,7 @@ class ParsedLetter:
     """What the bytes of a letter say and, if letters have to be signed, what gpgv says of it."""
 
     where: str
-    # SHA-256 of its bytes, and of the link of a record: see `RawLetter`
+    # SHA-256 of its bytes, or of the record as it came: see `RawLetter`
     digest: str
     # the same for all copies: a digest of its Message-ID, sender and text; or of its good signature
     # and what that signs, since anybody can change the rest
@@ -134,8 +134,8 @@ class ParsedLetter:
     behind: int = 0
     is_fetched: bool = False
     latest: datetime.datetime | None = None
-    # what the page posted with it
-    page: str = ""
+    sent: datetime.datetime | None = None
+    sent_before: datetime.datetime | None = None
 
     @property
     def needs_signature(self) -> bool:
@@ -185,12 +185,13 @@ def parse(raw: RawLetter) -> ParsedLetter:
         else (),
         body=body,
         attachments=attachments_of(parts),
-        link=letter.value("x-link") if raw.is_fetched else raw.link,
+        link=raw.link,
         asked_before=raw.asked_before,
         behind=raw.behind,
         is_fetched=raw.is_fetched,
         latest=raw.latest,
-        page=decoded(letter.value("x-page")),
+        sent=raw.sent,
+        sent_before=raw.sent_before,
     )
 
 

@@ -122,7 +122,10 @@ def reader_of(kind: Any) -> Callable[[Any], Any]:
     """Makes a value of this type from what JSON has of it."""
     if dataclasses.is_dataclass(kind):
         of_fields = {name: reader_of(one) for name, one in typing.get_type_hints(kind).items()}
-        return lambda kept: kind(**{name: of_fields[name](one) for name, one in kept.items()})
+        # a book of an earlier version may know more of a letter
+        return lambda kept: kind(
+            **{name: of_fields[name](kept[name]) for name in of_fields if name in kept}
+        )
     of = typing.get_args(kind)
     if of in ((str, ...), (int, ...)):
         # most of what is kept are lines

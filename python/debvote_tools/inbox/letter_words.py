@@ -26,7 +26,12 @@ MAX_ATTACHMENTS, MAX_LISTED, MAX_QUOTED = 5, 60, 100
 
 
 def who_and_when(letter: LetterCase) -> str:
-    return f"{name_of(letter)}, from {sender_of(letter)}, {arrival_of(letter)}"
+    return f"{name_of(letter)}, from {sender_of(letter)}, {arrival_of(letter)}{sent_words(letter)}"
+
+
+def sent_words(letter: LetterCase | None) -> str:
+    """When a record was sent by its device, beside the time of the web host."""
+    return f", sent {act_time(letter.read.sent)}" if letter and letter.read.sent else ""
 
 
 def name_of(letter: LetterCase) -> str:

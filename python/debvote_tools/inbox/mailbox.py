@@ -99,13 +99,18 @@ class RawLetter:
     behind: int = 0
     # the latest time that it can have, as the box was asked then
     latest: datetime.datetime | None = None
+    # SHA-256 of what an asking brought, by which it is known again; when a record was sent by the device of its
+    # elector, and the last such time of their records that came before it
+    record: str = ""
+    sent: datetime.datetime | None = None
+    sent_before: datetime.datetime | None = None
     # whether it is a record that was fetched with the file of the box
     is_fetched: bool = False
 
     @functools.cached_property
     def digest(self) -> str:
-        """That of its bytes; the same bytes in a file are another letter than a record."""
-        return sha256_of(self.link.encode() + self.data)
+        """That of its bytes, or of the record as it came; one in a file is another letter than that."""
+        return self.record or sha256_of(self.data)
 
 
 # ---- files

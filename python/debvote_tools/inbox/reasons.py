@@ -115,16 +115,20 @@ class Reason(enum.Enum):
         "it came by the page of the vote with a link that is not that of {elector} now: a new address or a new call makes a new one, and a book that was put back lacks some",
         LOOKED_AT,
     )
-    OTHER_PAGE = (
-        "it does not say that it came by the page of this call, and another page may have shown other options; look whether its options were the same",
-        "The reason: it came by an older page of the vote. To vote, open the link in the newest letter of this vote.",
-    )
     FETCHED = (
         "it is in the file of the box, which others may have changed: run add --box, or enter it if the box does not answer",
         LOOKED_AT,
     )
     NOT_THERE_BEFORE = (
         "it is older than {asked}, when the box of the web host was asked and did not have it",
+        LOOKED_AT,
+    )
+    OTHER_TIME = (
+        "by the clock of its device it was sent at {sent}, more than ten minutes from the time of the web host: one of the two clocks is wrong, or the host dated it anew",
+        LOOKED_AT,
+    )
+    NOT_SENT_LATER = (
+        "by the clocks of their devices it is not later than a ballot of its elector that came before it: the web host may have exchanged the two, or a clock was wrong",
         LOOKED_AT,
     )
     CLOCK_AT_THE_END = (

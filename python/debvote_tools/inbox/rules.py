@@ -22,10 +22,10 @@ from debvote_tools.inbox.letter_lines import BallotLine, ReadLetter
 from debvote_tools.inbox.letter_text import MAX_BALLOTS, MAX_WORDS, ReadLine
 from debvote_tools.inbox.mime import address_key
 from debvote_tools.inbox.reasons import Reason, ReasonWithValues
-from debvote_tools.poll.box import page_of, third_part
+from debvote_tools.poll.box import third_part
 from debvote_tools.poll.sealed import MARKS, marks_in
 
-# how far the clock of a mail server or of an elector may be ahead
+# how far the clock of a mail server may be ahead, and that of an elector be off
 AHEAD = datetime.timedelta(minutes=10)
 # the most digits in which a mark differs from one that was copied by hand
 MISCOPIED = 2
@@ -262,13 +262,24 @@ class LetterCase:
     @property
     def arrived_before_call(self) -> bool:
         """Whether it is known to have arrived before the call."""
-        return any(last <= self.circumstances.called for last in self.arrivals[1:])
+        return any(last <= self.circumstances.called for last in self.arrivals[-1:])
+
+    @property
+    def other_times(self) -> list[datetime.datetime]:
+        """When a record was sent by its device, if the host dates it quite otherwise."""
+        arrived, sent = self.read.arrived, self.read.sent
+        if arrived is None or sent is None:
+            return []
+        apart = arrived + datetime.timedelta(seconds=self.read.behind) - sent
+        return [sent] if abs(apart) > AHEAD else []
 
     @property
     def arrivals(self) -> list[datetime.datetime]:
-        """When it arrived, at the earliest and at the latest: the clock of a web host may be off."""
+        """When it may have arrived, the earliest time first and the latest last: the clock of a web host may
+        be off, and it may date a record anew.
+        """
         arrived, off = self.read.arrived, datetime.timedelta(seconds=self.read.behind)
-        return sorted((arrived, arrived + off)) if arrived else []
+        return sorted((arrived, arrived + off, *self.other_times)) if arrived else []
 
     def arrived_after(self, *ends: datetime.datetime | None) -> bool:
         """Whether it is known to have arrived after one of these times."""
@@ -325,23 +336,29 @@ def why_not_readable(case: LetterCase) -> ReasonWithValues | None:
 
 def why_not_in_time(case: LetterCase) -> ReasonWithValues | None:
     """It arrived after the call, and not after the end or the first close; and if the box had it when
-    it was asked before, that asking brought it.
+    it was asked before, that asking brought it. The device of its elector says the same time, and a
+    later one than of all that came before it.
     """
-    arrived, circumstances, asked = case.read.arrived, case.circumstances, case.read.asked_before
-    if arrived is None:
+    read, circumstances, asked = case.read, case.circumstances, case.read.asked_before
+    if (arrived := read.arrived) is None:
         return Reason.NO_ARRIVAL()
+    if case.other_times:
+        return Reason.OTHER_TIME(sent=case.other_times[0])
     if case.arrived_before_call:
         return Reason.BEFORE_THE_CALL(called=circumstances.called)
-    (first, last), end, close = case.arrivals, circumstances.end, circumstances.first_close
+    first, *_, last = case.arrivals
+    end, close = circumstances.end, circumstances.first_close
     if end is not None and first > end:
         return Reason.AFTER_THE_END(end=end)
     if close is not None and first > close:
         return Reason.AFTER_THE_CLOSE(close=close)
     if any(last > one for one in circumstances.ends):
-        return Reason.CLOCK_AT_THE_END(seconds=abs(case.read.behind))
+        return Reason.CLOCK_AT_THE_END(seconds=abs(read.behind))
     if asked is not None and arrived < asked:
         return Reason.NOT_THERE_BEFORE(asked=asked)
-    latest = case.read.latest or circumstances.now + AHEAD
+    if read.sent and read.sent_before and read.sent <= read.sent_before:
+        return Reason.NOT_SENT_LATER()
+    latest = read.latest or circumstances.now + AHEAD
     return Reason.IN_THE_FUTURE(arrived=arrived) if arrived > latest else None
 
 
@@ -415,14 +432,13 @@ def why_not_of_this_vote(case: LetterCase) -> ReasonWithValues | None:
 
 
 def why_other_mark(case: LetterCase) -> ReasonWithValues | None:
-    """It has no mark of another vote, or of a call that was taken back; nor did it come by such a page, as
-    a script of before took it: the ranks would be those of other options.
+    """It has no mark of another vote, or of a call that was taken back: the ranks would be those of other
+    options.
     """
     now = case.circumstances
     others = (mark for mark in sorted(case.marks) if not are_alike(mark, now.mark))
     if (mark := next(others, None)) is None:
-        is_of_other = case.read.link and case.read.page != page_of(now.box_key, now.mark)
-        return Reason.OTHER_PAGE() if is_of_other else None
+        return None
     is_old = any(are_alike(mark, one) for one in now.marks)
     return Reason.OLD_MARK(mark=mark) if is_old else Reason.OTHER_MARK(mark=mark)
 

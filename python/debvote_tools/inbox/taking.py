@@ -8,6 +8,7 @@ from collections.abc import Iterable, Iterator, Sequence, Set
 
 from debvote_tools.book import queries
 from debvote_tools.book.book import Detail
+from debvote_tools.book.election import BOX_KEY
 from debvote_tools.book.change import carried_out
 from debvote_tools.book.queries import NewEnvelope
 from debvote_tools.cli.console import count_of, is_terminal, listed, shown_text, tell
@@ -18,7 +19,7 @@ from debvote_tools.inbox.entering import Entry
 from debvote_tools.inbox.judging import judged
 from debvote_tools.inbox.letter_lines import ReadLetter, read_letters, to_json
 from debvote_tools.inbox.mailbox import RawLetter
-from debvote_tools.inbox.box_records import asked_box
+from debvote_tools.inbox.box_records import asked_box, opened
 from debvote_tools.inbox.rules import LetterCase, LetterOutcome
 from debvote_tools.inbox.vote import Vote
 from debvote_tools.inbox.stopping import other_votes_words
@@ -39,7 +40,13 @@ def take_letters(
     `of_box` are its records: the others that wait stay as they are.
     """
     came, detail, words = asked_box(vote) if of_box else (given, {}, [])
-    raws = [raw for raw in came if raw.why_not_read is None]
+    key = queries.sealed(vote.book, BOX_KEY)
+    raws = [
+        opened(key, raw)[1] if raw.is_fetched else raw for raw in came if raw.why_not_read is None
+    ]
+    if lost := sum(raw.is_fetched and not raw.link for raw in raws):
+        words = [f"Note: {count_of(lost, 'record')} of the file can't be opened, and passed over."]
+        raws = [raw for raw in raws if raw.link or not raw.is_fetched]
     new = new_of(vote, raws)
     read = read_letters(vote, new)
     if words:

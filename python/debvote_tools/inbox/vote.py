@@ -9,7 +9,7 @@ from typing import NamedTuple
 
 from debvote_tools.book import queries
 from debvote_tools.book.election import Election, History
-from debvote_tools.cli.console import LEAVING_OUT, count_of, cut, in_runs, shown_line
+from debvote_tools.cli.console import LEAVING_OUT, count_of, cut, in_runs, shown_line, shows
 from debvote_tools.cli.faults import Fault
 from debvote_tools.debvote import Finding, Findings
 from debvote_tools.files import BALLOTS_LIMIT, LINES_LIMIT
@@ -95,6 +95,19 @@ class CheckedLine(NamedTuple):
         return answers_of(self.as_entered.decode("ascii"))
 
 
+def hides_ballots(election: Election) -> bool:
+    """Whether no output has ballots: cron sends by mail what a command says, and ballots of a secret vote
+    with a box come by no mail.
+    """
+    is_by_click = election.history().announced("box") and election.questions.is_secret
+    return bool(is_by_click) and not shows()
+
+
+def hidden(_: str) -> str:
+    """What is told in place of a ballot that nobody may read."""
+    return "(shown at a terminal alone)"
+
+
 class Vote:
     """An election as it was called, and what debvote says of its lines. Stops before the call. Lines have
     the labels of several questions, or answer the one of the given label without it.
@@ -104,10 +117,11 @@ class Vote:
         self.election, self.book, self.debvote = election, election.book, election.debvote
         history = election.history()
         self.call = election.called(history)
-        if history.announced("box"):
-            LEAVING_OUT.set(functools.partial(without_links, self.book))
         # as ballots are counted
         self.questions = questions = election.questions
+        is_hidden = hides_ballots(election)
+        if history.announced("box"):
+            LEAVING_OUT.set(functools.partial(without_links, self.book, has_ranks=not is_hidden))
         # the one question that is answered without a label, if there is one
         self.label, self.poll = label, questions.get(label)
         # the roll has codes: none is printed that was not typed
@@ -116,7 +130,8 @@ class Vote:
         # what debvote has said of lines
         self.known = dict[bytes, Mapping[str, Finding]]()
         # most ballots have one of a few orders
-        self.answers_in_words = functools.lru_cache(4096)(questions.in_words())
+        in_words = hidden if is_hidden else questions.in_words()
+        self.answers_in_words = functools.lru_cache(4096)(in_words)
 
     def history(self) -> History:
         """The acts until now. Stops after another call: lines were read by the poll of this one."""

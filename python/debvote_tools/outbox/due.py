@@ -11,7 +11,7 @@ from debvote_tools.book.queries import Elector
 from debvote_tools.book.outgoing import TAKEN, WRITTEN, About, OutgoingLetter
 from debvote_tools.cli.arguments import demand_reason, has_reason
 from debvote_tools.cli.faults import Fault, bad_words, stop_at
-from debvote_tools.inbox.asked import unasked_fault
+from debvote_tools.inbox.asked import unasked_fault, with_lost_records
 from debvote_tools.inbox.fates import COUNTS, NOBODY, Fate, fates_of
 from debvote_tools.inbox.rules import LetterOutcome
 from debvote_tools.inbox.stopping import pending_letters, what_stops
@@ -131,10 +131,16 @@ def is_present(letter: OutgoingLetter, electors: Mapping[int, Elector]) -> bool:
 
 
 def letters_due(
-    election: Election, kind: str, sender: str, *, is_sending: bool, because: str | None
+    election: Election,
+    kind: str,
+    sender: str,
+    *,
+    is_sending: bool,
+    because: str | None,
+    has_codes: bool = False,
 ) -> LettersDue:
     """The letters of a kind that are due. Stops if none may go out now; `because` is the reason for
-    which they go out although the box was not asked.
+    which they go out although the box was not asked. Those of a call may have codes beside links.
     """
     of_kinds = {
         "call": calls_due,
@@ -150,7 +156,7 @@ def letters_due(
     call_data, forced = call_data_of(election, history, kind, because)
     electors = {elector.number: elector for elector in queries.electors(book)}
     noted_before = outgoing.outgoing_letters(book, kind)
-    composer = Composer(call_data, is_over)
+    composer = Composer(call_data, is_over, has_codes)
     not_reached, _ = unreached_and_printed(election, history)
     tried = {elector.number for elector, why, _ in not_reached if why != NO_LETTER}
     tried_again = {
@@ -257,14 +263,17 @@ def letters_pending_in(fates: Mapping[str, Sequence[Fate]]) -> int:
 
 
 def reminders_due(run: Run) -> LettersDue:
-    """A letter to each elector whose ballot does not count yet; a receipt, if only a yes in `add` is lacking.
-    A run of this day goes on if it was cut off, or the server refused some for now: then those are
-    reminded, too, who came to it since. Else each run is a new one.
+    """A letter to each elector whose ballot does not count yet, or whose last one nobody can open; a
+    receipt, if only a yes in `add` is lacking. A run of this day goes on if it was cut off, or the server
+    refused some for now: then those are reminded, too, who came to it since. Else each run is a new one.
     """
     fates = fates_of(run.election, run.history)
     counting = queries.what_counts(run.election.book)
+    lost = with_lost_records(run.election, run.history)
     silent = {
-        number: elector for number, elector in run.electors.items() if elector.name not in counting
+        number: elector
+        for number, elector in run.electors.items()
+        if elector.name not in counting or elector.name in lost
     }
     # whom a letter did not reach is reminded again, but not in the same run
     run = dataclasses.replace(run, electors=silent, tried_again=())
@@ -273,7 +282,9 @@ def reminders_due(run: Run) -> LettersDue:
         came = fates[elector.name]
         told = [one for one in told_of(came).values() if one.became is not LetterOutcome.SET_ASIDE]
         goes_in = any(one.became is LetterOutcome.GOES_IN for one in came)
-        return (run.composer.receipt if goes_in else run.composer.reminder)(elector, told)
+        if goes_in:
+            return run.composer.receipt(elector, told)
+        return run.composer.reminder(elector, told, is_lost=elector.name in lost)
 
     last = max((letter.for_act for letter in run.noted_before), default=0)
     due = to_each(run, last, says)

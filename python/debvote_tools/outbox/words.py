@@ -125,6 +125,8 @@ class Composer:
 
     call_data: CallData
     is_over: bool
+    # in a secret vote with a page that takes ballots a letter that has the link has the code on demand
+    has_codes: bool = False
 
     def subject(self, kind: str, other: str = "", *, is_extension: bool = False) -> str:
         """The subject of a kind of letters, or another one, before the mark that ends it."""
@@ -141,6 +143,8 @@ class Composer:
         addresses is told as such. On paper it has at most two sides: if the texts about the options
         are too long for them, it says where they are.
         """
+        if not self.has_codes and (self.call_data.has_box or self.call_data.is_without_box):
+            elector = elector._replace(code="")
         for are_texts_elsewhere in (False, True):
             text = self.rendered(
                 "debvote_tools.poll",
@@ -154,12 +158,12 @@ class Composer:
                 break
         return Said(self.subject("call", is_extension=is_extension), text)
 
-    def reminder(self, elector: Elector, fates: Sequence[Fate]) -> Said:
-        """A letter to an elector without a ballot that counts. If a line or a letter of theirs has
-        come, it says what became of it, and that they can send a right line now.
+    def reminder(self, elector: Elector, fates: Sequence[Fate], *, is_lost: bool = False) -> Said:
+        """A letter to an elector without a ballot that counts, or whose last one is lost. If a line or a
+        letter of theirs has come, it says what became of it, and that they can send a right line now.
         """
         has_come = any(one.is_own or one.envelope for one in fates)
-        return self.said("reminders", elector, fates=fates, has_come=has_come)
+        return self.said("reminders", elector, fates=fates, has_come=has_come, is_lost=is_lost)
 
     def receipt(self, elector: Elector, fates: Sequence[Fate]) -> Said:
         """What became of what came from an elector. It has the right line if the last of it was
@@ -205,7 +209,10 @@ class Composer:
         else:
             is_done = fate.became in (LetterOutcome.SET_ASIDE, LetterOutcome.OLDER)
             said = (OF_RECORD if letter.read.link else OF_LETTER)[fate.is_own, is_done]
-        sentences = [language.say(said, time=time_in_words(fate.time.astimezone(zone), language))]
+        # the web host has another time, and can't change this one
+        came = letter or fate.came_by
+        time = (came and came.read.sent or fate.time).replace(microsecond=0).astimezone(zone)
+        sentences = [language.say(said, time=time_in_words(time, language))]
         sentences += self.more_of(fate, name)
         if letter is not None and fate.is_own and letter.reason is not None:
             # not the line itself: it may be another's ballot, or have a code

@@ -1,6 +1,6 @@
 // Makes the line of a ballot from the name and the ranks that are chosen on the page, and says it in words; with several questions its
-// lines are the name, and for each question that is answered its label and ranks. In a secret vote the page asks for no name, and the
-// line has a gap in its place: whoever can change the page learns what is typed into it.
+// lines are the name, and for each question that is answered its label and ranks. In a secret vote the page asks for no name: whoever can
+// change the page learns what is typed into it. The line has a gap in its place, or the name of the personal link, if the page seals it.
 // It counts nothing and asks nobody. All texts of the poll are read in the page, and written as texts, never as markup.
 "use strict";
 
@@ -73,7 +73,7 @@
 
   // The name for the line; undefined if there is none yet. What is wrong with it, or suggested, is said below the field.
   function nameTyped() {
-    if (nameInput === null) return form.dataset.name;
+    if (nameInput === null) return form.dataset.name ?? linked.name;
     const text = nameInput.value;
     const { name, suggested } = electorsTyped(text);
     const isOdd = text.trim() !== "" && name === undefined;
@@ -86,9 +86,9 @@
   // The elector and the own mark of a personal link, if the roll has such a name.
   function readLink() {
     const [name, own = ""] = placeNamed().toLowerCase().split("/");
-    if (nameInput === null || !NAME.test(name) || (roll.length > 0 && !roll.includes(name))) return;
+    if (byId("You") === null || !NAME.test(name) || (roll.length > 0 && !roll.includes(name))) return;
     linked = { name, own: OWN_MARK.test(own) ? own : undefined };
-    nameInput.value = name;
+    if (nameInput !== null) nameInput.value = name;
     say("Linked", name);
     askName(false);
     update();
@@ -96,7 +96,7 @@
 
   // Shows the field for the name, or whose the personal link is.
   function askName(isAsked) {
-    byId("Who").hidden = !isAsked;
+    if (nameInput !== null) byId("Who").hidden = !isAsked;
     byId("You").hidden = isAsked;
   }
 
@@ -221,7 +221,7 @@
   });
   form.addEventListener("input", update);
   form.addEventListener("keydown", chooseByKey);
-  byId("Copy").addEventListener("click", copyLine);
+  byId("Copy")?.addEventListener("click", copyLine);
   addEventListener("hashchange", readLink);
   // a browser that comes back to the page may fill in what was chosen before
   addEventListener("pageshow", update);

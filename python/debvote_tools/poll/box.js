@@ -1,36 +1,47 @@
-// Sends the line of the form to the box of the vote, and says what became of it. Only the page of a vote with a box has this script.
-// It sends what the page shows, at a press of the button, and never says that a ballot counts.
+// Seals the line of the form to the secretary, sends it to the box of the vote at a press of the button, and says what became of it,
+// never that it counts. Only the page of a vote with a box has it.
 "use strict";
 
 (() => {
-  const LINK = /^[2-9a-hj-km-np-z]{16}$/;
+  const LINK = /^[a-z0-9.-]{1,32}\/[2-9a-hj-km-np-z]{10}\/[2-9a-hj-km-np-z]{16}$/;
   const TIME = /^\d{4}-\d\d-\d\dT\d\d:\d\d:\d\dZ$/;
-  // the first word of an answer, by its status. Of any other answer nobody knows whether the ballot has arrived
+  // the first word of an answer, by its status. After any other nobody knows whether it has arrived
   const ANSWERS = { 200: "received", 400: "bad", 403: "unknown", 405: "bad", 409: "old", 413: "bad", 429: "many", 503: "lost" };
-  // what the firewall of a web host may answer, which takes lines for the name of a field, and lets no such name pass
+  // by a firewall that lets only fields pass
   const REFUSED = [403, 406];
-  // what became of a ballot that has arrived
   const ARRIVED = ["received", "late"];
-  // as forms are sent: many web hosts refuse other kinds
+  // many hosts refuse other kinds
   const KIND = { "Content-Type": "application/x-www-form-urlencoded" };
   // in milliseconds
   const PATIENCE = 30000;
+  const CURVE = { name: "ECDH", namedCurve: "P-256" };
 
   const byId = (id) => document.getElementById(id);
   const form = byId("Ballot");
   const button = byId("Vote");
   const words = JSON.parse(form.dataset.words);
-  // what was sent last, and what became of it
+  const { box, mark, page, seal, until } = form.dataset;
+  const { subtle } = crypto;
+  // of each ballot, in bytes
+  const length = 3 * (42 + form.querySelectorAll(".option, .question").length);
+  // what was sent last, and its fate
   let sent = { line: "", link: "", state: "" };
 
-  // What is on the page: the line; the third part of the personal link, if the link is that of the elector on the line; and whether
-  // there is a link that was cut off, or has a sign of a sentence or a web site behind it.
+  // The sentence that says why this line can't be sent by this link, if it can't. A worker of another page may change this one.
+  function whyNot(line, link) {
+    const [name, own] = link.split("/");
+    if (own !== undefined && !LINK.test(link)) return "Broken";
+    const isSafe = location.protocol.startsWith("http") && isSecureContext;
+    if (own === undefined || !isSafe || !`${line || name} `.startsWith(`${name} `)) return "Unlinked";
+    if (navigator.serviceWorker?.controller) return "Worked";
+    return subtle ? "" : "Unsealed";
+  }
+
   function shown() {
     const line = byId("Line").textContent.replaceAll("\n", " ");
-    const [name, own, link = ""] = placeNamed().toLowerCase().split("/");
-    const isWhole = LINK.test(link);
-    const isLinked = isWhole && location.protocol.startsWith("http") && (line === "" || line.startsWith(`${name} `));
-    return { line, link: isLinked ? link : "", isBroken: own !== undefined && !isWhole };
+    const link = placeNamed().toLowerCase();
+    const why = whyNot(line, link);
+    return { line, link: why ? "" : link, why };
   }
 
   const isSame = (one, other) => one.line === other.line && one.link === other.link;
@@ -40,31 +51,46 @@
     const isSending = sent.state === "sending";
     const isSent = isSame(now, sent);
     const isThere = ARRIVED.includes(sent.state);
-    byId("Unlinked").hidden = now.link !== "" || now.isBroken;
-    byId("Broken").hidden = !now.isBroken;
+    for (const id of ["Unlinked", "Broken", "Worked", "Unsealed"]) byId(id).hidden = now.why !== id;
     button.hidden = now.link === "";
     button.disabled = isSending || (isSent && isThere);
-    // a ballot that was sent first must not arrive last: nothing changes until it is known what became of it
+    // what was sent first must not arrive last
     const isOff = isSending || (isSent && sent.state === "unsure");
     for (const field of form.querySelectorAll("input, select, button:not(.actions button)")) field.disabled = isOff;
-    // who votes again may take what they read of the ballot before for this one
+    // what is said is of the ballot before
     const state = isThere && !isSent && now.link === sent.link ? "changed" : (isSent || isSending) && sent.state;
-    const text = state ? words[state].replace("{time}", sent.time).replace("{end}", sent.end) : "";
-    // a text that has not changed is not written again, so that a screen reader does not read it again
+    const text = state ? words[state].replace("{time}", spoken(sent.time)).replace("{end}", spoken(until)) : "";
+    // else a screen reader reads it again
     if (byId("Sent").textContent !== text) byId("Sent").textContent = text;
   }
 
   const spoken = (time) => new Date(time).toLocaleString(document.documentElement.lang, { dateStyle: "medium", timeStyle: "medium" });
 
-  const newNumber = () => [...crypto.getRandomValues(new Uint8Array(16))].map((byte) => byte.toString(16).padStart(2, "0")).join("");
+  const bytesOf = (text) => new TextEncoder().encode(text);
+  const hexOf = (buffer) => [...new Uint8Array(buffer)].map((byte) => byte.toString(16).padStart(2, "0")).join("");
 
-  // What became of a ballot, by the answer: its state, and when it arrived.
-  async function answerTo({ line, link, number }) {
+  // A proof that the link is known, a number, and what is sealed. Each key pair seals once, so the nonce may be zero.
+  async function bodyOf({ line, link, time }) {
+    const number = hexOf(crypto.getRandomValues(new Uint8Array(16)));
+    const proof = hexOf(await subtle.digest("SHA-256", bytesOf(`${mark} ${link}`)));
+    const to = Uint8Array.from(atob(seal), (sign) => sign.charCodeAt(0));
+    const { publicKey, privateKey } = await subtle.generateKey(CURVE, false, ["deriveBits"]);
+    const own = new Uint8Array(await subtle.exportKey("raw", publicKey));
+    const ecdh = { ...CURVE, public: await subtle.importKey("raw", to, CURVE, false, []) };
+    const shared = await subtle.importKey("raw", await subtle.deriveBits(ecdh, privateKey, 256), "HKDF", false, ["deriveKey"]);
+    const info = new Uint8Array([...bytesOf("debvote box 2\n"), ...own, ...to]);
+    const hkdf = { name: "HKDF", hash: "SHA-256", salt: new Uint8Array(), info };
+    const key = await subtle.deriveKey(hkdf, shared, { name: "AES-GCM", length: 256 }, false, ["encrypt"]);
+    const gcm = { name: "AES-GCM", iv: new Uint8Array(12), additionalData: bytesOf(`${mark} ${number}`) };
+    const data = await subtle.encrypt(gcm, key, bytesOf(`${line}\n${link}\n${time}`.padEnd(length, "\n")));
+    const sealed = btoa(String.fromCharCode(...own, ...new Uint8Array(data)));
+    return `${page} ${proof} ${number}\n${sealed.replaceAll("+", "-").replaceAll("/", "_")}\n`;
+  }
+
+  async function answerTo(body) {
     const end = new AbortController();
     const timer = setTimeout(() => end.abort(), PATIENCE);
     try {
-      const { box, page, until } = form.dataset;
-      const body = `${page} ${line}\n${link}\n${number}\n`;
       const how = { method: "POST", redirect: "error", credentials: "omit", cache: "no-store", headers: KIND, signal: end.signal };
       let answer = await fetch(box, { ...how, body });
       let text = await answer.text();
@@ -73,12 +99,12 @@
         text = await answer.text();
       }
       const [word, time] = text.trimEnd().split(/:? /);
-      if (ANSWERS[answer.status] !== word || TIME.test(time) !== (word === "received")) return { state: "unsure" };
-      if (word !== "received") return { state: word === "bad" ? "lost" : word };
-      // the page may have been left open over the end, and the vote may have been extended
-      return { state: Date.parse(time) > Date.parse(until) ? "late" : word, time: spoken(time), end: spoken(until) };
+      if (ANSWERS[answer.status] !== word || TIME.test(time) !== (word === "received")) return "unsure";
+      if (word !== "received") return word === "bad" ? "lost" : word;
+      // the vote may have been extended since
+      return Date.parse(time) > Date.parse(until) ? "late" : word;
     } catch {
-      return { state: "unsure" };
+      return "unsure";
     } finally {
       clearTimeout(timer);
     }
@@ -86,11 +112,19 @@
 
   async function send() {
     const now = shown();
-    // with the number that it had, a ballot that is sent again counts once
-    if (!isSame(now, sent)) sent = { ...now, number: newNumber() };
+    // a worker may have come
+    if (now.why) return show();
+    // what may have arrived is sent as it was, and counts once
+    if (sent.state !== "unsure" || !isSame(now, sent)) sent = { ...now, time: new Date().toISOString() };
     sent.state = "sending";
     show();
-    Object.assign(sent, await answerTo(sent));
+    try {
+      sent.body ??= await bodyOf(sent);
+      sent.state = await answerTo(sent.body);
+    } catch {
+      // nothing was sent
+      sent.state = "unsealed";
+    }
     show();
   }
 

@@ -2,7 +2,8 @@
 a click, and `add --box` asks it for them.
 
 The key of the box never leaves the book: whoever has it makes the link of each elector from name
-and own mark. The host gets digests alone; the word that asks makes no link.
+and own mark, and opens each ballot (`sealed_ballots.py`). The host gets digests alone; the word that
+asks makes no link.
 """
 
 import contextlib
@@ -34,6 +35,9 @@ ALONE = re.compile(
     rf"[{OWN_SIGNS}{OWN_SIGNS.upper()}]{{{LINK_LENGTH}}}(?<![^\W_].{{{LINK_LENGTH}}})(?![^\W_])"
 )
 
+# the ranks of a ballot, as they are written
+RANKS = re.compile(r"(?<![\w.])[0-9-]+(?:[,;][0-9-]+)+")
+
 # of this computer
 LOOPBACK = ("localhost", "127.0.0.1", "::1")
 
@@ -41,14 +45,28 @@ LOOPBACK = ("localhost", "127.0.0.1", "::1")
 SENTENCES = marked(
     {
         "sending": "It is being sent ..",
-        "received": "It has arrived, {time}. The secretary fetches it, and you get a receipt by e-mail that says how it was read. If none comes, or it says otherwise, tell the secretary.",
-        "late": "It has arrived, {time}, after {end}, the end that this page knows. If the vote was extended it may still count: you get a receipt by e-mail that says so. If none comes, tell the secretary.",
+        "received": "It has arrived, sent {time}. The secretary fetches it, and you get a receipt by e-mail that names this time, and says how it was read. If none comes, or it says otherwise, tell the secretary.",
+        "late": "It has arrived, sent {time}, after {end}, the end that this page knows. If the vote was extended it may still count: you get a receipt by e-mail that says so. If none comes, tell the secretary.",
         "changed": "The choice has been changed, and is not sent yet.",
         "old": "It was not taken: this page is an older one. Load it again. If this comes again, answer your newest letter.",
         "unknown": "It was not taken: this page does not know your link. Open the newest letter of this vote, or send your ballot by e-mail.",
         "many": "It was not taken: too many ballots came by your link. Send your ballot by e-mail.",
         "lost": "It was not taken. Send your ballot by e-mail.",
         "unsure": "Nobody knows whether it has arrived. Press the button again: it counts once. Or send your ballot by e-mail.",
+        "unsealed": "This browser can't seal a ballot. Open the link in another one.",
+    }
+)
+# those that are others in a secret vote, in which nobody is asked to send a ballot by e-mail, and no
+# receipt says what is in it
+SECRET_SENTENCES = marked(
+    {
+        "type_name": "To vote here by a click, open the link in your own letter.",
+        "received": "It has arrived, sent {time}. A receipt by e-mail with this time says whether it counts, and not what is in it. If none comes, or one for a ballot that is not yours, tell the secretary.",
+        "old": "It was not taken: this page is an older one. Load it again. If this comes again, ask the secretary.",
+        "unknown": "It was not taken: this page does not know your link. Open the newest letter of this vote. Or ask the secretary: an e-mail can be read on its way.",
+        "many": "It was not taken: too many ballots came by your link. Ask the secretary.",
+        "lost": "It was not taken. Try again later, or ask the secretary: an e-mail can be read on its way.",
+        "unsure": "Nobody knows whether it has arrived. Press the button again: it counts once. Or ask the secretary: an e-mail can be read on its way.",
     }
 )
 
@@ -81,6 +99,18 @@ def third_part(key: bytes, name: str, own: str) -> str:
     return "".join(OWN_SIGNS[number // place % len(OWN_SIGNS)] for place in places)
 
 
+def personal_link(key: bytes, name: str, own: str) -> str:
+    """What is behind the address of the page in the personal link of an elector with this own mark."""
+    return f"{name}/{own}/{third_part(key, name, own)}"
+
+
+def proof_digest(mark: str, link: str) -> str:
+    """What the host knows of a link to the page of the poll with this mark: the digest of the proof that
+    the page sends, which is one of the link.
+    """
+    return sha256_of(sha256_of(f"{mark} {link}".encode()).encode())
+
+
 @functools.cache
 def links_of(book: Book) -> frozenset[str]:
     """The third parts of all personal links of a book."""
@@ -88,8 +118,11 @@ def links_of(book: Book) -> frozenset[str]:
     return frozenset(third_part(key, its.elector, own) for own, its in owns.items())
 
 
-def without_links(book: Book, text: str) -> str:
-    """A text without the third parts of personal links, and what is in the place of one."""
+def without_links(book: Book, text: str, *, has_ranks: bool = True) -> str:
+    """A text without the third parts of personal links, and what is in the place of one; and without ranks,
+    if it may not have them.
+    """
+    text = text if has_ranks else RANKS.sub("..", text)
     text = BEHIND_OWN.sub(r"\1..", text)
     for found in ALONE.findall(text):
         # while it is said that the book can't be read, it may be one
@@ -103,12 +136,11 @@ def without_links(book: Book, text: str) -> str:
 # ---- the script
 def script_of(key: bytes, mark: str, owns: Mapping[str, str]) -> bytes:
     """The script for the vote of a poll with this mark, and these own marks by names."""
-    digests = {
-        name: sha256_of(f"{mark} {name} {third_part(key, name, own)}".encode())
-        for name, own in owns.items()
-    }
-    word = f"{sha256_of(asking_word(key).encode())} {page_of(key, mark)}"
-    lines = "".join(f"{name} {digest}\n" for name, digest in ({mark: word} | digests).items())
+    links = (personal_link(key, name, own) for name, own in owns.items())
+    # their order tells no name
+    digests = sorted(proof_digest(mark, link) for link in links)
+    first = f"{mark} {sha256_of(asking_word(key).encode())} {page_of(key, mark)}"
+    lines = "".join(f"{line}\n" for line in (first, *digests))
     return f"{resources('debvote_tools.poll', SCRIPT)}{lines}".encode()
 
 

@@ -18,6 +18,7 @@ from debvote_tools.text.rendering import render_letter, render_page, resources
 from debvote_tools.poll import box
 from debvote_tools.poll.questions import Questions
 from debvote_tools.poll.sealed import SealedPoll, in_brackets
+from debvote_tools.poll.sealed_ballots import key_pair
 
 # a first line that greets: it ends as one does, or begins so in one of the languages
 GREETING = re.compile(
@@ -69,6 +70,8 @@ class CallData:
     box_key: bytes = b""
     # it takes none now, as letters say
     is_without_box: bool = False
+    # in a secret vote with such a page: electors get their codes on slips
+    has_slips: bool = True
     # what the secretary writes at the head of letters to electors; empty without it
     letter_text: str = ""
     # in a secret vote with names on the roll: ballots are published under aliases
@@ -93,6 +96,11 @@ class CallData:
         return self.box_key != b""
 
     @property
+    def is_by_click(self) -> bool:
+        """Whether electors are asked to vote by a click alone: in a secret vote an e-mail can be read."""
+        return self.has_box and not self.is_by_name
+
+    @property
     def is_extended(self) -> bool:
         """Whether the end is not the one that the poll was sealed with, which the call said at
         first.
@@ -113,16 +121,22 @@ class CallData:
 
     def link_of(self, elector: Elector | None) -> str | None:
         """The address of the page, as the personal link of an elector whose own mark may be told."""
-        if elector is None or not (elector.mark and self.at and self.is_by_name):
+        is_linked = self.is_by_name or self.has_box
+        if elector is None or not (elector.mark and self.at and is_linked):
             return self.at
         name, own = elector.name, elector.mark
-        third = f"/{box.third_part(self.box_key, name, own)}" if self.has_box else ""
-        return f"{self.at}#{name}/{own}{third}"
+        link = box.personal_link(self.box_key, name, own) if self.has_box else f"{name}/{own}"
+        return f"{self.at}#{link}"
 
     @property
     def page(self) -> str:
         """What this page posts with each ballot."""
         return box.page_of(self.box_key, self.questions.mark)
+
+    @property
+    def seal(self) -> str:
+        """The key to which this page seals ballots."""
+        return key_pair(self.box_key, self.questions.mark)[0]
 
     @property
     def mail_to(self) -> str:
@@ -217,7 +231,7 @@ def call_page(call: CallData) -> bytes:
     if call.has_box:
         styles += ["box.css"]
         scripts += ["box.js"]
-        words |= box.SENTENCES
+        words |= box.SENTENCES | (box.SECRET_SENTENCES if call.is_by_click else {})
     return render_page(
         PACKAGE,
         "page.html",
@@ -266,6 +280,7 @@ def current_call(
         else None,
         is_signed=bool(value_of("signed")),
         box_key=box.key_of(election.book) if value_of("box") else b"",
+        has_slips=not value_of("no_slips"),
         letter_text=queries.sealed(election.book, LETTER_TEXT).decode(),
         has_aliases=sealed.is_aliased,
         has_codes_on_roll=now.has_codes_on_roll,

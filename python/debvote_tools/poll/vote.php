@@ -1,8 +1,8 @@
 <?php
-// Keeps each ballot of the page beside it until the secretary asks. FORMATS has the protocol.
-// Each vote has the same code, as hosts keep it compiled. Nobody can vote by reading what is below it.
+// Keeps each ballot of the page, sealed to the secretary, beside it until the secretary asks. FORMATS has the protocol.
+// Each vote has the same code, as hosts keep it compiled. Nobody can vote by reading what is below it, or learns who may.
 const LONGEST = 4000, PER_LINK = 20, AHEAD = 600, FULL = 30_000_000;
-const BALLOT = '/\A(?:box=)?([0-9a-f]{16}) (([a-z0-9.-]{1,32}) [A-Z0-9, -]+)\n([2-9a-hj-km-np-z]{16})\n([0-9a-f]{32})\n\z/';
+const BALLOT = '/\A(?:box=)?([0-9a-f]{16}) ([0-9a-f]{64}) ([0-9a-f]{32})\n([\w-]{200,3800})\n\z/';
 // how the file begins, which no browser shows, and a record ends
 const HEAD = "<?php exit; ?>\n", END = "\n-- \n\n";
 const ISO = 'Y-m-d\TH:i:s\Z', ARRIVAL = 'D, d M Y H:i:s';
@@ -22,14 +22,15 @@ $list = file_get_contents(__FILE__, offset: __COMPILER_HALT_OFFSET__ + 1);
 if (preg_match('/\A(?:box=)?ask ([0-9a-f]{64})\n\z/', $body, $found)) {
     if (hash('sha256', $found[1]) !== $word) answer(403, 'unknown: another word');
     [, $whole, $time] = opened($word);
-    answer(200, "box 1 $mark " . hash('sha256', $list) . gmdate(' ' . ISO, $time), substr($whole, strlen(HEAD)));
+    answer(200, "box 2 $mark " . hash('sha256', $list) . gmdate(' ' . ISO, $time), substr($whole, strlen(HEAD)));
 }
 if (!preg_match(BALLOT, $body, $found)) answer(400, 'bad: no ballot');
-[, $shown, $line, $name, $link, $id] = $found;
+[, $shown, $proof, $id, $sealed] = $found;
 if ($shown !== $page) answer(409, 'old: another page');
-if (!str_contains($list, "\n$name " . hash('sha256', "$mark $name $link") . "\n")) answer(403, 'unknown: no such link');
-$rest = " +0000\nX-Link: $link\nX-Page: $page\nFrom: box@page.invalid\nSubject: [$mark]\nMessage-ID: <$id@page.invalid>\n\n$line" . END;
-answer(200, 'received ' . gmdate(ISO, kept($link, $id, $rest, ...opened($word))));
+$proof = hash('sha256', $proof);
+if (!str_contains($list, "\n$proof\n")) answer(403, 'unknown: no such link');
+$rest = " +0000\nX-Proof: $proof\nFrom: box@page.invalid\nSubject: [$mark]\nMessage-ID: <$id@page.invalid>\n\n$sealed" . END;
+answer(200, 'received ' . gmdate(ISO, kept($proof, $id, $rest, ...opened($word))));
 
 function answer(int $status, string $line, string $records = ''): never
 {
@@ -57,14 +58,14 @@ function opened(string $word): array
 }
 
 // Keeps a ballot as a letter, and returns its time. What is sent again is the same record.
-function kept(string $link, string $id, string $rest, $file, string $whole, int $time): int
+function kept(string $proof, string $id, string $rest, $file, string $whole, int $time): int
 {
     if (str_contains($whole, "<$id@page.invalid>")) {
         if (!$place = strpos($whole, $rest)) answer(400, 'bad: number of another ballot');
         if (!fsync($file)) answer(500, 'unsure: disk broken');
         return strtotime(substr($whole, $place - 25, 25) . ' UTC');
     }
-    if (preg_match_all("/; (.{25}) \+0000\nX-Link: $link\n/", $whole, $times) >= PER_LINK) answer(429, 'many: no more by this link');
+    if (preg_match_all("/; (.{25}) \+0000\nX-Proof: $proof\n/", $whole, $times) >= PER_LINK) answer(429, 'many: no more by this link');
     // the last ballot counts, so each is later than all before
     foreach ($times[1] as $one) $time = max($time, strtotime("$one UTC") + 1);
     $record = 'From box@page.invalid ' . gmdate('D M d H:i:s Y', $time) . "\nReceived: by box; " . gmdate(ARRIVAL, $time) . $rest;

@@ -23,6 +23,7 @@ FOR_SECRETARY = {
     "not closed": "the vote is not closed; close it first",
     "closed early": "the vote was closed on {closed}, before its announced end, {until}",
     "box not asked": "the box of the web host was not asked since the end: run {command}",
+    "other page": "on {time} the page at {address} was not that of the call",
     "letters left": "these letters arrived in time, and wait: {letters}; {command}",
     "other casting vote": (
         "an earlier publication has a casting vote for {option}; only one can be right, so find out which was given; the earlier one again: "

@@ -36,7 +36,7 @@ class Close(LettersTest):
         self.assertEqual((self.read("letters/closed.txt").decode(), self.done("log").output.splitlines()[:-2]), (letter, log.splitlines()))
         self.assertEqual(self.exported(), (before, "ada 4,3,2,1\n"))
         wanted = {"stage": "closed", "electors": 9, "lines": 3, "valid": 2, "refused": 1, "late": 1, "voters": 2, "struck": 0, "taken_back": 0, "waiting": 0}
-        wanted |= {"stopping": [], "box": None, "not_reached": {}, "printed": []}
+        wanted |= {"stopping": [], "box": None, "lost": [], "not_reached": {}, "printed": []}
         self.assertEqual({key: value for key, value in self.numbers().items() if key not in ("act", "digest", "without_ballot")}, wanted)
 
     def test_what_a_killed_run_has_left(self) -> None:

@@ -17,12 +17,12 @@ from debvote_tools.inbox import box_records
 from debvote_tools.inbox.box_records import Asked, ask, box_words
 from debvote_tools.inbox.letter import parse
 from debvote_tools.inbox.mailbox import NotRead, RawLetter, are_letters, letters_of_file
-from debvote_tools.poll.box import list_digest, script_of
+from debvote_tools.poll.box import list_digest, proof_digest, script_of
 from debvote_tools.text import times
 
-from tests.support.elections import ANY_MARK, ElectionTest
+from tests.support.elections import ElectionTest
 from tests.support.letters import read_in
-from tests.support.web_host import ASK, END, FIRST, KEY, LINKS, MARK, NEEDS_PHP, OWNS, WORD
+from tests.support.web_host import ASK, END, FIRST, KEY, MARK, NEEDS_PHP, OWNS, WORD, place_of
 from tests.support.web_host import BoxTest, Host, Liar, answered, ballot, firewall, passed_on, record
 
 HOUR = datetime.timedelta(hours=1)
@@ -31,7 +31,7 @@ RECORD = b"From box@page.invalid Sat Nov 28 12:00:00 2026\nReceived: x\n\nada 1,
 
 
 def head(time: datetime.datetime, mark: str = MARK) -> bytes:
-    return f"box 1 {mark} {DIGEST} {time.astimezone(datetime.UTC):%Y-%m-%dT%H:%M:%SZ}\n".encode()
+    return f"box 2 {mark} {DIGEST} {time.astimezone(datetime.UTC):%Y-%m-%dT%H:%M:%SZ}\n".encode()
 
 
 class AskingTest(unittest.TestCase):
@@ -69,10 +69,11 @@ class Honest(BoxTest):
         self.assertEqual([(letter.is_parted_off, letter.why_not_read) for letter in letters], [(False, None)] * 3)
         read = [parse(letter) for letter in letters]
         self.assertEqual([letter.marks for letter in read], [((MARK, ""),)] * 3)
-        self.assertEqual([letter.body.lines[0] for letter in read], ["ada 1,2", "ben-lee 2,1", "ada 2,-"])
+        # what is sealed is no trouble for who reads it as a letter
         self.assertEqual([letter.body.trouble for letter in read], [None] * 3)
         found = [email.message_from_bytes(letter.data) for letter in letters]
-        self.assertEqual([letter["X-Link"] for letter in found], [LINKS["ada"], LINKS["ben-lee"], LINKS["ada"]])
+        digests = [proof_digest(MARK, place_of(name)) for name in ("ada", "ben-lee", "ada")]
+        self.assertEqual([letter["X-Proof"] for letter in found], digests)
         # the last is in its own second, at the latest two after now
         self.assertTrue(all(letter.arrived and abs(letter.arrived - before) < HOUR for letter in read))
         # the file itself, fetched from the host, has the same letters
@@ -103,25 +104,14 @@ class Honest(BoxTest):
 
 
 class Fetched(ElectionTest):
-    """The file of the box, fetched from the web host by hand: nobody knows whose the links are."""
+    """The file of the box, fetched from the web host by hand."""
 
-    def test_its_letters_wait(self) -> None:
-        mark = self.of_this_vote(ANY_MARK.encode()).decode()
-        arrived = (times.now() + datetime.timedelta(seconds=2)).isoformat()
-        records = [record("ada", "ada 1,2,3,4", 1, arrived, mark), record("ben", "ben 2,1,-,9", 2, arrived, mark)]
+    def test_what_this_book_can_not_open_is_passed_over(self) -> None:
+        records = [record("ada", "ada 1,2,3,4", number, "2026-11-28T12:00:00") for number in (1, 2)]
         self.write("box.php", FIRST + "".join(records).encode())
         said = self.done("add", "--yes", "box.php").output
-        self.assertIn("it came by the page of the vote with a link that is not that of ada now", said)
-        self.assertIn("0 ballots of letters went in; 2 letters wait.", said)
-        self.assertEqual(said.count(f"{arrived[:10]} {arrived[11:19]} UTC"), 2)
-        self.assertNotIn("X-Link", self.done("held", "1").output)
-        ended = self.election("held", "1", "--enter")
-        self.assertEqual((ended.status, ended.faults.count("repeat it with --force\n")), (9, 2), ended.faults)
-        for fault in ("it does not say that it came by the page of this call", "its sender and its subject do not show that it is of ada"):
-            self.assertIn(f"letter 1: {fault}", ended.faults)
-        self.done("held", "1", "--enter", "--force")
-        self.assertEqual(self.done("export", "out").status, 0)
-        self.assertEqual(self.read("out/ballots.txt"), b"ada 1,2,3,4\n")
+        self.assertIn("Note: 2 records of the file can't be opened, and passed over.\n0 new letters; 0 came before.\n", said)
+        self.assertEqual(self.rows("SELECT count(*) FROM source"), [(0,)])
 
     def test_what_is_below_its_last_whole_record_is_none(self) -> None:
         """An empty box is a mailbox without letters, and a record that was cut off is passed over."""
@@ -187,14 +177,14 @@ class Dishonest(AskingTest):
             (answered(b"\r\n<?php\n", 405), "it shows the script as a text"),
             (answered(b"<!doctype html>" + b"x" * 9_000), "it does not answer as a box: <!doctype html>xx"),
             (answered(b""), "it does not answer as a box: "),
-            (answered(b"\n" + good), "it does not answer as a box: box 1 "),
-            (answered(good.replace(b"box 1", b"box 2")), "it does not answer as a box: box 2 "),
+            (answered(b"\n" + good), "it does not answer as a box: box 2 "),
+            (answered(good.replace(b"box 2", b"box 1")), "it does not answer as a box: box 1 "),
             (answered(good.replace(b"-", b"/")), "it does not answer as a box: "),
             (answered(re.sub(rb" 20\d\d-\d\d", b" 2026-13", good)), "it does not answer as a box: "),
             (answered(head(now, "f" * 16)), "it is the box of another vote, [ffffffffffffffff]"),
             # kept, such a time would stop each later command: no difference could be added to it
-            *((answered(re.sub(rb" 20\d\d-", f" {year}-".encode(), good)), "it does not answer as a box: box 1 ") for year in ("0001", "1970", "2100", "9999")),
-            (answered(good, 201), "it answers 201: box 1 "),
+            *((answered(re.sub(rb" 20\d\d-", f" {year}-".encode(), good)), "it does not answer as a box: box 2 ") for year in ("0001", "1970", "2100", "9999")),
+            (answered(good, 201), "it answers 201: box 2 "),
             # an answer that was cut off, also where its length is not told
             (answered(good + RECORD)[:-1], "its answer was cut off", "run the command again"),
             (answered(good + RECORD[:-1]), "its answer was cut off"),
@@ -202,7 +192,7 @@ class Dishonest(AskingTest):
             (answered(good + b"x" + RECORD), "its answer was cut off"),
             (answered(good + RECORD[:-7]), "its answer was cut off"),
             (b"HTTP/1.1 200 OK\r\n\r\n" + good, "its answer was cut off"),
-            (b"HTTP/1.1 200 OK\r\nTransfer-Encoding: chunked\r\n\r\n6\r\nbox 1 \r\n", "its answer was cut off"),
+            (b"HTTP/1.1 200 OK\r\nTransfer-Encoding: chunked\r\n\r\n6\r\nbox 2 \r\n", "its answer was cut off"),
             (b"HTTP/1.1 200 OK\r\n", "its answer was cut off"),
             (b"220 mail.example \x1b[31m\r\n", "it does not answer: 220 mail.example \\u001B[31m"),
             (b"", "it does not answer: "),
@@ -286,8 +276,14 @@ class Said(unittest.TestCase):
             ({"gone": 2}, 2, []),
             ({"gone": 1}, 2, []),
             ({"others": 1}, 0, ["1 record of no elector, or more than 20 of one"]),
+            ({"unopened": 1}, 0, ["1 record can't be opened, passed over. An older page"]),
+            ({"unopened": 2, "lost": {"ada": "x", "ben": "y"}}, 0, ["2 records can't be opened, passed over, by the links of ada, ben, who are to vote again. "]),
+            ({"unopened": 30, "lost": dict.fromkeys(f"m{number}" for number in range(25))}, 0, ["30 records can't be opened"]),
+            ({"unopened": 1, "gone": 1}, 1, []),
         ):
-            first, *said = box_words({"records": 3, "behind": 0, "gone": 0, "others": 0} | box, {"gone": gone})
+            known = {"records": 3, "behind": 0, "gone": 0, "others": 0, "unopened": 0, "lost": {}}
+            first, *said = box_words(known | box, {"gone": gone, "unopened": gone})
+            self.assertNotIn("m20", "".join(said))
             self.assertEqual(first, "The box has 3 records.")
             self.assertEqual(len(said), len(notes), (box, said))
             for note, line in zip(notes, said):
@@ -318,9 +314,9 @@ class Lying(BoxTest):
         records = [record + END for record in honest.records.split(END)[:-1]]
         for name, change in {
             "drops": lambda body: body.replace(records[0], b""),
-            "changes": lambda body: body.replace(b"ada 1,2", b"ada 2,1"),
+            "changes": lambda body: body.replace(b"X-Proof: ", b"X-Proof: 0"),
             "backdates": lambda body: body.replace(b"Received: by box; ", b"Received: by box; Mon, 23 Nov 2026 10:00:00 +0000\nX: "),
-            "votes": lambda body: body + records[1].replace(b"2,1", b"1,2").replace(b"<00", b"<ff"),
+            "votes": lambda body: body + records[1].replace(b"<00", b"<ff"),
         }.items():
             with self.subTest(name):
                 body = head(honest.time) + honest.records

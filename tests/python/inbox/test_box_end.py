@@ -8,7 +8,7 @@ import time
 from collections.abc import Callable, Iterator, Sequence
 
 from tests.support import boxes
-from tests.support.web_host import NEEDS_PHP, ballot
+from tests.support.web_host import NEEDS_PHP
 
 CLICKING = ["ada", "ben", "cleo", "dan"]
 RANKS, OTHER = "1,2,3,4", "4,3,2,1"
@@ -43,13 +43,19 @@ class End(boxes.BoxElectionTest):
     def begun_to_end_soon(self) -> dict[str, str]:
         """Called and written to all, with an end some seconds from now, of which three are left: the links."""
         self.called()
-        seconds = 6
+        seconds = 8
         while True:
             self.extend(seconds)
-            is_written = self.election("letters", "call").status == 0
+            is_written = self.write_to_all()
             if is_written and self.end - now() > datetime.timedelta(seconds=3):
                 return self.links()
             seconds *= 2
+
+    def write_to_all(self) -> bool:
+        """The page of the new end goes up, and letters go out: whether the end has not come meanwhile."""
+        self.upload()
+        self.done("add", "--box")
+        return self.election("letters", "call").status == 0
 
     def extend(self, seconds: int) -> None:
         self.end = now().replace(microsecond=0) + datetime.timedelta(seconds=seconds)
@@ -62,7 +68,7 @@ class End(boxes.BoxElectionTest):
     @contextlib.contextmanager
     def begun_click(self, name: str, ranks: str, link: str) -> Iterator[Callable[[], bytes]]:
         """A click whose last byte is sent by a call, which returns the answer."""
-        sent = ballot(name, ranks, next(self.numbers), link, self.page())
+        sent = self.body_of(name, ranks, link, next(self.numbers))
         head = f"POST /vote.php HTTP/1.1\r\nHost: x\r\nContent-Length: {len(sent)}\r\n\r\n".encode()
         with socket.create_connection(("127.0.0.1", self.host.port)) as connection:
             connection.sendall(head + sent[:-1])
@@ -135,7 +141,7 @@ class End(boxes.BoxElectionTest):
         self.host_off(180)
         self.called()
         self.extend(7200)
-        self.done("letters", "call")
+        self.assertTrue(self.write_to_all())
         self.click("ada", RANKS, self.links()["ada"])
         time.sleep(2)
         self.done("close", "--early", "--yes")
@@ -155,9 +161,10 @@ class End(boxes.BoxElectionTest):
         self.host_off(ahead)
         self.called()
         self.extend(7200)
-        self.done("letters", "call")
+        self.assertTrue(self.write_to_all())
         links = self.links()
         for name, seconds in zip(CLICKING, (-240, -60, 60, 240)):
+            self.devices_off = 7200 + seconds
             self.host_off(7200 + seconds + ahead)
             self.click(name, RANKS, links[name])
         self.off(7200 + 300)
@@ -179,7 +186,7 @@ class End(boxes.BoxElectionTest):
     def test_a_clock_that_is_put_back_between_two_clicks(self) -> None:
         self.called()
         self.extend(7200)
-        self.done("letters", "call")
+        self.assertTrue(self.write_to_all())
         links = self.links()
         for ahead, ranks in ((300, OTHER), (0, RANKS)):
             self.host_off(ahead)

@@ -1,8 +1,10 @@
 """`call --box` and `add --box`: what the web host gets, who may vote by a click, and what is taken of what it has."""
 
+import contextvars
 import dataclasses
 import datetime
 import email
+import hashlib
 import json
 import pathlib
 import re
@@ -10,20 +12,24 @@ import resource
 import shutil
 import time
 import unittest
+import unittest.mock
 import zoneinfo
 from concurrent.futures import ThreadPoolExecutor
 
+from debvote_tools.book import queries
 from debvote_tools.book.election import Election
 from debvote_tools.inbox.judging import Ballot
 from debvote_tools.inbox.letter import ParsedLetter
+from debvote_tools.inbox import box_records
 from debvote_tools.inbox.box_records import MOST
-from debvote_tools.poll.box import asking_word, list_digest, page_of, third_part
-from debvote_tools.poll.sealed import OWN_SIGNS
+from debvote_tools.inbox.vote import Vote
+from debvote_tools.poll.box import asking_word, list_digest, proof_digest, third_part
+from debvote_tools.poll.sealed_ballots import key_pair
 
-from tests.support import at_browser, boxes, elections
+from tests.support import at_browser, boxes, elections, sealing
 from tests.support.letters import OWN, at, judged, letter, mailbox, outcome, outcomes, parsed
 from tests.support.program import PROGRAM
-from tests.support.web_host import FIRST, MARK, NEEDS_PHP, Liar, ballot, passed_on, request_of, record
+from tests.support.web_host import END, FIRST, NEEDS_PHP, Liar, passed_on, request_of, record
 
 BERLIN = zoneinfo.ZoneInfo("Europe/Berlin")
 HTTPS = ("--at", "https://club.example/vote/")
@@ -50,7 +56,7 @@ class CallWithBox(elections.ElectionTest):
         self.write("poll.toml", "secret = true\n" + elections.POLL)
         self.done("codes")
         ended = self.election("call", "--box", "--keyring", "x")
-        for part in ("needs an address", "have to be signed", "the vote is secret, and whoever keeps"):
+        for part in ("needs an address", "have to be signed"):
             self.assertIn(part, ended.faults)
 
     def test_the_folder_the_key_and_another_call(self) -> None:
@@ -81,8 +87,8 @@ class CallWithBox(elections.ElectionTest):
         ended = self.done("roll", "--yes")
         self.assertIn("Upload call/vote.php again, since these electors have new links", ended.output)
         self.assertNotEqual(self.read("call/vote.php"), script)
-        changed = [old != new for old, new in zip(script.splitlines(), self.read("call/vote.php").splitlines(), strict=True)]
-        self.assertEqual(sum(changed), 1)
+        before, after = script.splitlines(), self.read("call/vote.php").splitlines()
+        self.assertEqual((len({*before} - {*after}), len({*after} - {*before}), len(before)), (1, 1, len(after)))
         # taken back: without --box there is no script, with it the key is the same
         self.done("call", "--take-back")
         self.done("call", *HTTPS)
@@ -219,31 +225,11 @@ class Clicks(boxes.BoxElectionTest):
         self.done("letters", "call")
         self.assertEqual(self.rows("SELECT data FROM sealed WHERE name = 'box key'"), key)
         self.assertNotEqual(self.page(), page)
-        answer = self.host.send(ballot("ada", "1,2,3,4", 1, self.links()["ada"], page))
+        answer = self.host.send(self.body_of("ada", "1,2,3,4", self.links()["ada"], 1_000, page))
         self.assertEqual((answer.status, answer.word), (409, "old:"))
         self.click("ada", "1,2,3,4", self.links()["ada"])
         self.done("add", "--box", "--yes")
         self.assertEqual(self.standing(), {"ada": "1,2,3,4"})
-
-    def test_a_record_that_does_not_say_of_which_page_it_is(self) -> None:
-        """A script of before kept it, or it is from another page: nobody knows what its elector read."""
-        links = self.begun()
-        for name in ("ada", "ben", "cleo"):
-            self.click(name, "1,2,3,4", links[name])
-        said = f"X-Page: {self.page()}\n".encode()
-        before, of_ada, of_ben, rest = self.file().read_bytes().split(said)
-        data = before + of_ada + b"X-Page: 0123456789abcdef\n" + of_ben + said + rest
-        self.file().write_bytes(data)
-        why = "it does not say that it came by the page of this call, and another"
-        self.assertEqual(self.done("add", "--box", "--yes").output.count(why), 2)
-        self.assertEqual(self.standing(), {"cleo": "1,2,3,4"})
-        for name, text in self.receipts().items():
-            is_told = "The reason: it came by an older page of the vote. To vote, open the link in the newest letter of this vote." in text
-            self.assertEqual(is_told, name != "cleo", name)
-        for words in (("held", "1", "--enter"), ("held", "2", "--enter")):
-            self.assert_fault(self.election(*words), 9, why, "repeat it with --force")
-            self.done(*words, "--force")
-        self.assertEqual(self.standing(), dict.fromkeys(("ada", "ben", "cleo"), "1,2,3,4"))
 
     def test_by_ftp_and_then_by_key(self) -> None:
         links = self.begun()
@@ -270,10 +256,13 @@ class Clicks(boxes.BoxElectionTest):
         links = self.begun()
         self.click("ada", "1,2,3,4", links["ada"])
         data = self.file().read_bytes()
-        # whoever has the file has none of another link
-        self.write("fetched.php", data + data.removeprefix(FIRST).replace(links["ada"].encode(), b"2" * 16))
-        self.done("add", "--yes", "fetched.php")
-        self.done("held", "1", "2", "--set-aside")
+        # whoever has the file can make none of another proof
+        other = data.removeprefix(FIRST).replace(proof_digest(self.mark(), self.place_of("ada", links["ada"])).encode(), b"2" * 64)
+        self.write("fetched.php", data + other)
+        said = self.done("add", "--yes", "fetched.php").output
+        self.assertIn("Note: 1 record of the file can't be opened, and passed over.", said)
+        self.assertIn("1 new letter; 0 came before.", said)
+        self.done("held", "1", "--set-aside")
         self.done("add", "--box", "--yes")
         self.assertEqual(self.standing(), {"ada": "1,2,3,4"})
         text = self.receipts()["ada"]
@@ -281,7 +270,6 @@ class Clicks(boxes.BoxElectionTest):
         for said in (
             "It came by the page of the vote. It was read as: At the lake, then In the town hall,",
             "came by the page of the vote, with your link. It was not entered. The reason: the secretary has looked at it, and set it aside.",
-            "A ballot in your name came by the page of the vote, but not with your present link. The secretary has set it aside.",
         ):
             self.assertIn(said, text)
 
@@ -339,48 +327,239 @@ class Clicks(boxes.BoxElectionTest):
                 self.assertIn(f"may be earlier or later than another ballot of {name}", self.done("add", "--yes", "inbox.mbox").output)
 
     def test_a_dishonest_host(self) -> None:
+        """What it makes or changes waits for nobody, and what it dates anew waits."""
         links = self.begun()
-        # cleo has another link than she had
-        self.write("members.csv", elections.members_of(elections.NAMES).replace("cleo@club", "cleo@new"))
-        self.done("roll", "--yes")
         self.click("ada", "1,2,3,4", links["ada"])
         self.done("add", "--box", "--yes")
-        mark, page = self.mark(), self.page()
-        at = str(self.boxes_kept()[-1]["time"])
+        at = str(self.boxes_kept()[-1]["time"])[:19]
         real = self.file().read_bytes()
-        drop, ago = FIRST, time.strftime("%Y-%m-%dT%H:%M:%S", time.gmtime(time.time() - 1800))
-        backdated = (
-            record("x", "ben 1,2,3,4", 99, ago, mark, page).replace("2" * 16, links["ben"]).encode()
-        )
-        unknown = b"".join(
-            record("x", "cleo 1,2,3,4", number, at[:19], mark, page)
-            .replace("2" * 16, "2" * 15 + sign)
-            .encode()
-            for number, sign in enumerate(OWN_SIGNS[: MOST + 10], start=100)
-        )
-        former = record("x", "cleo 1,2,3,4", 98, ago, mark, page).replace("2" * 16, links["cleo"]).encode()
-        nobody = record("x", "nobody 1,2,3,4", 999, at[:19], mark, page).encode()
-        odd = nobody.replace(b"nobody", b"dan").replace(
-            b"From: box@page.invalid\n", b"From: dan@club.example\n"
-        )
-        changed = real.replace(b"ada 1,2,3,4", b"ada 4,3,2,1")
+        ago = time.strftime("%Y-%m-%dT%H:%M:%S", time.gmtime(time.time() - 1800))
+        backdated = self.record("ben 1,2,3,4", links["ben"], 99, ago)
+        # it knows the digests of proofs, and the key to which ballots are sealed
+        proof = proof_digest(self.mark(), self.place_of("cleo", links["cleo"])).encode()
+        forged = self.record("cleo 1,2,3,4", "2" * 16, 100, at)
+        forged = re.sub(rb"X-Proof: \w+", b"X-Proof: " + proof, forged)
+        unknown = b"".join(forged.replace(b"<00", b"<%02x" % number) for number in range(2 * MOST))
+        nobody = self.record("nobody 1,2,3,4", third_part(self.key, "nobody", "2" * 10), 999, at)
+        odd = backdated.replace(b"From: box@page.invalid\n", b"From: dan@club.example\n")
         replayed = re.sub(rb"\d\d:\d\d:\d\d", b"00:00:01", real)
-        for what, data, gone, others, records in (
-            ("dropped", drop, 1, 0, 0),
-            ("backdated", real + backdated, 0, 0, 2),
-            ("of who never came", real + backdated + unknown + former, 0, 10, MOST + 3),
-            ("again, by others", real + backdated + unknown.replace(b"<0000", b"<1111"), MOST + 1, MOST + 10, 2),
-            ("of nobody, and of another form", real + backdated + nobody + odd, MOST + 1, 2, 2),
-            ("changed", changed, MOST + 3, 0, 1),
-            ("replayed", replayed, MOST + 4, 0, 1),
+        cleo, both, nothing = {"cleo"}, {"cleo", "ben"}, set[str]()
+        for what, data, gone, others, unopened, records, lost in (
+            ("dropped", FIRST, 1, 0, 0, 0, nothing),
+            ("backdated", real + backdated, 0, 0, 0, 2, nothing),
+            ("of who never came", real + backdated + unknown, 0, 0, 2 * MOST, 2, cleo),
+            ("of nobody, and of another form", real + backdated + nobody + odd, 0, 1, 1, 2, both),
+            ("changed", real.replace(b"X-Proof", b"x-proof"), 2, 0, 1, 0, both),
+            ("replayed", replayed, 2, 0, 0, 1, both),
+            ("again and again", FIRST + real.removeprefix(FIRST) * (MOST + 1), 2, 0, 0, MOST + 1, both),
         ):
             with self.subTest(what):
                 self.file().write_bytes(data)
-                ended = self.done("add", "--box", "--yes")
-                kept = self.boxes_kept()[-1]
-                self.assertEqual((kept["gone"], kept["others"], kept["records"]), (gone, others, records), ended.output)
+                ended, kept = self.done("add", "--box", "--yes"), self.boxes_kept()[-1]
+                found = [kept[key] for key in ("gone", "others", "unopened", "records")]
+                self.assertEqual((*found, {*kept["lost"]}), (gone, others, unopened, records, lost), ended.output)
                 self.assertEqual(self.standing(), {"ada": "1,2,3,4"})
-        self.assertIn("it is older than", self.done("held").output + ended.output)
+        self.assertIn("it is older than", self.done("held").output)
+
+    def test_a_host_that_exchanges_the_times_of_two_ballots(self) -> None:
+        """The older one would count. Asked at once, or of two askings."""
+        links = self.begun()
+        for name in ("ada", "ben"):
+            self.click(name, "1,2,3,4", links[name])
+            self.click(name, "4,3,2,1", links[name])
+        time.sleep(2.1)
+        data = self.file().read_bytes().removeprefix(FIRST)
+        first, second, of_ben, later = [part + END for part in data.split(END)[:-1]]
+        times = [one.splitlines()[:2] for one in (first, second)]
+        exchanged = [b"\n".join([*head, *one.splitlines()[2:], b""]) for one, head in ((second, times[0]), (first, times[1]))]
+        # of ben the second comes first
+        self.file().write_bytes(FIRST + b"".join([*exchanged, later]))
+        why = "by the clocks of their devices it is not later than a ballot of its elector that came before it"
+        self.assertIn(why, self.done("add", "--box", "--yes").output)
+        time.sleep(1.1)
+        self.done("add", "--box", "--yes")
+        asked = datetime.datetime.fromisoformat(str(self.boxes_kept()[-1]["time"]))
+        dated = re.sub(rb"\d\d:\d\d:\d\d", f"{asked:%H:%M:%S}".encode(), of_ben)
+        self.file().write_bytes(self.file().read_bytes() + dated)
+        self.assertIn(why, self.done("add", "--box", "--yes").output)
+        self.assertEqual(self.standing(), {"ada": "4,3,2,1", "ben": "4,3,2,1"})
+        # what waits is entered by who knows better
+        self.assertEqual(self.done("held").output.count(why), 2)
+
+    def test_a_host_that_drops_a_ballot_and_dates_an_older_one_anew(self) -> None:
+        """A click of ten was dated eleven, and replaced a letter of half past ten."""
+        links = self.begun()
+        now = datetime.datetime.now(datetime.UTC)
+        hour = now - datetime.timedelta(minutes=11)
+        written = letter("ada", "ada 4,3,2,1\n", time=f"{now - datetime.timedelta(minutes=5):%a, %d %b %Y %H:%M:%S} +0000")
+        self.write("inbox.mbox", mailbox(self.of_this_vote(written)))
+        self.done("add", "--yes", "inbox.mbox")
+        data = self.record("ada 1,2,3,4", links["ada"], 5, f"{now:%Y-%m-%dT%H:%M:%S}", hour)
+        # within ten minutes nobody sees it
+        near = self.record("ben 1,2,3,4", links["ben"], 6, f"{now:%Y-%m-%dT%H:%M:%S}", now - datetime.timedelta(minutes=9))
+        self.file().write_bytes(FIRST + data + near)
+        self.off(1)
+        said = self.done("add", "--box", "--yes").output
+        self.assertIn("more than ten minutes from the time of the web host", said)
+        self.assertEqual(self.standing(), {"ada": "4,3,2,1", "ben": "1,2,3,4"})
+        # beside the time of the host `show` has that of the device, which is the one that its elector knows
+        said, berlin = self.done("show", "ben").output, now.astimezone(BERLIN)
+        nine = berlin - datetime.timedelta(minutes=9)
+        self.assertIn(f"envelope 2, {berlin:%Y-%m-%d %H:%M:%S} UTC+01:00, sent {nine:%Y-%m-%d %H:%M:%S} UTC+01:00: At the lake", said)
+        self.assertIn(f"{nine:%H:%M:%S} (UTC+01:00) has arrived. It counts" if nine.second else "has arrived. It counts", self.receipts()["ben"])
+
+    def test_one_that_is_in_time_by_either_time_stops_a_close(self) -> None:
+        links = self.begun()
+        now = datetime.datetime.now(datetime.UTC)
+        self.done("desk", given="cleo 1,2,3,4\n")
+        time.sleep(1.1)
+        self.done("add", "--box")
+        self.done("close", "--early")
+        for number, (name, arrived, sent) in enumerate((("ada", 900, 0), ("ben", 0, 900), ("dan", 900, 1800)), start=7):
+            when, there = (now + datetime.timedelta(seconds=seconds) for seconds in (arrived, sent))
+            data = self.record(f"{name} 1,2,3,4", links[name], number, f"{when:%Y-%m-%dT%H:%M:%S}", there)
+            self.file().write_bytes(self.file().read_bytes() + data)
+        self.off(2000)
+        self.done("add", "--box", "--yes")
+        self.assertEqual(self.election("count").faults.count("these letters arrived in time, and wait: 1, 2;"), 1, self.election("count").faults)
+
+    def test_what_was_asked_before_is_not_opened_again(self) -> None:
+        links = self.begun()
+        self.click("ada", "1,2,3,4", links["ada"])
+        self.click("ben", "1,2,3,4", links["ben"])
+        self.done("add", "--box", "--yes")
+        [data, other] = [bytes(data) for data, in self.rows("SELECT data FROM source ORDER BY source")]  # type: ignore[arg-type]
+        record = self.file().read_bytes().removeprefix(FIRST).split(END)[0].partition(b"\n")[2] + END[:-1]
+        fields = dict(line.split(b": ", 1) for line in data.partition(b"\n\n")[0].splitlines())
+        self.assertEqual(fields[b"X-Sealed"].decode(), hashlib.sha256(record).hexdigest())
+        self.assertEqual((fields[b"X-Link"].decode(), data.partition(b"\n\n")[2]), (links["ada"], b"ada 1,2,3,4\n-- \n"))
+        self.assertRegex(fields[b"X-Sent"], rb"^20\d\d-\d\d-\d\dT\d\d:\d\d:\d\d\.\d{3}Z$")
+        # what a vote sets for its output is of no other test
+        contextvars.copy_context().run(self.demand_known)
+
+    def demand_known(self) -> None:
+        """Nothing is opened, and all is there."""
+        vote = Vote(Election(self.folder, PROGRAM.parent))
+        asked = box_records.Asked(datetime.datetime.now(datetime.UTC), 0, "", self.file().read_bytes().removeprefix(FIRST))
+        kept = queries.records_since(vote.book, 0)
+        with unittest.mock.patch("debvote_tools.inbox.box_records.key_pair") as opening:
+            letters, others, unopened = box_records.records_in(vote, asked, {}, kept)
+        self.assertEqual((opening.called, len(letters), others, unopened), (False, 2, [], []))
+        self.assertEqual({one.digest for one in letters}, {one.digest for one in kept})
+
+    def test_each_that_does_not_open_alone_beside_good_ones(self) -> None:
+        links = self.begun()
+        self.click("ada", "1,2,3,4", links["ada"])
+        good = self.file().read_bytes()
+        now = f"{datetime.datetime.now(datetime.UTC):%Y-%m-%dT%H:%M:%S}"
+        one = self.record("ben 1,2,3,4", links["ben"], 50, now)
+        sealed = one.partition(b"\n\n")[2].partition(b"\n")[0]
+        place, mark = self.place_of("ben", links["ben"]), self.mark()
+        digests = {name: proof_digest(mark, self.place_of(name, links[name])).encode() for name in ("ada", "ben")}
+
+        def with_text(text: str) -> bytes:
+            other = sealing.sealed(self.of_page("seal"), mark, f"{50:032x}", text)
+            return one.replace(sealed, other.encode())
+
+        sent = f"{datetime.datetime.now(datetime.UTC):%Y-%m-%dT%H:%M:%S}.000Z"
+        bad = {
+            "another number": one.replace(b"<00", b"<01"),
+            "another proof": one.replace(digests["ben"], digests["ada"]),
+            "another mark": one.replace(mark.encode(), b"0" * 16),
+            "another key": one.replace(sealed, sealing.sealed(key_pair(b"x" * 32, mark)[0], mark, f"{50:032x}", f"ben 1,2,3,4\n{place}\n{sent}").encode()),
+            "a sign changed": one.replace(sealed, sealed[:150] + (b"B" if sealed[150:151] == b"A" else b"A") + sealed[151:]),
+            "a cut tag": one.replace(sealed, sealed[:-4]),
+            "two lines": with_text(f"ben 1,2,3,4\nben 4,3,2,1\n{place}\n{sent}"),
+            "no line": with_text(f"{place}\n{sent}"),
+            "an empty one": with_text(f"\n{place}\n{sent}"),
+            "other digits": with_text(f"ben \u00b9,2,3,4\n{place}\n{sent}"),
+            "another's line": with_text(f"ada 4,3,2,1\n{place}\n{sent}"),
+            "another's line, and that renamed": with_text(f"ada 4,3,2,1\n{place.replace('ben', 'ada')}\n{sent}"),
+            "no time": with_text(f"ben 1,2,3,4\n{place}\n"),
+            "no such time": with_text(f"ben 1,2,3,4\n{place}\n2026-13-01T12:00:00.000Z"),
+            "more": with_text(f"ben 1,2,3,4\n{place}\n{sent}\nx"),
+        }
+        whose = set[str]()
+        for number, (what, data) in enumerate(bad.items()):
+            with self.subTest(what):
+                self.file().write_bytes(good + data)
+                said = self.done("add", "--box", "--yes").output
+                kept = self.boxes_kept()[-1]
+                self.assertEqual((kept["unopened"], kept["records"], kept["others"]), (1, 1, 0), said)
+                whose |= {"ada" if what == "another proof" else "ben"}
+                self.assertEqual({*kept["lost"]}, whose)  # type: ignore[misc]
+                # it is told when the number grows
+                self.assertEqual("1 record can't be opened" in said, number == 0)
+                self.assertEqual(self.standing(), {"ada": "1,2,3,4"})
+        self.assertEqual(self.done("held").output.splitlines()[0], "No letter waits.")
+
+    def test_forged_records_take_the_place_of_no_true_one(self) -> None:
+        """The host knows the digest of each proof, and how a record looks."""
+        links = self.begun()
+        now = f"{datetime.datetime.now(datetime.UTC):%Y-%m-%dT%H:%M:%S}"
+        forged = [
+            re.sub(rb"X-Proof: \w+", b"X-Proof: " + proof_digest(self.mark(), self.place_of(name, links[name])).encode(), one)
+            for name in elections.NAMES
+            for number in range(2 * MOST)
+            for one in [self.record(f"{name} 4,3,2,1", "2" * 16, 500 + number, now)]
+        ]
+        self.file().write_bytes(FIRST + b"".join(forged))
+        for name in elections.NAMES:
+            data = self.record(f"{name} 1,2,3,4", links[name], 9, now)
+            self.file().write_bytes(self.file().read_bytes() + data)
+        said = self.done("add", "--box", "--yes").output
+        self.assertEqual(self.standing(), dict.fromkeys(elections.NAMES, "1,2,3,4"), said)
+
+    def test_who_is_to_vote_again(self) -> None:
+        """By whose proof came what nobody can open: named until a later ballot comes."""
+        links = self.begun()
+        self.click("ada", "1,2,3,4", links["ada"])
+        self.done("add", "--box", "--yes")
+        self.assertEqual(json.loads(self.done("status", "--json").output)["lost"], [])
+        for number, name in enumerate(("ada", "ben"), start=900):
+            proof = sealing.proof_of(self.mark(), self.place_of(name, links[name]))
+            time.sleep(1.1)
+            self.assertEqual(self.host.send(request_of(f"{self.page()} {proof} {number:032x}", "A" * 300)).word, "received")
+        said = self.done("add", "--box", "--yes").output
+        self.assertIn("Note: 2 records can't be opened, passed over, by the links of ada, ben, who are to vote again.", said)
+        self.assertEqual(json.loads(self.done("status", "--json").output)["lost"], ["ada", "ben"])
+        self.assertIn("Ballots that nobody can open, and no later ones, by the links of (2):\n  ada ben\n", self.done("status").output)
+        self.done("letters", "reminders")
+        texts = {
+            file.stem: " ".join(email.message_from_bytes(file.read_bytes()).get_payload(decode=True).decode().split())  # type: ignore[union-attr]
+            for file in (self.folder / "letters/reminders").rglob("*.eml")
+        }
+        lost, none = "A ballot came by your link that nobody can open: vote again.", "No ballot of yours that counts has come yet."
+        self.assertEqual({name for name, text in texts.items() if lost in text}, {"ada", "ben"})
+        self.assertEqual({name for name, text in texts.items() if none in text}, {*elections.NAMES} - {"ada"})
+        time.sleep(1.1)
+        self.click("ada", "4,3,2,1", links["ada"])
+        self.done("add", "--box", "--yes")
+        self.assertEqual(json.loads(self.done("status", "--json").output)["lost"], ["ben"])
+        fault = "ballots came by the links of these electors that nobody can open, and no later ones: ben; nothing was changed"
+        self.assert_fault(self.election("close", "--early"), 9, fault, "ask them to vote again")
+        self.done("close", "--early", "--force", "--because", "Ben was told.")
+        # it stops nothing more, nor a later close
+        time.sleep(1.1)
+        self.done("add", "--box", "--yes")
+        self.assertEqual(self.election("count").status, 0)
+        self.done("reopen", "--because", "A letter was found.")
+        self.done("close", "--early")
+
+    def test_the_most_of_a_link(self) -> None:
+        """One more is no letter, and its elector is named. A host that takes more acknowledges them."""
+        links = self.begun()
+        begin = datetime.datetime.now(datetime.UTC) - datetime.timedelta(seconds=60)
+        for number in range(MOST + 1):
+            when = f"{begin + datetime.timedelta(seconds=number):%Y-%m-%dT%H:%M:%S}"
+            data = self.record(f"ada {number % 4 + 1},1,1,1", links["ada"], number, when)
+            self.file().write_bytes(self.file().read_bytes() + data)
+            # over all askings
+            if number in (MOST // 2, MOST):
+                self.done("add", "--box", "--yes")
+        kept = self.boxes_kept()[-1]
+        self.assertEqual((kept["records"], kept["others"], kept["unopened"], [*kept["lost"]]), (MOST, 1, 0, ["ada"]))  # type: ignore[misc]
+        self.assertEqual(json.loads(self.done("status", "--json").output)["lost"], ["ada"])
 
     def test_a_record_that_is_ahead_of_the_clock_of_its_host(self) -> None:
         """It would beat what its elector sends later. Of those of one second each has one of its own."""
@@ -389,15 +568,16 @@ class Clicks(boxes.BoxElectionTest):
             self.click("ben", f"{number % 4 + 1},1,1,1", links["ben"])
         self.click("ada", "1,2,3,4", links["ada"])
         ahead = time.strftime("%Y-%m-%dT%H:%M:%S", time.gmtime(time.time() + 300))
-        forged = record("x", "ada 4,3,2,1", 99, ahead, self.mark(), self.page())
         whole = self.file().read_bytes()
-        self.file().write_bytes(whole + forged.replace("2" * 16, links["ada"]).encode())
+        # the host dates it so
+        now = datetime.datetime.now(datetime.UTC)
+        self.file().write_bytes(whole + self.record("ada 4,3,2,1", links["ada"], 99, ahead, now))
         said = self.done("add", "--box", "--yes").output
         self.assertIn("10 ballots of letters went in; 1 letter waits", said)
         self.assertIn("or that of the web host when it was asked", said)
         self.file().write_bytes(whole)
         self.click("ada", "2,1,3,4", links["ada"])
-        self.off(600)
+        self.off(400)
         self.done("add", "--box", "--yes")
         self.assertEqual(self.standing(), {"ada": "2,1,3,4", "ben": "1,1,1,1"})
 
@@ -407,7 +587,7 @@ class Clicks(boxes.BoxElectionTest):
         true = script.read_bytes()
         for year in ("0001", "9999"):
             time_ = f"{year}-12-31T23:59:59"
-            said = f"box 1 {mark} {list_digest(true)} {time_}Z\n"
+            said = f"box 2 {mark} {list_digest(true)} {time_}Z\n"
             size = f"header('Content-Length: {len(said)}')"
             script.write_text(f"<?php {size}; echo '{said}';")
             why = f"it does not answer as a box: {said[:20]}"
@@ -415,8 +595,8 @@ class Clicks(boxes.BoxElectionTest):
         script.write_bytes(true)
         self.assertEqual(len(self.boxes_kept()), 1)
         self.click("ada", "1,2,3,4", links["ada"])
-        far = record("x", "ben 1,2,3,4", 99, time_, mark, self.page()).replace("2" * 16, links["ben"])
-        self.file().write_bytes(self.file().read_bytes() + far.encode())
+        now = datetime.datetime.now(datetime.UTC)
+        self.file().write_bytes(self.file().read_bytes() + self.record("ben 1,2,3,4", links["ben"], 99, time_, now))
         self.off(180)
         self.assertIn("1 ballot of letters went in", self.done("add", "--box", "--yes").output)
         self.assertIn("no Received line at its top says when it arrived", self.done("held").output)
@@ -436,10 +616,13 @@ class Clicks(boxes.BoxElectionTest):
                 [*pool.map(lambda number: self.done("add", "--box", "--yes"), range(3))]
             [(key,)] = self.rows("SELECT data FROM sealed WHERE name = 'box key'")
             assert isinstance(key, bytes)
-            self.assertEqual(len(between.requests), 4)
+            asked = [request for request in between.requests if request.startswith(b"POST")]
+            pages = [request for request in between.requests if request.startswith(b"GET / ")]
+            self.assertEqual((len(asked), len(pages), len(between.requests)), (4, 4, 8))
             for request in between.requests:
                 self.assertNotIn(key.hex().encode(), request)
                 self.assertNotIn(key, request)
+            for request in asked:
                 self.assertIn(b"\r\n\r\n" + request_of(f"ask {asking_word(key)}"), request)
         self.assertEqual(self.standing(), dict.fromkeys(elections.NAMES, "1,2,3,4"))
         self.assertEqual(self.rows("SELECT count(*) FROM letter"), [(len(elections.NAMES),)])
@@ -511,12 +694,10 @@ class Clicks(boxes.BoxElectionTest):
 
     def test_a_record_of_the_second_of_an_asking_and_of_the_one_before(self) -> None:
         links = self.begun()
-        asked, mark = str(self.boxes_kept()[-1]["time"])[:19], self.mark()
+        asked = str(self.boxes_kept()[-1]["time"])[:19]
         before = datetime.datetime.fromisoformat(asked) - datetime.timedelta(seconds=1)
         data = b"".join(
-            record("x", f"{name} 1,2,3,4", number, when, mark, self.page())
-            .replace("2" * 16, links[name])
-            .encode()
+            self.record(f"{name} 1,2,3,4", links[name], number, when)
             for number, (name, when) in enumerate((("ada", asked), ("ben", before.isoformat())))
         )
         self.file().write_bytes(FIRST + data)
@@ -539,7 +720,7 @@ class Asked(boxes.BoxElectionTest):
         # a wrong address can be put right, as long as no letter has a link to it
         self.done("call", "--at", self.host.at.replace("http:", "https:"))
         self.done("call", "--at", self.host.at)
-        fault = "call: nobody has seen yet whether the box of the web host works, with the links of now; nothing was written: upload the folder call, then run debvote-election add --box"
+        fault = "call: nobody has seen yet whether the box of the web host works, with page and links of now; nothing was written: upload the folder call, then run debvote-election add --box"
         self.assert_fault(self.election("letters", "call"), 9, fault)
         self.assert_fault(self.election("add", "--box"), 9, f"{self.host.at}vote.php: it answers 404", "nothing was added")
         # what is written all the same says that the page takes none, and the log why
@@ -562,7 +743,7 @@ class Asked(boxes.BoxElectionTest):
             self.done(*words)
             # no letter may have a link that the host does not know
             for kind in ("call", "reminders"):
-                fault = f"{kind}: nobody has seen yet whether the box of the web host works, with the links of now"
+                fault = f"{kind}: nobody has seen yet whether the box of the web host works, with page and links of now"
                 self.assert_fault(self.election("letters", kind), 9, fault, "upload the folder call")
             self.upload()
         self.assertEqual(json.loads(self.done("status", "--json").output)["box"]["is_present"], False)
@@ -712,6 +893,78 @@ class Asked(boxes.BoxElectionTest):
 
 
 @NEEDS_PHP
+class Pages(boxes.BoxElectionTest):
+    """An asking fetches the page, too: a forgotten upload, and a host that puts a script into it."""
+
+    other = "Note: the page there is not that of the folder call: a script in it would see what is chosen, and could vote in the name of who opens it."
+    before = "Note: the page there is the one of before: upload the folder call, then run this again."
+    doubt = "was not that of the call."
+
+    def change(self) -> None:
+        page = self.web / "index.html"
+        page.write_text(page.read_text().replace("</body>", "<script>alert(1)</script></body>"))
+
+    def is_present(self) -> bool:
+        return bool(json.loads(self.done("status", "--json").output)["box"]["is_present"])
+
+    def test_a_page_that_nobody_uploaded(self) -> None:
+        """An extension makes a new one, which goes up before its letters go out."""
+        self.call()
+        (self.web / "index.html").unlink()
+        self.assertIn(self.other, self.done("add", "--box").output)
+        fault = "call: nobody has seen yet whether the box of the web host works, with page and links of now"
+        self.assert_fault(self.election("letters", "call"), 9, fault, "upload the folder call")
+        self.upload()
+        self.assertNotIn("Note: the page", self.done("add", "--box").output)
+        self.done("letters", "call")
+        self.done("call", "--until", "2099-12-06 18:00")
+        self.assertIn(self.before, self.done("add", "--box").output)
+        self.assertFalse(self.is_present())
+        for kind in ("call", "reminders"):
+            self.assert_fault(self.election("letters", kind), 9, "with page and links of now")
+        fault = "--box: the page on the web host was not that of the call; nothing was changed: upload the folder call, then run debvote-election add --box; or close anyway with --force"
+        self.assert_fault(self.election("close", "--early"), 9, fault)
+        self.upload()
+        self.done("add", "--box")
+        self.assertTrue(self.is_present())
+        self.done("letters", "call")
+        # what this book made is no doubt, nor what lay there before the first letter
+        self.done("desk", given="ada 1,2,3,4\n")
+        self.closed_and_published()
+        self.assertNotIn(self.doubt, self.read("result/index.html").decode() + self.read("letters/result.txt").decode())
+        # the result takes the place of the page
+        shutil.copytree(self.folder / "result", self.web, dirs_exist_ok=True)
+        self.assertNotIn("Note: the page", self.done("add", "--box").output)
+
+    def closed_and_published(self, *words: str) -> None:
+        self.done("close", "--early", *words)
+        time.sleep(1.1)
+        self.done("add", "--box", "--yes")
+        self.done("publish", *words)
+
+    def test_a_page_with_a_script_more(self) -> None:
+        links = self.begun()
+        self.click("ada", "1,2,3,4", links["ada"])
+        self.change()
+        # a look keeps nothing
+        self.assertIn(self.other, self.done("add", "--box", "--look").output)
+        self.assertTrue(self.is_present())
+        for _ in range(2):
+            self.assertIn(self.other, self.done("add", "--box", "--yes").output)
+        self.assertEqual(self.standing(), {"ada": "1,2,3,4"})
+        self.assert_fault(self.election("close", "--early"), 9, "the page on the web host was not that of the call")
+        self.closed_and_published("--force", "--because", "The host has another owner.")
+        said = " ".join(re.sub("<[^>]+>", "", self.read("result/index.html").decode()).split())
+        self.assertEqual(len(re.findall(rf"When the secretary asked the web host on \w+, .{{20,60}}, the page at {self.host.at} was not that of the call", said)), 1, said[:3000])
+        self.assertIn(self.doubt, " ".join(self.read("letters/result.txt").decode().split()))
+        # seen, put right, and told all the same
+        self.done("reopen", "--because", "The page is put right.")
+        self.upload()
+        self.done("add", "--box", "--yes")
+        self.done("close", "--early")
+
+
+@NEEDS_PHP
 class Moved(boxes.BoxElectionTest):
     """`call --at` another web host, after letters went out with links to the page of before."""
 
@@ -740,6 +993,34 @@ class Moved(boxes.BoxElectionTest):
         self.done("held", "3", "--enter")
         self.assertEqual(self.standing(), {"ada": "1,2,3,4", "ben": "1,2,3,4"})
 
+    def test_a_new_link_for_who_has_used_one_up(self) -> None:
+        links = self.begun()
+        for number in range(MOST):
+            self.click("ada", f"{number % 4 + 1},1,1,1", links["ada"])
+        self.assertEqual(self.sent("ada", "4,3,2,1", links["ada"], 999).word, "many:")
+        self.off(60)
+        self.done("add", "--box", "--yes")
+        for words, fault in ((("nobody",), "--new-link: nobody has no link that could be replaced"), (("ada",), "ada (Ada): a new link. Is that right?")):
+            self.assertIn(fault, self.election("roll", "--new-link", *words).faults)
+        said = self.done("roll", "--new-link", "ada", "--yes").output
+        self.assertIn("ada: a new link\n", said)
+        self.assertIn("Upload call/vote.php again, since these electors have new links", said)
+        self.upload()
+        self.done("add", "--box")
+        self.done("letters", "call")
+        new = self.links()
+        self.assertEqual([name for name, link in new.items() if link != links.get(name)], ["ada"])
+        # each of a link has a second of its own, so the last one was ahead
+        self.host_off(60)
+        self.devices_off = 60
+        self.click("ada", "4,3,2,1", new["ada"])
+        self.off(120)
+        self.done("add", "--box", "--yes")
+        self.assertEqual(self.standing(), {"ada": "4,3,2,1"})
+        self.done("close", "--early")
+        fault = "--new-link: ada has no link that could be replaced"
+        self.assert_fault(self.election("roll", "--new-link", "ada"), 2, fault)
+
     def test_the_call_goes_to_everybody_again(self) -> None:
         self.begun()
         self.demand_reached(*elections.NAMES)
@@ -747,12 +1028,13 @@ class Moved(boxes.BoxElectionTest):
         self.demand_reached()
         self.upload()
         self.done("add", "--box")
-        self.done("call", "--until", "2099-12-06 18:00")
-        self.demand_written(is_extension=False)
+        for day, is_extension in ((6, False), (7, True)):
+            self.done("call", "--until", f"2099-12-0{day} 18:00", "--at", self.host.at)
+            self.demand_reached(*elections.NAMES if is_extension else ())
+            self.upload()
+            self.done("add", "--box")
+            self.demand_written(is_extension=is_extension)
         self.demand_reached(*elections.NAMES)
-        self.done("call", "--until", "2099-12-07 18:00", "--at", self.host.at)
-        self.demand_reached(*elections.NAMES)
-        self.demand_written(is_extension=True)
         # the address of the result is not one of the page
         self.done("desk", given="ada 1,2,3,4\n")
         time.sleep(1.1)
@@ -922,15 +1204,21 @@ class Many(boxes.BoxElectionTest):
 
     def test_ten_thousand_records(self) -> None:
         """In less than 30 seconds of this computer, whatever else it does."""
-        links, mark, page = self.begun(), self.mark(), self.page()
+        links = self.begun()
         # after the asking of before, and not later than the next
         time.sleep(1.1)
         begin = datetime.datetime.now(datetime.UTC)
-        data = b"".join(
-            record("x", f"{name} {number % 4 + 1},2,3,4", 1000 * turn + number, (begin + datetime.timedelta(seconds=turn)).isoformat()[:19], mark, page)
-            .replace("2" * 16, links[name]).encode()
-            for turn in range(20) for number, name in enumerate(self.names)
-        )  # fmt: skip
+        mark, seal = self.mark(), self.of_page("seal")
+        owns = {str(name): str(own) for name, own in self.rows("SELECT name, mark FROM elector_now")}
+
+        def of(name: str, number: int, turn: int) -> str:
+            when = begin + datetime.timedelta(seconds=turn)
+            place = f"{name}/{owns[name]}/{links[name]}"
+            text = sealing.inside(f"{name} {number % 4 + 1},2,3,4", place, f"{when:%Y-%m-%dT%H:%M:%S}.000Z")
+            sealed = sealing.sealed(seal, mark, f"{1000 * turn + number:032x}", text)
+            return sealing.record(mark, place, 1000 * turn + number, when.isoformat()[:19], sealed)
+
+        data = "".join(of(name, number, turn) for turn in range(20) for number, name in enumerate(self.names)).encode()
         self.file().write_bytes(FIRST + data)
         before = resource.getrusage(resource.RUSAGE_CHILDREN)
         self.assertIn("The box has 10000 records.\n10000 new letters; 0 came before.\n", self.done("add", "--box", "--yes").output)
@@ -945,9 +1233,12 @@ class Clocks(unittest.TestCase):
     KEY = bytes(range(32))
 
     def record_at(self, name: str, ranks: str, when: datetime.datetime, behind: int, link: str | None = None) -> ParsedLetter:
-        data = record("x", f"{name} {ranks}", int(f"{when:%H%M}{ranks[0]}"), f"{when:%Y-%m-%dT%H:%M:%S}").partition("\n")[2]
+        """A record that was opened; by its device it was sent as it arrived."""
+        data = record(name, "", int(f"{when:%H%M}{ranks[0]}"), f"{when:%Y-%m-%dT%H:%M:%S}").partition("\n")[2]
+        head, _, _ = data.partition("\n\n")
         own = third_part(self.KEY, name, OWN[name]) if link is None else link
-        return dataclasses.replace(parsed(data.encode().removesuffix(b"\n")), link=own, behind=behind)
+        sent = when + datetime.timedelta(seconds=behind)
+        return dataclasses.replace(parsed(f"{head}\n\n{name} {ranks}\n-- \n".encode()), link=own, behind=behind, sent=sent)
 
     def outcomes(self, *letters: ParsedLetter | bytes, **how: object) -> list[str]:
         return outcomes(*letters, box_key=self.KEY, **how)
@@ -964,13 +1255,6 @@ class Clocks(unittest.TestCase):
                 self.outcomes(self.record_at("ada", "1,2,3,4", at(10), 0, link)),
                 ["waits: other link"],
             )
-        # of another page, or of none that it says
-        for page in ("", "0" * 16, page_of(self.KEY, "0" * 16), page_of(b"", MARK)):
-            other = dataclasses.replace(self.record_at("ada", "1,2,3,4", at(10), 0), page=page)
-            self.assertEqual(self.outcomes(other), ["waits: other page"])
-        # nor is more of it kept of a stranger's letter than of another field
-        long = parsed(b"X-Page: " + b"\xe9" * 100_000 + b"\n" + letter("ada", "ada 1,2,3,4"))
-        self.assertLessEqual(len(long.page.encode()), 6_000)
         # fetched with the file of the box it waits; and the same bytes of a mailbox are a letter of a stranger
         fetched = dataclasses.replace(self.record_at("ada", "1,2,3,4", at(10), 0), is_fetched=True)
         self.assertEqual(self.outcomes(fetched), ["waits: fetched"])
@@ -1022,6 +1306,27 @@ class Clocks(unittest.TestCase):
             given = letter("ada", "ada 4,3,2,1", sender="x@y.example")
             [case] = judged(given, ballots={"ada": there})
             self.assertEqual(case.voted_since, {"ada": is_sure}, there)
+
+    def test_what_its_device_dates_otherwise_waits(self) -> None:
+        """By more than ten minutes from the time of the host, which may be off by as much as is known."""
+        for minutes, behind, wanted in (
+            (10, 0, "in: ada 1,2,3,4"), (-10, 0, "in: ada 1,2,3,4"), (11, 0, "waits: other time"), (-11, 0, "waits: other time"),
+            (60, 3_600, "in: ada 1,2,3,4"), (0, 3_600, "waits: other time"), (-60, -3_600, "in: ada 1,2,3,4"),
+        ):  # fmt: skip
+            sent = at(10) + datetime.timedelta(minutes=minutes)
+            one = dataclasses.replace(self.record_at("ada", "1,2,3,4", at(10), behind), sent=sent)
+            self.assertEqual(self.outcomes(one), [wanted], (minutes, behind))
+        # it stops a close if either time is before it
+        for sent, arrived, in_time in ((at(11), at(13), True), (at(13), at(11), True), (at(13), at(14), False), (at(10), at(11), True)):
+            one = dataclasses.replace(self.record_at("ada", "1,2,3,4", arrived, 0), sent=sent)
+            [case] = judged(one, box_key=self.KEY, end=at(12))
+            self.assertEqual((outcome(case), case.arrived_in_time), ("waits: other time", in_time))
+
+    def test_what_its_device_does_not_date_later_than_one_before_waits(self) -> None:
+        for seconds, wanted in ((-1, "in: ada 1,2,3,4"), (0, "waits: not sent later"), (1, "waits: not sent later")):
+            before = at(10) + datetime.timedelta(seconds=seconds)
+            one = dataclasses.replace(self.record_at("ada", "1,2,3,4", at(10), 0), sent_before=before)
+            self.assertEqual(self.outcomes(one), [wanted], seconds)
 
     def test_what_is_later_than_the_asking_that_brought_it_waits(self) -> None:
         for second, wanted in ((0, "in: ada 1,2,3,4"), (-1, "waits: in the future")):

@@ -15,7 +15,7 @@ from tests.support.letters import BALLOT, MARK, OTHER, at, judged, label, letter
 
 # values of each name that a reason may have
 VALUES: dict[str, str | int | datetime.datetime] = {
-    "length": 7, "limit": 8, "number": 3, "digest": 2, "called": at(9), "first": at(9), "between": at(9), "end": at(9), "close": at(9), "time": at(9), "asked": at(9), "until": at(9), "seconds": 180,
+    "length": 7, "limit": 8, "number": 3, "digest": 2, "called": at(9), "first": at(9), "between": at(9), "end": at(9), "close": at(9), "time": at(9), "asked": at(9), "sent": at(9), "until": at(9), "seconds": 180,
     "what": "text", "charset": "x-none", "character": "U+000D", "sender": "a@x", "elector": "ada", "listed": "b@x", "mark": "0123456789abcdef", "key": "A" * 40,
 }  # fmt: skip
 
@@ -81,5 +81,5 @@ class Sentences(unittest.TestCase):
         # these are of letters beside others, of what an act decided, and of a gpgv that hangs
         found |= {"came before", "parted off", "taken back", "put back", "set aside", "struck", "slow signature", "perhaps copy"}
         # and of records of the box (test_by_click.py)
-        found |= {"other link", "other page", "fetched", "not there before", "clock at the end", "clocks"}
+        found |= {"other link", "fetched", "not there before", "clock at the end", "clocks", "other time", "not sent later"}
         self.assertEqual({label(reason()) for reason in Reason} - found, set())

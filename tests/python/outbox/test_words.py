@@ -51,7 +51,7 @@ def vote(code: str = "en", *, is_over: bool = False, **how: object) -> Composer:
 def came_letter(reason: ReasonWithValues | None, **how: object) -> Any:
     """A letter as far as its receipt tells it."""
     usual: dict[str, object] = {"refused": (), "standing": (), "is_pending": True}
-    return types.SimpleNamespace(reason=reason, read=types.SimpleNamespace(link=""), **{**usual, **how})
+    return types.SimpleNamespace(reason=reason, read=types.SimpleNamespace(link="", sent=None), **{**usual, **how})
 
 
 def all_that_came(answers: str = "1,2,3") -> list[Fate]:
@@ -225,7 +225,7 @@ class CallLetter(unittest.TestCase):
         letters = [" ".join(of_box.call_letter(one, is_extension=False).text.split()) for one in (ADA, ADA._replace(mark=""), GUS)]
         # without an own mark the link is nobody's, and only the page is where a ballot is sent
         self.assertEqual(["Open the link, choose, and press Vote" in text for text in letters[:2]], [True, False])
-        seen = "Whoever keeps this web site sees each ballot when it is sent here."
+        seen = "A ballot that is sent here is sealed: the secretary alone can open it."
         self.assertEqual([seen in text for text in (*letters, call_page(of_box.call_data).decode())], [False, False, False, True])
         # the texts are in the call on paper, and not in what follows it; a word is an answer to a motion alone
         poll = dataclasses.replace(POLL, explanations=("A lake.", "", ""))

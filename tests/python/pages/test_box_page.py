@@ -17,17 +17,19 @@ from collections.abc import Callable, Iterable
 from typing import Any
 
 from debvote_tools.inbox.box_records import MOST
-from debvote_tools.poll.box import SENTENCES, third_part, records_file, script_of
+from debvote_tools.poll.box import SENTENCES, proof_digest, third_part, records_file, script_of
 from debvote_tools.poll.call import CallData, call_files
 from debvote_tools.poll.questions import Questions
 from debvote_tools.poll.sealed import with_roll
+from debvote_tools.poll.sealed_ballots import key_pair
 from debvote_tools.text.language import LANGUAGES, language_of
 from debvote_tools.text.rendering import checksum_source
 
-from tests.support import calls
+from tests.support import calls, sealing
 from tests.support.at_browser import NEEDS_BROWSER, Window
 from tests.support.calls import KINDS, POLL, ROLL, alone
-from tests.support.web_host import KEY, NEEDS_PHP, Host, Liar, answered, ballot, firewall, passed_on
+from tests.support.web_host import END as END_OF_RECORD
+from tests.support.web_host import FIRST, KEY, NEEDS_PHP, Host, Liar, answered, firewall, passed_on, request_of
 
 # no test is after its end
 END = datetime.datetime(2099, 12, 4, 18, tzinfo=datetime.UTC)
@@ -38,7 +40,7 @@ LINKS = {name: third_part(KEY, name, own) for name, own in OWNS.items()}
 PLACES = {name: f"#{name}/{own}/{LINKS[name]}" for name, own in OWNS.items()}
 WORDS_IN = {code: json.loads(language_of(code).words(SENTENCES)) for code in LANGUAGES}
 WORDS = WORDS_IN["en"]
-NOW = b"2026-11-28T12:19:04Z"
+NOW, SENT = b"2026-11-28T12:19:04Z", "2026-11-28T12:18:59.321Z"
 IS_THERE = "document.readyState === 'complete' && document.getElementById('Vote')"
 
 STATE = """(() => {
@@ -46,11 +48,12 @@ STATE = """(() => {
   const fields = [...document.querySelectorAll("#Ballot input, #Ballot select")];
   return { said: node("Sent").textContent, line: node("Line").textContent.replaceAll("\\n", " "), seen: seen("Vote"),
     button: seen("Vote") && !node("Vote").disabled, unlinked: seen("Unlinked"), broken: seen("Broken"),
+    worked: seen("Worked"), unsealed: seen("Unsealed"),
     fields: fields.filter((field) => !field.disabled).length };
 })()"""
 # of a page on which nothing is chosen
 EMPTY = {"said": "", "line": "", "fields": 21}
-EMPTY |= dict.fromkeys(("button", "seen", "unlinked", "broken"), False)
+EMPTY |= dict.fromkeys(("button", "seen", "unlinked", "broken", "worked", "unsealed"), False)
 
 
 def page_with_box(code: str = "en", patience: int = 30_000, call: CallData = CALL) -> bytes:
@@ -118,10 +121,16 @@ class RealBoxTest(BoxPageTest):
         self.file = self.folder / records_file(KEY)
 
     def records(self) -> list[str]:
-        """What the box has: of each record link, number and line."""
+        """What the box has, opened: of each record the third part of the link by which it came, and the line."""
         data = self.file.read_text() if self.file.exists() else ""
-        record = r"X-Link: (\w+)\n(?:.+\n)*?Message-ID: <\w+@page.invalid>\n\n(.+)\n-- \n\n"
-        return ["/".join(found) for found in re.findall(record, data)]
+        records = data.removeprefix(FIRST.decode()).split(END_OF_RECORD.decode())[:-1]
+        proofs = {
+            proof_digest(mark, place[1:]): LINKS[name]
+            for mark in re.findall(r"Subject: \[(\w+)\]", data)
+            for name, place in PLACES.items()
+        }
+        whose = (proofs.get(re.findall(r"X-Proof: (.*)", one)[0], "new") for one in records)
+        return [f"{link}/{sealing.line_in(KEY, one)}" for link, one in zip(whose, records)]
 
 
 @NEEDS_PHP
@@ -134,7 +143,7 @@ class Clicks(RealBoxTest):
         # nothing is sent before a press
         self.assertEqual(self.host.requests(), ["GET /"])
         said = self.sent()
-        arrived = r"^It has arrived, \w+ \d+, 20\d\d, \d.*\. The secretary fetches it, and you get "
+        arrived = r"^It has arrived, sent \w+ \d+, 20\d\d, \d.*\. The secretary fetches it, and you get "
         self.assertRegex(said, arrived)
         self.assertEqual(self.records(), [f"{LINKS['ada']}/ada 1,2,-,3"])
         after = self.state()
@@ -190,6 +199,7 @@ class Clicks(RealBoxTest):
         """A sign of the sentence or of a web site stands behind it, or it was cut off."""
         ada = PLACES["ada"]
         behind = [f"{ada}{sign}" for sign in (".", ">", ")", "?utm_source=x/y", "x", "%3E")]
+        behind.append(f"#ada//{LINKS['ada']}")
         for place in (*behind, ada[:-1], ada[:20], f"#ada/{OWNS['ada']}", f"#ada/{OWNS['ada'][:-1]}"):
             with self.subTest(place):
                 self.visit(self.host.at, place)
@@ -210,7 +220,6 @@ class Clicks(RealBoxTest):
             (ada, "ben", False),
             (ada, " Ada", True),
             ("#ada", None, False),
-            (f"#ada//{LINKS['ada']}", None, True),
             ("", "ada", False),
         ):
             with self.subTest(place=place, name=name):
@@ -225,6 +234,97 @@ class Clicks(RealBoxTest):
         self.assertEqual(self.choose("1234"), EMPTY | {"line": "ada 1,2,3,4", "unlinked": True})
         self.assertEqual(self.records(), [])
 
+    def test_each_ballot_is_as_long_as_each_other_and_tells_nothing(self) -> None:
+        """Its length and what is kept of it are the same, whatever it says and whoever sent it."""
+        for name, ranks in (("ada", "1234"), ("ben", "----1"[:4]), ("cleo", "4---")):
+            self.visit(self.host.at, PLACES[name])
+            self.choose(ranks if ranks != "----" else "1---")
+            self.assertRegex(self.sent(), "^It has arrived")
+        data = self.file.read_bytes()
+        records = data.removeprefix(FIRST).split(END_OF_RECORD)[:-1]
+        texts = [record.rpartition(b"\n")[2] for record in records]
+        self.assertEqual([len(text) for text in texts], [292] * 3)
+        # each with a key of its own
+        self.assertEqual(len({text[:80] for text in texts}), 3)
+        for secret in (*LINKS.values(), *OWNS.values(), "cleo", "1,2,3,4", "4,-,-,-"):
+            self.assertNotIn(secret.encode(), data)
+
+    def test_where_no_ballot_can_be_sealed(self) -> None:
+        """Nothing is sent, and the page says why not, before a press or after it."""
+        wanted = EMPTY | {"line": "ada 1,2,3,4"}
+        for what, script in {
+            "unsealed": "Object.defineProperty(crypto, 'subtle', { value: undefined })",
+            "unlinked": "Object.defineProperty(window, 'isSecureContext', { value: false })",
+        }.items():
+            with self.subTest(what), self.window.before_each_page(script):
+                self.visit(self.host.at, PLACES["ada"])
+                self.assertEqual(self.choose("1234"), wanted | {what: True})
+        # a browser that fails
+        self.visit(self.host.at, PLACES["ada"])
+        for step in ("generateKey", "deriveBits", "encrypt", "digest"):
+            self.window.ask(f"kept = crypto.subtle.{step}; crypto.subtle.{step} = async () => {{ throw new Error() }}; undefined")
+            self.choose("1234")
+            self.assertEqual(self.sent(), WORDS["unsealed"])
+            # the form is free
+            free = {"said": WORDS["unsealed"], "seen": True, "button": True}
+            self.assertEqual(self.state(), wanted | free)
+            self.window.ask(f"crypto.subtle.{step} = kept; undefined")
+        self.assertEqual((self.records(), self.host.requests()), ([], ["GET /"] * 3))
+        # pressed again, it goes
+        self.assertRegex(self.sent(), "^It has arrived")
+        self.assertEqual(self.records(), [f"{LINKS['ada']}/ada 1,2,3,4"])
+
+    def test_under_a_worker_of_another_page(self) -> None:
+        """It may change this page. Nothing is sent under one that comes while the page is open, either."""
+        (self.folder / "else.html").write_text("<!doctype html><p>Elsewhere")
+        (self.folder / "worker.js").write_text("")
+        wanted = EMPTY | {"line": "ada 1,2,3,4", "worked": True}
+        self.visit(self.host.at, PLACES["ada"])
+        self.assertTrue(self.choose("1234")["button"])
+        later = "Object.defineProperty(navigator, 'serviceWorker', { value: { controller: {} } })"
+        self.window.ask(f"{later}; undefined")
+        self.press()
+        self.assertEqual(self.state(), wanted)
+        self.visit(f"{self.host.at}else.html")
+        ready = "navigator.serviceWorker.register('worker.js').then(() => navigator.serviceWorker.ready)"
+        self.assertTrue(self.window.ask(f"{ready}.then(() => true)"))
+        self.visit(self.host.at, PLACES["ada"])
+        self.assertEqual(self.choose("1234"), wanted)
+        self.assertEqual(self.records(), [])
+
+    def test_what_was_not_taken_is_sealed_anew_with_the_time_of_now(self) -> None:
+        """What may have arrived is not: it is sent again as it was."""
+        answers = iter([b"lost: disk full or broken\n", b"lost: disk full or broken\n", b"", b"", None])
+
+        def lie(request: bytes) -> Iterable[bytes]:
+            said = next(answers) if request.startswith(b"POST") else None
+            if said is None:
+                yield passed_on(request, self.host)
+            else:
+                yield answered(said, 503) if said else b""
+
+        with Liar(lie) as between:
+            self.visit(between.at, PLACES["ada"])
+            self.choose("1234")
+            said = [self.sent() for _ in range(5)]
+            self.assertEqual(said[:4], [WORDS["lost"]] * 2 + [WORDS["unsure"]] * 2)
+            self.assertRegex(said[4], "^It has arrived")
+            posted = [one.partition(b"\r\n\r\n")[2] for one in between.requests if one.startswith(b"POST")]
+        self.assertEqual((len({*posted[:3]}), len({*posted[2:]})), (3, 1))
+        self.assertEqual(self.records(), [f"{LINKS['ada']}/ada 1,2,3,4"])
+
+    def test_the_time_that_is_said_is_the_one_that_is_sealed(self) -> None:
+        self.visit(self.host.at, PLACES["ada"])
+        self.choose("1234")
+        said = self.sent()
+        [record] = self.file.read_text().removeprefix(FIRST.decode()).split(END_OF_RECORD.decode())[:-1]
+        number = re.findall(r"<(\w+)@", record)[0]
+        line, link, sent = key_pair(KEY, MARK)[1](number, record.rpartition("\n")[2]).split("\n")
+        self.assertEqual((line, link), ("ada 1,2,3,4", PLACES["ada"][1:]))
+        self.assertRegex(sent, r"^20\d\d-\d\d-\d\dT\d\d:\d\d:\d\d\.\d{3}Z$")
+        spoken = f"new Date('{sent}').toLocaleString('en', {{ dateStyle: 'medium', timeStyle: 'medium' }})"
+        self.assertIn(f"sent {self.window.ask(spoken)}. ", said)
+
     def test_a_link_that_a_new_one_has_replaced_and_too_many(self) -> None:
         self.visit(self.host.at, f"#ada/{OWNS['ada']}/{LINKS['ben']}")
         self.choose("1234")
@@ -233,8 +333,9 @@ class Clicks(RealBoxTest):
         self.window.ask(f"location.hash = '{PLACES['ada']}'")
         self.window.until("document.getElementById('Sent').textContent === ''")
         self.assertRegex(self.sent(), "^It has arrived")
+        proof = sealing.proof_of(MARK, PLACES["ada"][1:])
         for number in range(MOST - 2):
-            sent = ballot("ada", f"{number % 4 + 1},1,1,1", number, LINKS["ada"], CALL.page)
+            sent = request_of(f"{CALL.page} {proof} {number:032x}", "A" * 300)
             self.assertEqual(self.host.send(sent).word, "received")
         self.choose("1243")
         self.assertRegex(self.sent(), "^It has arrived")
@@ -536,11 +637,11 @@ class Answers(BoxPageTest):
                     # it is sent again, byte for byte, until that is answered
                     first = host.requests[-1 - is_refused]
                     answers.put([answered(b"received " + NOW + b"\n")])
-                    self.assertRegex(self.sent(), "^It has arrived, Nov 28, 2026, ")
+                    self.assertRegex(self.sent(), "^It has arrived, sent ")
                     self.assertEqual(host.requests[-1], first)
         self.assertEqual(other.requests, [])
         posted = [request for request in host.requests if request.startswith(b"POST")]
-        numbers = [request.splitlines()[-1] for request in posted]
+        numbers = [request.splitlines()[-2].rpartition(b" ")[2] for request in posted]
         self.assertTrue(all(re.fullmatch(rb"[0-9a-f]{32}", number) for number in numbers))
         # each line has its number
         self.assertEqual(len({*numbers}), 28)
@@ -575,13 +676,15 @@ class Answers(BoxPageTest):
         self.window.ask(f"location.hash = '{PLACES['ada']}'")
         self.until_arrived()
         [request] = [request for request in host.requests if request.startswith(b"POST")]
-        posted = rf"\r\n\r\n{CALL.page} ada 1,2,3,4\n{LINKS['ada']}\n[0-9a-f]{{32}}\n\Z"
+        proof = sealing.proof_of(MARK, PLACES["ada"][1:])
+        posted = rf"\r\n\r\n{CALL.page} {proof} [0-9a-f]{{32}}\n[\w-]{{292}}\n\Z"
         self.assertRegex(request, posted.encode())
         heads = request.partition(b"\r\n\r\n")[0].lower()
         self.assertIn(b"content-type: application/x-www-form-urlencoded\r\n", heads)
         self.assertNotIn(b"cookie", heads)
-        # no link is told by the page's own address
-        self.assertNotIn(LINKS["ada"].encode(), heads)
+        # neither link nor line is told
+        for secret in (LINKS["ada"], OWNS["ada"], "1,2,3,4"):
+            self.assertNotIn(secret.encode(), request)
 
     def test_the_button_has_a_row_of_its_own_in_each_language_and_width(self) -> None:
         """And when a ballot arrived is said in that language, by the clock of whoever sent it."""
@@ -605,8 +708,10 @@ class Answers(BoxPageTest):
                 self.assertEqual((box, {*others}), ([True, True], {True}))
                 self.assertEqual(self.window.broken_words("[document.getElementById('Vote')]"), [])
                 self.assertEqual(self.window.ask("document.documentElement.scrollWidth"), width)
+                # the clock of the device, whatever the host says
+                self.window.ask(f"Date.prototype.toISOString = () => '{SENT}'")
                 how = {"dateStyle": "medium", "timeStyle": "medium", "timeZone": zone}
-                time = f"new Date('{NOW.decode()}').toLocaleString('{code}', {json.dumps(how)})"
+                time = f"new Date('{SENT}').toLocaleString('{code}', {json.dumps(how)})"
                 time = self.window.ask(time)
                 self.assertEqual(self.sent(), WORDS_IN[code]["received"].replace("{time}", time))
         self.window.resize(390, 844)

@@ -185,6 +185,11 @@ class ScriptsTest(publishing.ResultPageTest):
         window.ask(f"location.hash = '#{alias}'; new Promise((done) => setTimeout(done, 100))")
         seen = window.ask(f"[document.getElementById('Name').value, document.getElementById('{alias}').closest('details').open]")
         self.expect("an alias in the address", (seen, window.found()), (["", True], []))
+        # the link of the call opens this page, too, which says nothing of its elector
+        for place in ("zoe-muller", "zoe-muller/23456789ab/23456789abcdefgh"):
+            window.ask(f"location.hash = '#{place}'; new Promise((done) => setTimeout(done, 100))")
+            seen = window.ask("document.getElementById('Name').value")
+            self.expect(f"the link of the call, {place}", (seen, window.found()), ("", []))
         for name in ("zoe-muller", "Zoë Müller", "  ZOE  MÜLLER "):
             self.expect(name, window.find(name, f" {self.code[:16].upper()} {self.code[16:20]}-{self.code[20:]}")[1:], wanted)
         above = "document.querySelector('.warning').compareDocumentPosition(document.getElementById('Name')) === Node.DOCUMENT_POSITION_FOLLOWING"

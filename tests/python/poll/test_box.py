@@ -10,9 +10,10 @@ import unittest.mock
 
 from debvote_tools.cli.faults import Fault
 from debvote_tools.inbox.box_records import MOST
-from debvote_tools.poll.box import SCRIPT, SENTENCES, asking_word, key_of, list_digest, page_of
+from debvote_tools.poll.box import SCRIPT, SECRET_SENTENCES, SENTENCES, asking_word, key_of, list_digest, page_of
 from debvote_tools.poll.box import records_file, script_address, script_of, third_part
 from debvote_tools.poll.box import without_links
+from debvote_tools.text.rendering import resources
 from debvote_tools.poll.sealed import OWN_LENGTH, OWN_SIGNS, new_own_mark
 
 MARK, KEY = "1ac5041b936c7fc1", bytes(range(32))
@@ -73,16 +74,21 @@ class Words(unittest.TestCase):
     def test_what_the_page_says_of_each_answer(self) -> None:
         """Who reads that a ballot was not taken does not send it again, and who reads that it arrived waits."""
         for word, begin in {
-            "received": "It has arrived, {time}. ",
-            "late": "It has arrived, {time}, after {end}, the end that this page knows. If the vote was extended it may still count",
+            "received": "It has arrived, sent {time}. The secretary fetches it, and you get a receipt by e-mail that names this time, ",
+            "late": "It has arrived, sent {time}, after {end}, the end that this page knows. If the vote was extended it may still count",
             "changed": "The choice has been changed, and is not sent yet.",
             "old": "It was not taken: this page is an older one. Load it again. If this comes again, answer your newest letter.",
             "unknown": "It was not taken: this page does not know your link. Open the newest letter",
             "many": "It was not taken: too many ballots came by your link. Send your ballot by e-mail.",
             "lost": "It was not taken. Send your ballot by e-mail.",
             "unsure": "Nobody knows whether it has arrived. Press the button again: it counts once.",
+            "unsealed": "This browser can't seal a ballot. Open the link in another one.",
         }.items():
             self.assertTrue(SENTENCES[word].startswith(begin), word)
+        # nobody is asked to send a secret ballot by e-mail, or told that a receipt says what is in it
+        for word, said in (SENTENCES | SECRET_SENTENCES).items():
+            for part in ("your ballot by e-mail", "how it was read", "answer your"):
+                self.assertNotIn(part, said, word)
 
 
 class Scripts(unittest.TestCase):
@@ -105,17 +111,19 @@ class Scripts(unittest.TestCase):
         self.assertEqual(list_digest(script), hashlib.sha256(lines.encode()).hexdigest())
         rows = [line.split(" ") for line in lines.removesuffix("\n").split("\n")]
         word = hashlib.sha256(asking_word(KEY).encode()).hexdigest()
-        wanted = {
-            name: hashlib.sha256(f"{MARK} {name} {by_hand(KEY, name, own)}".encode()).hexdigest()
-            for name, own in OWNS.items()
-        }
-        of_vote = [MARK, word, page_of(KEY, MARK)]
-        self.assertEqual(rows, [of_vote, *(list(row) for row in wanted.items())])
-        # no secret is in it, in no form
+        places = (f"{name}/{own}/{by_hand(KEY, name, own)}" for name, own in OWNS.items())
+        proofs = (hashlib.sha256(f"{MARK} {place}".encode()).hexdigest() for place in places)
+        wanted = sorted(hashlib.sha256(proof.encode()).hexdigest() for proof in proofs)
+        self.assertEqual(rows, [[MARK, word, page_of(KEY, MARK)], *([one] for one in wanted)])
+        # no secret is in it, in no form, nor a name
         links = [third_part(KEY, *one) for one in OWNS.items()]
-        for secret in (KEY.hex(), asking_word(KEY), *OWNS.values(), *links):
+        for secret in (KEY.hex(), asking_word(KEY), *OWNS.values(), *links, "ben-lee", "m.12"):
             self.assertNotIn(secret.encode(), script)
         self.assertNotIn(KEY, script)
+
+    def test_what_the_page_runs_to_send_is_short(self) -> None:
+        """Whoever reads it sees what is sealed, and that nothing else is sent."""
+        self.assertLessEqual(len(resources("debvote_tools.poll", "box.js").encode()), 6_700)
 
     def test_as_many_records_of_a_link_are_kept_as_the_script_takes(self) -> None:
         """More would be acknowledged, and passed over."""

@@ -12,13 +12,15 @@ import tempfile
 import time
 import unittest
 
-from debvote_tools.poll.box import END_OF_CODE, SCRIPT, asking_word, list_digest, page_of, script_of, third_part
+from debvote_tools.poll.box import END_OF_CODE, SCRIPT, asking_word, list_digest, page_of
+from debvote_tools.poll.box import proof_digest, script_of, third_part
 from debvote_tools.poll.questions import LABELS
 from debvote_tools.text.rendering import resources
 
+from tests.support import sealing
 from tests.support.web_host import END, FILE, FIRST, KEY, LINKS, MARK, NEEDS_PHP, OWNS, PAGE, STRACE, WORD
 from tests.support.web_host import ASK, HOST_OFF, Answer, BoxTest, Host
-from tests.support.web_host import ballot, clock_of_php, record, request_of
+from tests.support.web_host import ballot, clock_of_php, place_of, record, request_of
 
 LIMIT, OF_A_LINK, FULL = 4_000, 20, 30_000_000
 TIME = re.compile(r"received (\d{4}-\d\d-\d\dT\d\d:\d\d:\d\dZ)\n")
@@ -28,11 +30,20 @@ CACHE = ["-d", "zend_extension=opcache"]
 for one in ("enable=1", "enable_cli=1", "validate_timestamps=0", "file_update_protection=0"):
     CACHE += ["-d", f"opcache.{one}"]
 
+
+
+def digest_of(name: str) -> str:
+    """That of the proof of an elector, as the host knows it."""
+    return proof_digest(MARK, place_of(name))
+
+
 # bodies that are no request of the page
-GOOD, OF_ADA = ballot("ada", "1,2", 77), LINKS["ada"]
+GOOD, OF_ADA, PROOF = ballot("ada", "1,2", 77), LINKS["ada"], sealing.proof_of(MARK, place_of("ada")).encode()
 ASKED = ["ada 1,2", "ask", "ask ", f"ASK {WORD}", f"ask {WORD.upper()}", f"ask {WORD[:-1]}"]
 ASKED += [f"ask {WORD}0", f" ask {WORD}"]
-RANKS = ["1,2\x00", "1;2", "a 1,2", "1,2\n\nben 1,2", "1,2<?php phpinfo(); ?>", "\u00b9,2", ""]
+# of what is sealed, what of it may be another sign
+SEALED = GOOD.splitlines()[1]
+OTHERS = [b"=", b"+", b"/", b" ", b"\x00", b"\xb9", b"<?php phpinfo(); ?>", b"\n\n", b"../../etc/passwd"]
 BAD = [
     *(b"", b"\n", b'{"line": "ada 1,2"}', b"\xff" * 40, b"line=ada+1,2&link=" + OF_ADA.encode()),
     *(ASK[:-1], ASK + b"\n", b"a=" + ASK, *map(request_of, ASKED)),
@@ -41,9 +52,11 @@ BAD = [
     # that of a page of before, which names no poll
     GOOD.removeprefix(f"{PAGE} ".encode()),
     *(ballot("ada", "1,2", 77, page=page) for page in (PAGE[:-1], PAGE.upper())),
-    *(ballot(name, "1,2", 77, OF_ADA) for name in ("Ada", "a" * 33)),
-    *(ballot("ada", ranks, 77) for ranks in RANKS),
-    *(ballot("ada", "1,2", 77, link) for link in (OF_ADA.upper(), OF_ADA + "2", "../../etc/passwd")),
+    # as before ballots were sealed
+    request_of(f"{PAGE} ada 1,2", OF_ADA, f"{77:032x}"),
+    *(GOOD.replace(PROOF, other) for other in (PROOF[1:], PROOF.upper(), PROOF + b"0", b"")),
+    *(GOOD.replace(SEALED, SEALED[:40] + other + SEALED[40:]) for other in OTHERS),
+    *(GOOD.replace(SEALED, other) for other in (b"", SEALED[:199], b"A" * 3_801)),
 ]
 
 
@@ -61,7 +74,7 @@ class Requests(BoxTest):
 
     def test_the_script_is_short_and_the_same_for_each_vote(self) -> None:
         code = resources("debvote_tools.poll", SCRIPT).encode()
-        self.assertLessEqual(len(code), 4_500)
+        self.assertLessEqual(len(code), 4_700)
         self.assertTrue(code.endswith(END_OF_CODE) and code.count(END_OF_CODE) == 1)
         other = script_of(b"x" * 32, "0" * 16, {})
         for script in (self.script, other):
@@ -72,7 +85,7 @@ class Requests(BoxTest):
     def test_each_row_of_the_protocol(self) -> None:
         host = self.host()
         before = datetime.datetime.now(datetime.UTC).replace(microsecond=0)
-        head = f"box 1 {MARK} {list_digest(self.script)} "
+        head = f"box 2 {MARK} {list_digest(self.script)} "
         # the first asking makes the file, and tells the time
         self.assertFalse(self.file.exists())
         answer = host.ask()
@@ -89,6 +102,8 @@ class Requests(BoxTest):
         self.assertEqual(host.ask().text.partition("\n")[2], wanted)
         owners = ("ada", "2" * 16), ("ada", LINKS["ben-lee"]), ("zoe", LINKS["ada"]), (MARK, "2" * 16)
         unknown = [ballot(name, "1,2", 3, link) for name, link in owners]
+        # what the host knows is no proof
+        unknown += [GOOD.replace(PROOF, other) for other in (b"0" * 64, digest_of("ada").encode())]
         others = page_of(KEY, "f" * 16), page_of(b"x" * 32, MARK)
         old = [ballot("ada", "1,2", 3, page=page) for page in others]
         # before the link is looked at
@@ -97,7 +112,7 @@ class Requests(BoxTest):
         for word, status, bodies in (
             ("unknown:", 403, [request_of("ask " + "0" * 64), *unknown]),
             ("old:", 409, old),
-            ("bad:", 413, [b"x" * (LIMIT + 1), ballot("ada", "1," * 2_000, 3), b"x" * 9_000_000]),
+            ("bad:", 413, [b"x" * (LIMIT + 1), GOOD[:-1] + b"A" * LIMIT + b"\n", b"x" * 9_000_000]),
             ("bad:", 400, BAD),
         ):
             for body in bodies:
@@ -125,12 +140,13 @@ class Requests(BoxTest):
         self.assertEqual(opened, ["", "bad: only POST\n"])
 
     def test_the_longest_ballot(self) -> None:
-        host, rest = self.host(), len(ballot("ada", "", 1))
-        longest = "1" * (LIMIT - rest), ("1," * LIMIT)[: LIMIT - rest]
-        for number, ranks in enumerate(longest):
-            self.assertEqual(host.send(ballot("ada", ranks, number + 1)).word, "received")
-        self.assertEqual(host.send(ballot("ada", f"{longest[0]}1", 3)).status, 413)
-        self.assertEqual(len(host.lines()), 2)
+        host, longest = self.host(), 3_800
+        for number, signs, status in ((1, longest, 200), (2, longest + 1, 400), (3, LIMIT, 413)):
+            body = ballot("ada", "1,2", number)
+            sent = body.replace(body.splitlines()[1], b"A" * signs)
+            for fields in (b"", b"box="):
+                self.assertEqual(host.send(fields + sent).status, status)
+        self.assertEqual(len(host.records()), 1)
 
     def test_a_ballot_of_several_questions_is_one_record(self) -> None:
         """Also the longest one, of each question with as many options as there can be."""
@@ -234,7 +250,7 @@ class Requests(BoxTest):
                 sent = list(pool.map(host.send, bodies))
                 self.assertEqual([one.status for one in sent], [200] * 6)
                 self.assertEqual((sent[0].text, sent[4].word), (sent[3].text, "box"))
-        records = [record for record in host.records() if LINKS["ada"] in record]
+        records = [record for record in host.records() if digest_of("ada") in record]
         times = [re.findall(r"Received: by box; (.*) \+0000", record)[0] for record in records]
         read = [datetime.datetime.strptime(one, "%a, %d %b %Y %H:%M:%S") for one in times]
         self.assertEqual((len(read), read), (9, sorted(set(read))))
@@ -250,15 +266,19 @@ class Requests(BoxTest):
         self.assertEqual(len(host.lines()), many // 100)
 
     def test_a_click_takes_no_time_in_a_large_box(self) -> None:
+        """Of the processor, of which a web host gives little; in a vote of ten thousand electors."""
+        owns = OWNS | {f"e{number:04}": "56789abcde" for number in range(10_000)}
+        (self.folder / SCRIPT).write_bytes(script_of(KEY, MARK, owns))
         host = self.host()
         host.ask()
-        then, numbers = "2026-11-28T12:00:00Z", range(10_000, 20_000)
-        many = "".join(record("ben-lee", "ben-lee 1,2", number, then) for number in numbers)
-        self.file.write_text(FIRST.decode() + many.replace(LINKS["ben-lee"], "z" * 16))
-        begin = time.monotonic()
+        then, one = "2026-11-28T12:00:00Z", f"<{1:032x}@"
+        many = record("ben-lee", "ben-lee 1,2", 1, then).replace(digest_of("ben-lee"), "f" * 64)
+        numbers = (f"<{number:032x}@" for number in range(10_000, 20_000))
+        self.file.write_text(FIRST.decode() + "".join(many.replace(one, number) for number in numbers))
+        before = host.seconds()
         for number in range(OF_A_LINK):
             self.received(host.send(ballot("ada", "1,2", number)))
-        self.assertLess((time.monotonic() - begin) / OF_A_LINK, 0.5)
+        self.assertLess((host.seconds() - before) / OF_A_LINK, 0.04)
 
 
 @NEEDS_PHP
@@ -279,7 +299,8 @@ class Votes(BoxTest):
                 (self.folder / SCRIPT).write_bytes(other)
                 self.assertEqual(host.send(ballot("ada", "1,2", 1)).status, 403)
                 link = third_part(KEY, "ada", "zzzzzzzzzz")
-                self.assertEqual(host.send(ballot("ada", "2,1", 2, link)).word, "received")
+                sent = ballot("ada", "2,1", 2, link, own="zzzzzzzzzz")
+                self.assertEqual(host.send(sent).word, "received")
                 self.assertIn(f" {list_digest(other)} ", host.ask().text)
                 self.assertEqual(host.lines(), ["ada 1,2", "ada 2,1"])
                 # another call of the same book, whose own marks are new; and one of another book,
@@ -287,7 +308,7 @@ class Votes(BoxTest):
                 owns = {name: own[::-1] for name, own in OWNS.items()}
                 (self.folder / SCRIPT).write_bytes(script_of(KEY, "f" * 16, owns))
                 self.assertEqual(host.send(ballot("ada", "1,2", 3)).status, 409)
-                self.assertTrue(host.ask().text.startswith(f"box 1 {'f' * 16} "))
+                self.assertTrue(host.ask().text.startswith(f"box 2 {'f' * 16} "))
                 (self.folder / SCRIPT).write_bytes(script_of(b"x" * 32, MARK, OWNS))
                 self.assertEqual(host.ask().status, 403)
                 self.assertEqual(host.ask(asking_word(b"x" * 32)).text.count("\n"), 1)
@@ -305,12 +326,15 @@ class Votes(BoxTest):
 
     def test_the_key_is_in_no_request_and_in_no_file(self) -> None:
         host = self.host()
-        host.send(ballot("ada", "1,2", 1))
+        host.send(ballot("ben-lee", "1,2", 1))
         for text in (self.script, self.file.read_bytes(), WORD.encode()):
             self.assertNotIn(KEY, text)
             self.assertNotIn(KEY.hex().encode(), text)
-        for secret in (WORD, *LINKS.values(), *OWNS.values()):
+        # nor has either a name or a link, or what is kept a line
+        for secret in (WORD, *LINKS.values(), *OWNS.values(), "ben-lee", "cleo.x"):
             self.assertNotIn(secret.encode(), self.script)
+            self.assertNotIn(secret.encode(), self.file.read_bytes())
+        self.assertNotIn(b"1,2", self.file.read_bytes())
 
 
 @NEEDS_PHP
@@ -388,8 +412,8 @@ class Broken(BoxTest):
         host = self.host()
         then = "2026-11-28T12:00:00Z"
         length = len(record("ada", "ada 1,2", 1, then))
-        one = record("ben-lee", "ben-lee " + "1" * 3_500, 5, then)
-        one = one.replace(LINKS["ben-lee"], "z" * 16).encode()
+        one = record("ben-lee", "ben-lee " + "1" * 2_500, 5, then)
+        one = one.replace(digest_of("ben-lee"), "f" * 64).encode()
         many = FULL // len(one) - 1
         for left, word in ((length, "received"), (length - 1, "lost:")):
             fill = b"1" * (FULL - left - len(FIRST) - many * len(one) - len(END))
