@@ -1,0 +1,216 @@
+"""What the script of the page seals, byte for byte, and what it does where sealing or the host fails: each time it says what
+became of the ballot, and sends nothing that it does not say.
+"""
+
+import base64
+import dataclasses
+import json
+import shutil
+import subprocess
+import unittest
+
+from debvote_tools.poll.box import page_of, personal_link, script_of
+from debvote_tools.poll.sealed_ballots import key_pair
+from debvote_tools.text.rendering import resources
+
+from tests.python.pages.test_box_page import CALL, EMPTY, LINKS, MARK, NOW, OWNS, PLACES, WORDS
+from tests.python.pages.test_box_page import BoxPageTest, RealBoxTest, page_with_box
+from tests.python.poll import test_sealed_ballots as vector
+from tests.support import sealing
+from tests.support.calls import SECRET
+from tests.support.web_host import KEY, NEEDS_PHP, Host, Liar, answered, passed_on, request_of
+
+NODE = shutil.which("nodejs") or shutil.which("node")
+
+# the ballot of the vector, and what is sent of it
+LINE, PLACE, SENT = vector.INSIDE.split("\n")
+BODY = request_of(f"{page_of(vector.KEY, vector.MARK)} {sealing.proof_of(vector.MARK, PLACE)} {vector.NUMBER}", vector.SEALED)
+
+# with this a browser makes the own key, the number and the time of the vector
+FIXED = """
+const own = %s, how = { name: "ECDH", namedCurve: "P-256" };
+crypto.subtle.generateKey = async () => ({
+  publicKey: await crypto.subtle.importKey("jwk", { ...own, d: undefined }, how, true, []),
+  privateKey: await crypto.subtle.importKey("jwk", own, how, false, ["deriveBits"]),
+});
+crypto.getRandomValues = (bytes) => bytes.map((byte, place) => (bytes[place] = Number(place === bytes.length - 1)));
+Date.prototype.toISOString = () => "%s";
+"""
+
+# what the script finds of a page and a browser under node, which has no page; it prints what is sent
+AROUND = """
+const nodes = new Map(), pressed = [];
+const node = (id) => nodes.get(id) ?? nodes.set(id, { id, textContent: "", addEventListener: (_, call) => pressed.push(call) }).get(id);
+const document = { getElementById: node, documentElement: { lang: "en" } };
+const location = { protocol: "https:" }, isSecureContext = true, navigator = {};
+const placeNamed = () => %(place)s, addEventListener = () => {};
+const MutationObserver = class { observe() {} };
+const fetch = async (_, { body }) => { process.stdout.write(body); return { status: 503, text: async () => "lost: x" }; };
+node("Line").textContent = %(line)s;
+node("Ballot").dataset = %(data)s;
+node("Ballot").querySelectorAll = (which) => Array(which === ".option, .question" ? %(options)d : 0).fill({});
+"""
+
+
+def fixed() -> str:
+    """What fixes them; the own key is 2."""
+    point = sealing.point_of(2)
+    parts = {"x": point[1:33], "y": point[33:], "d": (2).to_bytes(32)}
+    own = {name: base64.urlsafe_b64encode(part).decode().rstrip("=") for name, part in parts.items()}
+    return FIXED % (json.dumps({"kty": "EC", "crv": "P-256"} | own), SENT)
+
+
+@unittest.skipUnless(NODE, "nodejs is not installed")
+class Node(unittest.TestCase):
+    def test_the_vector(self) -> None:
+        data = {"box": "vote.php", "mark": vector.MARK, "page": page_of(vector.KEY, vector.MARK)}
+        data |= {"seal": key_pair(vector.KEY, vector.MARK)[0], "until": "", "words": json.dumps(WORDS)}
+        given = {"place": json.dumps(PLACE), "line": json.dumps(LINE), "data": json.dumps(data), "options": 4}
+        script = AROUND % given + fixed() + resources("debvote_tools.poll", "box.js") + "\npressed[0]();"
+        ended = subprocess.run([str(NODE), "-"], input=script.encode(), capture_output=True, timeout=60)
+        self.assertEqual((ended.returncode, ended.stderr.decode()), (0, ""))
+        self.assertEqual(ended.stdout, BODY)
+
+
+class Browser(BoxPageTest):
+    def test_the_vector(self) -> None:
+        page = page_with_box().decode()
+        for what, before, after in (
+            ("mark", CALL.questions.mark, vector.MARK),
+            ("page", CALL.page, page_of(vector.KEY, vector.MARK)),
+            ("seal", CALL.seal, key_pair(vector.KEY, vector.MARK)[0]),
+        ):
+            self.assertEqual(page.count(f'data-{what}="{before}"'), 1, what)
+            page = page.replace(f'data-{what}="{before}"', f'data-{what}="{after}"')
+        said = {b"GET": answered(page.encode(), 200, "Content-Type: text/html"), b"POS": answered(b"received " + NOW + b"\n")}
+        with Liar(lambda request: [said.get(request[:3], b"")]) as host, self.window.before_each_page(f"{{ {fixed()} }}"):
+            self.visit(host.at, f"#{PLACE}")
+            self.assertEqual(self.choose("1234")["line"], LINE)
+            self.assertRegex(self.sent(), "^It has arrived, sent ")
+            [posted] = [request for request in host.requests if request.startswith(b"POST")]
+        self.assertEqual(posted.partition(b"\r\n\r\n")[2], BODY)
+
+
+@NEEDS_PHP
+class Fails(RealBoxTest):
+    def test_a_browser_that_fails_at_any_call(self) -> None:
+        """Later or at once: nothing was sent, and the form is free."""
+        count = """(() => { window.calls = [];
+          for (const name of Object.getOwnPropertyNames(SubtleCrypto.prototype)) if (name !== "constructor") {
+            const true_one = crypto.subtle[name].bind(crypto.subtle);
+            crypto.subtle[name] = (...given) => {
+              calls.push(name);
+              return calls.length === window.failing ? window.failed() : true_one(...given);
+            };
+          } })()"""
+        self.visit(self.host.at, PLACES["ada"])
+        self.window.ask(count)
+        self.choose("1234")
+        self.assertRegex(self.sent(), "^It has arrived")
+        calls = self.window.ask("calls")
+        self.assertEqual(
+            calls, ["digest", "generateKey", "exportKey", "importKey", "deriveBits", "importKey", "deriveKey", "encrypt"]
+        )
+        free = EMPTY | {"said": WORDS["unsealed"], "seen": True, "button": True, "line": "ada 4,3,2,1"}
+        self.choose("4321")
+        for failed in ("Promise.reject(new DOMException('x'))", "{ throw new Error('x') }"):
+            for number, name in enumerate(calls, start=1):
+                with self.subTest(failed=failed, call=f"{number}: {name}"):
+                    self.window.ask(f"calls.length = 0; failing = {number}; failed = () => {failed}; undefined")
+                    self.window.ask("document.getElementById('Sent').textContent = ''")
+                    self.assertEqual(self.sent(), WORDS["unsealed"])
+                    self.assertEqual(self.state(), free)
+        self.assertEqual(len(self.records()), 1)
+        # pressed again where nothing fails, it goes
+        self.window.ask("failing = 0; undefined")
+        self.assertRegex(self.sent(), "^It has arrived")
+        self.assertEqual(self.records()[-1], f"{LINKS['ada']}/ada 4,3,2,1")
+        self.assertEqual(self.host.requests(), ["GET /", "POST /vote.php", "POST /vote.php"])
+
+    def test_a_disk_of_the_host_that_is_full(self) -> None:
+        """The member is told that it was not taken, and goes on where there is room again. What arrived before stays."""
+        lost = EMPTY | {"said": WORDS["lost"], "line": "ben 2,1,4,3", "seen": True, "button": True, "fields": 21}
+        with Liar(lambda request: [passed_on(request, host)]) as between:
+            host = self.host
+            self.visit(between.at, PLACES["ada"])
+            self.choose("1234")
+            self.assertRegex(self.sent(), "^It has arrived")
+            before = self.file.read_bytes()
+            self.visit(between.at, PLACES["ben"])
+            self.choose("2143")
+            with Host(self.folder, most_bytes=len(before) + 100) as host:
+                self.assertEqual(self.sent(), WORDS["lost"])
+            self.assertEqual((self.state(), self.file.read_bytes()), (lost, before))
+            host = self.host
+            self.assertRegex(self.sent(), "^It has arrived")
+        self.assertEqual(self.records(), [f"{LINKS['ada']}/ada 1,2,3,4", f"{LINKS['ben']}/ben 2,1,4,3"])
+
+
+@NEEDS_PHP
+class Elsewhere(RealBoxTest):
+    """A page that is not where it belongs."""
+
+    def test_under_a_worker_at_the_root_of_its_host(self) -> None:
+        """The page is in a folder of a web site that has a worker, which sees each page below it."""
+        vote = self.folder / "vote"
+        vote.mkdir()
+        for name in ("index.html", "vote.php"):
+            (self.folder / name).rename(vote / name)
+        (self.folder / "index.html").write_text("<!doctype html><p>The club")
+        # it takes over the pages that are open, and answers in place of the host
+        (self.folder / "worker.js").write_text(
+            "addEventListener('activate', (event) => event.waitUntil(clients.claim()));"
+            "addEventListener('fetch', (event) => event.respondWith(new Response('received 2026-11-28T12:19:04Z\\n')));"
+        )
+        at, wanted = f"{self.host.at}vote/", EMPTY | {"line": "ada 1,2,3,4", "worked": True}
+        self.visit(at, PLACES["ada"])
+        self.assertTrue(self.choose("1234")["button"])
+        # the page itself may not, but another page of the web site registers it while this one is open
+        self.in_another_tab(self.host.at, "navigator.serviceWorker.register('worker.js')")
+        self.window.until("navigator.serviceWorker.controller !== null")
+        self.press()
+        self.assertEqual(self.state(), wanted)
+        self.assertFalse(any(request.startswith("POST") for request in self.host.requests()))
+        self.assertEqual(sorted(file.name for file in vote.iterdir()), ["index.html", "vote.php"])
+
+    def in_another_tab(self, url: str, script: str) -> None:
+        """Opens a page beside this one, and runs a script in it."""
+        window, own = self.window, self.window.session
+        window.session = None
+        tab = window.tell("Target.createTarget", url=url)["targetId"]
+        window.session = window.tell("Target.attachToTarget", targetId=tab, flatten=True)["sessionId"]
+        window.until(f"document.readyState === 'complete' && location.href === '{url}'")
+        window.ask(f"{script}.then(() => true)")
+        window.session = None
+        window.tell("Target.closeTarget", targetId=tab)
+        window.session = own
+
+    def test_a_page_of_another_book_with_this_poll(self) -> None:
+        """A rehearsal, whose page a browser kept, or that was uploaded: its ballots could never be opened."""
+        other = bytes(range(1, 33))
+        self.assertNotEqual(page_of(other, MARK), page_of(KEY, MARK))
+        links = {name: personal_link(other, name, own) for name, own in OWNS.items()}
+        for page_key, script_key in ((KEY, other), (other, KEY)):
+            call = CALL if page_key == KEY else dataclasses.replace(CALL, box_key=other)
+            (self.folder / "index.html").write_bytes(page_with_box(call=call))
+            (self.folder / "vote.php").write_bytes(script_of(script_key, MARK, OWNS))
+            for place in (PLACES["ada"], f"#{links['ada']}"):
+                with self.subTest(page=page_key[:1], place=place):
+                    self.visit(self.host.at, place)
+                    self.choose("1234")
+                    self.assertEqual(self.sent(), WORDS["old"])
+                    self.assertEqual(self.state(), EMPTY | {"said": WORDS["old"], "line": "ada 1,2,3,4", "seen": True, "button": True})
+        self.assertEqual([*self.folder.glob("box-*")], [])
+
+    def test_a_copy_of_the_page_of_a_secret_vote_from_the_disk(self) -> None:
+        """There is nothing to press, and the page says which link to open."""
+        call = dataclasses.replace(SECRET, until=CALL.until, box_key=KEY)
+        (self.folder / "index.html").write_bytes(page_with_box(call=call))
+        for place in (PLACES["ada"], ""):
+            self.window.tell("Page.navigate", url="about:blank")
+            self.window.open(self.folder / "index.html", place)
+            found = self.choose("1234")
+            self.assertEqual((found["seen"], found["button"], found["fields"]), (False, False, 20))
+            said = self.window.ask("[...document.querySelectorAll('#Unlinked, #Missing')].filter((node) => node.checkVisibility()).map((node) => node.textContent)")
+            self.assertRegex(" ".join(said), "open the link in your own letter")
+        self.assertEqual(self.host.requests(), [])
