@@ -21,9 +21,12 @@ LENGTH = 138
 
 def point_of(number: int) -> bytes:
     """The public point of a private key, as bytes."""
-    public = ec.derive_private_key(number, CURVE).public_key()
+    return bytes_of(ec.derive_private_key(number, CURVE))
+
+
+def bytes_of(private: ec.EllipticCurvePrivateKey) -> bytes:
     how = serialization.Encoding.X962, serialization.PublicFormat.UncompressedPoint
-    return public.public_bytes(*how)
+    return private.public_key().public_bytes(*how)
 
 
 def proof_of(mark: str, link: str) -> str:
@@ -39,7 +42,7 @@ def sealed(public_key: str, mark: str, number: str, text: str, own: int = 0) -> 
     data += b"\n" * (-len(data) % 3)
     seed = int.from_bytes(hashlib.sha512(f"{number} {text}".encode("utf-8", "replace")).digest())
     private = ec.derive_private_key(own or seed % (ORDER - 1) + 1, CURVE)
-    point = point_of(private.private_numbers().private_value)
+    point = bytes_of(private)
     shared = private.exchange(ec.ECDH(), ec.EllipticCurvePublicKey.from_encoded_point(CURVE, public))
     key = HKDF(hashes.SHA256(), 32, None, b"debvote box 2\n" + point + public).derive(shared)
     data = AESGCM(key).encrypt(bytes(12), data, f"{mark} {number}".encode())
