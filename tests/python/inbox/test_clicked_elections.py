@@ -1,0 +1,302 @@
+"""Whole elections in which each member clicks, in a browser and on a real host: what is published is what was chosen, and neither
+the host nor, in a secret vote, anybody who reads what comes out of it learns who chose it.
+"""
+
+import contextlib
+import datetime
+import email
+import itertools
+import os
+import pathlib
+import random
+import re
+import shutil
+import time
+import unittest.mock
+
+from tests.support import boxes, elections
+from tests.support.at_browser import NEEDS_BROWSER, Window
+from tests.support.letters import letter, mailbox
+from tests.support.web_host import END, FIRST, NEEDS_PHP, Liar, passed_on
+
+# how many members there are
+MEMBERS = int(os.environ.get("DEBVOTE_CLICKING_MEMBERS", "40"))
+RANKS = "1234-"
+
+# ranks, however somebody writes those of four options, and names of options in their order
+RANKED = re.compile(r"(?<![\w.:-])[0-9-]\s?[,;/ ]\s?[0-9-]\s?[,;/ ]\s?[0-9-]\s?[,;/ ]\s?[0-9-](?![\w:-])")
+IN_WORDS = re.compile(r"(At the lake|In the town hall|Sell the house|Further discussion).{0,20}, (then|and) ")
+
+
+def in_order(ranks: str) -> str:
+    """Ranks as they are published of a secret vote: the order alone."""
+    used = sorted({rank for rank in ranks.split(",") if rank != "-"})
+    return ",".join("-" if rank == "-" else str(used.index(rank) + 1) for rank in ranks.split(","))
+
+
+@NEEDS_PHP
+class ClickedElection(boxes.BoxElectionTest):
+    """All that its host is sent, and all that its commands say, is kept."""
+
+    names = [f"member-{number:02}" for number in range(MEMBERS)]
+    words: tuple[str, ...] = ()
+
+    def setUp(self) -> None:
+        self.said = list[str]()
+        super().setUp()
+        self.between = self.enterContext(Liar(lambda request: [passed_on(request, self.host)]))
+        self.random = random.Random(1)
+        self.ranks = {name: ",".join(self.random.choices(RANKS, k=4)) for name in self.names}
+
+    def election(self, *words: object, **how: object) -> elections.Ended:
+        ended = super().election(*words, **how)
+        self.said.append(ended.output + ended.faults)
+        return ended
+
+    def call(self, *words: str) -> elections.Ended:
+        return super().call(*self.words, "--at", self.between.at, *words)
+
+    def demand_nothing_on_the_host(self, links: dict[str, str]) -> None:
+        """Nothing in its files, its log, and what it was sent, tells a name, a line, a link or an own mark."""
+        owns = [str(own) for own, in self.rows("SELECT mark FROM elector_now")]
+        secrets = [*links.values(), *owns, *self.ranks.values(), *(f"{name} " for name in self.names), *self.secrets()]
+        files = [file for file in self.web.rglob("*") if file.is_file() and file.name not in self.public]
+        kept = {file.name: file.read_bytes() for file in files}
+        self.assertGreaterEqual(len(kept), 2)
+        kept |= {"log": self.host.said()} | {f"request {number}": one for number, one in enumerate(self.between.requests)}
+        for (what, data), secret in itertools.product(kept.items(), secrets):
+            self.assertNotIn(secret.encode(), data, what)
+        for name in self.names:
+            self.assertNotIn(name.encode(), b"".join(kept.values()))
+
+    # the files of an open call that everybody reads have the roll
+    public: tuple[str, ...] = ("index.html", "poll.toml", "call.txt", "SHA256SUMS")
+
+    def secrets(self) -> list[str]:
+        """What else is secret."""
+        return []
+
+    def demand_one_length(self, count: int) -> None:
+        records = self.file().read_bytes().removeprefix(FIRST).split(END)
+        self.assertEqual(records.pop(), b"")
+        self.assertEqual((len(records), len({len(record) for record in records})), (count, 1))
+
+
+@NEEDS_BROWSER
+class InABrowser(ClickedElection):
+    def setUp(self) -> None:
+        super().setUp()
+        self.window = self.enterContext(Window(390, 844))
+
+    def visit(self, place: str) -> None:
+        self.window.tell("Page.navigate", url="about:blank")
+        self.window.until("location.href === 'about:blank'")
+        self.window.tell("Page.navigate", url=f"{self.between.at}#{place}")
+        self.window.until("document.readyState === 'complete' && location.href !== 'about:blank'")
+
+    def press(self) -> str:
+        """Presses the button, and returns what is said then."""
+        self.window.ask("document.getElementById('Vote').click()")
+        self.window.until("!['', 'It is being sent ..'].includes(document.getElementById('Sent').textContent)")
+        return str(self.window.ask("document.getElementById('Sent').textContent"))
+
+    def chosen(self, ranks: str) -> str:
+        """Chooses ranks and votes; the time that is said, as receipts say it."""
+        self.window.ballot(None, ranks.split(","))
+        said = self.press()
+        self.assertRegex(said, "^It has arrived, sent ")
+        [spoken] = re.findall(r"sent (\w+ \d+, \d{4}, [\d:]+\s[AP]M)\.", said)
+        # the browser has the zone of this computer
+        sent = datetime.datetime.strptime(re.sub(r"\s", " ", spoken), "%b %d, %Y, %I:%M:%S %p").astimezone()
+        return f"{sent.astimezone(datetime.timezone(datetime.timedelta(hours=1))):%H:%M:%S}".removesuffix(":00")
+
+    def tell_other_pages(self, turned: str) -> dict[str, str]:
+        """The call is taken back, and made anew with a poll whose options have another order. Each page that is not of it is told.
+        Returns the links of now.
+        """
+        self.call()
+        self.done("add", "--box")
+        self.done("letters", "call")
+        before, name = self.links(), self.names[0]
+        old_page = (self.web / "index.html").read_bytes()
+        self.visit(self.place_of(name, before[name]))
+        self.done("call", "--take-back")
+        self.write("poll.toml", turned)
+        self.prepare()
+        self.call()
+        new = (self.web / "index.html").read_bytes()
+        # an old tab, by a link of now: the letters that have it are not written yet
+        own = str(self.rows("SELECT mark FROM elector_now WHERE name = ?", name)[0][0])
+        place = boxes.personal_link(self.key, name, own)
+        self.assertNotIn(before[name], place)
+        for page in (b"", old_page):
+            if page:
+                # that of before lies on the host, and is opened anew
+                (self.web / "index.html").write_bytes(page)
+                self.assertIn("Note: the page there is the one of before", self.done("add", "--box").output)
+                self.visit(place)
+            else:
+                self.window.ask(f"location.hash = '#{place}'")
+            self.window.ballot(None, "1234")
+            self.assertIn("It was not taken: this page is an older one. Load it again.", self.press())
+        # that of another vote, and one with a script more
+        for page in (old_page.replace(b"Where we meet", b"Where we sleep"), new.replace(b"</body>", b"<script>1</script></body>")):
+            self.assertNotIn(page, (new, old_page))
+            (self.web / "index.html").write_bytes(page)
+            said = self.done("add", "--box").output
+            self.assertIn("Note: the page there is not that of the folder call: a script in it would see what is chosen", said)
+            self.assert_fault(self.election("letters", "call"), 9, "with page and links of now")
+        self.upload()
+        self.assertNotIn("the page there", self.done("add", "--box").output)
+        self.assertEqual(self.file().read_bytes(), FIRST)
+        self.done("letters", "call")
+        return self.links()
+
+    def prepare(self) -> None:
+        """What comes before a call."""
+
+    def all_click(self, links: dict[str, str]) -> dict[str, list[str]]:
+        """Each member once, some twice, in any order; when each of their ballots was sent, as the page says."""
+        self.window.faults.clear()
+        sent = dict[str, list[str]]()
+        for number, name in enumerate(self.random.sample(self.names, len(self.names))):
+            self.visit(self.place_of(name, links[name]))
+            others = [self.other_than(self.ranks[name])] if number % 5 == 0 else []
+            sent[name] = [self.chosen(ranks) for ranks in (*others, self.ranks[name])]
+        self.assertEqual(self.window.faults, [])
+        return sent
+
+    def other_than(self, ranks: str) -> str:
+        return "4,3,2,1" if ranks != "4,3,2,1" else "1,2,3,4"
+
+    def demand_receipts(self, sent: dict[str, list[str]]) -> dict[str, str]:
+        """Each names the times that the page said, and no other."""
+        receipts = self.receipts()
+        self.assertEqual(sorted(receipts), sorted(self.names))
+        for name, text in receipts.items():
+            times = re.findall(r"[bB]allot of \w+, \d+ \w+ \d+, ([\d:]+) \(UTC\+01:00\)", text)
+            self.assertEqual(times, sent[name], text)
+        return receipts
+
+    def close_and_publish(self, *words: str) -> dict[str, str]:
+        """Closes and publishes: the ballots that are published, by name or alias."""
+        time.sleep(1.1)
+        self.done("close", "--early")
+        time.sleep(1.1)
+        self.done("add", "--box", "--yes")
+        self.done("letters", "closed")
+        self.done("count")
+        self.done("publish", *words)
+        self.done("letters", "result", "--at", self.between.at)
+        return dict(line.split() for line in self.read("result/ballots.txt").decode().splitlines())
+
+
+TURNED = elections.POLL.replace('"At the lake", "In the town hall"', '"In the town hall", "At the lake"')
+
+
+class Open(InABrowser):
+    def test_what_is_published_is_what_was_chosen(self) -> None:
+        links = self.tell_other_pages(TURNED)
+        sent = self.all_click(links)
+        count = sum(map(len, sent.values()))
+        self.demand_one_length(count)
+        said = self.done("add", "--box", "--yes").output
+        self.assertIn(f"{count} ballots of letters went in; 0 letters wait", said)
+        self.demand_receipts(sent)
+        self.assertEqual(self.close_and_publish(), self.ranks)
+        self.demand_nothing_on_the_host(links)
+
+
+SECRET = "secret = true\n"
+
+
+class Secret(InABrowser):
+    words = ("--slips", "yes")
+    public = ("poll.toml", "SHA256SUMS")
+
+    def setUp(self) -> None:
+        super().setUp()
+        self.write("poll.toml", SECRET + elections.POLL)
+        self.prepare()
+
+    def prepare(self) -> None:
+        self.done("codes")
+
+    def secrets(self) -> list[str]:
+        return [str(one) for row in self.rows("SELECT alias, code FROM elector_now") for one in row]
+
+    def test_what_is_published_is_what_was_chosen_and_nothing_else_tells_it(self) -> None:
+        links = self.tell_other_pages(SECRET + TURNED)
+        sent = self.all_click(links)
+        self.demand_one_length(sum(map(len, sent.values())))
+        for words in (("--look",), ("--yes",), ("--yes",)):
+            self.done("add", "--box", *words)
+        receipts = self.demand_receipts(sent)
+        self.use_all_commands(links)
+        published = self.close_and_publish("--yes")
+        aliases = {str(name): str(alias) for name, alias in self.rows("SELECT name, alias FROM elector_now")}
+        self.assertEqual(published, {aliases[name]: in_order(ranks) for name, ranks in self.ranks.items()})
+        self.publish_again()
+        self.demand_nothing_on_the_host(links)
+        self.demand_untold(links, aliases, receipts)
+
+    def use_all_commands(self, links: dict[str, str]) -> None:
+        """Ballots that wait, that are refused, and that are taken back; what stands at the end is what it was."""
+        name, other = self.names[:2]
+        [(last,)] = self.rows("SELECT max(envelope) FROM envelope")
+        # no page makes such a line; a letter of a stranger, and lines of paper and of a desk
+        self.click(name, "1,2,3,9", links[name])
+        arrived = time.strftime("%a, %d %b %Y %H:%M:%S +0000")
+        stranger = letter(other, f"{other} 4,3,2,1\n", time=arrived, sender="x@else.example")
+        self.write("inbox.mbox", mailbox(self.of_this_vote(stranger)))
+        self.write("paper.txt", f"{other} 1, 2, 3\n{other.title()} 4;3;2;1\nnobody 1,2,3,4\n{other} 1 2 3 4 5\n")
+        for words in (("add", "--box", "--look"), ("add", "--box", "--yes"), ("add", "--yes", "inbox.mbox"), ("add", "paper.txt"), ("add", "--force", "paper.txt")):
+            self.election(*words)
+        self.election("desk", given=f"{name} 2,1,3,4\n{other} 1/2/3/4\n{other} 4 3 2 1 4\n")
+        for words in (("held",), ("held", "1"), ("held", "2"), ("held", "3"), ("status",), ("status", "--json"), ("log",)):
+            self.election(*words)
+        waits = [number for number in range(1, 3 * MEMBERS) if self.election("held", str(number)).status == 0]
+        for number in waits[-3:]:
+            for words in (("--enter",), ("--enter", "--yes"), ("--set-aside",), ("--wait",), ("--set-aside",)):
+                self.election("held", str(number), *words)
+        for one in self.names:
+            self.done("show", one)
+        for words in (("count",), ("count", "--force"), ("publish",), ("strike", name), ("undo",), ("letters", "reminders"), ("letters", "receipts")):
+            self.election(*words)
+        # what was added and typed here is taken back
+        for envelope, *_ in self.rows("SELECT envelope FROM envelope WHERE envelope > ?", last):
+            self.election("strike", "--yes", "--because", "It was a try.", envelope)
+        self.election("log", "--check")
+
+    def publish_again(self) -> None:
+        self.election("publish", "result-2")
+        self.election("publish", "--yes", "result-2")
+        self.election("log")
+
+    def demand_untold(self, links: dict[str, str], aliases: dict[str, str], receipts: dict[str, str]) -> None:
+        """No output has ranks or an alias, no letter ranks, and nothing ties a name to an alias."""
+        for said in self.said:
+            for pattern in (RANKED, IN_WORDS):
+                self.assertIsNone(pattern.search(said), said)
+            for alias in aliases.values():
+                self.assertNotIn(alias, said)
+        for file in (one for one in self.folder.rglob("*") if one.is_file()):
+            where, data = str(file.relative_to(self.folder)), file.read_bytes()
+            if where.startswith(("private/", "election.db", "paper.txt", "inbox.mbox", "members.csv")):
+                continue
+            text = data.decode("utf-8", "replace")
+            if file.suffix == ".eml":
+                payload = email.message_from_bytes(data).get_payload(decode=True)
+                assert isinstance(payload, bytes)
+                text += payload.decode()
+            names = {name for name in aliases if name in text}
+            has_alias = any(alias in text for alias in aliases.values())
+            self.assertFalse(names and has_alias, where)
+            if where.startswith("letters/"):
+                self.assertFalse(has_alias, where)
+                for pattern in (RANKED, IN_WORDS):
+                    self.assertIsNone(pattern.search(" ".join(text.split())), where)
+            if where.startswith(("result", "call/")):
+                self.assertEqual(names, set(), where)
+                for link in links.values():
+                    self.assertNotIn(link, text, where)
