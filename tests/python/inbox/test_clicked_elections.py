@@ -2,12 +2,11 @@
 the host nor, in a secret vote, anybody who reads what comes out of it learns who chose it.
 """
 
-import contextlib
 import datetime
 import email
+import hashlib
 import itertools
 import os
-import pathlib
 import random
 import re
 import shutil
@@ -276,6 +275,8 @@ class Secret(InABrowser):
     def demand_untold(self, links: dict[str, str], aliases: dict[str, str], receipts: dict[str, str]) -> None:
         """No output has ranks or an alias, no letter ranks, and nothing ties a name to an alias."""
         for said in self.said:
+            # an example is of nobody
+            said = re.sub("A ballot line of this poll: `[^`]+`", "", said)
             for pattern in (RANKED, IN_WORDS):
                 self.assertIsNone(pattern.search(said), said)
             for alias in aliases.values():
@@ -300,3 +301,74 @@ class Secret(InABrowser):
                 self.assertEqual(names, set(), where)
                 for link in links.values():
                     self.assertNotIn(link, text, where)
+
+
+@NEEDS_PHP
+class Shuffled(boxes.BoxElectionTest):
+    """A secret vote that is held again and again from its call on: the same ballots by the same codes, with the same random line of the
+    close, and acts of the same times.
+    """
+
+    has_clock = True
+    ranks = dict(zip(elections.NAMES, ["1,2,3,4", "4,3,2,1", "1,-,2,-", "2,1,3,4", "1,1,1,1", "4,3,2,1", "-,-,-,1", "3,1,2,4", "2,2,1,-"]))
+
+    def test_who_clicked_when_changes_no_byte_of_what_is_published(self) -> None:
+        self.write("poll.toml", SECRET + elections.POLL)
+        self.done("codes")
+        self.call("--slips", "yes")
+        self.done("add", "--box")
+        self.done("letters", "call")
+        links, kept = self.links(), self.scratch / "kept"
+        self.begin_of_clicks = datetime.datetime.now(datetime.UTC).replace(microsecond=0) + datetime.timedelta(seconds=60)
+        for folder in (self.folder, self.state):
+            shutil.copytree(folder, kept / folder.name)
+        chosen, orders, published = random.Random(2), set[tuple[str, ...]](), list[dict[str, bytes]]()
+        for _ in range(4):
+            for folder in (self.folder, self.state):
+                shutil.rmtree(folder)
+                shutil.copytree(kept / folder.name, folder)
+            self.file().write_bytes(FIRST)
+            # three of them choose twice
+            twice = chosen.sample(elections.NAMES, 3)
+            clicks = chosen.sample([*elections.NAMES, *twice], len(elections.NAMES) + 3)
+            orders.add(tuple(clicks))
+            published.append(self.published(clicks, links))
+        self.assertEqual(len(orders), 4)
+        for files in published[1:]:
+            self.assertEqual(sorted(files), sorted(published[0]))
+            for name in files:
+                self.assertEqual(files[name], published[0][name])
+
+    def at(self, seconds: int) -> None:
+        """From now on it is this time, by all clocks."""
+        when = self.begin_of_clicks + datetime.timedelta(seconds=seconds)
+        ahead = (when - datetime.datetime.now(datetime.UTC)).total_seconds()
+        self.devices_off = int(ahead)
+        self.host_off(int(ahead))
+        self.set_clock(f"{when:%Y-%m-%dT%H:%M:%S+00:00}")
+
+    def published(self, clicks: list[str], links: dict[str, str]) -> dict[str, bytes]:
+        """The files of the result, and the letters that everybody gets, once these have clicked in this order."""
+        for number, name in enumerate(clicks):
+            self.at(60 * number)
+            is_last = name not in clicks[number + 1 :]
+            self.click(name, self.ranks[name] if is_last else "2,3,4,1", links[name])
+        self.at(3600)
+        self.assertIn(f"{len(clicks)} ballots of letters went in", self.done("add", "--box", "--yes").output)
+        self.at(3610)
+        with unittest.mock.patch("secrets.token_hex", lambda size: "5" * 2 * size):
+            self.done("close", "--early")
+        self.at(3620)
+        self.done("add", "--box", "--yes")
+        self.done("letters", "closed")
+        self.done("publish", "--yes")
+        files = [file for file in (self.folder / "result").rglob("*") if file.is_file()]
+        files += [self.folder / "letters" / name for name in ("closed.txt", "result.txt")]
+        # the digest of the acts covers random bytes of each, which stay in the book; checksums follow from it
+        closed, sums = (self.read(f"result/{name}") for name in ("closed.txt", "SHA256SUMS"))
+        [(digest,)] = self.rows("SELECT digest FROM act WHERE name = 'close'")
+        changing = [str(digest), *(hashlib.sha256(data).hexdigest() for data in (closed, sums))]
+        for name, text in (("closed.txt", closed), ("SHA256SUMS", sums)):
+            self.assertEqual([one in text.decode() for one in changing], [name == "closed.txt", name == "SHA256SUMS", False])
+        found = {str(file.relative_to(self.folder)): file.read_bytes() for file in files}
+        return {name: re.sub("|".join(changing).encode(), b"", data) for name, data in found.items()}
