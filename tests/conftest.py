@@ -15,7 +15,7 @@ from _pytest.terminal import TerminalReporter
 from tests.support import debian, forks, program
 
 # the classes that take longest begin first, so that none of them runs alone at the end
-LONGEST = ["Sequences", "WhatHappened", "LargestTest", "Damaged", "In_", "Lines", "Marked", "RandomTest", "Sending"]
+LONGEST = ["Sequences", "WhatHappened", "SecretByClicks", "Many", "LargestTest", "Damaged", "In_", "Lines", "Marked", "RandomTest", "Sending"]
 
 # modules of tests that run no debvote, but for those that take no time: tests/quick runs them while it is built
 WITHOUT_PROGRAM = {"test_box", "test_call_words", "test_electors", "test_secret", "test_translations", "test_words"}

@@ -193,7 +193,7 @@ class InABrowser(ClickedElection):
 TURNED = elections.POLL.replace('"At the lake", "In the town hall"', '"In the town hall", "At the lake"')
 
 
-class Open(InABrowser):
+class OpenByClicks(InABrowser):
     def test_what_is_published_is_what_was_chosen(self) -> None:
         links = self.tell_other_pages(TURNED)
         sent = self.all_click(links)
@@ -209,9 +209,12 @@ class Open(InABrowser):
 SECRET = "secret = true\n"
 
 
-class Secret(InABrowser):
+class SecretByClicks(InABrowser):
     words = ("--slips", "yes")
     public = ("poll.toml", "SHA256SUMS")
+    # lines that somebody writes, most of which debvote refuses
+    on_paper = ("member-01 1, 2, 3", "Member-01 4;3;2;1", "nobody 1,2,3,4", "member-01 1 2 3 4 5")
+    at_a_desk = ("member-00 2,1,3,4", "member-01 1/2/3/4", "member-01 4 3 2 1 4")
 
     def setUp(self) -> None:
         super().setUp()
@@ -242,22 +245,23 @@ class Secret(InABrowser):
     def use_all_commands(self, links: dict[str, str]) -> None:
         """Ballots that wait, that are refused, and that are taken back; what stands at the end is what it was."""
         name, other = self.names[:2]
-        [(last,)] = self.rows("SELECT max(envelope) FROM envelope")
+        [(last,)], [(letters,)] = (self.rows(f"SELECT max({what}) FROM {what}") for what in ("envelope", "letter"))
         # no page makes such a line; a letter of a stranger, and lines of paper and of a desk
         self.click(name, "1,2,3,9", links[name])
         arrived = time.strftime("%a, %d %b %Y %H:%M:%S +0000")
         stranger = letter(other, f"{other} 4,3,2,1\n", time=arrived, sender="x@else.example")
         self.write("inbox.mbox", mailbox(self.of_this_vote(stranger)))
-        self.write("paper.txt", f"{other} 1, 2, 3\n{other.title()} 4;3;2;1\nnobody 1,2,3,4\n{other} 1 2 3 4 5\n")
+        self.write("paper.txt", "".join(f"{line}\n" for line in self.on_paper))
         for words in (("add", "--box", "--look"), ("add", "--box", "--yes"), ("add", "--yes", "inbox.mbox"), ("add", "paper.txt"), ("add", "--force", "paper.txt")):
             self.election(*words)
-        self.election("desk", given=f"{name} 2,1,3,4\n{other} 1/2/3/4\n{other} 4 3 2 1 4\n")
-        for words in (("held",), ("held", "1"), ("held", "2"), ("held", "3"), ("status",), ("status", "--json"), ("log",)):
+        self.election("desk", given="".join(f"{line}\n" for line in self.at_a_desk))
+        for words in (("held",), ("held", "1"), ("status",), ("status", "--json"), ("log",)):
             self.election(*words)
-        waits = [number for number in range(1, 3 * MEMBERS) if self.election("held", str(number)).status == 0]
-        for number in waits[-3:]:
-            for words in (("--enter",), ("--enter", "--yes"), ("--set-aside",), ("--wait",), ("--set-aside",)):
-                self.election("held", str(number), *words)
+        waiting = [number for number, in self.rows("SELECT letter FROM letter WHERE letter > ?", letters)]
+        self.assertEqual(len(waiting), 2)
+        for number in waiting:
+            for words in ((), ("--enter",), ("--enter", "--yes"), ("--set-aside",), ("--wait",), ("--set-aside",)):
+                self.election("held", number, *words)
         for one in self.names:
             self.done("show", one)
         for words in (("count",), ("count", "--force"), ("publish",), ("strike", name), ("undo",), ("letters", "reminders"), ("letters", "receipts")):
@@ -279,6 +283,8 @@ class Secret(InABrowser):
             said = re.sub("A ballot line of this poll: `[^`]+`", "", said)
             for pattern in (RANKED, IN_WORDS):
                 self.assertIsNone(pattern.search(said), said)
+            for line in (*self.on_paper, *self.at_a_desk):
+                self.assertNotIn(line, said)
             for alias in aliases.values():
                 self.assertNotIn(alias, said)
         for file in (one for one in self.folder.rglob("*") if one.is_file()):
@@ -304,7 +310,7 @@ class Secret(InABrowser):
 
 
 @NEEDS_PHP
-class Shuffled(boxes.BoxElectionTest):
+class ShuffledClicks(boxes.BoxElectionTest):
     """A secret vote that is held again and again from its call on: the same ballots by the same codes, with the same random line of the
     close, and acts of the same times.
     """

@@ -18,7 +18,7 @@ from tests.python.pages.test_box_page import BoxPageTest, RealBoxTest, page_with
 from tests.python.poll import test_sealed_ballots as vector
 from tests.support import sealing
 from tests.support.calls import SECRET
-from tests.support.web_host import KEY, NEEDS_PHP, Host, Liar, answered, passed_on, request_of
+from tests.support.web_host import KEY, NEEDS_PHP, STRACE, Host, Liar, answered, passed_on, request_of
 
 NODE = shutil.which("nodejs") or shutil.which("node")
 
@@ -144,6 +144,34 @@ class Fails(RealBoxTest):
             host = self.host
             self.assertRegex(self.sent(), "^It has arrived")
         self.assertEqual(self.records(), [f"{LINKS['ada']}/ada 1,2,3,4", f"{LINKS['ben']}/ben 2,1,4,3"])
+
+
+    @unittest.skipUnless(STRACE, "strace is not installed")
+    def test_a_host_that_is_killed(self) -> None:
+        """Before it writes, before that is on the disk, and before it answers: nobody knows whether the ballot has arrived, and pressed again
+        it is there once.
+        """
+        of_file = ["-P", self.file]
+        with Liar(lambda request: [passed_on(request, host)]) as between:
+            for name, call, where in (("ada", "write", of_file), ("ben", "fsync", of_file), ("cleo", "sendto", [])):
+                with self.subTest(call):
+                    host = self.host
+                    self.visit(between.at, PLACES[name])
+                    self.choose("1234")
+                    # the file is there
+                    host.ask()
+                    before = len(self.records())
+                    tracer = [str(STRACE), "-f", "-o", "/dev/null", *where, "-e", f"inject={call}:signal=KILL:when=1"]
+                    with Host(self.folder, tracer=tracer) as host:
+                        self.assertEqual(self.sent(), WORDS["unsure"])
+                        host.process.wait(60)
+                    self.assertEqual(len(self.records()), before + (call != "write"))
+                    # nothing can be changed until it is known
+                    self.assertEqual(self.state()["fields"], 0)
+                    host = self.host
+                    self.assertRegex(self.sent(), "^It has arrived")
+                    self.assertEqual(self.state()["fields"], 21)
+        self.assertEqual(self.records(), [f"{LINKS[name]}/{name} 1,2,3,4" for name in ("ada", "ben", "cleo")])
 
 
 @NEEDS_PHP

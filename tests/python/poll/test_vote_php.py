@@ -498,6 +498,20 @@ class Killed(BoxTest):
                 self.assertEqual(other.lines(), lines, (call, count))
         self.assertGreater(kills, 100)
 
+    def test_an_asking_that_is_killed_holds_up_no_click(self) -> None:
+        """The first one makes the file."""
+        other = self.host()
+        calls = [(call, count) for call, count, line in self.calls_of(ASK) if str(self.folder) in line]
+        self.assertGreater(len(calls), 10)
+        for number, (call, count) in enumerate(calls):
+            self.file.unlink(missing_ok=True)
+            with self.traced("-o", "/dev/null", "-e", f"inject={call}:signal=KILL:when={count}") as host:
+                # the last ones are after the answer
+                self.assertIn(host.ask().status, (0, 200), (call, count))
+                host.process.wait(60)
+            self.assertEqual(other.send(ballot("ada", "1,2", number)).word, "received", (call, count))
+            self.assertEqual(other.lines(), ["ada 1,2"], (call, count))
+
     def test_a_disk_that_breaks(self) -> None:
         with Host(self.folder) as host:
             host.send(ballot("ada", "1,2", 1))
