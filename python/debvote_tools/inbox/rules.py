@@ -241,7 +241,6 @@ class LetterCase:
         """
         text = self.read.text
         is_shown = len(text.words) <= MAX_WORDS and not text.is_below_quotation
-        broken = {why.reason for rule in RULES if (why := rule(self)) is not None}
         return (
             self.outcome is LetterOutcome.WAITS
             and not self.is_decided
@@ -249,7 +248,8 @@ class LetterCase:
             and not self.voted_since
             and self.can_be_entered
             and is_shown
-            and broken <= {Reason.NOT_ALONE, Reason.HTML_ALONE}
+            and {why.reason for rule in RULES if (why := rule(self))}
+            <= {Reason.NOT_ALONE, Reason.HTML_ALONE}
         )
 
     @property

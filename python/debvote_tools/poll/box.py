@@ -90,6 +90,7 @@ def page_of(key: bytes, mark: str) -> str:
     return sha256_of(hmac.digest(key, f"page {mark}".encode(), "sha256"))[:PAGE_DIGITS]
 
 
+@functools.cache
 def third_part(key: bytes, name: str, own: str) -> str:
     """The third part of the personal link of an elector with this own mark. It stands in no subject,
     as own marks do: who gets an answer of the elector in copy cannot vote.

