@@ -26,6 +26,9 @@ RANKS = "1234-"
 RANKED = re.compile(r"(?<![\w.:-])[0-9-]\s?[,;/ ]\s?[0-9-]\s?[,;/ ]\s?[0-9-]\s?[,;/ ]\s?[0-9-](?![\w:-])")
 IN_WORDS = re.compile(r"(At the lake|In the town hall|Sell the house|Further discussion).{0,20}, (then|and) ")
 
+# the times of ballots in a receipt
+SENT = re.compile(r"[bB]allot of \w+, \d+ \w+ \d+, ([\d:]+) \(UTC\+01:00\)")
+
 
 def in_order(ranks: str) -> str:
     """Ranks as they are published of a secret vote: the order alone."""
@@ -83,8 +86,12 @@ class ClickedElection(boxes.BoxElectionTest):
 
 @NEEDS_BROWSER
 class InABrowser(ClickedElection):
+    has_clock = True
+
     def setUp(self) -> None:
         super().setUp()
+        # what receipts name is not its time
+        self.host_off(50)
         self.window = self.enterContext(Window(390, 844))
 
     def visit(self, place: str) -> None:
@@ -168,14 +175,12 @@ class InABrowser(ClickedElection):
     def other_than(self, ranks: str) -> str:
         return "4,3,2,1" if ranks != "4,3,2,1" else "1,2,3,4"
 
-    def demand_receipts(self, sent: dict[str, list[str]]) -> dict[str, str]:
+    def demand_receipts(self, sent: dict[str, list[str]]) -> None:
         """Each names the times that the page said, and no other."""
         receipts = self.receipts()
         self.assertEqual(sorted(receipts), sorted(self.names))
         for name, text in receipts.items():
-            times = re.findall(r"[bB]allot of \w+, \d+ \w+ \d+, ([\d:]+) \(UTC\+01:00\)", text)
-            self.assertEqual(times, sent[name], text)
-        return receipts
+            self.assertEqual(SENT.findall(text), sent[name], text)
 
     def close_and_publish(self, *words: str) -> dict[str, str]:
         """Closes and publishes: the ballots that are published, by name or alias."""
@@ -205,6 +210,25 @@ class OpenByClicks(InABrowser):
         self.assertEqual(self.close_and_publish(), self.ranks)
         self.demand_nothing_on_the_host(links)
 
+    def test_a_host_that_drops_a_ballot_and_dates_the_one_before_it_anew(self) -> None:
+        """Who sent it sees that: the receipt names the time of the other one, and not the one that the page said."""
+        self.call()
+        self.done("add", "--box")
+        self.done("letters", "call")
+        name = self.names[0]
+        self.visit(self.place_of(name, self.links()[name]))
+        first = self.chosen("1,2,3,4")
+        time.sleep(1.1)
+        last = self.chosen("4,3,2,1")
+        self.assertNotEqual(first, last)
+        kept, dropped = (record + END for record in self.file().read_bytes().removeprefix(FIRST).split(END)[:-1])
+        when = dropped.splitlines()[:2]
+        self.file().write_bytes(FIRST + b"\n".join([*when, *kept.splitlines()[2:], b""]))
+        self.assertIn("1 ballot of letters went in; 0 letters wait", self.done("add", "--box", "--yes").output)
+        [text] = self.receipts().values()
+        self.assertEqual(SENT.findall(text), [first])
+        self.assertIn("It was read as: At the lake, then In the town hall", text)
+
 
 SECRET = "secret = true\n"
 
@@ -233,14 +257,14 @@ class SecretByClicks(InABrowser):
         self.demand_one_length(sum(map(len, sent.values())))
         for words in (("--look",), ("--yes",), ("--yes",)):
             self.done("add", "--box", *words)
-        receipts = self.demand_receipts(sent)
+        self.demand_receipts(sent)
         self.use_all_commands(links)
         published = self.close_and_publish("--yes")
         aliases = {str(name): str(alias) for name, alias in self.rows("SELECT name, alias FROM elector_now")}
         self.assertEqual(published, {aliases[name]: in_order(ranks) for name, ranks in self.ranks.items()})
         self.publish_again()
         self.demand_nothing_on_the_host(links)
-        self.demand_untold(links, aliases, receipts)
+        self.demand_untold(links, aliases)
 
     def use_all_commands(self, links: dict[str, str]) -> None:
         """Ballots that wait, that are refused, and that are taken back; what stands at the end is what it was."""
@@ -252,8 +276,8 @@ class SecretByClicks(InABrowser):
         stranger = letter(other, f"{other} 4,3,2,1\n", time=arrived, sender="x@else.example")
         self.write("inbox.mbox", mailbox(self.of_this_vote(stranger)))
         self.write("paper.txt", "".join(f"{line}\n" for line in self.on_paper))
-        for words in (("add", "--box", "--look"), ("add", "--box", "--yes"), ("add", "--yes", "inbox.mbox"), ("add", "paper.txt"), ("add", "--force", "paper.txt")):
-            self.election(*words)
+        for words in ("--box --look", "--box --yes", "--yes inbox.mbox", "paper.txt", "--force paper.txt"):
+            self.election("add", *words.split())
         self.election("desk", given="".join(f"{line}\n" for line in self.at_a_desk))
         for words in (("held",), ("held", "1"), ("status",), ("status", "--json"), ("log",)):
             self.election(*words)
@@ -276,7 +300,7 @@ class SecretByClicks(InABrowser):
         self.election("publish", "--yes", "result-2")
         self.election("log")
 
-    def demand_untold(self, links: dict[str, str], aliases: dict[str, str], receipts: dict[str, str]) -> None:
+    def demand_untold(self, links: dict[str, str], aliases: dict[str, str]) -> None:
         """No output has ranks or an alias, no letter ranks, and nothing ties a name to an alias."""
         for said in self.said:
             # an example is of nobody
@@ -303,10 +327,14 @@ class SecretByClicks(InABrowser):
                 self.assertFalse(has_alias, where)
                 for pattern in (RANKED, IN_WORDS):
                     self.assertIsNone(pattern.search(" ".join(text.split())), where)
-            if where.startswith(("result", "call/")):
-                self.assertEqual(names, set(), where)
+            # nor does a letter open the page of the result at a name
+            if where.startswith("letters/result"):
+                self.assertNotRegex(text, f"#({'|'.join(aliases)})", where)
+            if where.startswith(("result", "call/", "letters/result", "letters/closed", "letters/receipts")):
                 for link in links.values():
                     self.assertNotIn(link, text, where)
+            if where.startswith(("result", "call/")):
+                self.assertEqual(names, set(), where)
 
 
 @NEEDS_PHP
@@ -329,7 +357,7 @@ class ShuffledClicks(boxes.BoxElectionTest):
         for folder in (self.folder, self.state):
             shutil.copytree(folder, kept / folder.name)
         chosen, orders, published = random.Random(2), set[tuple[str, ...]](), list[dict[str, bytes]]()
-        for _ in range(4):
+        for _ in range(3):
             for folder in (self.folder, self.state):
                 shutil.rmtree(folder)
                 shutil.copytree(kept / folder.name, folder)
@@ -339,7 +367,7 @@ class ShuffledClicks(boxes.BoxElectionTest):
             clicks = chosen.sample([*elections.NAMES, *twice], len(elections.NAMES) + 3)
             orders.add(tuple(clicks))
             published.append(self.published(clicks, links))
-        self.assertEqual(len(orders), 4)
+        self.assertEqual(len(orders), 3)
         for files in published[1:]:
             self.assertEqual(sorted(files), sorted(published[0]))
             for name in files:

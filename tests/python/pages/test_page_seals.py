@@ -10,6 +10,7 @@ import subprocess
 import unittest
 
 from debvote_tools.poll.box import page_of, personal_link, script_of
+from debvote_tools.poll.questions import LABELS
 from debvote_tools.poll.sealed_ballots import key_pair
 from debvote_tools.text.rendering import resources
 
@@ -60,16 +61,35 @@ def fixed() -> str:
     return FIXED % (json.dumps({"kty": "EC", "crv": "P-256"} | own), SENT)
 
 
+def sent_under_node(line: str, place: str, options: int) -> bytes:
+    """What the script sends of a line by a personal link; `options` are those of the form, and its questions if they are several."""
+    data = {"box": "vote.php", "mark": vector.MARK, "page": page_of(vector.KEY, vector.MARK)}
+    data |= {"seal": key_pair(vector.KEY, vector.MARK)[0], "until": "", "words": json.dumps(WORDS)}
+    given = {"place": json.dumps(place), "line": json.dumps(line), "data": json.dumps(data), "options": options}
+    script = AROUND % given + fixed() + resources("debvote_tools.poll", "box.js") + "\npressed[0]();"
+    ended = subprocess.run([str(NODE), "-"], input=script.encode(), capture_output=True, timeout=60)
+    assert (ended.returncode, ended.stderr) == (0, b""), ended
+    return ended.stdout
+
+
 @unittest.skipUnless(NODE, "nodejs is not installed")
 class Node(unittest.TestCase):
     def test_the_vector(self) -> None:
-        data = {"box": "vote.php", "mark": vector.MARK, "page": page_of(vector.KEY, vector.MARK)}
-        data |= {"seal": key_pair(vector.KEY, vector.MARK)[0], "until": "", "words": json.dumps(WORDS)}
-        given = {"place": json.dumps(PLACE), "line": json.dumps(LINE), "data": json.dumps(data), "options": 4}
-        script = AROUND % given + fixed() + resources("debvote_tools.poll", "box.js") + "\npressed[0]();"
-        ended = subprocess.run([str(NODE), "-"], input=script.encode(), capture_output=True, timeout=60)
-        self.assertEqual((ended.returncode, ended.stderr.decode()), (0, ""))
-        self.assertEqual(ended.stdout, BODY)
+        self.assertEqual(sent_under_node(LINE, PLACE, 4), BODY)
+
+    def test_the_longest_ballot_is_as_long_as_the_shortest(self) -> None:
+        """Of one question and of as many as there can be; and the host takes it."""
+        most = len(LABELS)
+        for options, questions in ((2, 1), (10, 1), (32, 1), (2, 2), (32, most)):
+            lengths = set[int]()
+            for name, rank in (("a", "-"), ("a" * 32, "32")):
+                ranks = ",".join([rank] * options)
+                answers = " ".join(f"{label} {ranks}" for label in LABELS[:questions]) if questions > 1 else ranks
+                size = options * questions + (questions if questions > 1 else 0)
+                body = sent_under_node(f"{name} {answers}", personal_link(vector.KEY, name, "2" * 10), size)
+                lengths.add(len(body.splitlines()[1]))
+            self.assertEqual(lengths, {4 * (65 + 3 * (42 + size) + 16) // 3}, (options, questions))
+            self.assertLess(max(lengths), 3_800)
 
 
 class Browser(BoxPageTest):
@@ -239,6 +259,7 @@ class Elsewhere(RealBoxTest):
             self.window.open(self.folder / "index.html", place)
             found = self.choose("1234")
             self.assertEqual((found["seen"], found["button"], found["fields"]), (False, False, 20))
-            said = self.window.ask("[...document.querySelectorAll('#Unlinked, #Missing')].filter((node) => node.checkVisibility()).map((node) => node.textContent)")
-            self.assertRegex(" ".join(said), "open the link in your own letter")
+            seen = "[...document.querySelectorAll('#Unlinked, #Missing')].filter((node) => node.checkVisibility())"
+            said = self.window.ask(f"{seen}.map((node) => node.textContent).join(' ')")
+            self.assertIn("open the link in your own letter", said)
         self.assertEqual(self.host.requests(), [])
