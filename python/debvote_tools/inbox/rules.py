@@ -16,6 +16,7 @@ from collections.abc import Collection, Mapping, Sequence
 
 from debvote_tools.book import queries
 from debvote_tools.book.queries import Elector, EnteredBallot, KeptLetter, OwnMark
+from debvote_tools.cli.console import private
 from debvote_tools.grouping import grouped
 from debvote_tools.inbox.letter import is_server
 from debvote_tools.inbox.letter_lines import BallotLine, ReadLetter
@@ -368,7 +369,7 @@ def why_not_from_its_elector(case: LetterCase) -> ReasonWithValues | None:
     """
     sender, elector, circumstances = case.read.sender, case.elector, case.circumstances
     if not (sender or case.read.link):
-        return Reason.NO_SENDER(sender=case.read.shown_sender)
+        return Reason.NO_SENDER(sender=private(case.read.shown_sender))
     if case.ballot is None:
         return None
     is_theirs = elector in case.sharing

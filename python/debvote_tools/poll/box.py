@@ -35,9 +35,6 @@ ALONE = re.compile(
     rf"[{OWN_SIGNS}{OWN_SIGNS.upper()}]{{{LINK_LENGTH}}}(?<![^\W_].{{{LINK_LENGTH}}})(?![^\W_])"
 )
 
-# the ranks of a ballot, as they are written
-RANKS = re.compile(r"(?<![\w.])[0-9-]+(?:[,;][0-9-]+)+")
-
 # of this computer
 LOOPBACK = ("localhost", "127.0.0.1", "::1")
 
@@ -118,11 +115,8 @@ def links_of(book: Book) -> frozenset[str]:
     return frozenset(third_part(key, its.elector, own) for own, its in owns.items())
 
 
-def without_links(book: Book, text: str, *, has_ranks: bool = True) -> str:
-    """A text without the third parts of personal links, and what is in the place of one; and without ranks,
-    if it may not have them.
-    """
-    text = text if has_ranks else RANKS.sub("..", text)
+def without_links(book: Book, text: str) -> str:
+    """A text without the third parts of personal links, and what is in the place of one."""
     text = BEHIND_OWN.sub(r"\1..", text)
     for found in ALONE.findall(text):
         # while it is said that the book can't be read, it may be one
