@@ -587,8 +587,7 @@ class KeptRecord(NamedTuple):
 
 def records_since(book: Book, act: int) -> list[KeptRecord]:
     """The records of the box that came since an act."""
-    line = "known ->> '$.body.lines[0]'"
-    columns = f"detail ->> '$.box.at' AS at, known ->> 'digest', known ->> 'link', substr({line}, 1, instr({line}, ' ') - 1), known ->> 'sent' AS sent"
+    columns = "detail ->> '$.box.at' AS at, known ->> 'digest', known ->> 'link', known ->> 'elector', known ->> 'sent' AS sent"
     words = f"SELECT {columns} FROM letter JOIN act USING (act) WHERE act > ? AND at IS NOT NULL ORDER BY sent"
     return [KeptRecord(*row) for row in book.rows(words, act)]
 

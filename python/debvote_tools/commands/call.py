@@ -119,7 +119,7 @@ def call_first(election: Election, arguments: Arguments) -> None:
     with kept_in(faults):
         found = checked(election, deadline=said.get("until"), address=said.get("to"))
         questions = found.questions
-        faults += faults_in_secret(arguments, is_on_roll) if questions.is_secret else ()
+        faults += faults_by_secrecy(arguments, questions.is_secret, is_on_roll)
         if found.lacks_codes:
             cure = f"run {election.command('codes')} first"
             raise Fault(None, "the vote is secret, and electors have no codes", cure)
@@ -291,22 +291,27 @@ def announced(arguments: Arguments, history: History, faults: list[Fault]) -> De
     return said
 
 
-def faults_in_secret(arguments: Arguments, is_on_roll: bool) -> Iterator[Fault]:
-    if arguments.names:
+def faults_by_secrecy(arguments: Arguments, is_secret: bool, is_on_roll: bool) -> Iterator[Fault]:
+    if arguments.slips and not (is_secret and arguments.box):
+        yield bad_words("--slips", "only in a secret vote, with --box", LEAVE_OUT)
+    if arguments.names and is_secret:
         cure = "leave it out: in a secret vote no names are published"
         yield bad_words("--names", "the vote is secret", cure)
-    if arguments.box and is_on_roll:
+    if arguments.box and is_secret and is_on_roll:
         words = "codes are on the roll, and the result would show whoever keeps the web host whose each is"
         yield bad_words("--box", words, LEAVE_OUT)
 
 
 def are_slips_handed_out(answer: str | None) -> bool:
     """Whether electors get their codes, without which they do not find their ballots in the result."""
-    if answer is None and not is_terminal():
+    if answer is not None:
+        return answer == "yes"
+    question = "Will slips with codes be handed out, with which electors find their ballots?"
+    said = is_yes(question) if is_terminal() else None
+    if said is None:
         words = "nobody says whether slips with codes will be handed out, as page and letters say"
         raise Fault("--slips", words, "give --slips yes, or --slips no")
-    question = "Will slips with codes be handed out, with which electors find their ballots?"
-    return is_yes(question) is True if answer is None else answer == "yes"
+    return said
 
 
 def demand_no_change(
@@ -318,6 +323,8 @@ def demand_no_change(
         changed.append("--to")
     if arguments.keyring is not None and not history.announced("signed"):
         changed.append("--keyring")
+    if arguments.slips and history.announced("no_slips") is not (arguments.slips == "no"):
+        changed.append("--slips")
     if changed:
         words = "the call was made without it"
         if changed == ["--to"]:

@@ -74,6 +74,8 @@ def letters(election: Election, arguments: Arguments) -> int:
     election.called(election.history())
     server = server_of(election.history(), arguments) if arguments.send else None
     history = election.history()
+    if arguments.codes:
+        demand_codes_beside_links(history, is_agreed=arguments.yes)
     sender = arguments.sender or history.announced("to")
     if sender is None:
         raise bad_words("--from", "the call names no address", "give the sender's address with it")
@@ -107,10 +109,14 @@ def letters(election: Election, arguments: Arguments) -> int:
     return Status.DOUBT if is_refused else Status.DONE
 
 
-def demand_codes_beside_links() -> None:
-    """Stops unless somebody at a terminal says that letters may have both."""
+def demand_codes_beside_links(history: History, *, is_agreed: bool) -> None:
+    """Stops at letters that have no link or no code, and unless somebody says that they may have both."""
+    if not history.is_secret_by_click:
+        words = "only in a secret vote with a box"
+        raise bad_words("--codes", words, "leave it out")
     words = "who reads such a letter can vote in that name, and finds the alias"
-    if not (console.is_terminal() and console.is_yes(f"With codes: {words}. Write them?")):
+    asks = not is_agreed and console.is_terminal()
+    if not (is_agreed or asks and console.is_yes(f"With codes: {words}. Write them?")):
         cure = "give codes on slips; or, if it is right, repeat the command with --yes"
         raise Fault("--codes", words, cure)
 
@@ -194,7 +200,7 @@ def unreached_words(election: Election) -> Iterator[str]:
 
 
 def demand_words(arguments: Arguments) -> None:
-    """Stops at all that is wrong with them alone, and unless codes in letters are agreed to."""
+    """Stops at all that is wrong with them alone."""
     faults = list[Fault]()
     if not arguments.send and (options := given(arguments, "server", "user", "password_file")):
         cure = "give --send too, or leave this out"
@@ -213,8 +219,6 @@ def demand_words(arguments: Arguments) -> None:
         if arguments.server is not None:
             smtp.server_of(arguments.server)
     stop_at(faults)
-    if arguments.codes and not arguments.yes:
-        demand_codes_beside_links()
 
 
 def remembered(history: History) -> Detail | None:

@@ -65,14 +65,17 @@ def has_page_of_now(election: Election, box: Detail) -> bool:
 
 
 def other_pages(election: Election, history: History) -> list[DoneAct]:
-    """The askings that found a page that this book never made, since the first letter of the call was
-    written.
+    """The first asking of each day on which one found a page that this book never made, since the first letter
+    of the call was written.
     """
-    letters = history.since_call("letters out")
-    written = [act.number for act in letters if act.detail["kind"] == "call"]
-    since = [act for act in history.askings if written and act.number > written[0]]
-    known = {None, *pages_of(election)}
-    return [act for act in since if act.detail["box"].get("page") not in known]
+    known, days = {None, *pages_of(election)}, dict[datetime.date, DoneAct]()
+    is_written = False
+    for act in history.since_call("letters", "letters out"):
+        is_written |= act.detail.get("kind") == "call"
+        page = act.detail.get("box", {}).get("page")
+        if is_written and page not in known:
+            days.setdefault(act.time.astimezone(history.zone).date(), act)
+    return list(days.values())
 
 
 def asked_last(election: Election, history: History) -> Detail | None:

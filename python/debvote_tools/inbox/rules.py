@@ -98,10 +98,9 @@ class Circumstances:
         """The electors who have the sender's address; of a record the one on it, if the link is theirs."""
         if not letter.link:
             return self.electors_by_address.get(letter.sender, [])
-        name = next(iter(letter.body.lines), "").partition(" ")[0]
-        elector = self.electors.get(name)
-        is_theirs = elector and letter.link == third_part(self.box_key, name, elector.mark)
-        return [name] if is_theirs else []
+        elector = self.electors.get(letter.elector)
+        is_theirs = elector and letter.link == third_part(self.box_key, elector.name, elector.mark)
+        return [letter.elector] if is_theirs else []
 
 
 # ---- a letter
@@ -271,8 +270,8 @@ class LetterCase:
         arrived, sent = self.read.arrived, self.read.sent
         if arrived is None or sent is None:
             return []
-        apart = arrived + datetime.timedelta(seconds=self.read.behind) - sent
-        return [sent] if abs(apart) > AHEAD else []
+        off = datetime.timedelta(seconds=self.read.behind)
+        return [sent] if abs(arrived + off - sent) > AHEAD else []
 
     @property
     def arrivals(self) -> list[datetime.datetime]:

@@ -109,10 +109,11 @@ def proof_digest(mark: str, link: str) -> str:
 
 
 @functools.cache
-def links_of(book: Book) -> frozenset[str]:
-    """The third parts of all personal links of a book."""
+def links_of(book: Book) -> dict[str, str]:
+    """All personal links of a book by their third parts."""
     key, owns = queries.sealed(book, BOX_KEY), queries.own_marks(book)
-    return frozenset(third_part(key, its.elector, own) for own, its in owns.items())
+    links = (personal_link(key, its.elector, own) for own, its in owns.items())
+    return {link[-LINK_LENGTH:]: link for link in links}
 
 
 def without_links(book: Book, text: str) -> str:

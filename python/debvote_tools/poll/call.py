@@ -18,7 +18,6 @@ from debvote_tools.text.rendering import render_letter, render_page, resources
 from debvote_tools.poll import box
 from debvote_tools.poll.questions import Questions
 from debvote_tools.poll.sealed import SealedPoll, in_brackets
-from debvote_tools.poll.sealed_ballots import key_pair
 
 # a first line that greets: it ends as one does, or begins so in one of the languages
 GREETING = re.compile(
@@ -136,6 +135,8 @@ class CallData:
     @property
     def seal(self) -> str:
         """The key to which this page seals ballots."""
+        from debvote_tools.poll.sealed_ballots import key_pair
+
         return key_pair(self.box_key, self.questions.mark)[0]
 
     @property

@@ -219,7 +219,7 @@ def doubts_of(
     if is_unasked_since_end(history):
         # at the end `close --force` has agreed to it
         yield Doubt(BOX, stops=BOX in stopping, command=election.command("add", "--box"))
-    for act in other_pages(election, history)[:1]:
+    for act in other_pages(election, history):
         places = {"time": act.time.astimezone(history.zone), "address": act.detail["box"]["at"]}
         yield Doubt(PAGE, places, stops=False)
     last = history.last_publication
