@@ -71,7 +71,7 @@ class History(NamedTuple):
     @property
     def is_secret_by_click(self) -> bool:
         """Whether the vote is secret and has a box: of such a one alone the call says whether slips go out."""
-        return self.announced("no_slips") is not None
+        return self.announced("slips") is not None
 
     @property
     def has_codes_on_roll(self) -> bool:

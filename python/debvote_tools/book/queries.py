@@ -68,10 +68,10 @@ def sealed(book: Book, name: str, act: int | None = None) -> bytes:
     return bytes(book.value(f"SELECT coalesce(({words}), x'')", name, act))
 
 
-def every_sealed(book: Book, name: str) -> list[bytes]:
-    """All that was ever sealed under a name, the last one last."""
-    words = "SELECT data FROM sealed WHERE name = ? ORDER BY act"
-    return [bytes(data) for data, in book.rows(words, name)]
+def first_act_that_sealed(book: Book, name: str, data: bytes) -> int:
+    """The first act that sealed this under a name; 0 if none did."""
+    words = "SELECT coalesce(min(act), 0) FROM sealed WHERE name = ? AND data = ?"
+    return int(book.value(words, name, data))
 
 
 def sealed_polls(book: Book, name: str, act: int) -> dict[str, bytes]:

@@ -126,7 +126,7 @@ def call_first(election: Election, arguments: Arguments) -> None:
     stop_at(faults)
     electors = queries.electors(election.book)
     if arguments.box and questions.is_secret:
-        said["no_slips"] = not are_slips_handed_out(arguments.slips)
+        said["slips"] = arguments.slips or asked_slips()
     said |= {
         "names": arguments.names,
         "box": arguments.box,
@@ -194,7 +194,8 @@ def take_back(election: Election) -> None:
     if queries.has_come(book, call_act.number):
         words = "ballots or letters have come, and electors rely on the call"
         raise Fault(None, words, "finish this vote, or hold it anew in another folder")
-    stop_at([*filter(None, [unasked_fault(election, history, "at")])])
+    if unasked := unasked_fault(election, history, "at"):
+        raise unasked
     electors, is_on_roll = queries.electors(book), history.has_codes_on_roll
     coded = len(electors) if election.questions.is_secret else 0
     detail: Detail = {"call": call_act.number, "codes": coded}
@@ -302,16 +303,14 @@ def faults_by_secrecy(arguments: Arguments, is_secret: bool, is_on_roll: bool) -
         yield bad_words("--box", words, LEAVE_OUT)
 
 
-def are_slips_handed_out(answer: str | None) -> bool:
+def asked_slips() -> str:
     """Whether electors get their codes, without which they do not find their ballots in the result."""
-    if answer is not None:
-        return answer == "yes"
     question = "Will slips with codes be handed out, with which electors find their ballots?"
     said = is_yes(question) if is_terminal() else None
     if said is None:
         words = "nobody says whether slips with codes will be handed out, as page and letters say"
         raise Fault("--slips", words, "give --slips yes, or --slips no")
-    return said
+    return "yes" if said else "no"
 
 
 def demand_no_change(
@@ -323,7 +322,7 @@ def demand_no_change(
         changed.append("--to")
     if arguments.keyring is not None and not history.announced("signed"):
         changed.append("--keyring")
-    if arguments.slips and history.announced("no_slips") is not (arguments.slips == "no"):
+    if arguments.slips not in (None, history.announced("slips")):
         changed.append("--slips")
     if changed:
         words = "the call was made without it"

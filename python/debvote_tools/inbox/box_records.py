@@ -23,10 +23,10 @@ from debvote_tools.book.queries import KeptRecord
 from debvote_tools.cli.console import count_of, listed, shown_text
 from debvote_tools.cli.faults import Fault, bad_words
 from debvote_tools.inbox.asked import (
+    act_of_page,
     has_list_of_now,
     has_page_of_now,
     last_box,
-    pages_of,
     with_lost_records,
 )
 from debvote_tools.files import sha256_of
@@ -231,7 +231,7 @@ def asked_box(vote: Vote) -> tuple[list[RawLetter], Detail, list[str], bool]:
         "behind": asked.behind,
         "list": asked.list_digest,
         # a publication takes its place
-        "page": None if history.publications else sha256_of(answer_of(at).body),
+        "page": None if history.publications else act_of_page(book, answer_of(at).body),
     }
     words = [*box_words(box, before), *upload_words(election, box)]
     return letters, {"box": box}, words, len(unopened) > before.get("unopened", 0)
@@ -251,7 +251,7 @@ def box_words(box: Detail, before: Detail) -> Iterator[str]:
 def upload_words(election: Election, box: Detail) -> Iterator[str]:
     """What is said of a page and a script that are not those of the folder."""
     if not has_page_of_now(election, box):
-        yield PAGE_OF_BEFORE if box["page"] in pages_of(election) else OTHER_PAGE
+        yield PAGE_OF_BEFORE if box["page"] else OTHER_PAGE
     if not has_list_of_now(election, box["list"]):
         yield f"Note: the web host has another {SCRIPT} than the folder call, as an older one: upload that of the folder, since who has a new link cannot vote there."
 

@@ -342,8 +342,8 @@ def why_not_in_time(case: LetterCase) -> ReasonWithValues | None:
     read, circumstances, asked = case.read, case.circumstances, case.read.asked_before
     if (arrived := read.arrived) is None:
         return Reason.NO_ARRIVAL()
-    if case.other_times:
-        return Reason.OTHER_TIME(sent=case.other_times[0])
+    for sent in case.other_times:
+        return Reason.OTHER_TIME(sent=sent)
     if case.arrived_before_call:
         return Reason.BEFORE_THE_CALL(called=circumstances.called)
     first, *_, last = case.arrivals

@@ -281,7 +281,7 @@ def current_call(
         else None,
         is_signed=bool(value_of("signed")),
         box_key=box.key_of(election.book) if value_of("box") else b"",
-        has_slips=not value_of("no_slips"),
+        has_slips=value_of("slips") != "no",
         letter_text=queries.sealed(election.book, LETTER_TEXT).decode(),
         has_aliases=sealed.is_aliased,
         has_codes_on_roll=now.has_codes_on_roll,

@@ -19,13 +19,13 @@ try:
     from cryptography.hazmat.primitives.kdf.hkdf import HKDF
     from cryptography.hazmat.primitives.serialization import Encoding, PublicFormat
 except ImportError:
-    words, cure = "this computer can seal and open no ballot", "install python3-cryptography"
-    raise Fault("--box", words, cure) from None
+    words = "this computer can seal and open no ballot"
+    raise Fault("--box", words, "install python3-cryptography") from None
 
 CURVE = ec.SECP256R1()
-# the order of its group (SP 800-186, 3.2.1.3); in bytes, an uncompressed point and the key of each ballot
+# the order of its group (SP 800-186, 3.2.1.3); in bytes, an uncompressed point
 ORDER = 0xFFFFFFFF00000000FFFFFFFFFFFFFFFFBCE6FAADA7179E84F3B9CAC2FC632551
-POINT, KEY = 65, 32
+POINT = 65
 # each key seals once
 NONCE = bytes(12)
 
@@ -50,7 +50,7 @@ def opened(
     # behind a shorter point, which may be compressed, is nothing that could be opened
     point = data[:POINT]
     secret = private.exchange(ec.ECDH(), ec.EllipticCurvePublicKey.from_encoded_point(CURVE, point))
-    one_key = HKDF(SHA256(), KEY, None, b"debvote box 2\n" + point + public).derive(secret)
+    one_key = HKDF(SHA256(), 32, None, b"debvote box 2\n" + point + public).derive(secret)
     try:
         inside = AESGCM(one_key).decrypt(NONCE, data[POINT:], f"{mark} {number}".encode())
     except InvalidTag:

@@ -111,7 +111,7 @@ class Fetched(ElectionTest):
         records = [record("ada", "ada 1,2,3,4", number, "2026-11-28T12:00:00") for number in (1, 2)]
         self.write("box.php", FIRST + "".join(records).encode())
         said = self.done("add", "--yes", "box.php").output
-        sealed = "box.php, letter {}: it is a record of the box that can't be opened, and was passed over; ask its elector to vote again\n"
+        sealed = "box.php, message {}: it is a record of the box that can't be opened, and was passed over; ask its elector to vote again\n"
         self.assertIn(f"{sealed.format(1)}{sealed.format(2)}0 new letters; 0 came before.\n", said)
         self.assertEqual(self.rows("SELECT count(*) FROM source"), [(0,)])
 

@@ -929,7 +929,7 @@ class Pages(boxes.BoxElectionTest):
         self.assertFalse(self.is_present())
         for kind in ("call", "reminders"):
             self.assert_fault(self.election("letters", kind), 9, "with page and links of now")
-        fault = "--box: the page on the web host was not that of the call; nothing was changed: upload the folder call, then run debvote-election add --box; or close anyway with --force"
+        fault = "--box: the page on the web host was not that of the call; nothing was changed: upload the folder call, then run debvote-election add --box; if it does not answer any more, close with --force"
         self.assert_fault(self.election("close", "--early"), 9, fault)
         self.upload()
         self.done("add", "--box")

@@ -6,6 +6,10 @@ import sys
 import unittest
 import unittest.mock
 
+import pytest
+
+pytest.importorskip("cryptography", reason="python3-cryptography is not installed")
+
 from debvote_tools.cli.faults import Fault, Status
 from debvote_tools.poll import sealed_ballots
 from debvote_tools.poll.box import personal_link, proof_digest
