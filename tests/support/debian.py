@@ -8,7 +8,6 @@ import sys
 
 # what cannot be left out: the modules of /usr/bin/python3 and the programs, by their packages
 MODULES = {"python3-jinja2": "jinja2", "python3-babel": "babel", "python3-pytest": "pytest", "python3-pytest-xdist": "xdist"}
-MODULES |= {"python3-cryptography": "cryptography"}
 PROGRAMS = {"gpgv": "gpgv", "gpg": "gpg"}
 
 

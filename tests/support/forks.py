@@ -26,6 +26,7 @@ import debvote_tools
 import jinja2
 import jinja2.bccache
 from debvote_tools.book import chain
+from debvote_tools.cli.faults import Fault
 from debvote_tools.text.language import LANGUAGES, language_of
 from debvote_tools.text.rendering import templates_of
 
@@ -101,7 +102,9 @@ def read_ahead() -> None:
     """Imports all modules, makes the schema of a book, and reads all templates in each language, so that no fork has to: it takes longer
     than most commands."""
     for found in pkgutil.walk_packages(debvote_tools.__path__, f"{debvote_tools.__name__}."):
-        importlib.import_module(found.name)
+        # one needs python3-cryptography
+        with contextlib.suppress(Fault):
+            importlib.import_module(found.name)
     chain.schema()
     # a page escapes, and a letter does not
     compiled = {True: Compiled(), False: Compiled()}

@@ -1,9 +1,15 @@
-"""Seals a ballot as the page of a vote does, each time with the same own key."""
+"""Seals a ballot as the page of a vote does, each time with the same own key. Where python3-cryptography is not installed, the modules of
+tests that import this are skipped.
+"""
 
 import base64
 import datetime
 import hashlib
 import re
+
+import pytest
+
+pytest.importorskip("cryptography", reason="python3-cryptography is not installed")
 
 from cryptography.hazmat.primitives import hashes, serialization
 from cryptography.hazmat.primitives.asymmetric import ec

@@ -11,7 +11,7 @@ from typing import Any, Literal, NamedTuple
 from debvote_tools.book import queries
 from debvote_tools.book.book import NAME, ActName, Book, DoneAct, damaged, from_text, open_book
 from debvote_tools.cli.arguments import Acting, demand_reason
-from debvote_tools.cli.console import ZONE, tell_aside
+from debvote_tools.cli.console import FOR_TERMINALS, ZONE, tell_aside
 from debvote_tools.debvote import Debvote
 from debvote_tools.cli.faults import NOTHING_CHANGED, Fault, Status, bad_words, stop_at
 from debvote_tools.files import real_place
@@ -67,6 +67,11 @@ class History(NamedTuple):
         """What the call, or a later act that adds to it, says last of something, as `at`."""
         said = [act.detail.get(key) for act in self.since_call("call", "extend", "announce")]
         return next((value for value in reversed(said) if value is not None), None)
+
+    @property
+    def is_secret_by_click(self) -> bool:
+        """Whether the vote is secret and has a box: of such a one alone the call says whether slips go out."""
+        return self.announced("slips") is not None
 
     @property
     def has_codes_on_roll(self) -> bool:
@@ -263,9 +268,12 @@ class Election:
         return language_of(self.book.acts()[0].detail["language"])
 
     def history(self) -> History:
-        """The acts until now. From here on times are told in the zone of the vote."""
+        """The acts until now. From here on times are told in the zone of the vote, and what people wrote as
+        its secrecy allows.
+        """
         history = History(self.book.acts())
         ZONE.set(history.zone)
+        FOR_TERMINALS.set(history.is_secret_by_click)
         return history
 
     def sealed(self, call: DoneAct | None = None) -> Sealed:

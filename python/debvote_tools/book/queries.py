@@ -68,10 +68,10 @@ def sealed(book: Book, name: str, act: int | None = None) -> bytes:
     return bytes(book.value(f"SELECT coalesce(({words}), x'')", name, act))
 
 
-def every_sealed(book: Book, name: str) -> list[bytes]:
-    """All that was ever sealed under a name, the last one last."""
-    words = "SELECT data FROM sealed WHERE name = ? ORDER BY act"
-    return [bytes(data) for data, in book.rows(words, name)]
+def first_act_that_sealed(book: Book, name: str, data: bytes) -> int:
+    """The first act that sealed this under a name; 0 if none did."""
+    words = "SELECT coalesce(min(act), 0) FROM sealed WHERE name = ? AND data = ?"
+    return int(book.value(words, name, data))
 
 
 def sealed_polls(book: Book, name: str, act: int) -> dict[str, bytes]:
@@ -587,8 +587,7 @@ class KeptRecord(NamedTuple):
 
 def records_since(book: Book, act: int) -> list[KeptRecord]:
     """The records of the box that came since an act."""
-    line = "known ->> '$.body.lines[0]'"
-    columns = f"detail ->> '$.box.at' AS at, known ->> 'digest', known ->> 'link', substr({line}, 1, instr({line}, ' ') - 1), known ->> 'sent' AS sent"
+    columns = "detail ->> '$.box.at' AS at, known ->> 'digest', known ->> 'link', known ->> 'elector', known ->> 'sent' AS sent"
     words = f"SELECT {columns} FROM letter JOIN act USING (act) WHERE act > ? AND at IS NOT NULL ORDER BY sent"
     return [KeptRecord(*row) for row in book.rows(words, act)]
 

@@ -28,6 +28,9 @@ LINES_AT_ONCE = 1_000
 ZONE = contextvars.ContextVar[datetime.tzinfo | None]("zone", default=datetime.UTC)
 # leaves out of a text what is never shown, such as the links with which somebody could vote
 LEAVING_OUT = contextvars.ContextVar[Callable[[str], str]]("leaving out", default=str)
+# whether a terminal alone shows what people wrote, once the acts are read: cron sends by mail what a command
+# says, and in a secret vote with a box ballots come by no mail
+FOR_TERMINALS = contextvars.ContextVar[bool]("for terminals", default=False)
 
 
 class OutputFailed(Fault):
@@ -190,10 +193,16 @@ def number_of(character: str) -> str:
     return f"U+{ord(character):04X}"
 
 
+def private(text: str) -> str:
+    """What people wrote, or what is wrong with it, which may say what they chose."""
+    is_shown = all(output and output.isatty() for output in (sys.stdout, sys.stderr))
+    return "(shown at a terminal alone)" if text and FOR_TERMINALS.get() and not is_shown else text
+
+
 def shown_line(line: bytes) -> str:
     """A line within a sentence; a character that is not seen is shown as \\u202E."""
     text = cut(line.decode("utf-8", "backslashreplace"), SHOWN_OF_LINE)
-    return "".join(KNOWN.get(character) or seen(character) for character in text)
+    return private("".join(KNOWN.get(character) or seen(character) for character in text))
 
 
 def shown_text(text: str) -> str:

@@ -155,19 +155,19 @@ def roll(election: Election, arguments: RollArguments) -> None:
         words = "codes are on the roll, and nobody knows whose they are"
         raise Fault(None, words, "for another roll, begin anew in another folder")
     roll, after = read_roll(election, history), election.command("check")
+    is_open = history.announced("box") and not history.closes
+    linked = [one for one in roll.electors if is_open and one.name == arguments.new_link]
+    if arguments.new_link is not None and not linked:
+        words = f"{shown_text(arguments.new_link)} has no link that could be replaced"
+        raise bad_words("--new-link", words, f"name an elector of {after}, or leave it out")
     if history.call is None:
         keep_electors(book, roll, history.last.number)
         tell(*roll_in_words(roll, election.language))
     else:
         is_secret = election.questions.is_secret
         went = outgoing.call_addresses(book, history.call.number) if is_secret else {}
-        changes = {one: changes_in_words(one, went) for one in roll.electors if one.changes}
-        if (name := arguments.new_link) is not None:
-            named = [one for one in roll.electors if one.name == name]
-            if not named or not history.announced("box") or history.closes:
-                words = f"{shown_text(name)} has no link that could be replaced"
-                raise bad_words("--new-link", words, f"name an elector of {after}, or leave it out")
-            changes |= dict.fromkeys(named, "a new link")
+        changes = dict.fromkeys(linked, "a new link")
+        changes |= {one: changes_in_words(one, went) for one in roll.electors if one.changes}
         changed = {
             one: words for one, words in changes.items() if arguments.yes or agreed(one, words)
         }

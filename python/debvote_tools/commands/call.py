@@ -119,14 +119,14 @@ def call_first(election: Election, arguments: Arguments) -> None:
     with kept_in(faults):
         found = checked(election, deadline=said.get("until"), address=said.get("to"))
         questions = found.questions
-        faults += faults_in_secret(arguments, is_on_roll) if questions.is_secret else ()
+        faults += faults_by_secrecy(arguments, questions.is_secret, is_on_roll)
         if found.lacks_codes:
             cure = f"run {election.command('codes')} first"
             raise Fault(None, "the vote is secret, and electors have no codes", cure)
     stop_at(faults)
     electors = queries.electors(election.book)
     if arguments.box and questions.is_secret:
-        said["no_slips"] = not are_slips_handed_out(arguments.slips)
+        said["slips"] = arguments.slips or asked_slips()
     said |= {
         "names": arguments.names,
         "box": arguments.box,
@@ -194,7 +194,8 @@ def take_back(election: Election) -> None:
     if queries.has_come(book, call_act.number):
         words = "ballots or letters have come, and electors rely on the call"
         raise Fault(None, words, "finish this vote, or hold it anew in another folder")
-    stop_at([*filter(None, [unasked_fault(election, history, "at")])])
+    if unasked := unasked_fault(election, history, "at"):
+        raise unasked
     electors, is_on_roll = queries.electors(book), history.has_codes_on_roll
     coded = len(electors) if election.questions.is_secret else 0
     detail: Detail = {"call": call_act.number, "codes": coded}
@@ -291,22 +292,25 @@ def announced(arguments: Arguments, history: History, faults: list[Fault]) -> De
     return said
 
 
-def faults_in_secret(arguments: Arguments, is_on_roll: bool) -> Iterator[Fault]:
-    if arguments.names:
+def faults_by_secrecy(arguments: Arguments, is_secret: bool, is_on_roll: bool) -> Iterator[Fault]:
+    if arguments.slips and not (is_secret and arguments.box):
+        yield bad_words("--slips", "only in a secret vote, with --box", LEAVE_OUT)
+    if arguments.names and is_secret:
         cure = "leave it out: in a secret vote no names are published"
         yield bad_words("--names", "the vote is secret", cure)
-    if arguments.box and is_on_roll:
+    if arguments.box and is_secret and is_on_roll:
         words = "codes are on the roll, and the result would show whoever keeps the web host whose each is"
         yield bad_words("--box", words, LEAVE_OUT)
 
 
-def are_slips_handed_out(answer: str | None) -> bool:
+def asked_slips() -> str:
     """Whether electors get their codes, without which they do not find their ballots in the result."""
-    if answer is None and not is_terminal():
+    question = "Will slips with codes be handed out, with which electors find their ballots?"
+    said = is_yes(question) if is_terminal() else None
+    if said is None:
         words = "nobody says whether slips with codes will be handed out, as page and letters say"
         raise Fault("--slips", words, "give --slips yes, or --slips no")
-    question = "Will slips with codes be handed out, with which electors find their ballots?"
-    return is_yes(question) is True if answer is None else answer == "yes"
+    return "yes" if said else "no"
 
 
 def demand_no_change(
@@ -318,6 +322,8 @@ def demand_no_change(
         changed.append("--to")
     if arguments.keyring is not None and not history.announced("signed"):
         changed.append("--keyring")
+    if arguments.slips not in (None, history.announced("slips")):
+        changed.append("--slips")
     if changed:
         words = "the call was made without it"
         if changed == ["--to"]:

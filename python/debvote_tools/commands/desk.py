@@ -12,7 +12,7 @@ from debvote_tools.book.book import Detail, DoneAct
 from debvote_tools.book.change import carried_out
 from debvote_tools.book.election import Election, History
 from debvote_tools.book.queries import Elector, NewEnvelope
-from debvote_tools.cli.console import shown_line, shown_text, tell, typed
+from debvote_tools.cli.console import private, shown_line, shown_text, tell, typed
 from debvote_tools.cli.arguments import flag, option
 from debvote_tools.cli.faults import Fault, Status, bad_words
 from debvote_tools.files import BALLOTS_LIMIT
@@ -358,7 +358,7 @@ def question(
     shown = [*change_words(lines[0])]
     for line in lines:
         if finding := line.lasting:
-            refused = f"{shown_line(line.as_entered)}: {finding.word}: {finding.hint}"
+            refused = private(f"{shown_line(line.as_entered)}: {finding.word}: {finding.hint}")
             shown += [f"It would be refused: {refused}", desk.vote.right_words()]
         else:
             shown.append(desk.vote.in_words(line))

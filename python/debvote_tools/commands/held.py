@@ -11,7 +11,7 @@ from debvote_tools.book.book import ActName
 from debvote_tools.book.change import Change, carried_out, terminal_question
 from debvote_tools.book.election import Election, History
 from debvote_tools.book.queries import Ballot, EnteredBallot
-from debvote_tools.cli.console import count_of, is_terminal, shown_line, shown_text, tell
+from debvote_tools.cli.console import count_of, is_terminal, private, shown_line, tell
 from debvote_tools.cli.faults import Fault, bad_words, kept_in, stop_at
 from debvote_tools.grouping import grouped
 from debvote_tools.inbox import letter_words
@@ -19,6 +19,7 @@ from debvote_tools.inbox.letter_words import (
     attachment_words,
     name_of,
     other_words,
+    subject_of,
     who_and_when,
     why,
 )
@@ -247,8 +248,7 @@ def entry_of(
 
 def shown(vote: Vote, letter: LetterCase, line: BallotLine) -> str:
     """A ballot of a letter, and all that one has to know of the letter to decide of it."""
-    subject = shown_text(letter.read.subject)
-    said = [f"subject: {subject}", *other_words(letter), *attachment_words(letter)]
+    said = [f"subject: {subject_of(letter)}", *other_words(letter), *attachment_words(letter)]
     below = (f"\n  {words}" for words in (why(letter, line.elector), *said))
     return f"{who_and_when(letter)}: {vote.ballot_in_words(line.as_entered)}{''.join(below)}"
 
@@ -279,7 +279,7 @@ def ballot_of(vote: Vote, text: str, lines: Sequence[Line]) -> str:
         *_, line = vote.checked_lines(lines)
         if (finding := line.lasting) is None:
             return line.as_entered.decode("ascii")
-        answer = line.why_unclear or finding.verdict
+        answer = private(line.why_unclear or finding.verdict)
     shown = shown_line(text.encode("utf-8", "backslashreplace"))
     raise Fault("--as", f"`{shown}` is no ballot of this poll: {answer}", vote.right_words())
 
@@ -367,7 +367,7 @@ def why_not_beside(
             if later and (left := without(line.as_entered, later)):
                 answers = ENGLISH.joined(sorted(later))
                 words = f"its elector has later answers to {answers}"
-                cure = vote.election.command("held", str(letter.number), "--as", left)
+                cure = vote.election.command("held", str(letter.number), "--as", private(left))
                 yield Fault(name, words, f"enter the others: {cure}")
             elif not is_forced and (words := why_unsure(letter, its, own)):
                 yield Fault(name, words, FORCE)

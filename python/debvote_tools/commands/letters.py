@@ -1,7 +1,6 @@
 """The command `letters`."""
 
 import dataclasses
-import datetime
 import getpass
 import itertools
 import pathlib
@@ -27,6 +26,8 @@ from debvote_tools.poll.announced import demand_mail_address, demand_web_address
 MOST = 20
 # in characters
 BAR = 40
+# what is said of letters with link and code
+CODES = "Who reads a letter with its code can vote in that name, and finds the alias"
 
 
 class Arguments(Acting):
@@ -74,6 +75,11 @@ def letters(election: Election, arguments: Arguments) -> int:
     election.called(election.history())
     server = server_of(election.history(), arguments) if arguments.send else None
     history = election.history()
+    if arguments.codes and not history.is_secret_by_click:
+        raise bad_words("--codes", "only in a secret vote with a box", "leave it out")
+    if arguments.codes and not (arguments.yes or is_agreed(CODES, "write them")):
+        tell("Nothing was written.")
+        return Status.DONE
     sender = arguments.sender or history.announced("to")
     if sender is None:
         raise bad_words("--from", "the call names no address", "give the sender's address with it")
@@ -92,9 +98,11 @@ def letters(election: Election, arguments: Arguments) -> int:
             because=arguments.because if arguments.force else None,
             has_codes=arguments.codes,
         )
-        if due.reminded and not arguments.yes and not reminds_again(due.reminded):
-            tell("Nobody was reminded.")
-            return Status.DONE
+        if due.reminded and not arguments.yes:
+            before = f"Reminders were written at {act_time(due.reminded)}"
+            if not is_agreed(before, "remind again"):
+                tell("Nobody was reminded.")
+                return Status.DONE
         place = election.path(LETTERS) / due.kind / str(due.for_act)
         written = write(due, place)
         lost = write_lost(due, place.parent)
@@ -107,20 +115,11 @@ def letters(election: Election, arguments: Arguments) -> int:
     return Status.DOUBT if is_refused else Status.DONE
 
 
-def demand_codes_beside_links() -> None:
-    """Stops unless somebody at a terminal says that letters may have both."""
-    words = "who reads such a letter can vote in that name, and finds the alias"
-    if not (console.is_terminal() and console.is_yes(f"With codes: {words}. Write them?")):
-        cure = "give codes on slips; or, if it is right, repeat the command with --yes"
-        raise Fault("--codes", words, cure)
-
-
-def reminds_again(before: datetime.datetime) -> bool:
-    """Whether electors are to be reminded again within a day. Stops where nobody can be asked."""
-    said = f"Reminders were written at {act_time(before)}"
+def is_agreed(said: str, how: str) -> bool:
+    """Whether letters are to be written, whatever is said of them. Stops where nobody can be asked."""
     if not console.is_terminal():
-        raise Fault(None, said, "if it is right, remind again with --yes")
-    return bool(console.is_yes(f"{said}. Remind again?"))
+        raise Fault(None, said, f"if it is right, {how} with --yes")
+    return bool(console.is_yes(f"{said}. {how.capitalize()}?"))
 
 
 # ---- what is told
@@ -194,7 +193,7 @@ def unreached_words(election: Election) -> Iterator[str]:
 
 
 def demand_words(arguments: Arguments) -> None:
-    """Stops at all that is wrong with them alone, and unless codes in letters are agreed to."""
+    """Stops at all that is wrong with them alone."""
     faults = list[Fault]()
     if not arguments.send and (options := given(arguments, "server", "user", "password_file")):
         cure = "give --send too, or leave this out"
@@ -213,8 +212,6 @@ def demand_words(arguments: Arguments) -> None:
         if arguments.server is not None:
             smtp.server_of(arguments.server)
     stop_at(faults)
-    if arguments.codes and not arguments.yes:
-        demand_codes_beside_links()
 
 
 def remembered(history: History) -> Detail | None:

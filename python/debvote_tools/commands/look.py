@@ -24,6 +24,7 @@ from debvote_tools.cli.arguments import flag, Options, positional
 from debvote_tools.cli.console import (
     act_time,
     count_of,
+    private,
     quorum_words,
     shown_line,
     shown_text,
@@ -42,7 +43,7 @@ from debvote_tools.inbox.asked import (
 from debvote_tools.inbox.fates import Fate, fates_of
 from debvote_tools.inbox.lines import has_code
 from debvote_tools.inbox.stopping import Pending, pending_letters, taken_out_words
-from debvote_tools.inbox.vote import IS_CODE, Vote, envelope_words, hides_ballots
+from debvote_tools.inbox.vote import IS_CODE, Vote, envelope_words
 from debvote_tools.outbox.reached import unreached_and_printed
 from debvote_tools.poll.questions import Questions, place_of
 from debvote_tools.text import times
@@ -160,9 +161,7 @@ def state_words(
         "Ballots that nobody can open, and no later ones, by the links of", state["lost"]
     )
     yield from named("Electors without a ballot", state["without_ballot"])
-    yield from refused_words(
-        refused, is_hidden=history.has_codes_on_roll or hides_ballots(election)
-    )
+    yield from refused_words(refused, has_codes=history.has_codes_on_roll)
     if state["waiting"]:
         yield f"{letter_words.wait_words(state['waiting'])} until you have looked at them: {election.command('held')}"
     if state["stopping"]:
@@ -182,16 +181,16 @@ def named(what: str, names: list[str] | None) -> Iterator[str]:
         yield from (f"{what} ({len(names)}):", wrapped(names))
 
 
-def refused_words(refused: list[Envelope], *, is_hidden: bool) -> Iterator[str]:
+def refused_words(refused: list[Envelope], *, has_codes: bool) -> Iterator[str]:
     """Lines, each with what debvote says of it. With codes on the roll they would tell codes."""
-    if is_hidden and refused:
+    if has_codes and refused:
         yield f"Refused: {envelope_words([one.number for one in refused])}"
     elif refused:
         who = "of electors without a ballot to the question, or of nobody known"
         yield f"Refused lines {who} ({len(refused)}):"
         for one in refused:
             yield f"  envelope {one.number}: {shown_line(one.line)}"
-            yield f"    {one.why_refused}"
+            yield f"    {private(str(one.why_refused))}"
 
 
 def what_next(election: Election, history: History, state: State) -> str:
@@ -279,7 +278,8 @@ def fate_words(vote: Vote, history: History, fate: Fate, came: Sequence[Envelope
 
 def refused_line(vote: Vote, envelope: Envelope) -> str:
     is_code = has_code(envelope.line.decode("utf-8", "replace")) and not vote.has_codes
-    return f"{shown_line(envelope.line)}: {envelope.why_refused}{IS_CODE if is_code else ''}"
+    said = private(f"{shown_line(envelope.line)}: {envelope.why_refused}")
+    return said + (IS_CODE if is_code else "")
 
 
 # ---- log, export and backup

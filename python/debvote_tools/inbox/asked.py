@@ -5,11 +5,10 @@ it. What an asking brings is in `box_records.py`.
 import datetime
 
 from debvote_tools.book import queries
-from debvote_tools.book.book import Detail, DoneAct, from_text
+from debvote_tools.book.book import Book, Detail, DoneAct, from_text
 from debvote_tools.book.election import BOX_PAGE, BOX_SCRIPT, Election, History
 from debvote_tools.cli.console import act_time, count_of
 from debvote_tools.cli.faults import Fault
-from debvote_tools.files import sha256_of
 from debvote_tools.poll.box import list_digest
 from debvote_tools.text.times import now
 
@@ -20,6 +19,8 @@ FRESH = datetime.timedelta(minutes=10)
 WITH_LINKS = ("call", "reminders")
 # what follows a close, and needs an asking after an early one
 AFTER_CLOSE = ("count", "closed", "publish")
+# the steps of a close at the end, and before it
+CLOSES = ("close", "early")
 # what needs an asking, as kinds of letters, a new address (`at`), a close at the end, one that is `early`,
 # and what follows: why it stops, and what can be forced
 FORCE = "with --force --because TEXT"
@@ -35,6 +36,7 @@ NEEDS = {
         WITHOUT_PAGE,
     ),
     "at": ("ballots may lie on the page at the address of now", ""),
+    "page": ("the page on the web host was not that of the call", CLOSE),
     "close": ("the box of the web host was not asked since the end", CLOSE),
     "early": ("the box of the web host was not asked in the last ten minutes", CLOSE),
 } | dict.fromkeys(
@@ -54,34 +56,35 @@ def has_list_of_now(election: Election, digest: str) -> bool:
     return digest == list_digest(queries.sealed(election.book, BOX_SCRIPT))
 
 
-def pages_of(election: Election) -> list[str]:
-    """The digests of the pages that this book made, that of now last."""
-    return list(map(sha256_of, queries.every_sealed(election.book, BOX_PAGE)))
+def act_of_page(book: Book, page: bytes | None = None) -> int:
+    """The act that made this page, or that of now; 0 if none did."""
+    data = queries.sealed(book, BOX_PAGE) if page is None else page
+    return queries.first_act_that_sealed(book, BOX_PAGE, data)
 
 
 def has_page_of_now(election: Election, box: Detail) -> bool:
-    """Whether an asking found the page of now, or was after a publication, which takes its place."""
-    return box.get("page") in (None, *pages_of(election)[-1:])
+    """Whether an asking found the page of now, or was none, or after a publication."""
+    return box.get("page") in (None, act_of_page(election.book))
 
 
-def other_pages(election: Election, history: History) -> list[DoneAct]:
-    """The askings that found a page that this book never made, since the first letter of the call was
-    written.
+def other_pages(history: History) -> list[DoneAct]:
+    """The first asking of each day on which one found a page that this book never made, since the first letter
+    of the call was written.
     """
-    letters = history.since_call("letters out")
-    written = [act.number for act in letters if act.detail["kind"] == "call"]
-    since = [act for act in history.askings if written and act.number > written[0]]
-    known = {None, *pages_of(election)}
-    return [act for act in since if act.detail["box"].get("page") not in known]
+    is_written, days = False, dict[datetime.date, DoneAct]()
+    for act in history.since_call("letters", "letters out"):
+        is_written |= act.detail.get("kind") == "call"
+        if is_written and act.detail.get("box", {}).get("page") == 0:
+            days.setdefault(act.time.astimezone(history.zone).date(), act)
+    return list(days.values())
 
 
 def asked_last(election: Election, history: History) -> Detail | None:
     """What the box had when it was asked last, and whether it had list and page of now."""
     if not (box := last_box(history)):
         return None
-    is_here = box["at"] == history.announced("at")
     is_right = has_list_of_now(election, box["list"]) and has_page_of_now(election, box)
-    is_present = is_here and is_right
+    is_present = is_right and box["at"] == history.announced("at")
     return {key: box[key] for key in ("time", "records", "behind")} | {"is_present": is_present}
 
 
@@ -128,6 +131,11 @@ def unasked_fault(election: Election, history: History, what: str) -> Fault | No
     is_unseen = (
         what in WITH_LINKS and history.announced("box") and not (last and last["is_present"])
     )
+    # a publication takes its place
+    is_other = what in CLOSES and not (
+        history.publications or has_page_of_now(election, last_box(history))
+    )
+    is_right = not (is_unseen or is_other)
     times = {
         "reminders": recently,
         # before the first asking no letter has a link to the page
@@ -138,13 +146,13 @@ def unasked_fault(election: Election, history: History, what: str) -> Fault | No
         **dict.fromkeys(AFTER_CLOSE, closes[0].time if history.was_closed_early else None),
     }
     since = times.get(what)
-    if not is_unseen and not is_unasked(history, since):
+    if is_right and not is_unasked(history, since):
         return None
-    words, force = NEEDS["call" if is_unseen else what]
-    if last and since and not is_unseen and history.askings[-1].time > since:
+    words, force = NEEDS["call" if is_unseen else "page" if is_other else what]
+    if last and since and is_right and history.askings[-1].time > since:
         there = act_time(from_text(last["time"]))
         words += f": when the box was asked last, it was only {there} by its own clock"
-    first = "upload the folder call, then " if is_unseen else ""
+    first = "" if is_right else "upload the folder call, then "
     cure = f"{first}run {election.command('add', '--box')}"
     if force:
         cure += f"; if it does not answer any more, {force}"

@@ -17,27 +17,33 @@ from collections.abc import Iterator, Sequence
 from typing import NamedTuple
 
 from debvote_tools.book import queries
-from debvote_tools.book.book import Detail, from_text
-from debvote_tools.book.election import BOX_KEY
+from debvote_tools.book.book import Book, Detail, from_text
+from debvote_tools.book.election import BOX_KEY, Election
 from debvote_tools.book.queries import KeptRecord
 from debvote_tools.cli.console import count_of, listed, shown_text
 from debvote_tools.cli.faults import Fault, bad_words
-from debvote_tools.inbox.asked import has_list_of_now, last_box, pages_of
+from debvote_tools.inbox.asked import (
+    act_of_page,
+    has_list_of_now,
+    has_page_of_now,
+    last_box,
+    with_lost_records,
+)
 from debvote_tools.files import sha256_of
 from debvote_tools.inbox.letter import YEAR, arrival_of
-from debvote_tools.inbox.mailbox import BEGIN, RawLetter
+from debvote_tools.inbox.mailbox import BEGIN, NotRead, RawLetter
 from debvote_tools.inbox.vote import Vote
 from debvote_tools.patience import within
 from debvote_tools.poll.box import (
     LINK_LENGTH,
     SCRIPT,
     asking_word,
+    links_of,
     personal_link,
     proof_digest,
     script_address,
 )
 from debvote_tools.poll.sealed import OWN, OWN_SIGNS
-from debvote_tools.poll.sealed_ballots import key_pair
 from debvote_tools.text import times
 
 # in seconds and in bytes: how long an answer may take and be
@@ -79,16 +85,16 @@ MOST_OFF = 60
 MOST = MOST_NAMED = 20
 
 # a record as the script writes it, without the line above it: when it arrived, the digest of the proof
-# by which it came, the mark of the poll, its number, and what is sealed
+# by which it came, all that is below and in it the mark of the poll and its number, and what is sealed
 RECORD = re.compile(
-    r"(?P<head>Received: by box; [^\n]+\n)X-Proof: (?P<proof>[0-9a-f]{64})\n(?P<rest>From: box@page\.invalid\n"
-    r"Subject: \[(?P<mark>[0-9a-f]{16})\]\nMessage-ID: <(?P<number>[0-9a-f]{32})@page\.invalid>\n\n)(?P<sealed>[A-Za-z0-9_-]+)\n-- \n"
+    r"(Received: by box; [^\n]+\n)X-Proof: ([0-9a-f]{64})\n(From: box@page\.invalid\n"
+    r"Subject: \[([0-9a-f]{16})\]\nMessage-ID: <([0-9a-f]{32})@page\.invalid>\n\n)([A-Za-z0-9_-]+)\n-- \n"
 )
 PROOF = re.compile(r"X-Proof: (\w+)")
-# what is sealed: a line, the personal link of the elector on it, and the time by their device
+# what is sealed: a line and the elector on it, their personal link, in it the own mark and the third part, and
+# the time by their device
 INSIDE = re.compile(
-    rf"(?P<line>(?P<name>[a-z0-9.-]{{1,32}}) [A-Z0-9, -]+)\n(?P<place>(?P=name)/(?P<own>{OWN})/(?P<link>[{OWN_SIGNS}]{{{LINK_LENGTH}}}))\n"
-    rf"(?P<sent>{YEAR}-\d\d-\d\dT\d\d:\d\d:\d\d\.\d{{3}}Z)"
+    rf"(([a-z0-9.-]{{1,32}}) [A-Z0-9, -]+)\n(\2/({OWN})/([{OWN_SIGNS}]{{{LINK_LENGTH}}}))\n({YEAR}-\d\d-\d\dT\d\d:\d\d:\d\d\.\d{{3}}Z)"
 )
 
 
@@ -200,43 +206,35 @@ def cut_off(address: str) -> Fault:
 
 
 # ---- its records, as letters
-def asked_box(vote: Vote) -> tuple[list[RawLetter], Detail, list[str]]:
-    """Asks the box of this vote: what it has, as letters, what the act keeps of it, and what is said."""
-    history, book, mark = vote.election.history(), vote.book, vote.election.sealed().public.mark
+def asked_box(vote: Vote) -> tuple[list[RawLetter], Detail, list[str], bool]:
+    """Asks the box of this vote: what it has, as letters, what the act keeps of it, what is said, and whether it
+    has more than before that nobody can open.
+    """
+    election, book, history = vote.election, vote.book, vote.election.history()
     if not history.announced("box"):
-        cure = f"add files; see {vote.election.command('status')}"
+        cure = f"add files; see {election.command('status')}"
         raise bad_words("--box", "the call was made without it", cure)
-    at = history.announced("at")
+    at, mark = history.announced("at"), election.sealed().public.mark
     asked = ask(at, mark, asking_word(queries.sealed(book, BOX_KEY)))
     # of another host neither the clock nor the records say anything of this one
     before = last_box(history, at)
     kept = queries.records_since(book, vote.call.number)
-    letters, others, unopened = records_in(vote, asked, before, kept)
+    letters, unopened = records_in(vote, asked, before, kept)
     came = {raw.digest for raw in letters}
     box: Detail = {
         "at": at,
         "time": asked.time.isoformat(),
         "records": len(letters),
         "gone": sum(one.at == at and one.digest not in came for one in kept),
-        "others": len(others),
         "unopened": len(unopened),
-        "lost": last_box(history).get("lost", {}) | whose(vote, [*others, *unopened], asked.time),
+        "lost": last_box(history).get("lost", {}) | whose(book, mark, unopened, asked.time),
         "behind": asked.behind,
         "list": asked.list_digest,
+        # a publication takes its place
+        "page": None if history.publications else act_of_page(book, answer_of(at).body),
     }
-    words = [*box_words(box, before)]
-    # after a publication the result takes its place
-    if not history.publications:
-        page, pages = sha256_of(answer_of(at).body), pages_of(vote.election)
-        box["page"] = page
-        if page != pages[-1]:
-            words.append(PAGE_OF_BEFORE if page in pages else OTHER_PAGE)
-    if not has_list_of_now(vote.election, asked.list_digest):
-        older = (
-            "as an older one: upload that of the folder, since who has a new link cannot vote there"
-        )
-        words.append(f"Note: the web host has another {SCRIPT} than the folder call, {older}.")
-    return letters, {"box": box}, words
+    words = [*box_words(box, before), *upload_words(election, box)]
+    return letters, {"box": box}, words, len(unopened) > before.get("unopened", 0)
 
 
 def box_words(box: Detail, before: Detail) -> Iterator[str]:
@@ -248,14 +246,23 @@ def box_words(box: Detail, before: Detail) -> Iterator[str]:
     if box["gone"] > before.get("gone", 0):
         lost = f"{count_of(box['gone'], 'record')} that it had it has no more"
         yield f"Note: {lost}. They are kept here, but others may be lost: send receipts, and ask who got none to vote again."
-    if box["others"]:
-        others = f"{count_of(box['others'], 'record')} of no elector, or more than {MOST} of one"
-        yield f"Note: {others}, passed over. The page sends none: ask who keeps the web host."
-    if box["unopened"] > before.get("unopened", 0):
-        names = listed([*box["lost"]], MOST_NAMED)
-        whose = f", by the links of {names}, who are to vote again" if names else ""
-        records = count_of(box["unopened"], "record")
-        yield f"Note: {records} can't be opened, passed over{whose}. An older page may have sent such a one, or the web host have made it."
+
+
+def upload_words(election: Election, box: Detail) -> Iterator[str]:
+    """What is said of a page and a script that are not those of the folder."""
+    if not has_page_of_now(election, box):
+        yield PAGE_OF_BEFORE if box["page"] else OTHER_PAGE
+    if not has_list_of_now(election, box["list"]):
+        yield f"Note: the web host has another {SCRIPT} than the folder call, as an older one: upload that of the folder, since who has a new link cannot vote there."
+
+
+def unopened_words(vote: Vote) -> str:
+    """What is said of records that nobody can open, with who is to vote again."""
+    history = vote.history()
+    records = count_of(last_box(history)["unopened"], "record")
+    names = listed(with_lost_records(vote.election, history), MOST_NAMED)
+    whose = f", by the links of {names}, who are to vote again" if names else ""
+    return f"Note: {records} can't be opened, or came above the {MOST} of a link, passed over{whose}. An older page may have sent such a one, or the web host have made it."
 
 
 def arrived(raw: RawLetter) -> datetime.datetime:
@@ -266,17 +273,16 @@ def arrived(raw: RawLetter) -> datetime.datetime:
 
 def records_in(
     vote: Vote, asked: Asked, before: Detail, kept: Sequence[KeptRecord]
-) -> tuple[list[RawLetter], list[RawLetter], list[RawLetter]]:
-    """The records as letters; those of no elector, or above the most that are kept of a link, also with those
-    that came before it; and those that can't be opened. What was kept is not opened again.
+) -> tuple[list[RawLetter], list[RawLetter]]:
+    """The records as letters; and those that can't be opened, of no elector, or above the most that are kept of
+    a link, also with those that came before. What was kept is not opened again.
 
     The host can exchange the times of two, and not what is sealed in them: each has the last time by the
     device of all that came before it.
     """
     counts, known = collections.Counter(one.link for one in kept), {one.digest for one in kept}
     latest = {one.elector: from_text(one.sent) for one in kept}
-    key = queries.sealed(vote.book, BOX_KEY)
-    letters, others, unopened = list[RawLetter](), list[RawLetter](), list[RawLetter]()
+    letters, unopened = list[RawLetter](), list[RawLetter]()
     parts = [part.partition(b"\n")[2] + END[:-1] for part in asked.records.split(END)[:-1]]
     raws = [
         RawLetter(f"box, record {number}", part, record=sha256_of(part))
@@ -286,69 +292,71 @@ def records_in(
         if raw.digest in known:
             letters.append(raw)
             continue
-        elector, letter = opened(key, raw)
-        if not elector:
+        letter = opened(vote.book, raw)
+        count = counts[letter.link]
+        if letter.elector not in vote.names.roll or count >= MOST:
             unopened.append(raw)
-        elif elector not in vote.names.roll or counts[letter.link] >= MOST:
-            others.append(raw)
-        else:
-            letter = dataclasses.replace(letter, sent_before=latest.get(elector))
-            letters.append(clocked(letter, asked, before, counts[letter.link]))
-            counts[letter.link] += 1
-            # the same one again takes no place
-            known.add(raw.digest)
-            latest[elector] = max(filter(None, [letter.sent, letter.sent_before]))
-    return letters, others, unopened
+            continue
+        last = latest.get(letter.elector)
+        letters.append(clocked(letter, asked, before, count, last))
+        counts[letter.link] += 1
+        # the same one again takes no place
+        known.add(raw.digest)
+        latest[letter.elector] = max(filter(None, [letter.sent, last]))
+    return letters, unopened
 
 
-def opened(key: bytes, raw: RawLetter) -> tuple[str, RawLetter]:
-    """The elector whose page sealed a record for its poll, number and proof, and the letter that it is; or
-    nobody, and the record. The key of the box alone shows that a link is true, also one whose own mark the
-    book lacks.
+def opened(book: Book, raw: RawLetter) -> RawLetter:
+    """The letter that a record is, if an elector's page sealed it for its poll, number and proof. The key of the
+    box alone shows that a link is true, also one whose own mark the book lacks.
     """
     record = RECORD.fullmatch(raw.data.decode("latin-1"))
-    # a book without a box has no key
-    if record is None or not key:
-        return "", raw
-    with contextlib.suppress(ValueError):
-        text = key_pair(key, record["mark"])[1](record["number"], record["sealed"])
-        inside = INSIDE.fullmatch(text)
-        if inside and inside["place"] == personal_link(key, inside["name"], inside["own"]):
-            if proof_digest(record["mark"], inside["place"]) == record["proof"]:
-                fields = f"X-Link: {inside['link']}\nX-Sealed: {sha256_of(raw.data)}\nX-Sent: {inside['sent']}\n"
-                data = f"{record['head']}{fields}{record['rest']}{inside['line']}\n-- \n".encode()
-                sent, link = datetime.datetime.fromisoformat(inside["sent"]), inside["link"]
-                return inside["name"], dataclasses.replace(raw, data=data, link=link, sent=sent)
-    return "", raw
+    # a book without a box has none
+    key = queries.sealed(book, BOX_KEY)
+    if record and key:
+        from debvote_tools.poll.sealed_ballots import key_pair
+
+        head, proof, rest, mark, number, sealed = record.groups()
+        with contextlib.suppress(ValueError):
+            inside = INSIDE.fullmatch(key_pair(key, mark)[1](number, sealed))
+            line, elector, place, own, link, sent = inside.groups() if inside else [""] * 6
+            true = personal_link(key, elector, own)
+            if (place, proof) == (true, proof_digest(mark, true)):
+                fields = f"X-Link: {link}\nX-Sealed: {raw.digest}\nX-Sent: {sent}\n"
+                data = f"{head}{fields}{rest}{line}\n-- \n".encode()
+                its = {"link": link, "elector": elector, "sent": from_text(sent)}
+                return dataclasses.replace(raw, data=data, **its)
+    return dataclasses.replace(raw, why_not_read=NotRead.SEALED)
 
 
-def whose(vote: Vote, records: Sequence[RawLetter], asked: datetime.datetime) -> dict[str, str]:
-    """The electors by whose proofs these records came, each with when the last one did, at the latest when
-    the box was asked.
+def whose(
+    book: Book, mark: str, records: Sequence[RawLetter], asked: datetime.datetime
+) -> dict[str, str]:
+    """The electors by whose proofs these records came, in their order, each with when the last one did, at the
+    latest when the box was asked.
     """
-    key, mark = queries.sealed(vote.book, BOX_KEY), vote.election.sealed().public.mark
-    owns = queries.own_marks(vote.book).items() if records else ()
-    names = {
-        proof_digest(mark, personal_link(key, its.elector, own)): its.elector for own, its in owns
-    }
-    in_order = sorted(records, key=arrived)
-    proofs = ((PROOF.search(raw.data.decode("latin-1")), arrived(raw)) for raw in in_order)
+    links = links_of(book).values() if records else ()
+    names = {proof_digest(mark, link): link.partition("/")[0] for link in links}
     return {
-        names[proof[1]]: min(time, asked).isoformat()
-        for proof, time in proofs
-        if proof and proof[1] in names
+        names[proof]: min(arrived(raw), asked).isoformat()
+        for raw in records
+        for proof in PROOF.findall(raw.data.decode("latin-1"))
+        if proof in names
     }
 
 
-def clocked(raw: RawLetter, asked: Asked, before: Detail, count: int) -> RawLetter:
+def clocked(
+    raw: RawLetter, asked: Asked, before: Detail, count: int, last: datetime.datetime | None
+) -> RawLetter:
     """A record with what its time is judged by. Between two askings the clock was off by as much as in the
     one where it was off by more. Of those of a link, of which so many came before it, each has a second of
-    its own, also if they come in one.
+    its own, also if they come in one. The last one before it of its elector has this time by the device.
     """
     behind = max(asked.behind, before.get("behind", 0), key=abs)
     return dataclasses.replace(
         raw,
-        asked_before=datetime.datetime.fromisoformat(before["time"]) if before else None,
+        asked_before=from_text(before["time"]) if before else None,
         behind=behind if abs(behind) > MOST_OFF else 0,
         latest=asked.time + datetime.timedelta(seconds=count),
+        sent_before=last,
     )

@@ -13,7 +13,7 @@ import urllib.parse
 from collections.abc import Sequence
 
 from debvote_tools.inbox import html
-from debvote_tools.inbox.mailbox import RawLetter
+from debvote_tools.inbox.mailbox import OfBox, RawLetter
 from debvote_tools.inbox.mime import MAX_PARTS, Part, address_key
 from debvote_tools.inbox.reasons import Reason, ReasonWithValues
 from debvote_tools.poll.sealed import OWN_LENGTH, OWN_SIGNS, marks_in
@@ -100,7 +100,7 @@ class Signature:
 
 
 @dataclasses.dataclass(frozen=True)
-class ParsedLetter:
+class ParsedLetter(OfBox):
     """What the bytes of a letter say and, if letters have to be signed, what gpgv says of it."""
 
     where: str
@@ -128,14 +128,6 @@ class ParsedLetter:
     why_unsigned: ReasonWithValues | None = None
     # the names of the files that came with it
     attachments: tuple[str, ...] = ()
-    # of a record of the box, as `RawLetter` has them
-    link: str = ""
-    asked_before: datetime.datetime | None = None
-    behind: int = 0
-    is_fetched: bool = False
-    latest: datetime.datetime | None = None
-    sent: datetime.datetime | None = None
-    sent_before: datetime.datetime | None = None
 
     @property
     def needs_signature(self) -> bool:
@@ -185,13 +177,7 @@ def parse(raw: RawLetter) -> ParsedLetter:
         else (),
         body=body,
         attachments=attachments_of(parts),
-        link=raw.link,
-        asked_before=raw.asked_before,
-        behind=raw.behind,
-        is_fetched=raw.is_fetched,
-        latest=raw.latest,
-        sent=raw.sent,
-        sent_before=raw.sent_before,
+        **raw.of_box,
     )
 
 

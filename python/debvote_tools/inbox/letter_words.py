@@ -10,6 +10,7 @@ from debvote_tools.cli.console import (
     count_of,
     cut,
     listed,
+    private,
     seen,
     shown_line,
     shown_text,
@@ -39,8 +40,12 @@ def name_of(letter: LetterCase) -> str:
 
 
 def sender_of(letter: LetterCase) -> str:
-    sender = "the page of the vote" if letter.read.link else letter.read.shown_sender
+    sender = "the page of the vote" if letter.read.link else private(letter.read.shown_sender)
     return shown_text(sender) or "nobody"
+
+
+def subject_of(letter: LetterCase) -> str:
+    return private(shown_text(letter.read.subject))
 
 
 def arrival_of(letter: LetterCase) -> str:
@@ -78,7 +83,7 @@ def table(letters: Sequence[LetterCase]) -> Iterator[str]:
     times, senders = (max(map(len, column)) for column in zip(*rows))
     yield f"letter  {'arrived':{times}}  {'from':{senders}}  subject"
     for letter, (time, sender) in zip(letters, rows):
-        subject = shown_text(letter.read.subject) or "(no subject)"
+        subject = subject_of(letter) or "(no subject)"
         yield f"{letter.number or 'new':>6}  {time:{times}}  {sender:{senders}}  {subject}"
         yield from (f"        {line}" for line in why_words(letter))
 
@@ -111,12 +116,12 @@ def why_words(letter: LetterCase) -> list[str]:
 def other_words(letter: LetterCase, most: int = MAX_WORDS) -> Iterator[str]:
     """What its sender wrote besides greetings and ballots, as far as it is shown."""
     if words := cut(letter.read.text.words, most):
-        yield f"written: {''.join(map(seen, words))}"
+        yield f"written: {private(''.join(map(seen, words)))}"
 
 
 def attachment_words(letter: LetterCase) -> Iterator[str]:
     if names := letter.read.attachments:
-        yield f"attachments: {listed(list(map(shown_text, names)), MAX_ATTACHMENTS)}"
+        yield f"attachments: {private(listed(list(map(shown_text, names)), MAX_ATTACHMENTS))}"
 
 
 def why(letter: LetterCase, elector: str = "") -> str:
@@ -135,9 +140,9 @@ def why(letter: LetterCase, elector: str = "") -> str:
 
 
 def near_words(letter: LetterCase) -> Iterator[str]:
-    yield from (f"line {line.number}: {line.as_entered}" for line in letter.ballots)
+    yield from (f"line {line.number}: {private(line.as_entered)}" for line in letter.ballots)
     for line in letter.refused:
-        yield f"line {line.number}, ranks {shown_text(line.ranks)}: {line.answer}"
+        yield f"line {line.number}, {private(f'ranks {shown_text(line.ranks)}: {line.answer}')}"
 
 
 def went_in_words(letters: Sequence[LetterCase], entered: int) -> str:
@@ -155,7 +160,7 @@ def wait_words(number: int) -> str:
 def whole(letter: LetterCase) -> Iterator[str]:
     """What its sender wrote, line by line, and below it what the letter quotes."""
     yield who_and_when(letter)
-    yield f"  subject: {shown_text(letter.read.subject)}"
+    yield f"  subject: {subject_of(letter)}"
     lines, quoted = letter.read.body.lines, sorted(letter.read.text.quoted)
     yield from numbered(lines, sorted({*range(len(lines))}.difference(quoted)))
     if quoted:

@@ -13,6 +13,7 @@ import itertools
 import pathlib
 import re
 from collections.abc import Sequence
+from typing import Any
 
 from debvote_tools.files import sha256_of
 from debvote_tools.inbox.lines import MARK
@@ -80,10 +81,34 @@ class NotRead(enum.Enum):
         "it is a record of the box that was cut off, of which nobody was told that it arrived",
         "fetch the file again",
     )
+    SEALED = "it is a record of the box that can't be opened", "ask its elector to vote again"
+
+
+@dataclasses.dataclass(frozen=True, kw_only=True)
+class OfBox:
+    """What is known of a letter that is a record of the box; of another one nothing."""
+
+    # the third part of the link by which it came, and whose it is
+    link: str = ""
+    elector: str = ""
+    # when the box was asked before, by its clock, and by how many seconds that clock is behind, if by more than
+    # a minute; and the latest time that it can have, as the box was asked then
+    asked_before: datetime.datetime | None = None
+    behind: int = 0
+    latest: datetime.datetime | None = None
+    # when it was sent by the device of its elector, and the last such time of their records that came before it
+    sent: datetime.datetime | None = None
+    sent_before: datetime.datetime | None = None
+    # whether it was fetched with the file of the box
+    is_fetched: bool = False
+
+    @property
+    def of_box(self) -> dict[str, Any]:
+        return {field.name: getattr(self, field.name) for field in dataclasses.fields(OfBox)}
 
 
 @dataclasses.dataclass(frozen=True)
-class RawLetter:
+class RawLetter(OfBox):
     """A letter as it came, or why it is passed over. One that `is_parted_off` may be text of the
     letter above it in its mailbox, or have others in it, and waits.
     """
@@ -92,20 +117,8 @@ class RawLetter:
     data: bytes = b""
     is_parted_off: bool = False
     why_not_read: NotRead | None = None
-    # of a record of the box: the third part of the link by which it came, when the box was asked before by its clock,
-    # and by how many seconds that clock is behind, if by more than a minute
-    link: str = ""
-    asked_before: datetime.datetime | None = None
-    behind: int = 0
-    # the latest time that it can have, as the box was asked then
-    latest: datetime.datetime | None = None
-    # SHA-256 of what an asking brought, by which it is known again; when a record was sent by the device of its
-    # elector, and the last such time of their records that came before it
+    # SHA-256 of what an asking brought, by which it is known again
     record: str = ""
-    sent: datetime.datetime | None = None
-    sent_before: datetime.datetime | None = None
-    # whether it is a record that was fetched with the file of the box
-    is_fetched: bool = False
 
     @functools.cached_property
     def digest(self) -> str:

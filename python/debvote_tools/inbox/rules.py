@@ -16,6 +16,7 @@ from collections.abc import Collection, Mapping, Sequence
 
 from debvote_tools.book import queries
 from debvote_tools.book.queries import Elector, EnteredBallot, KeptLetter, OwnMark
+from debvote_tools.cli.console import private
 from debvote_tools.grouping import grouped
 from debvote_tools.inbox.letter import is_server
 from debvote_tools.inbox.letter_lines import BallotLine, ReadLetter
@@ -97,10 +98,9 @@ class Circumstances:
         """The electors who have the sender's address; of a record the one on it, if the link is theirs."""
         if not letter.link:
             return self.electors_by_address.get(letter.sender, [])
-        name = next(iter(letter.body.lines), "").partition(" ")[0]
-        elector = self.electors.get(name)
-        is_theirs = elector and letter.link == third_part(self.box_key, name, elector.mark)
-        return [name] if is_theirs else []
+        elector = self.electors.get(letter.elector)
+        is_theirs = elector and letter.link == third_part(self.box_key, elector.name, elector.mark)
+        return [letter.elector] if is_theirs else []
 
 
 # ---- a letter
@@ -270,8 +270,8 @@ class LetterCase:
         arrived, sent = self.read.arrived, self.read.sent
         if arrived is None or sent is None:
             return []
-        apart = arrived + datetime.timedelta(seconds=self.read.behind) - sent
-        return [sent] if abs(apart) > AHEAD else []
+        off = datetime.timedelta(seconds=self.read.behind)
+        return [sent] if abs(arrived + off - sent) > AHEAD else []
 
     @property
     def arrivals(self) -> list[datetime.datetime]:
@@ -342,8 +342,8 @@ def why_not_in_time(case: LetterCase) -> ReasonWithValues | None:
     read, circumstances, asked = case.read, case.circumstances, case.read.asked_before
     if (arrived := read.arrived) is None:
         return Reason.NO_ARRIVAL()
-    if case.other_times:
-        return Reason.OTHER_TIME(sent=case.other_times[0])
+    for sent in case.other_times:
+        return Reason.OTHER_TIME(sent=sent)
     if case.arrived_before_call:
         return Reason.BEFORE_THE_CALL(called=circumstances.called)
     first, *_, last = case.arrivals
@@ -368,7 +368,7 @@ def why_not_from_its_elector(case: LetterCase) -> ReasonWithValues | None:
     """
     sender, elector, circumstances = case.read.sender, case.elector, case.circumstances
     if not (sender or case.read.link):
-        return Reason.NO_SENDER(sender=case.read.shown_sender)
+        return Reason.NO_SENDER(sender=private(case.read.shown_sender))
     if case.ballot is None:
         return None
     is_theirs = elector in case.sharing

@@ -14,18 +14,12 @@ from debvote_tools.book.book import DoneAct
 from debvote_tools.book.election import Election, History
 from debvote_tools.cli.console import in_runs
 from debvote_tools.cli.faults import Fault
-from debvote_tools.inbox.asked import (
-    has_page_of_now,
-    last_box,
-    unasked_fault,
-    with_lost_records,
-)
+from debvote_tools.inbox.asked import CLOSES, unasked_fault, with_lost_records
 
 # the kinds of what stops, as the page names the doubts about them, but for what nobody can open
-LETTERS, BOX, LOST, PAGE = "letters left", "box not asked", "records lost", "other page"
-# the steps of a close at the end, and before it
-FIRST_CLOSE = "close", "early"
-# how each step goes on without the letters that stop it; a publication says it in its doubts
+LETTERS, BOX, LOST = "letters left", "box not asked", "records lost"
+CLOSE_ANYWAY = "or close anyway with --force --because TEXT (the result page says so)"
+# how each later step goes on without the letters that stop it; a publication says it in its doubts
 ANYWAY = {
     "count": "or count without them with --force",
     "result": "or publish without them, with --force --because TEXT",
@@ -64,26 +58,13 @@ def what_stops(
     unasked = unasked_fault(election, history, step)
     found = {BOX: unasked} if unasked else {}
     # after the first close nobody can vote again
-    if step in FIRST_CLOSE and not history.closes:
-        found |= what_stops_a_first_close(election, history)
+    if step in CLOSES and not history.closes and (lost := with_lost_records(election, history)):
+        words = f"ballots came by the links of these electors that nobody can open, and no later ones: {', '.join(lost)}"
+        cure = f"ask them to vote again ({election.command('letters', 'reminders')} says it)"
+        found[LOST] = Fault(None, words, f"{cure}; {CLOSE_ANYWAY}")
     if pending.stopping:
         cure = letters_cure(election, step, is_closed=history.is_closed)
         found[LETTERS] = Fault(None, pending.why_they_stop, cure)
-    return found
-
-
-def what_stops_a_first_close(election: Election, history: History) -> dict[str, Fault]:
-    found = dict[str, Fault]()
-    anyway = "or close anyway with --force --because TEXT (the result page says so)"
-    if lost := with_lost_records(election, history):
-        words = f"ballots came by the links of these electors that nobody can open, and no later ones: {', '.join(lost)}"
-        cure = (
-            f"ask them to vote again ({election.command('letters', 'reminders')} says it); {anyway}"
-        )
-        found[LOST] = Fault(None, words, cure)
-    if not has_page_of_now(election, last_box(history)):
-        cure = f"upload the folder call, then run {election.command('add', '--box')}; {anyway}"
-        found[PAGE] = Fault("--box", "the page on the web host was not that of the call", cure)
     return found
 
 
@@ -91,7 +72,7 @@ def letters_cure(election: Election, step: str, *, is_closed: bool) -> str:
     """What is done with letters that stop a step."""
     if not is_closed:
         look = f"add the mailbox once more, then look at them with {election.command('held')}"
-        return f"{look}; or close anyway with --force --because TEXT (the result page says so)"
+        return f"{look}; {CLOSE_ANYWAY}"
     aside = f"set aside what is no ballot: {election.command('held', 'NUMBER', '--set-aside')}"
     reopen = election.command("reopen", "--because", "TEXT")
     enter = (

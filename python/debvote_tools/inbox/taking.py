@@ -8,7 +8,6 @@ from collections.abc import Iterable, Iterator, Sequence, Set
 
 from debvote_tools.book import queries
 from debvote_tools.book.book import Detail
-from debvote_tools.book.election import BOX_KEY
 from debvote_tools.book.change import carried_out
 from debvote_tools.book.queries import NewEnvelope
 from debvote_tools.cli.console import count_of, is_terminal, listed, shown_text, tell
@@ -19,7 +18,7 @@ from debvote_tools.inbox.entering import Entry
 from debvote_tools.inbox.judging import judged
 from debvote_tools.inbox.letter_lines import ReadLetter, read_letters, to_json
 from debvote_tools.inbox.mailbox import RawLetter
-from debvote_tools.inbox.box_records import asked_box, opened
+from debvote_tools.inbox.box_records import asked_box, opened, unopened_words
 from debvote_tools.inbox.rules import LetterCase, LetterOutcome
 from debvote_tools.inbox.vote import Vote
 from debvote_tools.inbox.stopping import other_votes_words
@@ -39,18 +38,12 @@ def take_letters(
     """Keeps new letters, and enters the ballots that go in; or tells what would become of them. Those
     `of_box` are its records: the others that wait stay as they are.
     """
-    came, detail, words = asked_box(vote) if of_box else (given, {}, [])
-    key = queries.sealed(vote.book, BOX_KEY)
-    raws = [
-        opened(key, raw)[1] if raw.is_fetched else raw for raw in came if raw.why_not_read is None
-    ]
-    if lost := sum(raw.is_fetched and not raw.link for raw in raws):
-        words = [f"Note: {count_of(lost, 'record')} of the file can't be opened, and passed over."]
-        raws = [raw for raw in raws if raw.link or not raw.is_fetched]
+    files = [opened(vote.book, raw) if raw.is_fetched else raw for raw in given]
+    came, detail, words, has_unopened = asked_box(vote) if of_box else (files, {}, [], False)
+    raws = [raw for raw in came if raw.why_not_read is None]
     new = new_of(vote, raws)
     read = read_letters(vote, new)
-    if words:
-        tell(*words)
+    tell(*words)
     if not is_look:
         keep(vote, new, read, detail)
     for raw in came:
@@ -66,7 +59,11 @@ def take_letters(
         tell(came_before, said, "Nothing was changed.")
         return
     tell(came_before)
-    tell_next(carried_out(vote.book, plan))
+    change = carried_out(vote.book, plan)
+    if has_unopened:
+        # now who has a later ballot need not vote again
+        tell(unopened_words(vote))
+    tell_next(change)
 
 
 # ---- keeping

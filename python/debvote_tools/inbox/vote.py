@@ -9,7 +9,7 @@ from typing import NamedTuple
 
 from debvote_tools.book import queries
 from debvote_tools.book.election import Election, History
-from debvote_tools.cli.console import LEAVING_OUT, count_of, cut, in_runs, shown_line, shows
+from debvote_tools.cli.console import LEAVING_OUT, count_of, cut, in_runs, private, shown_line
 from debvote_tools.cli.faults import Fault
 from debvote_tools.debvote import Finding, Findings
 from debvote_tools.files import BALLOTS_LIMIT, LINES_LIMIT
@@ -95,19 +95,6 @@ class CheckedLine(NamedTuple):
         return answers_of(self.as_entered.decode("ascii"))
 
 
-def hides_ballots(election: Election) -> bool:
-    """Whether no output has ballots: cron sends by mail what a command says, and ballots of a secret vote
-    with a box come by no mail.
-    """
-    is_by_click = election.history().announced("box") and election.questions.is_secret
-    return bool(is_by_click) and not shows()
-
-
-def hidden(_: str) -> str:
-    """What is told in place of a ballot that nobody may read."""
-    return "(shown at a terminal alone)"
-
-
 class Vote:
     """An election as it was called, and what debvote says of its lines. Stops before the call. Lines have
     the labels of several questions, or answer the one of the given label without it.
@@ -117,11 +104,10 @@ class Vote:
         self.election, self.book, self.debvote = election, election.book, election.debvote
         history = election.history()
         self.call = election.called(history)
+        if history.announced("box"):
+            LEAVING_OUT.set(functools.partial(without_links, self.book))
         # as ballots are counted
         self.questions = questions = election.questions
-        is_hidden = hides_ballots(election)
-        if history.announced("box"):
-            LEAVING_OUT.set(functools.partial(without_links, self.book, has_ranks=not is_hidden))
         # the one question that is answered without a label, if there is one
         self.label, self.poll = label, questions.get(label)
         # the roll has codes: none is printed that was not typed
@@ -130,8 +116,7 @@ class Vote:
         # what debvote has said of lines
         self.known = dict[bytes, Mapping[str, Finding]]()
         # most ballots have one of a few orders
-        in_words = hidden if is_hidden else questions.in_words()
-        self.answers_in_words = functools.lru_cache(4096)(in_words)
+        self.in_words_of = functools.lru_cache(4096)(questions.in_words())
 
     def history(self) -> History:
         """The acts until now. Stops after another call: lines were read by the poll of this one."""
@@ -335,7 +320,7 @@ class Vote:
             yield f"{number} {reply}  {self.in_words(line, reply)}"
             if (other := line.lasting) and other != line.finding:
                 written = f"written as `{shown_line(line.as_meant)}` it is refused too"
-                yield f"  it goes in as it came; {written}: {other.word}: {other.hint}"
+                yield f"  it goes in as it came; {written}: {other.word}: {private(other.hint)}"
         if not all(line.is_ballot for line in lines):
             yield self.right_words()
         if LATE_REPLY in replies:
@@ -352,7 +337,10 @@ class Vote:
         names = f" (or {ENGLISH.joined(others)})" if others else ""
         is_code = has_code(line.as_meant.decode("utf-8", "replace")) and not self.has_codes
         said = f"{shown_line(line.as_entered)}: {word}{line.finding.hint}{names}"
-        return said + (IS_CODE if is_code else "")
+        return private(said) + (IS_CODE if is_code else "")
+
+    def answers_in_words(self, answers: str) -> str:
+        return private(self.in_words_of(answers))
 
     def ballot_in_words(self, ballot: str) -> str:
         voter, _, answers = ballot.partition(" ")

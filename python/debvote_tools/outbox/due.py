@@ -154,9 +154,12 @@ def letters_due(
     is_over = bool(history.closes) or (until is not None and time > until)
     demand_due(election, history, kind, is_over=is_over)
     call_data, forced = call_data_of(election, history, kind, because)
-    electors = {elector.number: elector for elector in queries.electors(book)}
+    hides_codes = history.is_secret_by_click and not has_codes
+    electors = {
+        one.number: one._replace(code="") if hides_codes else one for one in queries.electors(book)
+    }
     noted_before = outgoing.outgoing_letters(book, kind)
-    composer = Composer(call_data, is_over, has_codes)
+    composer = Composer(call_data, is_over)
     not_reached, _ = unreached_and_printed(election, history)
     tried = {elector.number for elector, why, _ in not_reached if why != NO_LETTER}
     tried_again = {

@@ -125,8 +125,6 @@ class Composer:
 
     call_data: CallData
     is_over: bool
-    # in a secret vote with a page that takes ballots a letter that has the link has the code on demand
-    has_codes: bool = False
 
     def subject(self, kind: str, other: str = "", *, is_extension: bool = False) -> str:
         """The subject of a kind of letters, or another one, before the mark that ends it."""
@@ -143,8 +141,6 @@ class Composer:
         addresses is told as such. On paper it has at most two sides: if the texts about the options
         are too long for them, it says where they are.
         """
-        if not self.has_codes and (self.call_data.has_box or self.call_data.is_without_box):
-            elector = elector._replace(code="")
         for are_texts_elsewhere in (False, True):
             text = self.rendered(
                 "debvote_tools.poll",

@@ -35,9 +35,6 @@ ALONE = re.compile(
     rf"[{OWN_SIGNS}{OWN_SIGNS.upper()}]{{{LINK_LENGTH}}}(?<![^\W_].{{{LINK_LENGTH}}})(?![^\W_])"
 )
 
-# the ranks of a ballot, as they are written
-RANKS = re.compile(r"(?<![\w.])[0-9-]+(?:[,;][0-9-]+)+")
-
 # of this computer
 LOOPBACK = ("localhost", "127.0.0.1", "::1")
 
@@ -113,17 +110,15 @@ def proof_digest(mark: str, link: str) -> str:
 
 
 @functools.cache
-def links_of(book: Book) -> frozenset[str]:
-    """The third parts of all personal links of a book."""
+def links_of(book: Book) -> dict[str, str]:
+    """All personal links of a book by their third parts."""
     key, owns = queries.sealed(book, BOX_KEY), queries.own_marks(book)
-    return frozenset(third_part(key, its.elector, own) for own, its in owns.items())
+    links = (personal_link(key, its.elector, own) for own, its in owns.items())
+    return {link[-LINK_LENGTH:]: link for link in links}
 
 
-def without_links(book: Book, text: str, *, has_ranks: bool = True) -> str:
-    """A text without the third parts of personal links, and what is in the place of one; and without ranks,
-    if it may not have them.
-    """
-    text = text if has_ranks else RANKS.sub("..", text)
+def without_links(book: Book, text: str) -> str:
+    """A text without the third parts of personal links, and what is in the place of one."""
     text = BEHIND_OWN.sub(r"\1..", text)
     for found in ALONE.findall(text):
         # while it is said that the book can't be read, it may be one

@@ -18,7 +18,6 @@ from debvote_tools.text.rendering import render_letter, render_page, resources
 from debvote_tools.poll import box
 from debvote_tools.poll.questions import Questions
 from debvote_tools.poll.sealed import SealedPoll, in_brackets
-from debvote_tools.poll.sealed_ballots import key_pair
 
 # a first line that greets: it ends as one does, or begins so in one of the languages
 GREETING = re.compile(
@@ -136,6 +135,8 @@ class CallData:
     @property
     def seal(self) -> str:
         """The key to which this page seals ballots."""
+        from debvote_tools.poll.sealed_ballots import key_pair
+
         return key_pair(self.box_key, self.questions.mark)[0]
 
     @property
@@ -280,7 +281,7 @@ def current_call(
         else None,
         is_signed=bool(value_of("signed")),
         box_key=box.key_of(election.book) if value_of("box") else b"",
-        has_slips=not value_of("no_slips"),
+        has_slips=value_of("slips") != "no",
         letter_text=queries.sealed(election.book, LETTER_TEXT).decode(),
         has_aliases=sealed.is_aliased,
         has_codes_on_roll=now.has_codes_on_roll,

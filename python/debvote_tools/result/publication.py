@@ -17,7 +17,7 @@ from debvote_tools.files import sha256_of
 from debvote_tools.grouping import grouped
 from debvote_tools.inbox.asked import is_unasked_since_end, other_pages
 from debvote_tools.inbox.lines import name_in
-from debvote_tools.inbox.stopping import BOX, LETTERS, PAGE, Pending, letters_cure, what_stops
+from debvote_tools.inbox.stopping import BOX, LETTERS, Pending, letters_cure, what_stops
 from debvote_tools.poll.call import current_call
 from debvote_tools.poll.secret import alias_in, aliased_ballots, sealed_checksum
 from debvote_tools.poll.sealed import SealedPoll
@@ -219,9 +219,9 @@ def doubts_of(
     if is_unasked_since_end(history):
         # at the end `close --force` has agreed to it
         yield Doubt(BOX, stops=BOX in stopping, command=election.command("add", "--box"))
-    for act in other_pages(election, history)[:1]:
+    for act in other_pages(history):
         places = {"time": act.time.astimezone(history.zone), "address": act.detail["box"]["at"]}
-        yield Doubt(PAGE, places, stops=False)
+        yield Doubt("other page", places, stops=False)
     last = history.last_publication
     all_castings = {**(last.detail["casting"] if last else {}), **castings}
     for label, poll in election.questions.items():

@@ -14,6 +14,7 @@ from collections.abc import Callable, Iterable
 
 from debvote_tools.cli.faults import Fault, Status
 from debvote_tools.inbox import box_records
+from debvote_tools.inbox import box_records
 from debvote_tools.inbox.box_records import Asked, ask, box_words
 from debvote_tools.inbox.letter import parse
 from debvote_tools.inbox.mailbox import NotRead, RawLetter, are_letters, letters_of_file
@@ -110,7 +111,8 @@ class Fetched(ElectionTest):
         records = [record("ada", "ada 1,2,3,4", number, "2026-11-28T12:00:00") for number in (1, 2)]
         self.write("box.php", FIRST + "".join(records).encode())
         said = self.done("add", "--yes", "box.php").output
-        self.assertIn("Note: 2 records of the file can't be opened, and passed over.\n0 new letters; 0 came before.\n", said)
+        sealed = "box.php, message {}: it is a record of the box that can't be opened, and was passed over; ask its elector to vote again\n"
+        self.assertIn(f"{sealed.format(1)}{sealed.format(2)}0 new letters; 0 came before.\n", said)
         self.assertEqual(self.rows("SELECT count(*) FROM source"), [(0,)])
 
     def test_what_is_below_its_last_whole_record_is_none(self) -> None:
@@ -266,7 +268,7 @@ class Dishonest(AskingTest):
 
 class Said(unittest.TestCase):
     def test_what_is_said_of_an_asking(self) -> None:
-        """A clock that is off by more than a minute; records that are gone, when there are more of them; others."""
+        """A clock that is off by more than a minute; records that are gone, when there are more of them."""
         for box, gone, notes in (
             ({"behind": 60}, 0, []),
             ({"behind": -60}, 0, []),
@@ -275,19 +277,27 @@ class Said(unittest.TestCase):
             ({"gone": 2}, 1, ["2 records that it had it has no more"]),
             ({"gone": 2}, 2, []),
             ({"gone": 1}, 2, []),
-            ({"others": 1}, 0, ["1 record of no elector, or more than 20 of one"]),
-            ({"unopened": 1}, 0, ["1 record can't be opened, passed over. An older page"]),
-            ({"unopened": 2, "lost": {"ada": "x", "ben": "y"}}, 0, ["2 records can't be opened, passed over, by the links of ada, ben, who are to vote again. "]),
-            ({"unopened": 30, "lost": dict.fromkeys(f"m{number}" for number in range(25))}, 0, ["30 records can't be opened"]),
-            ({"unopened": 1, "gone": 1}, 1, []),
         ):
-            known = {"records": 3, "behind": 0, "gone": 0, "others": 0, "unopened": 0, "lost": {}}
-            first, *said = box_words(known | box, {"gone": gone, "unopened": gone})
-            self.assertNotIn("m20", "".join(said))
+            known = {"records": 3, "behind": 0, "gone": 0}
+            first, *said = box_words(known | box, {"gone": gone})
             self.assertEqual(first, "The box has 3 records.")
             self.assertEqual(len(said), len(notes), (box, said))
             for note, line in zip(notes, said):
                 self.assertIn(f"Note: {note}", line)
+
+
+    def test_what_is_said_of_records_that_nobody_can_open(self) -> None:
+        """Of many electors the first are named."""
+        names = [f"m{number}" for number in range(25)]
+        for lost, said in (
+            ([], "passed over. An older page"),
+            (names[:2], "passed over, by the links of m0, m1, who are to vote again. "),
+            (names, "m18, m19 and 5 more, who are to vote again."),
+        ):
+            with unittest.mock.patch.multiple(box_records, last_box=lambda _: {"unopened": 30}, with_lost_records=lambda *_: lost):
+                words = box_records.unopened_words(unittest.mock.Mock())
+            self.assertIn("Note: 30 records can't be opened, or came above the 20 of a link, passed over", words)
+            self.assertIn(said, words)
 
 
 @NEEDS_PHP

@@ -143,7 +143,7 @@ class Clicks(boxes.BoxElectionTest):
         self.assertEqual(self.standing(), {"ada": "4,3,2,1", "ben": "2,1,-,4"})
         self.assertEqual(self.done("add", "--box", "--yes").output.splitlines()[:2], ["The box has 3 records.", "0 new letters; 3 came before."])
         first, second, third = self.boxes_kept()
-        self.assertEqual([(one["records"], one["gone"], one["others"]) for one in (first, second, third)], [(0, 0, 0), (3, 0, 0), (3, 0, 0)])
+        self.assertEqual([(one["records"], one["gone"], one["unopened"]) for one in (first, second, third)], [(0, 0, 0), (3, 0, 0), (3, 0, 0)])
         self.assertEqual(first["list"], list_digest(self.read("call/vote.php")))
         # taken back, and asked again: that waits for whoever took it back
         self.done("undo")
@@ -261,7 +261,7 @@ class Clicks(boxes.BoxElectionTest):
         other = data.removeprefix(FIRST).replace(proof_digest(self.mark(), self.place_of("ada", links["ada"])).encode(), b"2" * 64)
         self.write("fetched.php", data + other)
         said = self.done("add", "--yes", "fetched.php").output
-        self.assertIn("Note: 1 record of the file can't be opened, and passed over.", said)
+        self.assertIn("it is a record of the box that can't be opened, and was passed over; ask its elector to vote again\n", said)
         self.assertIn("1 new letter; 0 came before.", said)
         self.done("held", "1", "--set-aside")
         self.done("add", "--box", "--yes")
@@ -345,20 +345,20 @@ class Clicks(boxes.BoxElectionTest):
         odd = backdated.replace(b"From: box@page.invalid\n", b"From: dan@club.example\n")
         replayed = re.sub(rb"\d\d:\d\d:\d\d", b"00:00:01", real)
         cleo, both, nothing = {"cleo"}, {"cleo", "ben"}, set[str]()
-        for what, data, gone, others, unopened, records, lost in (
-            ("dropped", FIRST, 1, 0, 0, 0, nothing),
-            ("backdated", real + backdated, 0, 0, 0, 2, nothing),
-            ("of who never came", real + backdated + unknown, 0, 0, 2 * MOST, 2, cleo),
-            ("of nobody, and of another form", real + backdated + nobody + odd, 0, 1, 1, 2, both),
-            ("changed", real.replace(b"X-Proof", b"x-proof"), 2, 0, 1, 0, both),
-            ("replayed", replayed, 2, 0, 0, 1, both),
-            ("again and again", FIRST + real.removeprefix(FIRST) * (MOST + 1), 2, 0, 0, MOST + 1, both),
+        for what, data, gone, unopened, records, lost in (
+            ("dropped", FIRST, 1, 0, 0, nothing),
+            ("backdated", real + backdated, 0, 0, 2, nothing),
+            ("of who never came", real + backdated + unknown, 0, 2 * MOST, 2, cleo),
+            ("of nobody, and of another form", real + backdated + nobody + odd, 0, 2, 2, both),
+            ("changed", real.replace(b"X-Proof", b"x-proof"), 2, 1, 0, both),
+            ("replayed", replayed, 2, 0, 1, both),
+            ("again and again", FIRST + real.removeprefix(FIRST) * (MOST + 1), 2, 0, MOST + 1, both),
         ):
             with self.subTest(what):
                 self.file().write_bytes(data)
                 ended, kept = self.done("add", "--box", "--yes"), self.boxes_kept()[-1]
-                found = [kept[key] for key in ("gone", "others", "unopened", "records")]
-                self.assertEqual((*found, {*kept["lost"]}), (gone, others, unopened, records, lost), ended.output)
+                found = [kept[key] for key in ("gone", "unopened", "records")]
+                self.assertEqual((*found, {*kept["lost"]}), (gone, unopened, records, lost), ended.output)
                 self.assertEqual(self.standing(), {"ada": "1,2,3,4"})
         self.assertIn("it is older than", self.done("held").output)
 
@@ -443,9 +443,9 @@ class Clicks(boxes.BoxElectionTest):
         vote = Vote(Election(self.folder, PROGRAM.parent))
         asked = box_records.Asked(datetime.datetime.now(datetime.UTC), 0, "", self.file().read_bytes().removeprefix(FIRST))
         kept = queries.records_since(vote.book, 0)
-        with unittest.mock.patch("debvote_tools.inbox.box_records.key_pair") as opening:
-            letters, others, unopened = box_records.records_in(vote, asked, {}, kept)
-        self.assertEqual((opening.called, len(letters), others, unopened), (False, 2, [], []))
+        with unittest.mock.patch("debvote_tools.poll.sealed_ballots.key_pair") as opening:
+            letters, unopened = box_records.records_in(vote, asked, {}, kept)
+        self.assertEqual((opening.called, len(letters), unopened), (False, 2, []))
         self.assertEqual({one.digest for one in letters}, {one.digest for one in kept})
 
     def test_each_that_does_not_open_alone_beside_good_ones(self) -> None:
@@ -486,7 +486,7 @@ class Clicks(boxes.BoxElectionTest):
                 self.file().write_bytes(good + data)
                 said = self.done("add", "--box", "--yes").output
                 kept = self.boxes_kept()[-1]
-                self.assertEqual((kept["unopened"], kept["records"], kept["others"]), (1, 1, 0), said)
+                self.assertEqual((kept["unopened"], kept["records"]), (1, 1), said)
                 whose |= {"ada" if what == "another proof" else "ben"}
                 self.assertEqual({*kept["lost"]}, whose)  # type: ignore[misc]
                 # it is told when the number grows
@@ -522,7 +522,7 @@ class Clicks(boxes.BoxElectionTest):
             time.sleep(1.1)
             self.assertEqual(self.host.send(request_of(f"{self.page()} {proof} {number:032x}", "A" * 300)).word, "received")
         said = self.done("add", "--box", "--yes").output
-        self.assertIn("Note: 2 records can't be opened, passed over, by the links of ada, ben, who are to vote again.", said)
+        self.assertIn("Note: 2 records can't be opened, or came above the 20 of a link, passed over, by the links of ada, ben, who are to vote again.", said)
         self.assertEqual(json.loads(self.done("status", "--json").output)["lost"], ["ada", "ben"])
         self.assertIn("Ballots that nobody can open, and no later ones, by the links of (2):\n  ada ben\n", self.done("status").output)
         self.done("letters", "reminders")
@@ -535,7 +535,14 @@ class Clicks(boxes.BoxElectionTest):
         self.assertEqual({name for name, text in texts.items() if none in text}, {*elections.NAMES} - {"ada"})
         time.sleep(1.1)
         self.click("ada", "4,3,2,1", links["ada"])
-        self.done("add", "--box", "--yes")
+        proof = sealing.proof_of(self.mark(), self.place_of("ada", links["ada"]))
+        time.sleep(1.1)
+        self.assertEqual(self.host.send(request_of(f"{self.page()} {proof} {950:032x}", "A" * 300)).word, "received")
+        time.sleep(1.1)
+        self.click("ada", "2,1,3,4", links["ada"])
+        # who has a later ballot is not told to vote again, also if it came with the same asking
+        said = self.done("add", "--box", "--yes").output
+        self.assertIn("Note: 3 records can't be opened, or came above the 20 of a link, passed over, by the links of ben, who are to vote again.", said)
         self.assertEqual(json.loads(self.done("status", "--json").output)["lost"], ["ben"])
         fault = "ballots came by the links of these electors that nobody can open, and no later ones: ben; nothing was changed"
         self.assert_fault(self.election("close", "--early"), 9, fault, "ask them to vote again")
@@ -559,7 +566,7 @@ class Clicks(boxes.BoxElectionTest):
             if number in (MOST // 2, MOST):
                 self.done("add", "--box", "--yes")
         kept = self.boxes_kept()[-1]
-        self.assertEqual((kept["records"], kept["others"], kept["unopened"], [*kept["lost"]]), (MOST, 1, 0, ["ada"]))  # type: ignore[misc]
+        self.assertEqual((kept["records"], kept["unopened"], [*kept["lost"]]), (MOST, 1, ["ada"]))  # type: ignore[misc]
         self.assertEqual(json.loads(self.done("status", "--json").output)["lost"], ["ada"])
 
     def test_a_record_that_is_ahead_of_the_clock_of_its_host(self) -> None:
@@ -923,7 +930,7 @@ class Pages(boxes.BoxElectionTest):
         self.assertFalse(self.is_present())
         for kind in ("call", "reminders"):
             self.assert_fault(self.election("letters", kind), 9, "with page and links of now")
-        fault = "--box: the page on the web host was not that of the call; nothing was changed: upload the folder call, then run debvote-election add --box; or close anyway with --force"
+        fault = "--box: the page on the web host was not that of the call; nothing was changed: upload the folder call, then run debvote-election add --box; if it does not answer any more, close with --force"
         self.assert_fault(self.election("close", "--early"), 9, fault)
         self.upload()
         self.done("add", "--box")

@@ -5,10 +5,9 @@ import json
 import re
 import time
 
-from debvote_tools.poll.box import without_links
-
 from tests.support import at_browser, boxes, elections
 from tests.support.letters import letter, mailbox
+from tests.support.terminal import Terminal
 from tests.support.web_host import NEEDS_PHP
 
 HTTPS = ("--at", "https://club.example/vote/")
@@ -161,14 +160,46 @@ class SecretClicks(boxes.BoxElectionTest):
         """What counts, as it is published: the order of the ranks alone."""
         return {"ada": "4,3,2,1", "ben": "2,1,-,3", "dan": "2,1,3,4"}
 
-    def test_no_output_has_ranks_however_they_are_written(self) -> None:
-        self.begun()
-        for text, shown in (
-            ("ada 1,2,3,4: column 4", "ada ..: column 4"),
-            ("`1,-,2`", "`..`"),
-            ("2026-12-04 18:00:00 UTC+01:00; letters 3, 7", "2026-12-04 18:00:00 UTC+01:00; letters 3, 7"),
-        ):
-            self.assertEqual(without_links(None, text, has_ranks=False), shown)  # type: ignore[arg-type]
+    def own_subject(self, name: str, begins: str) -> str:
+        """A subject with the own mark of an elector."""
+        [(own,)] = self.rows("SELECT mark FROM elector_now WHERE name = ?", name)
+        return f"{begins} [{self.mark()}-{own}]"
+
+    def test_nothing_that_people_wrote_is_told_at_a_pipe(self) -> None:
+        links = self.begun()
+        arrived = time.strftime("%a, %d %b %Y %H:%M:%S +0000")
+        said = [
+            letter("ada", "I take the lake, then the hall\n", time=arrived, subject=self.own_subject("ada", "The lake first")),
+            letter("ben", "ben 9,9\n> ben hall\n", time=arrived, subject=self.own_subject("ben", "2-1-3")),
+            letter("cleo", "cleo  1, 2,3,4.\n", time=arrived, subject=self.own_subject("cleo", "Ballot")),
+            letter("dan", "dan 1,2,3,4\ndan 4,3,2,1\n", time=arrived, subject=self.own_subject("dan", "Mine")).replace(
+                b"From: dan@club.example", b"From: For the lake <dan@club.example>"
+            ),
+        ]
+        self.write("inbox.mbox", mailbox(*said))
+        self.write("lines.txt", "eve: 1, 2, 3, 4.\nfay lake\ngus 1,2,3\nhal 1,2,3,4\n")
+        self.click("ida", "1,2,3,4", links["ida"])
+        told = [self.done("add", "--yes", "inbox.mbox"), self.done("add", "--box", "--look"), self.done("add", "--box", "--yes")]
+        told += [self.election("add", "--look", "lines.txt"), self.election("add", "lines.txt"), self.election("add", "--force", "lines.txt")]
+        told.append(self.done("desk", given="fay: lake\ngus 1,2,3\n"))
+        told += [self.done("held"), *(self.done("held", number) for number in range(1, 5))]
+        told += [self.election("held", 1, "--as", "ada lake"), self.election("held", 4, "--enter"), self.election("held", 1, 2, "--enter")]
+        told += [self.done("show", name) for name in elections.NAMES]
+        told += [self.done("status"), self.done("status", "--json"), self.done("log")]
+        told.append(self.done("strike", 2, "--yes", "--because", "It was mistyped."))
+        told += [self.done("undo", "--yes")]
+        text = "".join(ended.output + ended.faults for ended in told).replace(self.right_line(), "")
+        self.assertIn("(shown at a terminal alone)", text)
+        for part in ("lake", "hall", "9,9", "2-1-3", "1,2,3", "1, 2, 3", "4,3,2", "column", "ranks, the poll", "For the lake"):
+            self.assertNotIn(part, text)
+        # at a terminal all of it is there
+        with_terminal = Terminal(self, "held", "1").end()[0]
+        for part in ("I take the lake, then the hall", "subject: The lake first"):
+            self.assertIn(part, with_terminal)
+
+    def right_line(self) -> str:
+        """What is said of a ballot line beside one that is refused: it is nobody's."""
+        return "A ballot line of this poll: `ada 2,3,4,1`: the ranks of 1 At the lake, 2 In the town hall, 3 Sell the house and meet there, 4 Further discussion; 1 is the best"
 
     @at_browser.NEEDS_BROWSER
     def test_by_the_page_in_a_browser(self) -> None:
@@ -221,3 +252,25 @@ class SecretClicks(boxes.BoxElectionTest):
         arrived = time.strftime("%a, %d %b %Y %H:%M:%S +0000")
         self.write("inbox.mbox", mailbox(letter("ada", "ada 1,2,3,4\n", time=arrived, subject=re.sub(r"\s+", " ", subject))))
         self.assertIn("1 ballot of letters went in", self.done("add", "--yes", "inbox.mbox").output)
+
+
+@NEEDS_PHP
+class SecretMotion(boxes.BoxElectionTest):
+    """A motion, whose ballots may be words."""
+
+    poll = 'title = "A boat"\noptions = ["We buy a boat"]\nratios = [1]\ndefault = "We keep the money"\nquorum = 0\nsecret = true\nmotion = true\n'
+    call_words = None
+
+    def test_no_word_is_told_at_a_pipe(self) -> None:
+        self.done("codes")
+        self.call("--slips", "no")
+        self.done("add", "--box")
+        self.done("letters", "call")
+        self.click("ada", "2,1", self.links()["ada"])
+        self.write("lines.txt", "ben yes\ncleo nope\ndan: No\n")
+        told = [self.done("add", "--box", "--yes"), self.election("add", "lines.txt"), self.done("desk", given="eve yes\nfay perhaps not\n")]
+        told += [self.done("show", name) for name in ("ada", "ben", "cleo", "dan", "eve")] + [self.done("status")]
+        text = "".join(ended.output + ended.faults for ended in told)
+        text = text.replace("A ballot line of this poll: `ada 2,1`: the ranks of 1 We buy a boat, 2 We keep the money; 1 is the best", "")
+        for part in ("yes", "nope", "No", "perhaps", "column", "1,2", "2,1", "boat", "abstain"):
+            self.assertNotRegex(text.replace("Title: A boat", ""), rf"\b{part}\b")
