@@ -21,7 +21,6 @@ from collections.abc import Callable, Iterable, Mapping, Sequence
 from typing import NamedTuple
 
 from debvote_tools.poll.box import asking_word, page_of, third_part, records_file, script_of
-from debvote_tools.poll.sealed_ballots import key_pair
 
 from tests.support import sealing
 
@@ -35,7 +34,7 @@ SECONDS = 60
 MARK, KEY = "1ac5041b936c7fc1", bytes(range(32))
 OWNS = {"ada": "23456789ab", "ben-lee": "3456789abc", "cleo.x": "456789abcd"}
 WORD, FILE, PAGE = asking_word(KEY), records_file(KEY), page_of(KEY, MARK)
-PUBLIC = key_pair(KEY, MARK)[0]
+PUBLIC = sealing.key_pair(KEY, MARK)[0]
 LINKS = {name: third_part(KEY, name, own) for name, own in OWNS.items()}
 # the first line of the file, and the end of each record
 FIRST, END = b"<?php exit; ?>\n", b"\n-- \n\n"

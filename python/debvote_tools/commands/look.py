@@ -227,8 +227,8 @@ def show(election: Election, arguments: ShowArguments) -> None:
     tell(*(f"  {line}" for one in fates for line in fate_words(vote, history, one, came)))
     current = queries.what_counts(election.book, {elector.number}).get(elector.name)
     line = f"{elector.name} {current}: " if current and vote.questions.is_several else ""
-    said = vote.answers_in_words(current) if current else "none"
-    tell(f"The current ballot: {line}{said}")
+    said = private(f"{line}{vote.in_words_of(current)}") if current else "none"
+    tell(f"The current ballot: {said}")
     out = outgoing.outgoing_letters(election.book, elector=elector.number)
     for letter in sorted(out, key=lambda letter: letter.time):
         where = f"to {letter.address}" if letter.address else "to be printed"

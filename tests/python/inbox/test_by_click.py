@@ -25,7 +25,6 @@ from debvote_tools.inbox import box_records
 from debvote_tools.inbox.box_records import MOST
 from debvote_tools.inbox.vote import Vote
 from debvote_tools.poll.box import asking_word, list_digest, proof_digest, third_part
-from debvote_tools.poll.sealed_ballots import key_pair
 
 from tests.support import at_browser, boxes, elections, sealing
 from tests.support.letters import OWN, at, judged, letter, mailbox, outcome, outcomes, parsed
@@ -467,7 +466,7 @@ class Clicks(boxes.BoxElectionTest):
             "another number": one.replace(b"<00", b"<01"),
             "another proof": one.replace(digests["ben"], digests["ada"]),
             "another mark": one.replace(mark.encode(), b"0" * 16),
-            "another key": one.replace(sealed, sealing.sealed(key_pair(b"x" * 32, mark)[0], mark, f"{50:032x}", f"ben 1,2,3,4\n{place}\n{sent}").encode()),
+            "another key": one.replace(sealed, sealing.sealed(sealing.key_pair(b"x" * 32, mark)[0], mark, f"{50:032x}", f"ben 1,2,3,4\n{place}\n{sent}").encode()),
             "a sign changed": one.replace(sealed, sealed[:150] + (b"B" if sealed[150:151] == b"A" else b"A") + sealed[151:]),
             "a cut tag": one.replace(sealed, sealed[:-4]),
             "two lines": with_text(f"ben 1,2,3,4\nben 4,3,2,1\n{place}\n{sent}"),

@@ -21,7 +21,6 @@ from debvote_tools.poll.box import SENTENCES, proof_digest, third_part, records_
 from debvote_tools.poll.call import CallData, call_files
 from debvote_tools.poll.questions import Questions
 from debvote_tools.poll.sealed import with_roll
-from debvote_tools.poll.sealed_ballots import key_pair
 from debvote_tools.text.language import LANGUAGES, language_of
 from debvote_tools.text.rendering import checksum_source
 
@@ -319,7 +318,7 @@ class Clicks(RealBoxTest):
         said = self.sent()
         [record] = self.file.read_text().removeprefix(FIRST.decode()).split(END_OF_RECORD.decode())[:-1]
         number = re.findall(r"<(\w+)@", record)[0]
-        line, link, sent = key_pair(KEY, MARK)[1](number, record.rpartition("\n")[2]).split("\n")
+        line, link, sent = sealing.key_pair(KEY, MARK)[1](number, record.rpartition("\n")[2]).split("\n")
         self.assertEqual((line, link), ("ada 1,2,3,4", PLACES["ada"][1:]))
         self.assertRegex(sent, r"^20\d\d-\d\d-\d\dT\d\d:\d\d:\d\d\.\d{3}Z$")
         spoken = f"new Date('{sent}').toLocaleString('en', {{ dateStyle: 'medium', timeStyle: 'medium' }})"

@@ -11,7 +11,6 @@ import unittest
 
 from debvote_tools.poll.box import page_of, personal_link, script_of
 from debvote_tools.poll.questions import LABELS
-from debvote_tools.poll.sealed_ballots import key_pair
 from debvote_tools.text.rendering import resources
 
 from tests.python.pages.test_box_page import CALL, EMPTY, LINKS, MARK, NOW, OWNS, PLACES, WORDS
@@ -64,7 +63,7 @@ def fixed() -> str:
 def sent_under_node(line: str, place: str, options: int) -> bytes:
     """What the script sends of a line by a personal link; `options` are those of the form, and its questions if they are several."""
     data = {"box": "vote.php", "mark": vector.MARK, "page": page_of(vector.KEY, vector.MARK)}
-    data |= {"seal": key_pair(vector.KEY, vector.MARK)[0], "until": "", "words": json.dumps(WORDS)}
+    data |= {"seal": sealing.key_pair(vector.KEY, vector.MARK)[0], "until": "", "words": json.dumps(WORDS)}
     given = {"place": json.dumps(place), "line": json.dumps(line), "data": json.dumps(data), "options": options}
     script = AROUND % given + fixed() + resources("debvote_tools.poll", "box.js") + "\npressed[0]();"
     ended = subprocess.run([str(NODE), "-"], input=script.encode(), capture_output=True, timeout=60)
@@ -98,7 +97,7 @@ class Browser(BoxPageTest):
         for what, before, after in (
             ("mark", CALL.questions.mark, vector.MARK),
             ("page", CALL.page, page_of(vector.KEY, vector.MARK)),
-            ("seal", CALL.seal, key_pair(vector.KEY, vector.MARK)[0]),
+            ("seal", CALL.seal, sealing.key_pair(vector.KEY, vector.MARK)[0]),
         ):
             self.assertEqual(page.count(f'data-{what}="{before}"'), 1, what)
             page = page.replace(f'data-{what}="{before}"', f'data-{what}="{after}"')
