@@ -7,6 +7,7 @@ import email
 import hashlib
 import itertools
 import os
+import pathlib
 import random
 import re
 import shutil
@@ -25,7 +26,8 @@ RANKS = "1234-"
 # ranks, however somebody writes those of four options, and names of options in their order
 RANKED = re.compile(r"(?<![\w.:-])[0-9-]\s?[,;/ ]\s?[0-9-]\s?[,;/ ]\s?[0-9-]\s?[,;/ ]\s?[0-9-](?![\w:-])")
 IN_WORDS = re.compile(r"(At the lake|In the town hall|Sell the house|Further discussion).{0,20}, (then|and) ")
-
+# a ballot line that is shown to say how one is written
+EXAMPLE = re.compile("A ballot line of this poll: `[^`]+`")
 # the times of ballots in a receipt
 SENT = re.compile(r"[bB]allot of \w+, \d+ \w+ \d+, ([\d:]+) \(UTC\+01:00\)")
 
@@ -195,6 +197,7 @@ class InABrowser(ClickedElection):
         return dict(line.split() for line in self.read("result/ballots.txt").decode().splitlines())
 
 
+SECRET = "secret = true\n"
 TURNED = elections.POLL.replace('"At the lake", "In the town hall"', '"In the town hall", "At the lake"')
 
 
@@ -228,9 +231,6 @@ class OpenByClicks(InABrowser):
         [text] = self.receipts().values()
         self.assertEqual(SENT.findall(text), [first])
         self.assertIn("It was read as: At the lake, then In the town hall", text)
-
-
-SECRET = "secret = true\n"
 
 
 class SecretByClicks(InABrowser):
@@ -303,8 +303,7 @@ class SecretByClicks(InABrowser):
     def demand_untold(self, links: dict[str, str], aliases: dict[str, str]) -> None:
         """No output has ranks or an alias, no letter ranks, and nothing ties a name to an alias."""
         for said in self.said:
-            # an example is of nobody
-            said = re.sub("A ballot line of this poll: `[^`]+`", "", said)
+            said = EXAMPLE.sub("", said)
             for pattern in (RANKED, IN_WORDS):
                 self.assertIsNone(pattern.search(said), said)
             for line in (*self.on_paper, *self.at_a_desk):
@@ -335,6 +334,49 @@ class SecretByClicks(InABrowser):
                     self.assertNotIn(link, text, where)
             if where.startswith(("result", "call/")):
                 self.assertEqual(names, set(), where)
+
+
+@NEEDS_PHP
+class SecretQuestions(boxes.BoxElectionTest):
+    """A secret vote on several questions, of which one is a motion, without a browser."""
+
+    new_words = ("--questions", "2")
+    poll = SECRET
+    polls = {
+        "A": 'title = "Raise the fee"\noptions = ["Yes"]\nratios = [1]\ndefault = "No"\nquorum = 0\nmotion = true\n',
+        "B": 'title = "The chair"\noptions = ["Ada Lovelace", "Mary Somerville"]\nratios = [1, 1]\ndefault = "Nobody"\nquorum = 0\n',
+    }
+
+    def fill_in(self, folder: pathlib.Path) -> None:
+        super().fill_in(folder)
+        (folder / "poll.toml").unlink()
+        (folder / "polls" / "title.txt").write_text("General assembly\n")
+        for label, poll in self.polls.items():
+            (folder / "polls" / f"{label}.toml").write_text(SECRET + poll)
+
+    def test_no_output_tells_answers(self) -> None:
+        self.done("codes")
+        self.call("--slips", "no")
+        self.done("add", "--box")
+        self.done("letters", "call")
+        links = self.links()
+        for name, answers in (("ada", "A 1,2 B 2,1,3"), ("ben", "A 2,1"), ("ada", "B 3,2,1"), ("dan", "A 1,9")):
+            self.click(name, answers, links[name])
+        self.write("paper", "eve A 1,1 B 1,3,2\nfay A 2,1,2 B 1,1\n")
+        said = self.done("add", "--box", "--look").output + self.done("add", "--box", "--yes").output
+        self.assertIn("3 ballots of letters went in; 1 letter waits", said)
+        for words in ("add paper", "held", "held 3", "held 3 --enter", "status", "status --json", "log", "count --force", "undo --yes"):
+            ended = self.election(*words.split())
+            said += ended.output + ended.faults
+        said += self.done("desk", given="gus A 1,2 B 3,-,1\n").output
+        for name in elections.NAMES:
+            said += self.done("show", name).output
+        said = EXAMPLE.sub("", said)
+        self.assertIn("The current ballot: (shown at a terminal alone)", said)
+        self.assertIsNone(re.search(r"\b[AB] [0-9-]+,|[0-9-],[0-9-]|: (Yes|No|Abstain)\b|Lovelace, then|Somerville, then", said), said)
+        told = " ".join([*self.receipts().values()])
+        self.assertIn("counts", told)
+        self.assertIsNone(re.search(r"[0-9],[0-9-]|, then |It was read as", told), told)
 
 
 @NEEDS_PHP
