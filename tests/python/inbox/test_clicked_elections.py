@@ -14,6 +14,8 @@ import shutil
 import time
 import unittest.mock
 
+from debvote_tools.poll.box import personal_link, proof_digest
+
 from tests.support import boxes, elections
 from tests.support.at_browser import NEEDS_BROWSER, Window
 from tests.support.letters import letter, mailbox
@@ -43,7 +45,9 @@ class ClickedElection(boxes.BoxElectionTest):
     """All that its host is sent, and all that its commands say, is kept."""
 
     names = [f"member-{number:02}" for number in range(MEMBERS)]
+    # the arguments of the call; and its files that tell the roll to everybody
     words: tuple[str, ...] = ()
+    public: tuple[str, ...] = ("index.html", "poll.toml", "call.txt")
 
     def setUp(self) -> None:
         self.said = list[str]()
@@ -63,18 +67,13 @@ class ClickedElection(boxes.BoxElectionTest):
     def demand_nothing_on_the_host(self, links: dict[str, str]) -> None:
         """Nothing in its files, its log, and what it was sent, tells a name, a line, a link or an own mark."""
         owns = [str(own) for own, in self.rows("SELECT mark FROM elector_now")]
-        secrets = [*links.values(), *owns, *self.ranks.values(), *(f"{name} " for name in self.names), *self.secrets()]
+        secrets = [*links.values(), *owns, *self.ranks.values(), *self.names, *self.secrets()]
         files = [file for file in self.web.rglob("*") if file.is_file() and file.name not in self.public]
         kept = {file.name: file.read_bytes() for file in files}
         self.assertGreaterEqual(len(kept), 2)
         kept |= {"log": self.host.said()} | {f"request {number}": one for number, one in enumerate(self.between.requests)}
         for (what, data), secret in itertools.product(kept.items(), secrets):
             self.assertNotIn(secret.encode(), data, what)
-        for name in self.names:
-            self.assertNotIn(name.encode(), b"".join(kept.values()))
-
-    # the files of an open call that everybody reads have the roll
-    public: tuple[str, ...] = ("index.html", "poll.toml", "call.txt", "SHA256SUMS")
 
     def secrets(self) -> list[str]:
         """What else is secret."""
@@ -135,18 +134,15 @@ class InABrowser(ClickedElection):
         new = (self.web / "index.html").read_bytes()
         # an old tab, by a link of now: the letters that have it are not written yet
         own = str(self.rows("SELECT mark FROM elector_now WHERE name = ?", name)[0][0])
-        place = boxes.personal_link(self.key, name, own)
+        place = personal_link(self.key, name, own)
         self.assertNotIn(before[name], place)
-        for page in (b"", old_page):
-            if page:
-                # that of before lies on the host, and is opened anew
-                (self.web / "index.html").write_bytes(page)
-                self.assertIn("Note: the page there is the one of before", self.done("add", "--box").output)
-                self.visit(place)
-            else:
-                self.window.ask(f"location.hash = '#{place}'")
-            self.window.ballot(None, "1234")
-            self.assertIn("It was not taken: this page is an older one. Load it again.", self.press())
+        self.window.ask(f"location.hash = '#{place}'")
+        self.demand_old()
+        # that of before lies on the host, and is opened anew
+        (self.web / "index.html").write_bytes(old_page)
+        self.assertIn("Note: the page there is the one of before", self.done("add", "--box").output)
+        self.visit(place)
+        self.demand_old()
         # that of another vote, and one with a script more
         for page in (old_page.replace(b"Where we meet", b"Where we sleep"), new.replace(b"</body>", b"<script>1</script></body>")):
             self.assertNotIn(page, (new, old_page))
@@ -159,6 +155,11 @@ class InABrowser(ClickedElection):
         self.assertEqual(self.file().read_bytes(), FIRST)
         self.done("letters", "call")
         return self.links()
+
+    def demand_old(self) -> None:
+        """What is open takes no ballot."""
+        self.window.ballot(None, "1234")
+        self.assertIn("It was not taken: this page is an older one. Load it again.", self.press())
 
     def prepare(self) -> None:
         """What comes before a call."""
@@ -235,7 +236,8 @@ class OpenByClicks(InABrowser):
 
 class SecretByClicks(InABrowser):
     words = ("--slips", "yes")
-    public = ("poll.toml", "SHA256SUMS")
+    # with aliases
+    public = ("poll.toml",)
     # lines that somebody writes, most of which debvote refuses
     on_paper = ("member-01 1, 2, 3", "Member-01 4;3;2;1", "nobody 1,2,3,4", "member-01 1 2 3 4 5")
     at_a_desk = ("member-00 2,1,3,4", "member-01 1/2/3/4", "member-01 4 3 2 1 4")
@@ -288,8 +290,8 @@ class SecretByClicks(InABrowser):
                 self.election("held", number, *words)
         for one in self.names:
             self.done("show", one)
-        for words in (("count",), ("count", "--force"), ("publish",), ("strike", name), ("undo",), ("letters", "reminders"), ("letters", "receipts")):
-            self.election(*words)
+        for words in ("count", "count --force", "publish", "strike 1 --because x", "undo", "letters reminders", "letters receipts"):
+            self.election(*words.split())
         # what was added and typed here is taken back
         for envelope, *_ in self.rows("SELECT envelope FROM envelope WHERE envelope > ?", last):
             self.election("strike", "--yes", "--because", "It was a try.", envelope)
@@ -302,6 +304,7 @@ class SecretByClicks(InABrowser):
 
     def demand_untold(self, links: dict[str, str], aliases: dict[str, str]) -> None:
         """No output has ranks or an alias, no letter ranks, and nothing ties a name to an alias."""
+        self.assertGreater("".join(self.said).count("(shown at a terminal alone)"), 3 * MEMBERS)
         for said in self.said:
             said = EXAMPLE.sub("", said)
             for pattern in (RANKED, IN_WORDS):
@@ -334,6 +337,32 @@ class SecretByClicks(InABrowser):
                     self.assertNotIn(link, text, where)
             if where.startswith(("result", "call/")):
                 self.assertEqual(names, set(), where)
+
+
+@NEEDS_PHP
+class Struck(boxes.BoxElectionTest):
+    """A host that takes an elector out of the list of its script."""
+
+    def test_it_is_told_to_the_elector_and_to_who_asks(self) -> None:
+        links = self.begun()
+        for name in ("ada", "ben"):
+            self.click(name, "1,2,3,4", links[name])
+        self.done("add", "--box", "--yes")
+        script = self.web / "vote.php"
+        true_one = script.read_bytes()
+        digest = proof_digest(self.mark(), self.place_of("ada", links["ada"]))
+        script.write_bytes(true_one.replace(f"{digest}\n".encode(), b""))
+        self.assertNotEqual(script.read_bytes(), true_one)
+        # who voted before, too, and what came then counts
+        answer = self.sent("ada", "4,3,2,1", links["ada"], 900)
+        self.assertEqual((answer.status, answer.word), (403, "unknown:"))
+        self.click("cleo", "2,1,3,4", links["cleo"])
+        self.assertIn("Note: the web host has another vote.php than the folder call", self.done("add", "--box", "--yes").output)
+        self.assert_fault(self.election("letters", "reminders"), 9, "nobody has seen yet whether the box of the web host works")
+        self.upload()
+        self.click("ada", "4,3,2,1", links["ada"])
+        self.assertNotIn("another vote.php", self.done("add", "--box", "--yes").output)
+        self.assertEqual(self.standing(), {"ada": "4,3,2,1", "ben": "1,2,3,4", "cleo": "2,1,3,4"})
 
 
 @NEEDS_PHP
