@@ -1,6 +1,7 @@
 """The command `letters`."""
 
 import dataclasses
+import datetime
 import getpass
 import itertools
 import pathlib
@@ -75,14 +76,9 @@ def letters(election: Election, arguments: Arguments) -> int:
     election.called(election.history())
     server = server_of(election.history(), arguments) if arguments.send else None
     history = election.history()
-    if arguments.codes and not history.is_secret_by_click:
-        raise bad_words("--codes", "only in a secret vote with a box", "leave it out")
-    if arguments.codes and not (arguments.yes or is_agreed(CODES, "write them")):
-        tell("Nothing was written.")
-        return Status.DONE
-    sender = arguments.sender or history.announced("to")
-    if sender is None:
-        raise bad_words("--from", "the call names no address", "give the sender's address with it")
+    if arguments.codes:
+        demand_codes(history, arguments)
+    sender = sender_of(history, arguments)
     if arguments.at not in (None, history.announced("at")):
         demand_due(election, history, arguments.kind)
         with election.book.act("announce", {"at": arguments.at}, seen=history.last.number):
@@ -98,11 +94,9 @@ def letters(election: Election, arguments: Arguments) -> int:
             because=arguments.because if arguments.force else None,
             has_codes=arguments.codes,
         )
-        if due.reminded and not arguments.yes:
-            before = f"Reminders were written at {act_time(due.reminded)}"
-            if not is_agreed(before, "remind again"):
-                tell("Nobody was reminded.")
-                return Status.DONE
+        if due.reminded and not (arguments.yes or reminds_again(due.reminded)):
+            tell("Nobody was reminded.")
+            return Status.DONE
         place = election.path(LETTERS) / due.kind / str(due.for_act)
         written = write(due, place)
         lost = write_lost(due, place.parent)
@@ -113,6 +107,18 @@ def letters(election: Election, arguments: Arguments) -> int:
     # that an address that an elector had before refuses a letter is no fault
     is_refused = any(one.state != TAKEN and is_present(one, due.electors) for one in tried)
     return Status.DOUBT if is_refused else Status.DONE
+
+
+def demand_codes(history: History, arguments: Arguments) -> None:
+    """Stops at codes where letters have no link beside them, and unless somebody agrees to both."""
+    if not history.is_secret_by_click:
+        raise bad_words("--codes", "only in a secret vote with a box", "leave it out")
+    if not (arguments.yes or is_agreed(CODES, "write them")):
+        raise Fault(None, "you did not agree to codes in letters", "give them on slips")
+
+
+def reminds_again(before: datetime.datetime) -> bool:
+    return is_agreed(f"Reminders were written at {act_time(before)}", "remind again")
 
 
 def is_agreed(said: str, how: str) -> bool:
@@ -212,6 +218,12 @@ def demand_words(arguments: Arguments) -> None:
         if arguments.server is not None:
             smtp.server_of(arguments.server)
     stop_at(faults)
+
+
+def sender_of(history: History, arguments: Arguments) -> str:
+    if sender := arguments.sender or history.announced("to"):
+        return str(sender)
+    raise bad_words("--from", "the call names no address", "give the sender's address with it")
 
 
 def remembered(history: History) -> Detail | None:

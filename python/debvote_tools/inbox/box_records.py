@@ -271,6 +271,16 @@ def arrived(raw: RawLetter) -> datetime.datetime:
     return arrival_of(received) or datetime.datetime.max.replace(tzinfo=datetime.UTC)
 
 
+def in_order(records: bytes) -> list[RawLetter]:
+    """Records as they came, by the times of the host, without the lines above them."""
+    parts = [part.partition(b"\n")[2] + END[:-1] for part in records.split(END)[:-1]]
+    raws = (
+        RawLetter(f"box, record {number}", part, record=sha256_of(part))
+        for number, part in enumerate(parts, start=1)
+    )
+    return sorted(raws, key=arrived)
+
+
 def records_in(
     vote: Vote, asked: Asked, before: Detail, kept: Sequence[KeptRecord]
 ) -> tuple[list[RawLetter], list[RawLetter]]:
@@ -283,12 +293,7 @@ def records_in(
     counts, known = collections.Counter(one.link for one in kept), {one.digest for one in kept}
     latest = {one.elector: from_text(one.sent) for one in kept}
     letters, unopened = list[RawLetter](), list[RawLetter]()
-    parts = [part.partition(b"\n")[2] + END[:-1] for part in asked.records.split(END)[:-1]]
-    raws = [
-        RawLetter(f"box, record {number}", part, record=sha256_of(part))
-        for number, part in enumerate(parts, start=1)
-    ]
-    for raw in sorted(raws, key=arrived):
+    for raw in in_order(asked.records):
         if raw.digest in known:
             letters.append(raw)
             continue

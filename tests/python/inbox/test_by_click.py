@@ -970,6 +970,42 @@ class Pages(boxes.BoxElectionTest):
         self.done("add", "--box", "--yes")
         self.done("close", "--early")
 
+    def test_a_later_close_stops_too_until_the_right_page_is_found(self) -> None:
+        self.begun()
+        self.done("desk", given="ada 1,2,3,4\n")
+        self.change()
+        self.done("add", "--box")
+        fault, forced = "the page on the web host was not that of the call", ("--force", "--because", "The host has another owner.")
+        self.assert_fault(self.election("close", "--early"), 9, fault)
+        self.done("close", "--early", *forced)
+        self.done("reopen", "--because", "A letter was found.")
+        self.assert_fault(self.election("close", "--early"), 9, fault)
+        self.done("close", "--early", *forced)
+        self.done("reopen", "--because", "A letter was found.")
+        self.upload()
+        self.done("add", "--box")
+        self.done("close", "--early")
+
+    def test_each_day_with_another_page_is_told(self) -> None:
+        self.begun()
+        self.done("desk", given="ada 1,2,3,4\n")
+        self.change()
+        days = []
+        for hours in (0, 1, 24, 48):
+            when = datetime.datetime.now(datetime.UTC).replace(hour=10) + datetime.timedelta(days=1, hours=hours)
+            self.set_clock(f"{when:%Y-%m-%dT%H:%M:%S}+00:00")
+            self.done("add", "--box")
+            days.append(f"{when.day}")
+            if hours == 24:
+                self.upload()
+        self.done("close", "--early", "--force", "--because", "The host is odd.")
+        self.set_clock(f"{when + datetime.timedelta(minutes=1):%Y-%m-%dT%H:%M:%S}+00:00")
+        self.done("publish", "--yes", "--force", "--because", "The host is odd.")
+        for file in ("result/index.html", "letters/result.txt"):
+            said = " ".join(re.sub("<[^>]+>", "", self.read(file).decode()).split())
+            told = re.findall(r"When the secretary asked the web host on \w+, (\d+) ", said)
+            self.assertEqual(told, [days[0], days[2]], file)
+
 
 @NEEDS_PHP
 class Moved(boxes.BoxElectionTest):
@@ -1266,7 +1302,7 @@ class Clocks(unittest.TestCase):
         head, _, _ = data.partition("\n\n")
         own = third_part(self.KEY, name, OWN[name]) if link is None else link
         sent = when + datetime.timedelta(seconds=behind)
-        return dataclasses.replace(parsed(f"{head}\n\n{name} {ranks}\n-- \n".encode()), link=own, behind=behind, sent=sent)
+        return dataclasses.replace(parsed(f"{head}\n\n{name} {ranks}\n-- \n".encode()), link=own, elector=name, behind=behind, sent=sent)
 
     def outcomes(self, *letters: ParsedLetter | bytes, **how: object) -> list[str]:
         return outcomes(*letters, box_key=self.KEY, **how)

@@ -51,6 +51,26 @@ class SecretCall(elections.ElectionTest):
             self.assertEqual("with your code you find your own" in page, answer == "yes")
             self.done("call", "--take-back")
             self.done("codes")
+        # the end of the input is no answer
+        terminal = Terminal(self, "call", "--box", *HTTPS)
+        terminal.until("Will slips with codes be handed out")
+        terminal.type("\x04")
+        text, status = terminal.end()
+        self.assertEqual((fault in text, status), (True, 9), text)
+
+    def test_options_that_do_nothing_are_refused(self) -> None:
+        slips, codes = "--slips: only in a secret vote, with --box", "--codes: only in a secret vote with a box"
+        self.assert_fault(self.election("call", "--box", *HTTPS, "--slips", "no"), 2, slips)
+        self.done("call", "--to", "vote@club.example")
+        self.assert_fault(self.election("letters", "call", "--codes", "--yes"), 2, codes)
+        self.done("call", "--take-back")
+        self.write("poll.toml", SECRET)
+        self.done("codes")
+        self.assert_fault(self.election("call", "--slips", "no"), 2, slips)
+        self.done("call", "--to", "vote@club.example")
+        self.assert_fault(self.election("letters", "call", "--codes", "--yes"), 2, codes)
+        self.assert_fault(self.election("call", "--slips", "yes"), 9, "--slips: the call was made without it")
+        self.assert_fault(self.election("roll", "--new-link", "ada"), 2, "--new-link: ada has no link that could be replaced")
 
 
 @NEEDS_PHP
@@ -96,7 +116,8 @@ class SecretClicks(boxes.BoxElectionTest):
         slips = self.read("private/slips.html").decode()
         for name, code in self.codes().items():
             self.assertIn(code[:4], slips, name)
-        for part in ("Send your ballot to", "At the end of the subject", *links.values()):
+        # nor a row of ranks to write, which it is not for
+        for part in ("Send your ballot to", "At the end of the subject", "A rank for each option", "1 is the best", "At the lake", *links.values()):
             self.assertNotIn(part, slips)
         # no name or alias of anybody is on the host
         aliases = [str(alias) for alias, in self.rows("SELECT alias FROM elector_now")]
@@ -106,8 +127,12 @@ class SecretClicks(boxes.BoxElectionTest):
 
     def test_codes_beside_links(self) -> None:
         self.begun()
-        fault = "--codes: who reads such a letter can vote in that name, and finds the alias"
-        self.assert_fault(self.election("letters", "call", "--codes"), 9, fault, "repeat the command with --yes")
+        fault = "Who reads a letter with its code can vote in that name, and finds the alias"
+        self.assert_fault(self.election("letters", "call", "--codes"), 9, fault, "if it is right, write them with --yes")
+        terminal = Terminal(self, "letters", "call", "--codes")
+        terminal.until("Write them?")
+        terminal.type("n\n")
+        self.assertIn("you did not agree to codes in letters", terminal.end()[0])
         self.assert_fault(self.election("letters", "receipts", "--codes"), 2, "--codes: only with call")
         self.write("members.csv", elections.members_of(elections.NAMES).replace("ada@club", "ada@new"))
         self.done("roll", "--yes")

@@ -4,6 +4,7 @@ import dataclasses
 import datetime
 import email
 import email.header
+import importlib.util
 import itertools
 import pathlib
 import re
@@ -220,13 +221,16 @@ class CallLetter(unittest.TestCase):
             # a reminder begins so, too, if a letter waits
             self.assertTrue(now.reminder(ADA, [WAITS]).text.startswith(self.letter))
 
-    def test_what_one_letter_says_and_another_does_not(self) -> None:
+    @unittest.skipUnless(importlib.util.find_spec("cryptography"), "python3-cryptography is not installed")
+    def test_what_a_vote_by_clicks_says(self) -> None:
         of_box = vote(box_key=b"x")
         letters = [" ".join(of_box.call_letter(one, is_extension=False).text.split()) for one in (ADA, ADA._replace(mark=""), GUS)]
         # without an own mark the link is nobody's, and only the page is where a ballot is sent
         self.assertEqual(["Open the link, choose, and press Vote" in text for text in letters[:2]], [True, False])
         seen = "A ballot that is sent here is sealed: the secretary alone can open it."
         self.assertEqual([seen in text for text in (*letters, call_page(of_box.call_data).decode())], [False, False, False, True])
+
+    def test_what_one_letter_says_and_another_does_not(self) -> None:
         # the texts are in the call on paper, and not in what follows it; a word is an answer to a motion alone
         poll = dataclasses.replace(POLL, explanations=("A lake.", "", ""))
         motion = SealedPoll("Fee", ("Yes",), (1,), "No", 0, ("ada", "ben"), motion=True)
