@@ -124,8 +124,8 @@ class Window:
                 self.faults.append(str(answer["params"]["exceptionDetails"]))
             if answer.get("id") == number:
                 if "error" in answer:
-                    kind = Gone if "navigated" in answer["error"]["message"] else RuntimeError
-                    raise kind(f"{method}: {answer['error']}")
+                    was_left = any(word in answer["error"]["message"] for word in ("navigated", "destroyed"))
+                    raise (Gone if was_left else RuntimeError)(f"{method}: {answer['error']}")
                 return dict(answer["result"])
 
     def message(self) -> dict[str, Any]:
