@@ -225,6 +225,9 @@ def change_addresses(
     the old one knows both. An elector may get a new link alone.
     """
     if not changed:
+        # a run that was killed may not have made them
+        if history.since_call("addresses"):
+            make_anew(election, history)
         tell("Nothing was changed.")
         return
     # what judges letters takes a while to be imported
@@ -246,18 +249,26 @@ def change_addresses(
     with book.act("addresses", {"electors": len(changed)}, seen=history.last.number) as act:
         queries.put_electors(act, now)
         act.insert_all("sealed", "name, data", files.items())
+    make_anew(election, history)
     tell(*(f"{member.name}: {words}" for member, words in changed.items()))
     if election.questions.is_secret:
-        write_slips(election, election.sealed())
         tell(
             f"Made {SLIPS} and {CODES} in {election.path(PRIVATE)} anew: a new address has a new mark."
         )
     tell(f"{count_of(len(changed), 'elector')} changed; the result page says how many.")
     if files:
-        write_made(election.path(CALL), {SCRIPT: files[BOX_SCRIPT]}, PUBLIC)
         upload = f"Upload {election.path(CALL) / SCRIPT} again, since these electors have new links"
         tell(f"{upload}; then run {election.command('add', '--box')}.")
     tell(*letter_words.judged_anew(letters_before, letters_now(vote)))
+
+
+def make_anew(election: Election, history: History) -> None:
+    """Makes what depends on own marks, and so on addresses: the slips, and the script of the box."""
+    if election.questions.is_secret:
+        write_slips(election, election.sealed())
+    if history.announced("box") and not history.closes:
+        script = queries.sealed(election.book, BOX_SCRIPT)
+        write_made(election.path(CALL), {SCRIPT: script}, PUBLIC)
 
 
 def agreed(member: Member, words: str) -> bool:
