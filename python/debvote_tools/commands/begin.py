@@ -6,7 +6,7 @@ import os
 import pathlib
 import re
 import shlex
-from collections.abc import Iterator, Mapping, Sequence
+from collections.abc import Iterable, Iterator, Mapping, Sequence
 
 from debvote_tools.book import book, outgoing, queries
 from debvote_tools.book.book import Book, Detail
@@ -235,13 +235,8 @@ def change_addresses(
     from debvote_tools.inbox.judging import letters_now
     from debvote_tools.inbox.vote import Vote
 
-    vote, now = Vote(election), []
+    vote, now = Vote(election), [*electors_of(changed, new_link)]
     letters_before = letters_now(vote)
-    for member in changed:
-        if known := member.known:
-            is_new = "address" in member.changes or member.name == new_link
-            mark = new_own_mark() if is_new else known.mark
-            now.append(known._replace(addresses=member.addresses, key=member.key, mark=mark))
     book, files = election.book, dict[str, bytes]()
     if history.announced("box") and not history.closes:
         owns = {one.name: one.mark for one in (*queries.electors(book), *now)}
@@ -260,6 +255,15 @@ def change_addresses(
         upload = f"Upload {election.path(CALL) / SCRIPT} again, since these electors have new links"
         tell(f"{upload}; then run {election.command('add', '--box')}.")
     tell(*letter_words.judged_anew(letters_before, letters_now(vote)))
+
+
+def electors_of(changed: Iterable[Member], new_link: str | None) -> Iterator[Elector]:
+    """The electors as they are now, with new own marks if they have a new address or link."""
+    for member in changed:
+        if known := member.known:
+            is_new = "address" in member.changes or member.name == new_link
+            mark = new_own_mark() if is_new else known.mark
+            yield known._replace(addresses=member.addresses, key=member.key, mark=mark)
 
 
 def make_anew(election: Election, history: History) -> None:
