@@ -5,7 +5,7 @@ it. What an asking brings is in `box_records.py`.
 import datetime
 
 from debvote_tools.book import queries
-from debvote_tools.book.book import Book, Detail, DoneAct, from_text
+from debvote_tools.book.book import Detail, DoneAct, from_text
 from debvote_tools.book.election import BOX_PAGE, BOX_SCRIPT, Election, History
 from debvote_tools.cli.console import act_time, count_of
 from debvote_tools.cli.faults import Fault
@@ -56,15 +56,10 @@ def has_list_of_now(election: Election, digest: str) -> bool:
     return digest == list_digest(queries.sealed(election.book, BOX_SCRIPT))
 
 
-def act_of_page(book: Book, page: bytes | None = None) -> int:
-    """The act that made this page, or that of now; 0 if none did."""
-    data = queries.sealed(book, BOX_PAGE) if page is None else page
-    return queries.first_act_that_sealed(book, BOX_PAGE, data)
-
-
 def has_page_of_now(election: Election, box: Detail) -> bool:
     """Whether an asking found the page of now, or was none, or after a publication."""
-    return box.get("page") in (None, act_of_page(election.book))
+    page = queries.sealed(election.book, BOX_PAGE)
+    return box.get("page") in (None, queries.first_act_that_sealed(election.book, BOX_PAGE, page))
 
 
 def other_pages(history: History) -> list[DoneAct]:

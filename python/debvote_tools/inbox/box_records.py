@@ -18,12 +18,11 @@ from typing import NamedTuple
 
 from debvote_tools.book import queries
 from debvote_tools.book.book import Book, Detail, from_text
-from debvote_tools.book.election import BOX_KEY, Election
+from debvote_tools.book.election import BOX_KEY, BOX_PAGE, Election
 from debvote_tools.book.queries import KeptRecord
 from debvote_tools.cli.console import count_of, listed, shown_text
 from debvote_tools.cli.faults import Fault, bad_words
 from debvote_tools.inbox.asked import (
-    act_of_page,
     has_list_of_now,
     has_page_of_now,
     last_box,
@@ -233,7 +232,9 @@ def asked_box(vote: Vote) -> tuple[list[RawLetter], Detail, list[str], bool]:
         "behind": asked.behind,
         "list": asked.list_digest,
         # a publication takes its place
-        "page": None if history.publications else act_of_page(vote.book, answer_of(at).body),
+        "page": None
+        if history.publications
+        else queries.first_act_that_sealed(vote.book, BOX_PAGE, answer_of(at).body),
     }
     words = [*box_words(box, before), *upload_words(election, box)]
     return letters, {"box": box}, words, len(unopened) > before.get("unopened", 0)
