@@ -155,11 +155,7 @@ def roll(election: Election, arguments: RollArguments) -> None:
         words = "codes are on the roll, and nobody knows whose they are"
         raise Fault(None, words, "for another roll, begin anew in another folder")
     roll, after = read_roll(election, history), election.command("check")
-    is_open = history.announced("box") and not history.closes
-    linked = [one for one in roll.electors if is_open and one.name == arguments.new_link]
-    if arguments.new_link is not None and not linked:
-        words = f"{shown_text(arguments.new_link)} has no link that could be replaced"
-        raise bad_words("--new-link", words, f"name an elector of {after}, or leave it out")
+    linked = linked_anew(history, roll, arguments.new_link)
     if history.call is None:
         keep_electors(book, roll, history.last.number)
         tell(*roll_in_words(roll, election.language))
@@ -176,6 +172,16 @@ def roll(election: Election, arguments: RollArguments) -> None:
         if changed and not history.closes:
             after = f"{election.command('letters', 'call')}, for the new addresses"
     tell(f"Next: {after}")
+
+
+def linked_anew(history: History, roll: Roll, name: str | None) -> list[Member]:
+    """The elector of this name, who gets another link. Stops where nobody has one that could be replaced."""
+    has_links = history.announced("box") and not history.closes
+    named = [one for one in roll.electors if has_links and one.name == name]
+    if name is not None and not named:
+        words = f"{shown_text(name)} has no link that could be replaced"
+        raise bad_words("--new-link", words, "name an elector of the roll, or leave it out")
+    return named
 
 
 def read_roll(election: Election, history: History) -> Roll:

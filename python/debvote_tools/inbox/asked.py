@@ -5,7 +5,7 @@ it. What an asking brings is in `box_records.py`.
 import datetime
 
 from debvote_tools.book import queries
-from debvote_tools.book.book import Book, Detail, DoneAct, from_text
+from debvote_tools.book.book import Detail, DoneAct, from_text
 from debvote_tools.book.election import BOX_PAGE, BOX_SCRIPT, Election, History
 from debvote_tools.cli.console import act_time, count_of
 from debvote_tools.cli.faults import Fault
@@ -56,22 +56,18 @@ def has_list_of_now(election: Election, digest: str) -> bool:
     return digest == list_digest(queries.sealed(election.book, BOX_SCRIPT))
 
 
-def act_of_page(book: Book, page: bytes | None = None) -> int:
-    """The act that made this page, or that of now; 0 if none did."""
-    data = queries.sealed(book, BOX_PAGE) if page is None else page
-    return queries.first_act_that_sealed(book, BOX_PAGE, data)
-
-
 def has_page_of_now(election: Election, box: Detail) -> bool:
     """Whether an asking found the page of now, or was none, or after a publication."""
-    return box.get("page") in (None, act_of_page(election.book))
+    page = queries.sealed(election.book, BOX_PAGE)
+    return box.get("page") in (None, queries.first_act_that_sealed(election.book, BOX_PAGE, page))
 
 
 def other_pages(history: History) -> list[DoneAct]:
     """The first asking of each day on which one found a page that this book never made, since the first letter
     of the call was written.
     """
-    is_written, days = False, dict[datetime.date, DoneAct]()
+    is_written = False
+    days = dict[datetime.date, DoneAct]()
     for act in history.since_call("letters", "letters out"):
         is_written |= act.detail.get("kind") == "call"
         if is_written and act.detail.get("box", {}).get("page") == 0:
@@ -126,16 +122,17 @@ def is_unasked_since_end(history: History) -> bool:
 
 def unasked_fault(election: Election, history: History, what: str) -> Fault | None:
     """Why something has to wait until the box is asked; None if it need not."""
-    closes, recently, last = history.closes, now() - FRESH, asked_last(election, history)
+    closes = history.closes
+    recently = now() - FRESH
+    last = asked_last(election, history)
     # a letter has a link only if the host knows it
-    is_unseen = (
-        what in WITH_LINKS and history.announced("box") and not (last and last["is_present"])
-    )
+    needs_box = what in WITH_LINKS and history.announced("box")
+    is_unseen = needs_box and not (last and last["is_present"])
     # a publication takes its place
     is_other = what in CLOSES and not (
         history.publications or has_page_of_now(election, last_box(history))
     )
-    is_right = not (is_unseen or is_other)
+    is_right = not is_unseen and not is_other
     times = {
         "reminders": recently,
         # before the first asking no letter has a link to the page
@@ -150,8 +147,7 @@ def unasked_fault(election: Election, history: History, what: str) -> Fault | No
         return None
     words, force = NEEDS["call" if is_unseen else "page" if is_other else what]
     if last and since and is_right and history.askings[-1].time > since:
-        there = act_time(from_text(last["time"]))
-        words += f": when the box was asked last, it was only {there} by its own clock"
+        words += f": when the box was asked last, it was only {act_time(from_text(last['time']))} by its own clock"
     first = "" if is_right else "upload the folder call, then "
     cure = f"{first}run {election.command('add', '--box')}"
     if force:

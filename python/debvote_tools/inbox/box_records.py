@@ -18,12 +18,11 @@ from typing import NamedTuple
 
 from debvote_tools.book import queries
 from debvote_tools.book.book import Book, Detail, from_text
-from debvote_tools.book.election import BOX_KEY, Election
+from debvote_tools.book.election import BOX_KEY, BOX_PAGE, Election
 from debvote_tools.book.queries import KeptRecord
 from debvote_tools.cli.console import count_of, listed, shown_text
 from debvote_tools.cli.faults import Fault, bad_words
 from debvote_tools.inbox.asked import (
-    act_of_page,
     has_list_of_now,
     has_page_of_now,
     last_box,
@@ -210,15 +209,17 @@ def asked_box(vote: Vote) -> tuple[list[RawLetter], Detail, list[str], bool]:
     """Asks the box of this vote: what it has, as letters, what the act keeps of it, what is said, and whether it
     has more than before that nobody can open.
     """
-    election, book, history = vote.election, vote.book, vote.election.history()
+    election = vote.election
+    history = election.history()
     if not history.announced("box"):
         cure = f"add files; see {election.command('status')}"
         raise bad_words("--box", "the call was made without it", cure)
-    at, mark = history.announced("at"), election.sealed().public.mark
-    asked = ask(at, mark, asking_word(queries.sealed(book, BOX_KEY)))
+    at = history.announced("at")
+    mark = election.sealed().public.mark
+    asked = ask(at, mark, asking_word(queries.sealed(vote.book, BOX_KEY)))
     # of another host neither the clock nor the records say anything of this one
     before = last_box(history, at)
-    kept = queries.records_since(book, vote.call.number)
+    kept = queries.records_since(vote.book, vote.call.number)
     letters, unopened = records_in(vote, asked, before, kept)
     came = {raw.digest for raw in letters}
     box: Detail = {
@@ -227,11 +228,13 @@ def asked_box(vote: Vote) -> tuple[list[RawLetter], Detail, list[str], bool]:
         "records": len(letters),
         "gone": sum(one.at == at and one.digest not in came for one in kept),
         "unopened": len(unopened),
-        "lost": last_box(history).get("lost", {}) | whose(book, mark, unopened, asked.time),
+        "lost": last_box(history).get("lost", {}) | whose(vote.book, mark, unopened, asked.time),
         "behind": asked.behind,
         "list": asked.list_digest,
         # a publication takes its place
-        "page": None if history.publications else act_of_page(book, answer_of(at).body),
+        "page": None
+        if history.publications
+        else queries.first_act_that_sealed(vote.book, BOX_PAGE, answer_of(at).body),
     }
     words = [*box_words(box, before), *upload_words(election, box)]
     return letters, {"box": box}, words, len(unopened) > before.get("unopened", 0)
@@ -259,10 +262,9 @@ def upload_words(election: Election, box: Detail) -> Iterator[str]:
 def unopened_words(vote: Vote) -> str:
     """What is said of records that nobody can open, with who is to vote again."""
     history = vote.history()
-    records = count_of(last_box(history)["unopened"], "record")
     names = listed(with_lost_records(vote.election, history), MOST_NAMED)
     whose = f", by the links of {names}, who are to vote again" if names else ""
-    return f"Note: {records} can't be opened, or came above the {MOST} of a link, passed over{whose}. An older page may have sent such a one, or the web host have made it."
+    return f"Note: {count_of(last_box(history)['unopened'], 'record')} can't be opened, or came above the {MOST} of a link, passed over{whose}. An older page may have sent such a one, or the web host have made it."
 
 
 def arrived(raw: RawLetter) -> datetime.datetime:
@@ -290,9 +292,11 @@ def records_in(
     The host can exchange the times of two, and not what is sealed in them: each has the last time by the
     device of all that came before it.
     """
-    counts, known = collections.Counter(one.link for one in kept), {one.digest for one in kept}
+    counts = collections.Counter(one.link for one in kept)
+    known = {one.digest for one in kept}
     latest = {one.elector: from_text(one.sent) for one in kept}
-    letters, unopened = list[RawLetter](), list[RawLetter]()
+    letters = list[RawLetter]()
+    unopened = list[RawLetter]()
     for raw in in_order(asked.records):
         if raw.digest in known:
             letters.append(raw)

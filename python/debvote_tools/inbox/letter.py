@@ -177,7 +177,7 @@ def parse(raw: RawLetter) -> ParsedLetter:
         else (),
         body=body,
         attachments=attachments_of(parts),
-        **raw.of_box,
+        **{field.name: getattr(raw, field.name) for field in dataclasses.fields(OfBox)},
     )
 
 

@@ -13,7 +13,6 @@ import itertools
 import pathlib
 import re
 from collections.abc import Sequence
-from typing import Any
 
 from debvote_tools.files import sha256_of
 from debvote_tools.inbox.lines import MARK
@@ -101,10 +100,6 @@ class OfBox:
     sent_before: datetime.datetime | None = None
     # whether it was fetched with the file of the box
     is_fetched: bool = False
-
-    @property
-    def of_box(self) -> dict[str, Any]:
-        return {field.name: getattr(self, field.name) for field in dataclasses.fields(OfBox)}
 
 
 @dataclasses.dataclass(frozen=True)

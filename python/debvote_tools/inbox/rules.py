@@ -267,7 +267,8 @@ class LetterCase:
     @property
     def other_times(self) -> list[datetime.datetime]:
         """When a record was sent by its device, if the host dates it quite otherwise."""
-        arrived, sent = self.read.arrived, self.read.sent
+        arrived = self.read.arrived
+        sent = self.read.sent
         if arrived is None or sent is None:
             return []
         off = datetime.timedelta(seconds=self.read.behind)
@@ -339,7 +340,8 @@ def why_not_in_time(case: LetterCase) -> ReasonWithValues | None:
     it was asked before, that asking brought it. The device of its elector says the same time, and a
     later one than of all that came before it.
     """
-    read, circumstances, asked = case.read, case.circumstances, case.read.asked_before
+    read = case.read
+    circumstances = case.circumstances
     if (arrived := read.arrived) is None:
         return Reason.NO_ARRIVAL()
     for sent in case.other_times:
@@ -347,15 +349,16 @@ def why_not_in_time(case: LetterCase) -> ReasonWithValues | None:
     if case.arrived_before_call:
         return Reason.BEFORE_THE_CALL(called=circumstances.called)
     first, *_, last = case.arrivals
-    end, close = circumstances.end, circumstances.first_close
+    end = circumstances.end
+    close = circumstances.first_close
     if end is not None and first > end:
         return Reason.AFTER_THE_END(end=end)
     if close is not None and first > close:
         return Reason.AFTER_THE_CLOSE(close=close)
     if any(last > one for one in circumstances.ends):
         return Reason.CLOCK_AT_THE_END(seconds=abs(read.behind))
-    if asked is not None and arrived < asked:
-        return Reason.NOT_THERE_BEFORE(asked=asked)
+    if read.asked_before is not None and arrived < read.asked_before:
+        return Reason.NOT_THERE_BEFORE(asked=read.asked_before)
     if read.sent and read.sent_before and read.sent <= read.sent_before:
         return Reason.NOT_SENT_LATER()
     latest = read.latest or circumstances.now + AHEAD

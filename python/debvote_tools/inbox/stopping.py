@@ -60,8 +60,8 @@ def what_stops(
     # after the first close nobody can vote again
     if step in CLOSES and not history.closes and (lost := with_lost_records(election, history)):
         words = f"ballots came by the links of these electors that nobody can open, and no later ones: {', '.join(lost)}"
-        cure = f"ask them to vote again ({election.command('letters', 'reminders')} says it)"
-        found[LOST] = Fault(None, words, f"{cure}; {CLOSE_ANYWAY}")
+        cure = f"ask them to vote again ({election.command('letters', 'reminders')} says it); {CLOSE_ANYWAY}"
+        found[LOST] = Fault(None, words, cure)
     if pending.stopping:
         cure = letters_cure(election, step, is_closed=history.is_closed)
         found[LETTERS] = Fault(None, pending.why_they_stop, cure)

@@ -112,8 +112,9 @@ def proof_digest(mark: str, link: str) -> str:
 @functools.cache
 def links_of(book: Book) -> dict[str, str]:
     """All personal links of a book by their third parts."""
-    key, owns = queries.sealed(book, BOX_KEY), queries.own_marks(book)
-    links = (personal_link(key, its.elector, own) for own, its in owns.items())
+    key = queries.sealed(book, BOX_KEY)
+    owns = queries.own_marks(book).items()
+    links = (personal_link(key, its.elector, own) for own, its in owns)
     return {link[-LINK_LENGTH:]: link for link in links}
 
 

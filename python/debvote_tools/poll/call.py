@@ -264,7 +264,9 @@ def current_call(
     sealed: Sealed | None = None,
 ) -> CallData:
     """What the page and the letter say as it is now, and with what an act would say or seal."""
-    now, saying, sealed = history or election.history(), said or {}, sealed or election.sealed()
+    now = history or election.history()
+    saying = said or {}
+    sealed = sealed or election.sealed()
 
     def value_of(key: str) -> Any:
         return saying.get(key) or now.announced(key)
