@@ -6,7 +6,7 @@ import os
 import pathlib
 import re
 import shlex
-from collections.abc import Iterator, Mapping, Sequence
+from collections.abc import Iterable, Iterator, Mapping, Sequence
 
 from debvote_tools.book import book, outgoing, queries
 from debvote_tools.book.book import Book, Detail
@@ -231,6 +231,9 @@ def change_addresses(
     the old one knows both. An elector may get a new link alone.
     """
     if not changed:
+        # a run that was killed may not have made them
+        if history.since_call("addresses"):
+            make_anew(election, history)
         tell("Nothing was changed.")
         return
     # what judges letters takes a while to be imported
@@ -238,13 +241,8 @@ def change_addresses(
     from debvote_tools.inbox.judging import letters_now
     from debvote_tools.inbox.vote import Vote
 
-    vote, now = Vote(election), []
+    vote, now = Vote(election), [*electors_of(changed, new_link)]
     letters_before = letters_now(vote)
-    for member in changed:
-        if known := member.known:
-            is_new = "address" in member.changes or member.name == new_link
-            mark = new_own_mark() if is_new else known.mark
-            now.append(known._replace(addresses=member.addresses, key=member.key, mark=mark))
     book, files = election.book, dict[str, bytes]()
     if history.announced("box") and not history.closes:
         owns = {one.name: one.mark for one in (*queries.electors(book), *now)}
@@ -252,18 +250,35 @@ def change_addresses(
     with book.act("addresses", {"electors": len(changed)}, seen=history.last.number) as act:
         queries.put_electors(act, now)
         act.insert_all("sealed", "name, data", files.items())
+    make_anew(election, history)
     tell(*(f"{member.name}: {words}" for member, words in changed.items()))
     if election.questions.is_secret:
-        write_slips(election, election.sealed())
         tell(
             f"Made {SLIPS} and {CODES} in {election.path(PRIVATE)} anew: a new address has a new mark."
         )
     tell(f"{count_of(len(changed), 'elector')} changed; the result page says how many.")
     if files:
-        write_made(election.path(CALL), {SCRIPT: files[BOX_SCRIPT]}, PUBLIC)
         upload = f"Upload {election.path(CALL) / SCRIPT} again, since these electors have new links"
         tell(f"{upload}; then run {election.command('add', '--box')}.")
     tell(*letter_words.judged_anew(letters_before, letters_now(vote)))
+
+
+def electors_of(changed: Iterable[Member], new_link: str | None) -> Iterator[Elector]:
+    """The electors as they are now, with new own marks if they have a new address or link."""
+    for member in changed:
+        if known := member.known:
+            is_new = "address" in member.changes or member.name == new_link
+            mark = new_own_mark() if is_new else known.mark
+            yield known._replace(addresses=member.addresses, key=member.key, mark=mark)
+
+
+def make_anew(election: Election, history: History) -> None:
+    """Makes what depends on own marks, and so on addresses: the slips, and the script of the box."""
+    if election.questions.is_secret:
+        write_slips(election, election.sealed())
+    if history.announced("box") and not history.closes:
+        script = queries.sealed(election.book, BOX_SCRIPT)
+        write_made(election.path(CALL), {SCRIPT: script}, PUBLIC)
 
 
 def agreed(member: Member, words: str) -> bool:

@@ -31,6 +31,9 @@ NOT_ENTERED = "It was not entered."
 # in place of a line that is no ballot here
 NO_LINE = b"-"
 
+# among so many lines that are no ballots the head of a table is looked for
+MOST_ABOVE = 100
+
 # in bytes; what one read of a pipe brings at most
 READ = 65_536
 # a name as people type it, and ranks
@@ -63,7 +66,7 @@ class Desk:
     next_line: int = 1
     # whether the input has ended
     is_over: bool = False
-    # what came at a pipe: the first ballot, and all lines that are none
+    # what came at a pipe: the first ballot, and the last lines that are none
     above: list[CheckedLine] = dataclasses.field(default_factory=list[CheckedLine])
     # what was said last of an end or a close that has passed
     notes: Sequence[str] = ()
@@ -109,9 +112,9 @@ class Desk:
         came = [*self.above, *lines]
         if self.vote.are_table(came):
             raise Fault("desk", TABLE, IN_ORDER, Status.BAD_BALLOTS)
-        # no other ballot is a head, nor a line of a table
-        first = next((line for line in came if line.is_ballot), None)
-        self.above = [line for line in came if line is first or not line.is_ballot]
+        # no other ballot is a head, nor a line of a table; and of what was above the first it was asked then
+        first = [line for line in came if line.is_ballot][:1]
+        self.above = first + [line for line in came if not line.is_ballot][-MOST_ABOVE:]
 
     def enter(self, lines: list[CheckedLine], elector: int | None = None, *, asks: bool) -> None:
         carried_out(self.vote.book, lambda: what_is_cast(self, lines, elector, asks))

@@ -104,8 +104,9 @@ def doubts_about(sheet: Sheet, label: str) -> Iterator[Doubt]:
 class Act(Told):
     """Something that was done in an election, at a time by the clock of the secretary's computer.
 
-    `places` fill its sentence, those that differ by question by the labels; all times are in the zone
-    in which the end was announced. `because` is None if no reason was given, or it is not published.
+    `places` fill its sentence, those that differ by question by the labels of those that have one; all
+    times are in the zone in which the end was announced. `because` is None if no reason was given, or
+    it is not published.
     """
 
     time: datetime.datetime

@@ -16,9 +16,9 @@ import re
 from debvote_tools.cli.console import in_runs
 from debvote_tools.text.times import time_in_words
 
-from tests.support import elections, letters, page_parts
+from tests.support import elections, letters, page_parts, sealing
 from tests.support.boxes import link_in
-from tests.support.web_host import Liar, answered, record
+from tests.support.web_host import Liar, answered
 
 # how many elections are held, of how many commands each, and how many in a class
 ELECTIONS = int(os.environ.get("DEBVOTE_ELECTIONS", "20"))
@@ -29,6 +29,8 @@ END = CALLED + datetime.timedelta(hours=3)
 OPTIONS = ["At the lake", "In the town hall", "Sell the house and meet there", "Further discussion"]
 # few electors and ranks, so that a ballot often comes again
 VOTERS, RANKS = ["ada", "ben", "cleo", "dan", "eve"], ["1,2,3,4", "2,1,3,4", "-,-,1,2"]
+# of one who is on no roll, with ranks that are none of the head of a table
+LINES = [*(f"{name} {ranks}" for name in VOTERS for ranks in RANKS), *["nobody -,-,1,2"] * 3]
 BECAUSE = "The reason, in the secretary's words:"
 Step = tuple[list[str], str | None]
 
@@ -201,22 +203,29 @@ class Model:
 
 class WhatHappenedTest(elections.ElectionTest):
     call_words = None
-    # of the web host: what it answers to an asking above the records of the clicks, and when; what its page posts with each
-    begun, time, records, page, links = "", "", "", "", dict[str, str]()
+    # of the web host: what it answers to an asking above the records of the clicks, and when; its page; and the key of that
+    begun, time, records, page, seal, links = "", "", "", b"", "", dict[str, str]()
 
     def made(self):
         """An election with a box, of which the call went out."""
         self.set_time(CALLED)
         folder, cls = super().made(), type(self)
-        host = cls.enterClassContext(Liar(lambda _: [answered(f"box 1 {cls.begun} {cls.time}\n{cls.records}".encode())]))
+        host = cls.enterClassContext(Liar(cls.answers))
         self.done("call", "--until", f"{END:%Y-%m-%d %H:%M}", "--zone", "UTC", "--to", "vote@club.example", "--at", host.at, "--box", cwd=folder)
         script = (folder / "call/vote.php").read_bytes().partition(b"__halt_compiler();\n")[2]
         cls.begun = f"{script.split()[0].decode()} {hashlib.sha256(script).hexdigest()}"
-        [cls.page] = re.findall(r'data-page="(\w+)"', (folder / "call/index.html").read_text())
+        cls.page = (folder / "call/index.html").read_bytes()
+        [cls.seal] = re.findall('data-seal="(.*?)"', cls.page.decode())
         for words in (["add", "--box"], ["letters", "call"]):
             self.done(*words, cwd=folder)
-        cls.links = {name: link for name, _, link in (link_in(file.read_bytes()) for file in (folder / "letters/call").rglob("*.eml"))}
+        links = (link_in(file.read_bytes()) for file in (folder / "letters/call").rglob("*.eml"))
+        cls.links = {link[0]: "/".join(link) for link in links}
         return folder
+
+    @classmethod
+    def answers(cls, request: bytes) -> list[bytes]:
+        is_asking = request.startswith(b"POST")
+        return [answered(f"box 2 {cls.begun} {cls.time}\n{cls.records}".encode() if is_asking else cls.page)]
 
     def set_time(self, time: datetime.datetime) -> None:
         self.set_clock(time.isoformat())
@@ -229,7 +238,7 @@ class WhatHappenedTest(elections.ElectionTest):
         if model.closes and not is_late:
             words = ["--came-before-close", self.chance.choice(["yes", "no"])]
             is_late = words[1] == "no"
-        made = [f"{self.chance.choice([*VOTERS, 'nobody'])} {self.chance.choice(RANKS)}" for _ in range(self.chance.randint(2, 6))]
+        made = self.chance.choices(LINES, k=self.chance.randint(2, 6))
         texts = [text if self.chance.random() < 0.9 else text[:-2] for text in made]
         for text in model.new_of(texts, is_late) if is_of_file else texts:
             model.line(text, is_late=is_late, is_of_file=is_of_file)
@@ -250,10 +259,14 @@ class WhatHappenedTest(elections.ElectionTest):
     def click(self) -> None:
         one = Letter(self.chance.choice(VOTERS), self.chance.choice(RANKS), self.model.now, is_click=True)
         self.clicks.append(one)
-        made = record("", f"{one.elector} {one.ranks}", self.records.count("Message-ID"), one.time.isoformat(), self.begun.split()[0], self.page)
-        type(self).records += re.sub("(?<=X-Link: ).*", self.links[one.elector], made)
+        link, mark, number = self.links[one.elector], self.begun.split()[0], self.records.count("Message-ID")
+        inside = sealing.inside(f"{one.elector} {one.ranks}", link, f"{one.time:%Y-%m-%dT%H:%M:%S}.000Z")
+        text = sealing.sealed(self.seal, mark, f"{number:032x}", inside)
+        type(self).records += sealing.record(mark, link, number, one.time.isoformat(), text)
 
     def asking(self) -> Step:
+        # the page that an extension made is uploaded
+        type(self).page = self.read("call/index.html")
         self.model.letters += self.clicks
         self.model.asked, self.clicks = self.model.now, []
         self.model.offer(clicks_alone=True)

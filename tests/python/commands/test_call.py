@@ -116,7 +116,7 @@ class Again(CallTest):
         self.assertNotRegex(self.done("call").output, "send|letters call")
 
     def test_a_run_that_was_killed_is_repeated_with_its_words(self) -> None:
-        """Behind its act, when the folders were not made yet: they are, and nothing else is done."""
+        """It was killed after its act, before it made the folders: it makes them, and does nothing else."""
         self.done("call", "--take-back")
         end, file = ("--until", "2026-12-05 18:00", "--zone", "Europe/Berlin"), "letters/extension.txt"
         for name, words in (("call/poll.toml", (*UNTIL, "--to", "Club <vote@club.example>", "--at", "https://club.example/")), (file, end)):
@@ -154,7 +154,7 @@ class Again(CallTest):
         for words in (("call", "--take-back"), ("call", "--at", "nowhere")):
             self.done("call", "--until", "2026-12-05 18:00", *UNTIL[2:])
             self.done("letters", "call")
-            # behind the act, before the files are removed
+            # after the act, before the files are removed
             self.traced("-e", "inject=unlink:signal=KILL:when=2", words=("call", "--take-back"))
             self.assertTrue((self.folder / "call/poll.toml").exists())
             self.assertNotEqual(self.election(*words).status, 0)
@@ -360,7 +360,7 @@ class Secret(CallTest):
             self.assertEqual(sorted(file.name for file in private.iterdir()), names)
 
     def test_codes_that_are_void_are_taken_away(self) -> None:
-        """Also if the run that took the call back was killed behind its act, and the next codes are on the roll."""
+        """Also if the run that took the call back was killed after its act, and the next codes are on the roll."""
         for words, names in ((("call", "--take-back"), []), (("codes", "--on-roll"), ["slips.html"])):
             self.called()
             self.traced("-e", "inject=unlink:signal=KILL:when=2", words=("call", "--take-back"))

@@ -141,6 +141,34 @@ class AfterTheCall(RollTest):
         self.assertEqual(self.done("log").output, before)
 
 
+class WithFiles(RollTest):
+    """Of a secret vote the slips, and of one with a box the script, depend on the addresses."""
+
+    def demand_made(self, name: str) -> None:
+        """A run that was killed after its act, before it made a file anew: the command that is repeated makes it."""
+        before = self.read(name)
+        self.write("members.csv", elections.members_of(self.names).replace("ada@", "ada@new."))
+        # where the note of this act takes its place
+        self.traced("-e", "inject=rename:signal=KILL:when=1", words=("roll", "--yes"))
+        self.assertEqual(self.read(name), before)
+        self.assertIn("Nothing was changed.", self.done("roll", "--yes").output)
+        made = self.read(name)
+        self.assertNotEqual(made, before)
+        (self.folder / name).unlink()
+        self.done("call")
+        self.assertEqual(self.read(name), made)
+
+    def test_the_script(self) -> None:
+        self.done("call", "--until", "2099-12-04 18:00", "--to", "vote@club.example", "--at", "https://club.example/", "--box")
+        self.demand_made("call/vote.php")
+
+    def test_the_slips(self) -> None:
+        self.write("poll.toml", f"{elections.POLL}secret = true\n")
+        self.done("codes")
+        self.done("call", "--to", "vote@club.example")
+        self.demand_made("private/slips.html")
+
+
 class Check(RollTest):
     def check(self, poll: str) -> elections.Ended:
         self.write("poll.toml", poll)

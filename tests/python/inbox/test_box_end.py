@@ -181,7 +181,11 @@ class End(boxes.BoxElectionTest):
         self.done("held", str(number), "--enter")
         self.assertEqual(self.standing(), dict.fromkeys(sorted((*counting, waiting)), RANKS))
         self.demand_told(**{waiting: COUNTS})
+        # of what is known to have come after the end, and counts all the same, everybody is told
+        self.done("held", str(len(CLICKING)), "--enter")
         self.done("close")
+        self.done("publish")
+        self.assertIn("<p>1 line came after the end, and is in time, since the vote was not closed yet.</p>", self.read("result/index.html").decode())
 
     def test_a_clock_that_is_put_back_between_two_clicks(self) -> None:
         self.called()

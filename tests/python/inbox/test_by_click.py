@@ -651,7 +651,7 @@ class Clicks(boxes.BoxElectionTest):
             text.replace(own + "/", f"{own}/ "),
             text.replace("/", "%2F"),
             f"{links['ada']} is my code\nada 1,2\n",
-            f"{place[1:]} 1,2,3,4\n{links['ada']} 1,2,3,4\n",
+            f"{place[1:]} 1,1,2,3\n{links['ada']} 1,1,2,3\n",
         ]
         letters = [letter("ada", one, time=arrived, number=number) for number, one in enumerate(texts)]
         subject = f"Re: {self.host.at}{place} [{self.mark()}]"
@@ -665,8 +665,8 @@ class Clicks(boxes.BoxElectionTest):
         said += self.done("show", "ada").output
         said += self.election("add", "-", given=texts[-1]).faults
         said += self.done("desk", given=texts[-1]).output
-        self.assertIn(f"ada/{own}/.. 1,2,3,4: column 4", said)
-        self.assertIn(" .. 1,2,3,4: .. is not on the roll", said)
+        self.assertIn(f"ada/{own}/.. 1,1,2,3: column 4", said)
+        self.assertIn(" .. 1,1,2,3: .. is not on the roll", said)
         self.done("letters", "receipts")
         receipts = [email.message_from_bytes(file.read_bytes()) for file in (self.folder / "letters/receipts").rglob("*.eml")]
         texts = [receipt.get_payload(decode=True).decode() for receipt in receipts]  # type: ignore[union-attr]
