@@ -129,9 +129,8 @@ def unasked_fault(election: Election, history: History, what: str) -> Fault | No
     needs_box = what in WITH_LINKS and history.announced("box")
     is_unseen = needs_box and not (last and last["is_present"])
     # a publication takes its place
-    is_other = what in CLOSES and not (
-        history.publications or has_page_of_now(election, last_box(history))
-    )
+    found_right = last_box(history).get("is_right", True)
+    is_other = what in CLOSES and not (history.publications or found_right)
     is_right = not is_unseen and not is_other
     times = {
         "reminders": recently,

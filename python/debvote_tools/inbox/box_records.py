@@ -236,6 +236,8 @@ def asked_box(vote: Vote) -> tuple[list[RawLetter], Detail, list[str], bool]:
         if history.publications
         else queries.first_act_that_sealed(vote.book, BOX_PAGE, answer_of(at).body),
     }
+    # an extension makes another one
+    box["is_right"] = has_page_of_now(election, box)
     words = [*box_words(box, before), *upload_words(election, box)]
     return letters, {"box": box}, words, len(unopened) > before.get("unopened", 0)
 
