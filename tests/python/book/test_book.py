@@ -650,7 +650,7 @@ class OnTheDisk(BookTest):
                 time.sleep(0.1)
                 run.send_signal(number)
                 try:
-                    self.assertEqual(run.wait(20), status)
+                    self.assertEqual(run.wait(120), status)
                 finally:
                     run.kill()
 
