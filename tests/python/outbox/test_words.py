@@ -229,6 +229,12 @@ class CallLetter(unittest.TestCase):
         self.assertEqual(["Open the link, choose, and press Vote" in text for text in letters[:2]], [True, False])
         seen = "A ballot that is sent here is sealed: the secretary alone can open it."
         self.assertEqual([seen in text for text in (*letters, call_page(of_box.call_data).decode())], [False, False, False, True])
+        # what the page cannot prevent is said in the letter, too, but for one on paper
+        limit = "Whoever changes the page sees and can change what is chosen on it. "
+        self.assertEqual([f"{limit}Receipt and result show a change; nothing shows the reading." in text for text in letters], [True, True, False])
+        for has_slips, said in ((True, "Your code alone shows a change, in a copy"), (False, "Nothing would show you either.")):
+            secret = vote(box_key=b"x", has_aliases=True, has_slips=has_slips)
+            self.assertIn(limit + said, " ".join(secret.call_letter(ADA, is_extension=False).text.split()))
 
     def test_what_one_letter_says_and_another_does_not(self) -> None:
         # the texts are in the call on paper, and not in what follows it; a word is an answer to a motion alone
