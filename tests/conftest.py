@@ -8,9 +8,12 @@ import collections
 import locale
 import os
 import shutil
+from collections.abc import Iterator
 
 import pytest
 from _pytest.terminal import TerminalReporter
+
+from debvote_tools.cli import console
 
 from tests.support import debian, forks, program
 
@@ -51,6 +54,15 @@ def pytest_collection_modifyitems(items: list[pytest.Item]) -> None:
         return next((place for place, start in enumerate(LONGEST) if name.startswith(start)), len(LONGEST))
 
     items.sort(key=place)
+
+
+@pytest.hookimpl(hookwrapper=True)
+def pytest_runtest_protocol() -> Iterator[None]:
+    """What a command sets for its process, such as the zone of times, a test that calls its functions leaves to no other test."""
+    before = [(variable, variable.get()) for variable in (console.ZONE, console.LEAVING_OUT, console.FOR_TERMINALS)]
+    yield
+    for variable, value in before:
+        variable.set(value)
 
 
 def pytest_terminal_summary(terminalreporter: TerminalReporter) -> None:

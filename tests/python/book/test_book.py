@@ -603,6 +603,8 @@ LONG = """import pathlib, signal, sys
 from debvote_tools.book.book import open_book
 from debvote_tools.cli import console
 console.prepare(signal.SIGTERM)
+# a shell has what it runs in the background ignore it
+signal.signal(signal.SIGINT, signal.default_int_handler)
 book = open_book(pathlib.Path("election.db"))
 print(1, end="", flush=True)
 try:
@@ -650,7 +652,7 @@ class OnTheDisk(BookTest):
                 time.sleep(0.1)
                 run.send_signal(number)
                 try:
-                    self.assertEqual(run.wait(120), status)
+                    self.assertEqual(run.wait(20), status)
                 finally:
                     run.kill()
 
