@@ -16,9 +16,9 @@ from cryptography.hazmat.primitives.asymmetric import ec
 from cryptography.hazmat.primitives.ciphers.aead import AESGCM
 from cryptography.hazmat.primitives.kdf.hkdf import HKDF
 
+from debvote_tools.call.box import proof_digest
+from debvote_tools.call.sealed_ballots import ORDER, key_pair
 from debvote_tools.files import sha256_of
-from debvote_tools.poll.box import proof_digest
-from debvote_tools.poll.sealed_ballots import ORDER, key_pair
 
 CURVE = ec.SECP256R1()
 # of a ballot on four options

@@ -21,8 +21,8 @@ from debvote_tools.book.machine_note import MachineNote, Note, machine_of
 from debvote_tools.cli.console import ENDED
 from debvote_tools.cli.faults import Fault, Status, bad_words, kept_in
 from debvote_tools.files import read_at_most, uninterrupted, whole_folder
-from debvote_tools.poll.announced import address_in
 from debvote_tools.text import times
+from debvote_tools.text.addresses import address_in
 from debvote_tools.text.ballots import part_of
 
 NAME = "election.db"

@@ -7,20 +7,20 @@ import operator
 import re
 from collections.abc import Iterable, Iterator, Mapping, Sequence
 
-from debvote_tools.cli.arguments import demand_reason, flag, given, has_reason, positional
 from debvote_tools.book import queries
 from debvote_tools.book.book import Book, Detail, DoneAct, NewAct
 from debvote_tools.book.change import carried_out
-from debvote_tools.book.election import Election, History
 from debvote_tools.book.queries import Envelope, NewEnvelope
+from debvote_tools.cli.arguments import demand_reason, flag, given, has_reason, positional
 from debvote_tools.cli.console import count_of, is_terminal, is_yes, shown_line, tell, tell_many
 from debvote_tools.cli.faults import Fault, bad_words, stop_at
 from debvote_tools.debvote import TABLE
+from debvote_tools.election import Election, History
 from debvote_tools.grouping import grouped
 from debvote_tools.inbox import entering
+from debvote_tools.inbox.entering import Entry
 from debvote_tools.inbox.given_files import GivenFile, read_files
 from debvote_tools.inbox.lines import MARK, Line, lines_in
-from debvote_tools.inbox.entering import Entry
 from debvote_tools.inbox.option_names import OptionNames
 from debvote_tools.inbox.vote import IN_ORDER, CheckedLine, Vote, replies_to, summary
 from debvote_tools.text.ballots import part_of

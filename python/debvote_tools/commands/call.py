@@ -7,44 +7,39 @@ import shlex
 import shutil
 from collections.abc import Iterator
 
-from debvote_tools.cli.arguments import Acting, flag, given, option
-from debvote_tools.text import times
 from debvote_tools.book import queries
 from debvote_tools.book.book import ActName, Detail
-from debvote_tools.poll.call import call_files, call_letter, CallData, current_call, until_of
+from debvote_tools.call.box import SCRIPT, box_files, records_file, script_address
+from debvote_tools.call.call import CallData, call_files, call_letter, current_call, until_of
+from debvote_tools.call.draft import letter_text_in, texts_of
+from debvote_tools.call.secret import aliased, demand_no_code
+from debvote_tools.cli.arguments import Acting, flag, given, option
 from debvote_tools.cli.console import act_time, is_terminal, is_yes, tell
-from debvote_tools.result.publication import agreed_texts
+from debvote_tools.cli.faults import Fault, bad_words, kept_in, stop_at
 from debvote_tools.commands.begin import CODES, SLIPS, demand_read, write_slips
-from debvote_tools.book.election import (
+from debvote_tools.commands.check import checked, faults_of_ballots, tell_checked
+from debvote_tools.election import (
     CALL,
     KEYRING,
-    LETTER_TEXT,
     LETTERS,
+    LETTER_TEXT,
     PRIVATE,
     Election,
     History,
     Sealed,
 )
 from debvote_tools.files import OWN, PUBLIC, read_whole, write_made
-from debvote_tools.poll.draft import (
-    checked,
-    faults_of_ballots,
-    letter_text_in,
-    tell_checked,
-    texts_of,
-)
+from debvote_tools.inbox.asked import last_box, unasked_fault
+from debvote_tools.inbox.signature import read_keyring
 from debvote_tools.poll.announced import (
     demand_future,
     demand_web_address,
     named_address,
     parse_until,
 )
-from debvote_tools.cli.faults import Fault, bad_words, kept_in, stop_at
-from debvote_tools.inbox.asked import last_box, unasked_fault
-from debvote_tools.inbox.signature import read_keyring
-from debvote_tools.poll.box import SCRIPT, box_files, records_file, script_address
-from debvote_tools.poll.secret import aliased, demand_no_code
 from debvote_tools.poll.sealed import new_own_mark
+from debvote_tools.result.publication import agreed_texts
+from debvote_tools.text import times
 
 EXTENSION = "extension.txt"
 

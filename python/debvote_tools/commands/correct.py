@@ -8,19 +8,19 @@ from collections.abc import Iterator, Mapping, Sequence
 from debvote_tools.book import outgoing, queries
 from debvote_tools.book.book import Book, DoneAct
 from debvote_tools.book.change import Change, carried_out, terminal_question
-from debvote_tools.book.election import Election, History
 from debvote_tools.book.queries import Envelope
 from debvote_tools.cli.arguments import Acting, demand_reason, flag, positional
 from debvote_tools.cli.console import act_time, count_of, listed, shown_line, tell
 from debvote_tools.cli.faults import Fault
 from debvote_tools.commands import held
+from debvote_tools.election import Election, History
 from debvote_tools.grouping import grouped
 from debvote_tools.inbox import letter_words
 from debvote_tools.inbox.judging import letters_now
 from debvote_tools.inbox.lines import name_in
 from debvote_tools.inbox.rules import LetterCase
 from debvote_tools.inbox.taking import MOST_NAMED
-from debvote_tools.inbox.vote import envelope_words, standing_words, Vote
+from debvote_tools.inbox.vote import Vote, envelope_words, standing_words
 from debvote_tools.text.times import now
 
 

@@ -10,13 +10,13 @@ from collections.abc import Iterator, Sequence
 from debvote_tools.book import queries
 from debvote_tools.book.book import Detail, DoneAct
 from debvote_tools.book.change import carried_out
-from debvote_tools.book.election import Election, History
 from debvote_tools.book.queries import Elector, NewEnvelope
-from debvote_tools.cli.console import private, shown_line, shown_text, tell, typed
 from debvote_tools.cli.arguments import flag, option
+from debvote_tools.cli.console import private, shown_line, shown_text, tell, typed
 from debvote_tools.cli.faults import Fault, Status, bad_words
-from debvote_tools.files import BALLOTS_LIMIT
 from debvote_tools.debvote import TABLE
+from debvote_tools.election import Election, History
+from debvote_tools.files import BALLOTS_LIMIT
 from debvote_tools.inbox import entering
 from debvote_tools.inbox.entering import Entry
 from debvote_tools.inbox.lines import Line, Names, lines_in

@@ -5,16 +5,18 @@ import itertools
 from collections.abc import Iterator, Sequence
 from typing import NamedTuple
 
-from debvote_tools.cli.arguments import Acting, flag, given, option, positional
 from debvote_tools.book import queries
 from debvote_tools.book.book import ActName
 from debvote_tools.book.change import Change, carried_out, terminal_question
-from debvote_tools.book.election import Election, History
 from debvote_tools.book.queries import Ballot, EnteredBallot
+from debvote_tools.cli.arguments import Acting, flag, given, option, positional
 from debvote_tools.cli.console import count_of, is_terminal, private, shown_line, tell
 from debvote_tools.cli.faults import Fault, bad_words, kept_in, stop_at
+from debvote_tools.election import Election, History
 from debvote_tools.grouping import grouped
 from debvote_tools.inbox import letter_words
+from debvote_tools.inbox.judging import BallotsByElector, Beside, ballot_in, ballots_in, judged
+from debvote_tools.inbox.letter_lines import BallotLine
 from debvote_tools.inbox.letter_words import (
     attachment_words,
     name_of,
@@ -23,14 +25,12 @@ from debvote_tools.inbox.letter_words import (
     who_and_when,
     why,
 )
-from debvote_tools.inbox.judging import BallotsByElector, Beside, ballot_in, ballots_in, judged
-from debvote_tools.inbox.reasons import for_secretary
-from debvote_tools.inbox.letter_lines import BallotLine
-from debvote_tools.inbox.rules import LetterCase, LetterOutcome, why_other_mark
-from debvote_tools.inbox.taking import LetterEntry, envelope_of
 from debvote_tools.inbox.lines import Line, lines_in
-from debvote_tools.inbox.vote import Vote
+from debvote_tools.inbox.reasons import for_secretary
+from debvote_tools.inbox.rules import LetterCase, LetterOutcome, why_other_mark
 from debvote_tools.inbox.stopping import other_votes_words
+from debvote_tools.inbox.taking import LetterEntry, envelope_of
+from debvote_tools.inbox.vote import Vote
 from debvote_tools.text.ballots import differ, without
 from debvote_tools.text.language import ENGLISH
 

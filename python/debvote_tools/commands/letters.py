@@ -7,14 +7,14 @@ import itertools
 import pathlib
 from collections.abc import Iterator, Mapping, Sequence
 
-from debvote_tools.cli.arguments import Acting, flag, given, option, positional
 from debvote_tools.book import outgoing
 from debvote_tools.book.book import Detail
-from debvote_tools.book.election import LETTERS, Election, History
-from debvote_tools.cli.console import act_time, count_of, listed, shown_text, tell
 from debvote_tools.book.outgoing import TAKEN, WRITTEN, OutgoingLetter
 from debvote_tools.cli import console
+from debvote_tools.cli.arguments import Acting, flag, given, option, positional
+from debvote_tools.cli.console import act_time, count_of, listed, shown_text, tell
 from debvote_tools.cli.faults import Fault, Status, bad_words, kept_in, stop_at
+from debvote_tools.election import LETTERS, Election, History
 from debvote_tools.files import locked, uninterrupted
 from debvote_tools.outbox import letter_folder, smtp
 from debvote_tools.outbox.due import LettersDue, demand_due, is_present, letters_due

@@ -8,12 +8,14 @@ import os
 import pathlib
 from collections.abc import Collection, Mapping
 
-from debvote_tools.cli.arguments import Acting, demand_reason, flag, option, positional
-from debvote_tools.text import times
-from debvote_tools.book.book import Detail, DoneAct, Overtaken
-from debvote_tools.cli.console import act_time, odd_sign, tell, tell_aside
 from debvote_tools.book import queries
-from debvote_tools.book.election import (
+from debvote_tools.book.book import Detail, DoneAct, Overtaken
+from debvote_tools.call.box import SCRIPT, records_file
+from debvote_tools.call.draft import texts_of
+from debvote_tools.cli.arguments import Acting, demand_reason, flag, option, positional
+from debvote_tools.cli.console import act_time, odd_sign, tell, tell_aside
+from debvote_tools.cli.faults import Fault, bad_words, kept_in, stop_at
+from debvote_tools.election import (
     BOX_KEY,
     CALL,
     LETTERS,
@@ -23,9 +25,6 @@ from debvote_tools.book.election import (
     Election,
     History,
 )
-from debvote_tools.poll.draft import texts_of
-from debvote_tools.poll.box import SCRIPT, records_file
-from debvote_tools.poll.questions import Questions
 from debvote_tools.files import (
     OWN,
     left_beside,
@@ -37,9 +36,10 @@ from debvote_tools.files import (
     write_made,
 )
 from debvote_tools.inbox.stopping import Pending, pending_letters
-from debvote_tools.cli.faults import Fault, bad_words, kept_in, stop_at
-from debvote_tools.text.language import LANGUAGES
+from debvote_tools.poll.questions import Questions
 from debvote_tools.result import folder, publication
+from debvote_tools.result.facts import Facts, Outcome, PublishedWords
+from debvote_tools.result.file_names import BALLOTS, CHECKSUMS, PAGE, POLL
 from debvote_tools.result.sheet import (
     CASTING,
     Castings,
@@ -49,8 +49,8 @@ from debvote_tools.result.sheet import (
     publishing,
     unneeded_words,
 )
-from debvote_tools.result.facts import Facts, Outcome, PublishedWords
-from debvote_tools.result.file_names import BALLOTS, CHECKSUMS, PAGE, POLL
+from debvote_tools.text import times
+from debvote_tools.text.language import LANGUAGES
 
 
 # of the text for the page in bytes, and of the name of who gave the casting vote in characters

@@ -6,10 +6,10 @@ import datetime
 
 from debvote_tools.book import queries
 from debvote_tools.book.book import Detail, DoneAct, from_text
-from debvote_tools.book.election import BOX_PAGE, BOX_SCRIPT, Election, History
+from debvote_tools.call.box import list_digest
 from debvote_tools.cli.console import act_time, count_of
 from debvote_tools.cli.faults import Fault
-from debvote_tools.poll.box import list_digest
+from debvote_tools.election import BOX_PAGE, BOX_SCRIPT, Election, History
 from debvote_tools.text.times import now
 
 # how old an asking may be where ballots still come

@@ -18,22 +18,8 @@ from typing import NamedTuple
 
 from debvote_tools.book import queries
 from debvote_tools.book.book import Book, Detail, from_text
-from debvote_tools.book.election import BOX_KEY, BOX_PAGE, Election
 from debvote_tools.book.queries import KeptRecord
-from debvote_tools.cli.console import count_of, listed, shown_text
-from debvote_tools.cli.faults import Fault, bad_words
-from debvote_tools.inbox.asked import (
-    has_list_of_now,
-    has_page_of_now,
-    last_box,
-    with_lost_records,
-)
-from debvote_tools.files import sha256_of
-from debvote_tools.inbox.letter import YEAR, arrival_of
-from debvote_tools.inbox.mailbox import BEGIN, NotRead, RawLetter
-from debvote_tools.inbox.vote import Vote
-from debvote_tools.patience import within
-from debvote_tools.poll.box import (
+from debvote_tools.call.box import (
     LINK_LENGTH,
     SCRIPT,
     asking_word,
@@ -42,6 +28,15 @@ from debvote_tools.poll.box import (
     proof_digest,
     script_address,
 )
+from debvote_tools.cli.console import count_of, listed, shown_text
+from debvote_tools.cli.faults import Fault, bad_words
+from debvote_tools.election import BOX_KEY, BOX_PAGE, Election
+from debvote_tools.files import sha256_of
+from debvote_tools.inbox.asked import has_list_of_now, has_page_of_now, last_box, with_lost_records
+from debvote_tools.inbox.letter import YEAR, arrival_of
+from debvote_tools.inbox.mailbox import BEGIN, NotRead, RawLetter
+from debvote_tools.inbox.vote import Vote
+from debvote_tools.patience import within
 from debvote_tools.poll.sealed import OWN, OWN_SIGNS
 from debvote_tools.text import times
 
@@ -325,7 +320,7 @@ def opened(book: Book, raw: RawLetter) -> RawLetter:
     # a book without a box has none
     key = queries.sealed(book, BOX_KEY)
     if record and key:
-        from debvote_tools.poll.sealed_ballots import key_pair
+        from debvote_tools.call.sealed_ballots import key_pair
 
         head, proof, rest, mark, number, sealed = record.groups()
         with contextlib.suppress(ValueError):

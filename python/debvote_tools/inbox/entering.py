@@ -6,12 +6,12 @@ from collections.abc import Iterable, Sequence
 from debvote_tools.book import queries
 from debvote_tools.book.book import Book, NewAct
 from debvote_tools.book.change import Change
-from debvote_tools.book.election import Election, History
 from debvote_tools.book.queries import NewEnvelope
 from debvote_tools.cli import console
 from debvote_tools.cli.arguments import Acting, option
 from debvote_tools.cli.console import act_time, count_of, shown_line
 from debvote_tools.cli.faults import Fault, Status, bad_words
+from debvote_tools.election import Election, History
 from debvote_tools.files import BALLOTS_LIMIT, LINES_LIMIT
 from debvote_tools.inbox.vote import CheckedLine, Vote, envelope_words, replies_to
 from debvote_tools.text.times import now, time_in_words

@@ -4,8 +4,8 @@ import datetime
 from typing import NamedTuple
 
 from debvote_tools.book import queries
-from debvote_tools.book.election import Election, History
 from debvote_tools.book.queries import Elector, Envelope
+from debvote_tools.election import Election, History
 from debvote_tools.grouping import grouped
 from debvote_tools.inbox.judging import judged
 from debvote_tools.inbox.rules import LetterCase, LetterOutcome

@@ -9,10 +9,11 @@ import sys
 from collections.abc import Sequence
 from typing import BinaryIO, NamedTuple
 
-from debvote_tools.book.election import Election
 from debvote_tools.cli.console import tell
 from debvote_tools.cli.faults import Fault, bad_words, kept_in, stop_at
+from debvote_tools.election import Election
 from debvote_tools.files import BALLOTS_LIMIT, PACKED, PDF, kind_of
+from debvote_tools.inbox.entering import bad_ballots
 from debvote_tools.inbox.mailbox import (
     NotRead,
     RawLetter,
@@ -21,7 +22,6 @@ from debvote_tools.inbox.mailbox import (
     letters_of_file,
     letters_of_folder,
 )
-from debvote_tools.inbox.entering import bad_ballots
 from debvote_tools.poll.sealed import REQUIRED
 
 # what names standard input on the command line, and how messages name it

@@ -11,8 +11,8 @@ import operator
 from collections.abc import Callable, Collection, Iterable, Mapping, Sequence, Set
 
 from debvote_tools.book import queries
-from debvote_tools.book.election import BOX_KEY, KEYRING, History
 from debvote_tools.book.queries import Ballot, KeptLetter
+from debvote_tools.election import BOX_KEY, KEYRING, History
 from debvote_tools.grouping import grouped
 from debvote_tools.inbox.letter import Body
 from debvote_tools.inbox.letter_lines import ReadLetter, from_json, read_letters

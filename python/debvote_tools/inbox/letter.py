@@ -14,9 +14,10 @@ from collections.abc import Sequence
 
 from debvote_tools.inbox import html
 from debvote_tools.inbox.mailbox import OfBox, RawLetter
-from debvote_tools.inbox.mime import MAX_PARTS, Part, address_key
+from debvote_tools.inbox.mime import MAX_PARTS, Part
 from debvote_tools.inbox.reasons import Reason, ReasonWithValues
 from debvote_tools.poll.sealed import OWN_LENGTH, OWN_SIGNS, marks_in
+from debvote_tools.text.addresses import address_key
 
 # in bytes: a text
 MAX_TEXT = 262_144

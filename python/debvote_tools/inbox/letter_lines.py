@@ -15,14 +15,15 @@ from collections.abc import Callable, Mapping, Sequence
 from typing import Any
 
 from debvote_tools.book import queries
-from debvote_tools.book.election import KEYRING
+from debvote_tools.election import KEYRING
 from debvote_tools.inbox.letter import ParsedLetter, parse
-from debvote_tools.inbox.letter_text import Reading, ReadLine, reading_of, why_points
-from debvote_tools.inbox.lines import Names, has_code
+from debvote_tools.inbox.letter_text import ReadLine, Reading, reading_of, why_points
+from debvote_tools.inbox.lines import Names
 from debvote_tools.inbox.mailbox import RawLetter
 from debvote_tools.inbox.reasons import Reason
 from debvote_tools.inbox.signature import find_gpgv, verified
 from debvote_tools.inbox.vote import Vote
+from debvote_tools.poll.codes import has_code
 from debvote_tools.text.ballots import answers_in
 
 # debvote's answer to each line, as `bad rank count: ..`; None for a valid ballot

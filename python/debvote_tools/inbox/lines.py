@@ -24,7 +24,6 @@ from debvote_tools.book.queries import Elector
 from debvote_tools.grouping import grouped
 from debvote_tools.poll.plain_names import without_accents
 from debvote_tools.poll.questions import Questions
-from debvote_tools.poll.sealed import OWN_LENGTH, OWN_SIGNS
 from debvote_tools.text.answers import DASHES
 from debvote_tools.text.ballots import answers_text
 from debvote_tools.text.language import Language
@@ -50,14 +49,6 @@ LETTER = r"[^\W_\u02b0-\u02ff]"
 WRITTEN_NAME = rf"{LETTER}(?:(?:{LETTER}|[_ .'\u2019-])*{LETTER})?"
 RIGHT_ANSWERS = re.compile(rf"([a-z0-9.-]+)((?: [A-Z] {RANKS})+)")
 NAMED = re.compile(rf"({WRITTEN_NAME})(?:\s*:\s*|\s+)({RANKS})")
-
-# the code or the alias of a secret vote, and a code on the roll, within other text: as people type it, with
-# the gaps of a slip, over lines, and in capitals
-GAP = r"[ \t-]?+(?:\s*\n\s*)?+"
-TYPED_CODE, TYPED_ON_ROLL = (
-    re.compile(rf"(?<!{sign})(?=((?:{sign}{GAP}){{{length}}}{sign})(?!{sign}))", re.IGNORECASE)
-    for sign, length in (("[0-9a-f]", 31), (f"[{OWN_SIGNS}]", OWN_LENGTH - 1))
-)
 
 # no-break spaces as blanks
 NO_BREAK = str.maketrans("\u00a0\u202f", "  ")
@@ -288,17 +279,6 @@ def name_in(line: bytes) -> bytes:
 
 
 @functools.lru_cache(MOST_QUOTED)
-def has_code(text: str) -> bool:
-    """Whether a text has what looks like a code or an alias."""
-    return TYPED_CODE.search(text) is not None
-
-
-def codes_in(text: str) -> set[str]:
-    """What looks like a code or an alias in a text, in small letters and without gaps."""
-    typed = [*TYPED_CODE.findall(text), *TYPED_ON_ROLL.findall(text)]
-    return {re.sub(r"[\s-]", "", one).lower() for one in typed}
-
-
 def with_small_name(line: bytes) -> bytes:
     """A line without capital letters in its name."""
     name, blank, ranks = line.partition(b" ")

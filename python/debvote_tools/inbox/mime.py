@@ -11,7 +11,6 @@ import contextlib
 import functools
 import itertools
 import re
-import string
 from collections.abc import Iterator
 
 from debvote_tools.grouping import grouped
@@ -67,15 +66,6 @@ SOFT_END = re.compile(rb"=(?:\r?\n)?\Z")
 # some servers add
 LINE_END = re.compile(rb"(?<![ \t])[ \t]*+(?:\r?\n|\Z)")
 BASE64 = re.compile(rb"(?:[A-Za-z0-9+/]{4})*(?:[A-Za-z0-9+/]{2}==|[A-Za-z0-9+/]{3}=)?")
-
-# without comments and quotation marks, in any script (RFC 5322, 3.4.1, and RFC 6531)
-ADDRESS = re.compile(r'[^\s<>@,;:"()\[\]\\]+@[^\s<>@,;:"()\[\]\\]+')
-SMALL = str.maketrans(string.ascii_uppercase, string.ascii_lowercase)
-
-
-def address_key(address: str) -> str:
-    """An address as it is compared: without case, in ASCII."""
-    return address.strip().translate(SMALL)
 
 
 class Part:

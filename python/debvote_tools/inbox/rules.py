@@ -16,15 +16,15 @@ from collections.abc import Collection, Mapping, Sequence
 
 from debvote_tools.book import queries
 from debvote_tools.book.queries import Elector, EnteredBallot, KeptLetter, OwnMark
+from debvote_tools.call.box import third_part
 from debvote_tools.cli.console import private
 from debvote_tools.grouping import grouped
 from debvote_tools.inbox.letter import is_server
 from debvote_tools.inbox.letter_lines import BallotLine, ReadLetter
 from debvote_tools.inbox.letter_text import MAX_BALLOTS, MAX_WORDS, ReadLine
-from debvote_tools.inbox.mime import address_key
 from debvote_tools.inbox.reasons import Reason, ReasonWithValues
-from debvote_tools.poll.box import third_part
 from debvote_tools.poll.sealed import MARKS, marks_in
+from debvote_tools.text.addresses import address_key
 
 # how far the clock of a mail server may be ahead, and that of an elector be off
 AHEAD = datetime.timedelta(minutes=10)

@@ -11,9 +11,9 @@ from collections.abc import Iterable, Iterator, Sequence
 
 from debvote_tools.book import queries
 from debvote_tools.book.book import DoneAct
-from debvote_tools.book.election import Election, History
 from debvote_tools.cli.console import in_runs
 from debvote_tools.cli.faults import Fault
+from debvote_tools.election import Election, History
 from debvote_tools.inbox.asked import CLOSES, unasked_fault, with_lost_records
 
 # the kinds of what stops, as the page names the doubts about them, but for what nobody can open

@@ -8,22 +8,15 @@ from collections.abc import Collection, Iterable, Iterator, Mapping, Sequence
 from typing import NamedTuple
 
 from debvote_tools.book import queries
-from debvote_tools.book.election import Election, History
+from debvote_tools.call.box import without_links
 from debvote_tools.cli.console import LEAVING_OUT, count_of, cut, in_runs, private, shown_line
 from debvote_tools.cli.faults import Fault
 from debvote_tools.debvote import Finding, Findings
+from debvote_tools.election import Election, History
 from debvote_tools.files import BALLOTS_LIMIT, LINES_LIMIT
 from debvote_tools.grouping import grouped
-from debvote_tools.inbox.lines import (
-    RIGHT_ANSWERS,
-    Line,
-    Names,
-    has_code,
-    name_in,
-    names_of,
-    with_small_name,
-)
-from debvote_tools.poll.box import without_links
+from debvote_tools.inbox.lines import RIGHT_ANSWERS, Line, Names, name_in, names_of, with_small_name
+from debvote_tools.poll.codes import has_code
 from debvote_tools.text.ballots import answers_of, ballot_file, line_of, part_of, ranks_by_label
 from debvote_tools.text.language import ENGLISH
 from debvote_tools.text.motions import ABSTAIN, words_in

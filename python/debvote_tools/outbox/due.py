@@ -5,21 +5,21 @@ import datetime
 import secrets
 from collections.abc import Callable, Collection, Mapping, Sequence
 
-from debvote_tools.book import queries, outgoing
-from debvote_tools.book.election import LETTERS, RESULT_LETTER, Election, History
-from debvote_tools.book.queries import Elector
+from debvote_tools.book import outgoing, queries
 from debvote_tools.book.outgoing import TAKEN, WRITTEN, About, OutgoingLetter
+from debvote_tools.book.queries import Elector
+from debvote_tools.call.call import CallData, current_call
 from debvote_tools.cli.arguments import demand_reason, has_reason
 from debvote_tools.cli.faults import Fault, bad_words, stop_at
+from debvote_tools.election import LETTERS, RESULT_LETTER, Election, History
 from debvote_tools.inbox.asked import unasked_fault, with_lost_records
 from debvote_tools.inbox.fates import COUNTS, NOBODY, Fate, fates_of
 from debvote_tools.inbox.rules import LetterOutcome
 from debvote_tools.inbox.stopping import pending_letters, what_stops
-from debvote_tools.outbox.reached import NO_LETTER, page_since, unreached_and_printed, unreached
+from debvote_tools.outbox.reached import NO_LETTER, page_since, unreached, unreached_and_printed
 from debvote_tools.outbox.words import CORRECTED, Composer, Said
-from debvote_tools.poll.announced import address_in
-from debvote_tools.poll.call import CallData, current_call
 from debvote_tools.result.publication import closing_letter
+from debvote_tools.text.addresses import address_in
 from debvote_tools.text.language import language_of
 from debvote_tools.text.times import now
 

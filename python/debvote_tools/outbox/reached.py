@@ -4,10 +4,10 @@ that judges letters or makes pages.
 """
 
 
-from debvote_tools.book import queries, outgoing
-from debvote_tools.book.election import Election, History
+from debvote_tools.book import outgoing, queries
 from debvote_tools.book.queries import Elector
-from debvote_tools.poll.announced import address_in
+from debvote_tools.election import Election, History
+from debvote_tools.text.addresses import address_in
 
 NO_LETTER, WAS_REFUSED = "no letter", "refused"
 

@@ -12,11 +12,11 @@ from collections.abc import Iterator, Sequence
 from typing import NamedTuple
 
 from debvote_tools.book.queries import Elector
-from debvote_tools.inbox.rules import LetterOutcome
+from debvote_tools.call.call import CallData
 from debvote_tools.inbox.fates import COUNTS, REFUSED, TAKEN_BACK, Fate
 from debvote_tools.inbox.reasons import for_elector
-from debvote_tools.poll.announced import address_in
-from debvote_tools.poll.call import CallData
+from debvote_tools.inbox.rules import LetterOutcome
+from debvote_tools.text.addresses import address_in
 from debvote_tools.text.ballots import faults_of
 from debvote_tools.text.language import marked
 from debvote_tools.text.rendering import one_line, render_letter
@@ -143,7 +143,7 @@ class Composer:
         """
         for are_texts_elsewhere in (False, True):
             text = self.rendered(
-                "debvote_tools.poll",
+                "debvote_tools.call",
                 "call.txt",
                 elector,
                 is_extension=is_extension,

@@ -7,23 +7,17 @@ import tomllib
 from collections.abc import Sequence
 from typing import Any
 
+from debvote_tools.call.secret import ON_PUBLIC_ROLL
 from debvote_tools.cli import console
-from debvote_tools.cli.arguments import (
-    Options,
-    add_arguments,
-    add_version,
-    option,
-    positional,
-)
-from debvote_tools.debvote import Debvote
+from debvote_tools.cli.arguments import Options, add_arguments, add_version, option, positional
 from debvote_tools.cli.faults import Fault, Status, other_format
+from debvote_tools.debvote import Debvote
 from debvote_tools.files import BALLOTS_LIMIT, POLL_LIMIT, read_at_most, sha256_of
-from debvote_tools.text.language import ENGLISH, LANGUAGES, language_of
 from debvote_tools.poll.plain_names import bad_options, bad_title
+from debvote_tools.poll.sealed import KEYS, REQUIRED, SealedPoll, poll_of
 from debvote_tools.result import folder
 from debvote_tools.result.facts import Facts, PublishedWords
-from debvote_tools.poll.sealed import KEYS, REQUIRED, SealedPoll, poll_of
-from debvote_tools.poll.secret import ON_PUBLIC_ROLL
+from debvote_tools.text.language import ENGLISH, LANGUAGES, language_of
 
 PROGRAM = "debvote-publish"
 

@@ -11,8 +11,9 @@ from typing import Any
 from debvote_tools.debvote import Finding, casting_words, standing_in
 from debvote_tools.poll.questions import Questions
 from debvote_tools.poll.sealed import SealedPoll
-from debvote_tools.result.sheet import Castings, Sheet
+from debvote_tools.result.sheet import Castings
 from debvote_tools.result.why import Why
+from debvote_tools.sheet import Sheet
 from debvote_tools.text.language import ENGLISH, Language
 from debvote_tools.text.times import time_in_words
 

@@ -14,6 +14,7 @@ import sys
 from collections.abc import Collection, Iterable, Iterator, Mapping, Sequence
 from typing import NamedTuple
 
+from debvote_tools.call.secret import demand_no_code
 from debvote_tools.cli.console import tell_aside, tell_aside_as_it_is
 from debvote_tools.cli.faults import Fault, Status, bad_words, stop_at
 from debvote_tools.debvote import Answer, Debvote, findings_in
@@ -30,19 +31,12 @@ from debvote_tools.files import (
     write_public,
 )
 from debvote_tools.poll.questions import Questions, place_of
-from debvote_tools.poll.secret import demand_no_code
 from debvote_tools.result import file_names
 from debvote_tools.result.facts import Doubt, Facts, Outcome
 from debvote_tools.result.file_names import BALLOTS, CHECKSUMS, PAGE, POLL, RECOUNT, SHEET
 from debvote_tools.result.page import front_page_of, letter_of, page_of, pictures_of
-from debvote_tools.result.sheet import (
-    Sheet,
-    as_json,
-    outcome_as_data,
-    result_json,
-    sheet_in,
-    votes_csv,
-)
+from debvote_tools.result.sheet import as_json, outcome_as_data, result_json, votes_csv
+from debvote_tools.sheet import Sheet, sheet_in
 from debvote_tools.text.ballots import ballot_file
 
 

@@ -14,12 +14,12 @@ from typing import Any
 
 from markupsafe import Markup
 
+from debvote_tools.call.call import explanations_of, numbered_options, paragraphs_of
+from debvote_tools.call.secret import BY_OPENSSL, BY_PYTHON, sealed_checksum
 from debvote_tools.cli.console import seen, tell_aside
 from debvote_tools.debvote import Finding
 from debvote_tools.poll.plain_names import PLAIN_LETTERS, PUNCTUATION, SPELLINGS
-from debvote_tools.poll.secret import BY_OPENSSL, BY_PYTHON, sealed_checksum
 from debvote_tools.poll.sealed import SealedPoll
-from debvote_tools.poll.call import explanations_of, numbered_options, paragraphs_of
 from debvote_tools.result import file_names
 from debvote_tools.result.facts import Facts, Outcome
 from debvote_tools.text.ballots import (

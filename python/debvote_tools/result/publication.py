@@ -9,21 +9,22 @@ from typing import Any, NamedTuple
 
 from debvote_tools.book import queries
 from debvote_tools.book.book import RESTORED, Book, Detail, DoneAct, as_text, from_text
-from debvote_tools.book.election import Election, History, fixed_by
+from debvote_tools.call.call import current_call
+from debvote_tools.call.secret import alias_in, aliased_ballots, sealed_checksum
 from debvote_tools.cli.console import in_runs, is_terminal, is_yes, tell_aside
 from debvote_tools.cli.faults import Fault
 from debvote_tools.debvote import casting_words
+from debvote_tools.election import Election, History, fixed_by
 from debvote_tools.files import sha256_of
 from debvote_tools.grouping import grouped
 from debvote_tools.inbox.asked import is_unasked_since_end, other_pages
 from debvote_tools.inbox.lines import name_in
 from debvote_tools.inbox.stopping import BOX, LETTERS, Pending, letters_cure, what_stops
-from debvote_tools.poll.call import current_call
-from debvote_tools.poll.secret import alias_in, aliased_ballots, sealed_checksum
 from debvote_tools.poll.sealed import SealedPoll
 from debvote_tools.result.facts import Act, Doubt, Facts, PublishedWords
 from debvote_tools.result.file_names import CHECKSUMS
-from debvote_tools.result.sheet import Castings, Sheet, publishing, sheet_in
+from debvote_tools.result.sheet import Castings, publishing
+from debvote_tools.sheet import Sheet, sheet_in
 from debvote_tools.text.ballots import ballot_file, in_normal_form
 from debvote_tools.text.language import language_of
 from debvote_tools.text.rendering import render_letter

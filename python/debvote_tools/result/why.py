@@ -6,7 +6,7 @@ import collections
 from collections.abc import Iterable, Mapping
 from typing import Any
 
-from debvote_tools.result.sheet import Pair, Sheet
+from debvote_tools.sheet import Pair, Sheet
 
 Row = dict[str, Any]
 

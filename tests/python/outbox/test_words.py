@@ -14,18 +14,18 @@ import types
 import unittest
 from typing import Any
 
-from debvote_tools.book.queries import Elector, EnteredBallot, Envelope
 from debvote_tools.book.outgoing import OutgoingLetter
-from debvote_tools.inbox.letter_lines import ReadLine
+from debvote_tools.book.queries import Elector, EnteredBallot, Envelope
+from debvote_tools.call.call import CallData, call_page
 from debvote_tools.inbox.fates import REFUSED, Fate
+from debvote_tools.inbox.letter_lines import ReadLine
 from debvote_tools.inbox.reasons import Reason, ReasonWithValues, for_elector
 from debvote_tools.inbox.rules import LetterOutcome
 from debvote_tools.outbox.letter_folder import message, rows_to_print
 from debvote_tools.outbox.words import OF_BALLOT, PACKAGE, SUBJECTS, Composer, Said
-from debvote_tools.poll.announced import is_mail_address
-from debvote_tools.poll.call import CallData, call_page
 from debvote_tools.poll.questions import Questions
 from debvote_tools.poll.sealed import SealedPoll
+from debvote_tools.text.addresses import is_mail_address
 from debvote_tools.text.ballots import faults_of
 from debvote_tools.text.language import LANGUAGES, language_of
 from debvote_tools.text.rendering import one_line as on_one_line, render_page, resources

@@ -11,7 +11,7 @@ import tempfile
 import unittest
 import urllib.parse
 
-from debvote_tools.poll.call import CallData, call_files
+from debvote_tools.call.call import CallData, call_files
 from debvote_tools.poll.questions import LABELS, Questions
 from debvote_tools.poll.sealed import SealedPoll, with_roll
 from debvote_tools.text.language import ENGLISH, LANGUAGES, language_of

@@ -5,7 +5,7 @@ import json
 import pathlib
 import re
 
-from debvote_tools.poll.call import CallData, call_page
+from debvote_tools.call.call import CallData, call_page
 from debvote_tools.poll.questions import Questions
 from debvote_tools.poll.sealed import SealedPoll, read_plain
 from debvote_tools.text.language import ENGLISH, LANGUAGES, language_of

@@ -8,10 +8,10 @@ import secrets
 from collections.abc import Collection, Iterable, Mapping, Sequence
 
 from debvote_tools.book.queries import Elector
+from debvote_tools.call.call import PACKAGE, CallData
 from debvote_tools.cli.faults import Fault
 from debvote_tools.files import sha256_of
-from debvote_tools.inbox.lines import codes_in
-from debvote_tools.poll.call import PACKAGE, CallData
+from debvote_tools.poll.codes import codes_in
 from debvote_tools.poll.questions import Questions
 from debvote_tools.poll.sealed import OWN_LENGTH, OWN_SIGNS, new_own_mark, with_roll
 from debvote_tools.text.ballots import in_normal_form

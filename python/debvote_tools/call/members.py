@@ -11,7 +11,6 @@ import unicodedata
 from collections.abc import Iterable, Iterator, Mapping, Sequence
 from typing import NamedTuple
 
-from debvote_tools.inbox.mime import ADDRESS, address_key
 from debvote_tools.book.queries import Elector
 from debvote_tools.cli.console import listed, shown_text, steering
 from debvote_tools.cli.faults import Fault, stop_at
@@ -24,6 +23,7 @@ from debvote_tools.poll.plain_names import (
     is_elector_name,
     made_different,
 )
+from debvote_tools.text.addresses import ADDRESS, address_key
 
 DELIMITERS = {",": "comma", ";": "semicolon", "\t": "tab"}
 # longer than a file that is read, so that a cell has no limit of its own

@@ -12,11 +12,11 @@ from debvote_tools.book import queries
 from debvote_tools.book.book import NAME, ActName, Book, DoneAct, damaged, from_text, open_book
 from debvote_tools.cli.arguments import Acting, demand_reason
 from debvote_tools.cli.console import FOR_TERMINALS, ZONE, tell_aside
-from debvote_tools.debvote import Debvote
 from debvote_tools.cli.faults import NOTHING_CHANGED, Fault, Status, bad_words, stop_at
+from debvote_tools.debvote import Debvote
 from debvote_tools.files import real_place
-from debvote_tools.text.language import Language, language_of
 from debvote_tools.poll.questions import Questions, read_questions
+from debvote_tools.text.language import Language, language_of
 
 MEMBERS_FILE, POLLS, TEXTS = "members.csv", "polls", "texts"
 CALL, LETTERS, RESULT, PRIVATE = "call", "letters", "result", "private"

@@ -10,14 +10,14 @@ from typing import Any
 
 from debvote_tools.book import queries
 from debvote_tools.book.book import Detail
-from debvote_tools.book.election import LETTER_TEXT, Election, History, Sealed
 from debvote_tools.book.queries import Elector
+from debvote_tools.call import box
+from debvote_tools.election import LETTER_TEXT, Election, History, Sealed
 from debvote_tools.files import sha256_of
-from debvote_tools.text.language import Language, marked
-from debvote_tools.text.rendering import render_letter, render_page, resources
-from debvote_tools.poll import box
 from debvote_tools.poll.questions import Questions
 from debvote_tools.poll.sealed import SealedPoll, in_brackets
+from debvote_tools.text.language import Language, marked
+from debvote_tools.text.rendering import render_letter, render_page, resources
 
 # a first line that greets: it ends as one does, or begins so in one of the languages
 GREETING = re.compile(
@@ -29,7 +29,7 @@ GREETING = re.compile(
 SUBJECT = marked("Ballot: {title}")
 
 
-PACKAGE = "debvote_tools.poll"
+PACKAGE = "debvote_tools.call"
 
 # the sentences of the script on the page
 SENTENCES = marked(
@@ -135,7 +135,7 @@ class CallData:
     @property
     def seal(self) -> str:
         """The key to which this page seals ballots."""
-        from debvote_tools.poll.sealed_ballots import key_pair
+        from debvote_tools.call.sealed_ballots import key_pair
 
         return key_pair(self.box_key, self.questions.mark)[0]
 

@@ -16,8 +16,8 @@ from collections.abc import Mapping
 
 from debvote_tools.book import queries
 from debvote_tools.book.book import Book
-from debvote_tools.book.election import BOX_KEY, BOX_SCRIPT
 from debvote_tools.cli.faults import Fault, bad_words
+from debvote_tools.election import BOX_KEY, BOX_SCRIPT
 from debvote_tools.files import sha256_of
 from debvote_tools.poll.sealed import OWN, OWN_SIGNS
 from debvote_tools.text.language import marked
@@ -138,7 +138,7 @@ def script_of(key: bytes, mark: str, owns: Mapping[str, str]) -> bytes:
     digests = sorted(proof_digest(mark, link) for link in links)
     first = f"{mark} {sha256_of(asking_word(key).encode())} {page_of(key, mark)}"
     lines = "".join(f"{line}\n" for line in (first, *digests))
-    return f"{resources('debvote_tools.poll', SCRIPT)}{lines}".encode()
+    return f"{resources('debvote_tools.call', SCRIPT)}{lines}".encode()
 
 
 def box_files(book: Book, mark: str, owns: Mapping[str, str]) -> dict[str, bytes]:

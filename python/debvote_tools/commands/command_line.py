@@ -9,9 +9,9 @@ import sys
 from collections.abc import Sequence
 from typing import Any
 
-from debvote_tools.book.election import Election
 from debvote_tools.cli import arguments, console
 from debvote_tools.cli.faults import Fault, Status
+from debvote_tools.election import Election
 
 PROGRAM = "debvote-election"
 
@@ -23,7 +23,7 @@ COMMANDS = (
 ).split()
 
 SHARED = {
-    "begin": "new roll check codes",
+    "begin": "new roll codes",
     "correct": "undo strike reopen",
     "look": "status show log export backup",
 }
