@@ -65,7 +65,8 @@ class CallData:
     # the real names by the names on the roll; None if they will not be published
     real_names: Mapping[str, str] | None = None
     is_signed: bool = False
-    # beside the page a script keeps the ballots that it sends, if there is a key, which makes the links to it
+    # beside the page a script keeps the ballots that it sends, if there is a key, which makes the
+    # links to it
     box_key: bytes = b""
     # it takes none now, as letters say
     is_without_box: bool = False
@@ -96,7 +97,9 @@ class CallData:
 
     @property
     def is_by_click(self) -> bool:
-        """Whether electors are asked to vote by a click alone: in a secret vote an e-mail can be read."""
+        """Whether electors are asked to vote by a click alone: in a secret vote an e-mail can be
+        read.
+        """
         return self.has_box and not self.is_by_name
 
     @property
@@ -119,7 +122,9 @@ class CallData:
         return in_brackets(self.questions.mark, own)
 
     def link_of(self, elector: Elector | None) -> str | None:
-        """The address of the page, as the personal link of an elector whose own mark may be told."""
+        """The address of the page, as the personal link of an elector whose own mark may be
+        told.
+        """
         is_linked = self.is_by_name or self.has_box
         if elector is None or not (elector.mark and self.at and is_linked):
             return self.at
@@ -174,8 +179,8 @@ class CallData:
         return "CODE" if self.has_codes_on_roll else "NAME"
 
     def form_of(self, name: str) -> list[str]:
-        """A ballot with gaps in place of the ranks, where an elector is to write them: one line, or the
-        name and each answer with its label.
+        """A ballot with gaps in place of the ranks, where an elector is to write them: one line, or
+        the name and each answer with its label.
         """
         return re.split(" (?=[A-Z] )", self.questions.line(name, lambda *_: "_"))
 
@@ -246,8 +251,8 @@ def call_page(call: CallData) -> bytes:
 
 
 def call_files(call: CallData) -> dict[str, bytes]:
-    """The files of a call by name, the checksums last. The polls are the sealed ones, byte for byte;
-    if they have codes, they stay out.
+    """The files of a call by name, the checksums last. The polls are the sealed ones, byte for
+    byte; if they have codes, they stay out.
     """
     files = {"index.html": call_page(call), "call.txt": call_letter(call).encode()}
     if not call.has_codes_on_roll:

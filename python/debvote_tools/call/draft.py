@@ -74,7 +74,9 @@ def bad_poll(file: object, reason: str, cure: str) -> Fault:
 
 # ---- the files
 def labels_in(folder: pathlib.Path) -> list[str]:
-    """The labels of several questions, by the files of their polls, or that of one, which is empty."""
+    """The labels of several questions, by the files of their polls, or that of one, which is
+    empty.
+    """
     place = folder / POLLS
     if not place.is_dir():
         return [""]
@@ -206,7 +208,9 @@ def faults_of_names(draft: DraftPoll, roll: Sequence[str], language: str) -> Ite
 
 
 def faults_of_several(election: Election, drafts: Mapping[str, DraftPoll]) -> Iterator[Fault]:
-    """What can't be of the polls of several questions together, or is in their folders beside them."""
+    """What can't be of the polls of several questions together, or is in their folders beside
+    them.
+    """
     place, labels = election.path(POLLS), list(drafts)
     if (file := election.path(POLL_FILE)).exists():
         reason = f"it is beside the folder {POLLS}, which has the polls of several questions"

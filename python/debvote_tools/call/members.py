@@ -1,5 +1,5 @@
-"""The list of members, a table as spreadsheets save it, and the roll that it becomes: CSV with a comma,
-semicolon or tab, in UTF-8 or UTF-16.
+"""The list of members, a table as spreadsheets save it, and the roll that it becomes: CSV with a
+comma, semicolon or tab, in UTF-8 or UTF-16.
 """
 
 import codecs
@@ -126,8 +126,8 @@ def bad_list(file: object, reason: str, cure: str) -> Fault:
 
 
 def read_table(data: bytes, file: object) -> tuple[list[Row], str]:
-    """The rows of a table that are not blank, the head line first; and its delimiter, which is the one
-    that finds most heads in that line. A quotation mark after spaces begins a cell, too.
+    """The rows of a table that are not blank, the head line first; and its delimiter, which is the
+    one that finds most heads in that line. A quotation mark after spaces begins a cell, too.
     """
     text = table_text(data, file)
     head_line = next((line for line in re.split(r"[\r\n]+", text) if line.strip(' \t,;"')), "")

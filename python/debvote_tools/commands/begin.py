@@ -162,7 +162,9 @@ def roll(election: Election, arguments: RollArguments) -> None:
 
 
 def linked_anew(history: History, roll: Roll, name: str | None) -> list[Member]:
-    """The elector of this name, who gets another link. Stops where nobody has one that could be replaced."""
+    """The elector of this name, who gets another link. Stops where nobody has one that could be
+    replaced.
+    """
     has_links = history.announced("box") and not history.closes
     named = [one for one in roll.electors if has_links and one.name == name]
     if name is not None and not named:
@@ -214,8 +216,8 @@ def keep_electors(book: Book, roll: Roll, seen: int) -> None:
 def change_addresses(
     election: Election, history: History, changed: Mapping[Member, str], new_link: str | None
 ) -> None:
-    """The act after the call. A new address makes a new own mark, and a new link to the box: who reads
-    the old one knows both. An elector may get a new link alone.
+    """The act after the call. A new address makes a new own mark, and a new link to the box: who
+    reads the old one knows both. An elector may get a new link alone.
     """
     if not changed:
         # a run that was killed may not have made them
@@ -260,7 +262,9 @@ def electors_of(changed: Iterable[Member], new_link: str | None) -> Iterator[Ele
 
 
 def make_anew(election: Election, history: History) -> None:
-    """Makes what depends on own marks, and so on addresses: the slips, and the script of the box."""
+    """Makes what depends on own marks, and so on addresses: the slips, and the script of the
+    box.
+    """
     if election.questions.is_secret:
         write_slips(election, election.sealed())
     if history.announced("box") and not history.closes:
@@ -276,7 +280,9 @@ def agreed(member: Member, words: str) -> bool:
 
 
 def changes_in_words(member: Member, went: Mapping[str, Sequence[str]]) -> str:
-    """What changes of an elector. `went` are the addresses to which the call with their code went."""
+    """What changes of an elector. `went` are the addresses to which the call with their code
+    went.
+    """
     words = [
         f"{what} {before or '(none)'} becomes {now or '(none)'}"
         for what, (before, now) in member.changes.items()

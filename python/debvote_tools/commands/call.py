@@ -215,7 +215,9 @@ def take_back(election: Election) -> None:
 
 
 def remove_void(election: Election, history: History) -> None:
-    """Removes the files of the call that was taken back last, and of its codes, unless there are new ones."""
+    """Removes the files of the call that was taken back last, and of its codes, unless there are
+    new ones.
+    """
     write_made(election.path(CALL), {}, PUBLIC, queries.files_sealed(election.book, CALL))
     (election.path(LETTERS) / EXTENSION).unlink(missing_ok=True)
     # letters that nobody has sent yet have the mark and the codes that are void
@@ -299,7 +301,9 @@ def faults_by_secrecy(arguments: Arguments, is_secret: bool, is_on_roll: bool) -
 
 
 def asked_slips() -> str:
-    """Whether electors get their codes, without which they do not find their ballots in the result."""
+    """Whether electors get their codes, without which they do not find their ballots in the
+    result.
+    """
     question = "Will slips with codes be handed out, with which electors find their ballots?"
     said = is_yes(question) if is_terminal() else None
     if said is None:
@@ -400,8 +404,9 @@ def call_in_words(election: Election, data: CallData) -> Iterator[str]:
 
 
 def box_in_words(election: Election, data: CallData) -> Iterator[str]:
-    """Notes on the page of before, to which letters have links until that of now was asked, and on asking;
-    and last what is done with the folder: what lies at its address is fetched before somebody deletes it.
+    """Notes on the page of before, to which letters have links until that of now was asked, and on
+    asking; and last what is done with the folder: what lies at its address is fetched before
+    somebody deletes it.
     """
     ask, asked_at = election.command("add", "--box"), last_box(election.history()).get("at")
     if asked_at not in (None, data.at):
@@ -413,8 +418,8 @@ def box_in_words(election: Election, data: CallData) -> Iterator[str]:
 
 
 def cron_line(election: Election) -> str:
-    """The line that asks the box each hour. It finds this computer's note, and cron reads a % as the
-    end of a line.
+    """The line that asks the box each hour. It finds this computer's note, and cron reads a % as
+    the end of a line.
     """
     state = os.environ.get("XDG_STATE_HOME")
     noted = [f"XDG_STATE_HOME={shlex.quote(state)}"] if state else []

@@ -91,8 +91,8 @@ def next_call(election: Election) -> str:
 
 # ---- asking debvote
 class Checked(NamedTuple):
-    """What a call would seal, how many votes the quorum of each question is, and whether it is about a
-    secret vote in which not all electors have codes.
+    """What a call would seal, how many votes the quorum of each question is, and whether it is
+    about a secret vote in which not all electors have codes.
     """
 
     questions: Questions
@@ -151,8 +151,8 @@ def faults_by_debvote(election: Election, file: pathlib.Path, poll_bytes: bytes)
 def like_answers(
     questions: Questions, letter_text: str, language: Language
 ) -> list[tuple[str, str]]:
-    """What letters have of the secretary's words that looks like an answer: titles, options and lines
-    of texts, each behind its file, and the number of its line.
+    """What letters have of the secretary's words that looks like an answer: titles, options and
+    lines of texts, each behind its file, and the number of its line.
     """
     found = [(f"{POLLS}/{TITLE_FILE}", questions.title)]
     for label, poll in questions.items():

@@ -109,8 +109,8 @@ class Closing(Change):
 
 
 def came_last(election: Election, history: History, lines: str) -> str:
-    """Which lines there are, when the last ones came, the end and what was taken out: who has put back a
-    disk sees what is missing.
+    """Which lines there are, when the last ones came, the end and what was taken out: who has put
+    back a disk sees what is missing.
     """
     undone = queries.undone_acts(election.book)
     # an asking may bring nothing

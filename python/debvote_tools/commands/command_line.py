@@ -15,8 +15,9 @@ from debvote_tools.election import Election
 
 PROGRAM = "debvote-election"
 
-# in the order in which an election needs them. Each is a function with this name, in a module with this
-# name or one of `SHARED`; its docstring is the help, and the class of its arguments has the options
+# in the order in which an election needs them. Each is a function with this name, in a module with
+# this name or one of `SHARED`; its docstring is the help, and the class of its arguments has the
+# options
 COMMANDS = (
     "new roll check codes call add held undo strike desk letters show status "
     "close reopen count publish log export backup"

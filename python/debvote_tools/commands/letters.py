@@ -122,7 +122,9 @@ def reminds_again(before: datetime.datetime) -> bool:
 
 
 def is_agreed(said: str, how: str) -> bool:
-    """Whether letters are to be written, whatever is said of them. Stops where nobody can be asked."""
+    """Whether letters are to be written, whatever is said of them. Stops where nobody can be
+    asked.
+    """
     if not console.is_terminal():
         raise Fault(None, said, f"if it is right, {how} with --yes")
     return bool(console.is_yes(f"{said}. {how.capitalize()}?"))

@@ -37,7 +37,8 @@ from debvote_tools.text import times
 from debvote_tools.text.ballots import ballot_file, ranks_by_label
 
 # ---- status
-# how an election is, in numbers, as FORMATS has them; in a vote whose roll has codes nobody is named
+# how an election is, in numbers, as FORMATS has them; in a vote whose roll has codes nobody is
+# named
 State = dict[str, Any]
 
 
@@ -202,7 +203,9 @@ class ShowArguments(Options):
 
 
 def show(election: Election, arguments: ShowArguments) -> None:
-    """Show one elector: the ballots and letters that came, the current ballot, and what was sent."""
+    """Show one elector: the ballots and letters that came, the current ballot, and what was
+    sent.
+    """
     history = election.history()
     vote = Vote(election)
     elector = elector_named(election, vote, arguments.name)
@@ -311,7 +314,9 @@ def acts_in_words(acts: Sequence[DoneAct]) -> Iterator[str]:
 
 
 def export(election: Election, arguments: ExportArguments) -> None:
-    """Write the poll, the ballots and everything that came into a new folder that only you can read."""
+    """Write the poll, the ballots and everything that came into a new folder that only you can
+    read.
+    """
     book, target_folder = election.whole_book(), pathlib.Path(arguments.target_folder)
     demand_new(election, target_folder, "folder")
     questions = election.questions

@@ -137,14 +137,14 @@ def filled_in_place(
     *,
     is_new: bool,
 ) -> folder.Filled:
-    """The folder in its place: as a publication of its own, which is an act; or as it was published last,
-    with the same words. Raises `WouldDiffer` if it would be another one now.
+    """The folder in its place: as a publication of its own, which is an act; or as it was published
+    last, with the same words. Raises `WouldDiffer` if it would be another one now.
     """
     history = election.history()
     pending = pending_letters(election, history) if history.is_closed else Pending()
     facts = publication.facts_of(election, words, pending, None if is_new else again)
-    # the folder is whole and counted before the act, and takes its place after the act: so a kill leaves
-    # no folder that the book does not know
+    # the folder is whole and counted before the act, and takes its place after the act: so a kill
+    # leaves no folder that the book does not know
     with folder.beside(target) as new:
         filled = folder.filled(
             new.folder,
@@ -315,8 +315,8 @@ def published_words(arguments: Arguments, questions: Questions, call: DoneAct) -
 
 
 def said_of_each(number: int, option: str, given: list[str]) -> list[str]:
-    """What an option says of each of so many casting votes, in their order; given once, it holds for
-    all. Stops if it is given another number of times.
+    """What an option says of each of so many casting votes, in their order; given once, it holds
+    for all. Stops if it is given another number of times.
     """
     if given and not number:
         raise bad_words(option, "it describes the casting vote of --casting", "give --casting too")

@@ -1,4 +1,6 @@
-"""What `add` is given: files and standard input, each read once and whole, and folders of letters."""
+"""What `add` is given: files and standard input, each read once and whole, and folders of
+letters.
+"""
 
 import codecs
 import itertools
@@ -60,8 +62,8 @@ def has_letters(file: GivenFile) -> bool:
 
 
 def read_files(election: Election, paths: Sequence[str]) -> tuple[list[RawLetter], list[GivenFile]]:
-    """The letters that these paths name, and what is passed over; or the files of lines. Stops at a file
-    that has neither ballots nor letters, and at letters beside files of lines.
+    """The letters that these paths name, and what is passed over; or the files of lines. Stops at a
+    file that has neither ballots nor letters, and at letters beside files of lines.
     """
     letters = dict[str, list[RawLetter]]()
     files = dict[str, GivenFile]()
@@ -119,7 +121,9 @@ def bytes_in(file: BinaryIO) -> bytes:
 
 
 def demand_lines(file: GivenFile) -> None:
-    """Stops at a file that can't have ballots: it is empty, too long, of another kind, or a poll."""
+    """Stops at a file that can't have ballots: it is empty, too long, of another kind, or a
+    poll.
+    """
     if not file.data:
         words, cure = "it is empty", "write one ballot on each line"
         raise Fault(file.name, words, cure)

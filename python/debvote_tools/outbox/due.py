@@ -115,8 +115,8 @@ class LettersDue(Run):
         return max(times, default=None)
 
     def said(self, letter: OutgoingLetter) -> tuple[Said, str]:
-        """What a letter says, and the mark that ends its subject. An address that its elector no longer
-        has learns no own mark.
+        """What a letter says, and the mark that ends its subject. An address that its elector no
+        longer has learns no own mark.
         """
         elector = self.electors[letter.elector]
         if not is_present(letter, self.electors):
@@ -172,7 +172,9 @@ def letters_due(
 
 
 def demand_due(election: Election, history: History, kind: str, *, is_over: bool = False) -> None:
-    """Stops at a kind of letters for which it is too early or too late, or that nobody can write."""
+    """Stops at a kind of letters for which it is too early or too late, or that nobody can
+    write.
+    """
     if history.has_codes_on_roll:
         words = "codes are on the roll, and nobody knows whose they are, so no letters can be written to electors"
         cure = "with your mail program send call/call.txt, letters/closed.txt and letters/result.txt to all"
@@ -198,8 +200,9 @@ def demand_due(election: Election, history: History, kind: str, *, is_over: bool
 def call_data_of(
     election: Election, history: History, kind: str, because: str | None
 ) -> tuple[CallData, dict[str, str]]:
-    """What the letters say of the call, and the reason for which they go out although the box was not
-    asked, if they do: then they say that the page takes no ballots. Stops if it has to be asked.
+    """What the letters say of the call, and the reason for which they go out although the box was
+    not asked, if they do: then they say that the page takes no ballots. Stops if it has to be
+    asked.
     """
     call = current_call(election, history)
     if kind == "result":
@@ -266,9 +269,10 @@ def letters_pending_in(fates: Mapping[str, Sequence[Fate]]) -> int:
 
 
 def reminders_due(run: Run) -> LettersDue:
-    """A letter to each elector whose ballot does not count yet, or whose last one nobody can open; a
-    receipt, if only a yes in `add` is lacking. A run of this day goes on if it was cut off, or the server
-    refused some for now: then those are reminded, too, who came to it since. Else each run is a new one.
+    """A letter to each elector whose ballot does not count yet, or whose last one nobody can open;
+    a receipt, if only a yes in `add` is lacking. A run of this day goes on if it was cut off, or
+    the server refused some for now: then those are reminded, too, who came to it since. Else each
+    run is a new one.
     """
     fates = fates_of(run.election, run.history)
     counting = queries.what_counts(run.election.book)
@@ -340,8 +344,8 @@ def new_receipts(
     """The receipts about what no earlier one has told; not to an address to which one that is not
     sent yet says it.
     """
-    # at an address that its elector no longer has a server has to have taken it; a file may have gone
-    # out by a mail program, unless the server is to send it now
+    # at an address that its elector no longer has a server has to have taken it; a file may have
+    # gone out by a mail program, unless the server is to send it now
     came_through = (TAKEN,) if run.is_sending else (TAKEN, WRITTEN)
     told_before = {
         (one.elector, key)
@@ -399,10 +403,10 @@ def results_due(run: Run) -> LettersDue:
 
 # ---- what electors are told
 def is_told(fate: Fate) -> bool:
-    """Whether an elector is told of something that came. A copy is the letter that it copies. One from
-    which ballots were entered is told to those whom it names: `told_of` leaves out those who have one of
-    these. A program that answers by itself would answer; and a letter of ours that came back has the name
-    of its elector.
+    """Whether an elector is told of something that came. A copy is the letter that it copies. One
+    from which ballots were entered is told to those whom it names: `told_of` leaves out those who
+    have one of these. A program that answers by itself would answer; and a letter of ours that came
+    back has the name of its elector.
     """
     letter = fate.letter
     if letter is None:
@@ -415,9 +419,9 @@ def is_told(fate: Fate) -> bool:
 
 
 def told_of(items: Sequence[Fate]) -> dict[About, Fate]:
-    """What an elector is told of, in its order. Of a letter from which ballots of theirs were entered
-    only these are told, also if they were struck or taken back. Of another letter one receipt tells,
-    and none anew if the secretary decides of it later.
+    """What an elector is told of, in its order. Of a letter from which ballots of theirs were
+    entered only these are told, also if they were struck or taken back. Of another letter one
+    receipt tells, and none anew if the secretary decides of it later.
     """
     entered = {one.envelope.letter for one in items if one.envelope}
     found: dict[About, Fate] = {}

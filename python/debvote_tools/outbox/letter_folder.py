@@ -92,7 +92,9 @@ def body_of(text: str) -> tuple[str, bytes]:
 
 # ---- the folder
 def letter_files(due: LettersDue, letters: Sequence[OutgoingLetter]) -> dict[str, bytes]:
-    """The files of letters by name. Letters that are sent, or that a server has taken, have none."""
+    """The files of letters by name. Letters that are sent, or that a server has taken, have
+    none.
+    """
     files: dict[str, bytes] = {}
     printed = []
     for letter in letters:
@@ -125,7 +127,8 @@ def letter_files(due: LettersDue, letters: Sequence[OutgoingLetter]) -> dict[str
 
 def rows_to_print(text: str) -> list[list[tuple[str, str]]]:
     """The rows of a letter, each with its kind: a paragraph, a head, or an option that asks for a
-    rank. A letter that asks for a ballot has three parts: what is read, what is kept, and the ballot.
+    rank. A letter that asks for a ballot has three parts: what is read, what is kept, and the
+    ballot.
     """
     parts = [list(filter(None, part.strip("\n").split("\n\n"))) for part in text.split("\f")]
     kinds = [kind_of_row] * 2 + [kind_of_ballot_row]

@@ -16,8 +16,8 @@ Unreached = tuple[Elector, str, str]
 
 
 def page_since(history: History) -> int:
-    """The act that named the address of the page of now, if the page takes ballots, since a click on an
-    older page reaches nobody; else 0. What a letter of the result names is no such page.
+    """The act that named the address of the page of now, if the page takes ballots, since a click
+    on an older page reaches nobody; else 0. What a letter of the result names is no such page.
     """
     since, at = 0, None
     for act in history.since_call("call", "extend", "announce", "close"):

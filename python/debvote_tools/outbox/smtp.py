@@ -80,8 +80,8 @@ def send_all(
     sender: str,
     server: Server,
 ) -> Iterator[OutgoingLetter]:
-    """Sends letters in their order, and yields each with what the server said, to be noted before the
-    next one is sent.
+    """Sends letters in their order, and yields each with what the server said, to be noted before
+    the next one is sent.
     """
     mailer = Mailer(server, sender)
     with within(WHOLE):

@@ -1,8 +1,8 @@
 """What letters to electors say. Nothing is asked here, and nothing is written.
 
 No line looks like an answer, however a mail program breaks it: the right line has gaps in place of
-ranks, a ballot that came is said in words, and no line that came is repeated. So an answer that quotes
-a letter goes in.
+ranks, a ballot that came is said in words, and no line that came is repeated. So an answer that
+quotes a letter goes in.
 """
 
 import dataclasses
@@ -155,15 +155,17 @@ class Composer:
         return Said(self.subject("call", is_extension=is_extension), text)
 
     def reminder(self, elector: Elector, fates: Sequence[Fate], *, is_lost: bool = False) -> Said:
-        """A letter to an elector without a ballot that counts, or whose last one is lost. If a line or a
-        letter of theirs has come, it says what became of it, and that they can send a right line now.
+        """A letter to an elector without a ballot that counts, or whose last one is lost. If a line
+        or a letter of theirs has come, it says what became of it, and that they can send a right
+        line now.
         """
         has_come = any(one.is_own or one.envelope for one in fates)
         return self.said("reminders", elector, fates=fates, has_come=has_come, is_lost=is_lost)
 
     def receipt(self, elector: Elector, fates: Sequence[Fate]) -> Said:
         """What became of what came from an elector. It has the right line if the last of it was
-        refused, waits or was set aside. What goes in, was struck, taken back or late asks nobody to vote again.
+        refused, waits or was set aside. What goes in, was struck, taken back or late asks nobody to
+        vote again.
         """
         decide = (one for one in fates if one.is_own or one.became in (COUNTS, REFUSED))
         *_, last = COUNTS, *(one.became for one in decide)

@@ -1,11 +1,13 @@
-"""What looks like a code or an alias of a secret vote, or like a code on the roll, within other text."""
+"""What looks like a code or an alias of a secret vote, or like a code on the roll, within other
+text.
+"""
 
 import re
 
 from debvote_tools.poll.sealed import OWN_LENGTH, OWN_SIGNS
 
-# the code or the alias of a secret vote, and a code on the roll, within other text: as people type it, with
-# the gaps of a slip, over lines, and in capitals
+# the code or the alias of a secret vote, and a code on the roll, within other text: as people type
+# it, with the gaps of a slip, over lines, and in capitals
 GAP = r"[ \t-]?+(?:\s*\n\s*)?+"
 TYPED_CODE, TYPED_ON_ROLL = (
     re.compile(rf"(?<!{sign})(?=((?:{sign}{GAP}){{{length}}}{sign})(?!{sign}))", re.IGNORECASE)

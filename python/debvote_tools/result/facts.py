@@ -56,8 +56,8 @@ class PublishedWords:
     made again.
     """
 
-    # the options that casting votes choose; whose each was and on which day, by the same labels, if that
-    # is said. No count can show it
+    # the options that casting votes choose; whose each was and on which day, by the same labels, if
+    # that is said. No count can show it
     castings: Castings = dataclasses.field(default_factory=dict)
     cast_by: Mapping[str, str] = dataclasses.field(default_factory=dict)
     cast_on: Mapping[str, str] = dataclasses.field(default_factory=dict)
@@ -105,9 +105,9 @@ def doubts_about(sheet: Sheet, label: str) -> Iterator[Doubt]:
 class Act(Told):
     """Something that was done in an election, at a time by the clock of the secretary's computer.
 
-    `places` fill its sentence, those that differ by question by the labels of those that have one; all
-    times are in the zone in which the end was announced. `because` is None if no reason was given, or
-    it is not published.
+    `places` fill its sentence, those that differ by question by the labels of those that have one;
+    all times are in the zone in which the end was announced. `because` is None if no reason was
+    given, or it is not published.
     """
 
     time: datetime.datetime
@@ -118,8 +118,8 @@ class Act(Told):
     labels: Collection[str] | None = None
 
     def told_of(self, labels: Collection[str]) -> "Act":
-        """The same, as it is told of some questions: of several each before its label, in front of which
-        it would look like an answer.
+        """The same, as it is told of some questions: of several each before its label, in front of
+        which it would look like an answer.
         """
         places = {
             key: ", ".join(
@@ -148,22 +148,23 @@ class Facts:
     given_checksum: str | None = None
     # the day of the call that holds, and that of the first close
     days: Sequence[datetime.date] = ()
-    # what was done, about all questions; and of each line that came after the end, and is in time since the
-    # vote was not closed, the labels of the questions that it answers
+    # what was done, about all questions; and of each line that came after the end, and is in time
+    # since the vote was not closed, the labels of the questions that it answers
     acts: Sequence[Act] = ()
     labels_after_end: Sequence[Collection[str]] = ()
     # the lines that were entered after the close: how many; and unless the vote is secret all
     late_number: int = 0
     late: Sequence[bytes] | None = None
-    # the letter of the last close, unless the vote was opened again: it has the checksum of other ballots
+    # the letter of the last close, unless the vote was opened again: it has the checksum of other
+    # ballots
     closed: bytes | None = None
     # by the names on the roll, if they are published
     real_names: Mapping[str, str] = dataclasses.field(default_factory=dict)
     # those that are known before the count, about all questions
     doubts: Sequence[Doubt] = ()
-    # of a secret vote, and not published: the codes of the electors, of which none gets into the folder,
-    # the sheet of the files with names, and the electors whose votes a comparison with the last
-    # publication would show; and the random line of the last close, if it made one
+    # of a secret vote, and not published: the codes of the electors, of which none gets into the
+    # folder, the sheet of the files with names, and the electors whose votes a comparison with the
+    # last publication would show; and the random line of the last close, if it made one
     codes: Collection[str] = ()
     private: Sheet | None = None
     compared: Sequence[str] = ()

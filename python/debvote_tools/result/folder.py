@@ -57,8 +57,8 @@ BESIDE_PLACE = f"{TEMPORARY}result-"
 
 
 class Filled(NamedTuple):
-    """A folder that is whole: how each question ended, all doubts, the checksums of all files, by their
-    places in it, and the letter of the result.
+    """A folder that is whole: how each question ended, all doubts, the checksums of all files, by
+    their places in it, and the letter of the result.
     """
 
     outcomes: Mapping[str, Outcome]
@@ -154,11 +154,11 @@ def filled(
     is_forced: bool,
     known: Collection[object] = (),
 ) -> Filled:
-    """Writes all files of a result into an empty folder, those of each of several questions into one
-    with its label, and has each question counted by debvote and by `recount.py`. Stops at doubts that
-    are not forced, at a code of an elector, and if the counts differ. `program_folder` is that of the
-    program that runs this: debvote may be beside it. `known` are the doubts that the same result had
-    when it was made first: the reason of then is not one for what came since.
+    """Writes all files of a result into an empty folder, those of each of several questions into
+    one with its label, and has each question counted by debvote and by `recount.py`. Stops at
+    doubts that are not forced, at a code of an elector, and if the counts differ. `program_folder`
+    is that of the program that runs this: debvote may be beside it. `known` are the doubts that the
+    same result had when it was made first: the reason of then is not one for what came since.
     """
     filling = Filling(folder, given)
     outcomes = {label: filling.counted(label, program_folder) for label in given}
@@ -183,8 +183,8 @@ def filled(
 
 
 class Filling:
-    """A folder while it is filled, with the checksum of each file by its place. Files without a label
-    are those of the one question, or those above several.
+    """A folder while it is filled, with the checksum of each file by its place. Files without a
+    label are those of the one question, or those above several.
     """
 
     def __init__(self, folder: pathlib.Path, given: Mapping[str, Facts]) -> None:
@@ -244,8 +244,8 @@ class Filling:
 
 
 def answer_of(debvote: Debvote, task: str, *words: str, also: tuple[int, ...] = ()) -> Answer:
-    """What debvote answers in its folder, and its fault lines as they are. Stops unless its exit status
-    is 0, or one of these with a text.
+    """What debvote answers in its folder, and its fault lines as they are. Stops unless its exit
+    status is 0, or one of these with a text.
     """
     answer = debvote.run(task, "--poll", POLL, "--ballots", BALLOTS, *words)
     tell_aside_as_it_is(answer.faults)
@@ -257,8 +257,8 @@ def answer_of(debvote: Debvote, task: str, *words: str, also: tuple[int, ...] = 
 def files_above(
     questions: Questions, outcomes: Mapping[str, Outcome], checksums: Mapping[str, str]
 ) -> dict[str, bytes]:
-    """What is above the folders of several questions: their title and the list of their polls, as the
-    call has them, and how each ended, as data.
+    """What is above the folders of several questions: their title and the list of their polls, as
+    the call has them, and how each ended, as data.
     """
     ended = {
         label: {
@@ -274,7 +274,9 @@ def files_above(
 
 # ---- doubts
 def doubts_about_all(outcomes: Iterable[Outcome]) -> list[Doubt]:
-    """All doubts: those about the whole vote, which each question has, and those about each question."""
+    """All doubts: those about the whole vote, which each question has, and those about each
+    question.
+    """
     first, *others = (one.doubts for one in outcomes)
     more = (doubt for its in others for doubt in its if doubt.label)
     return sorted([*first, *more], key=lambda doubt: doubt.label)

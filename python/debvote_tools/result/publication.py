@@ -1,6 +1,6 @@
 """What is published of an election, from its book: the letter of the close, and the facts of a
-result. What the book has of the questions `close`, `count` and `publish` read in one way, and compare
-it with what debvote says of each line (`kept_of`).
+result. What the book has of the questions `close`, `count` and `publish` read in one way, and
+compare it with what debvote says of each line (`kept_of`).
 """
 
 import itertools
@@ -35,12 +35,12 @@ class Kept(NamedTuple):
     """What the book has of a question at one time."""
 
     poll: SealedPoll
-    # all lines in time, as debvote counts them, and as they are published: in a secret vote those that
-    # count, by alias
+    # all lines in time, as debvote counts them, and as they are published: in a secret vote those
+    # that count, by alias
     ballots: bytes
     public: bytes
-    # how many these are; and debvote's verdicts, as the book keeps them: why it refuses lines, by their
-    # places, and what counts of each elector
+    # how many these are; and debvote's verdicts, as the book keeps them: why it refuses lines, by
+    # their places, and what counts of each elector
     lines: int
     refused: dict[int, str]
     counting: dict[str, str]
@@ -48,9 +48,9 @@ class Kept(NamedTuple):
 
 
 def kept_of(election: Election, history: History, labels: Iterable[str]) -> dict[str, Kept]:
-    """What the book has of these questions. Stops if an envelope is not kept for the elector whose name
-    its line begins with, if ballots are not those that the close has fixed, and if debvote, asked anew,
-    says another thing of a line than the book keeps of it.
+    """What the book has of these questions. Stops if an envelope is not kept for the elector whose
+    name its line begins with, if ballots are not those that the close has fixed, and if debvote,
+    asked anew, says another thing of a line than the book keeps of it.
     """
     book, polls, kept = election.book, election.questions, dict[str, Kept]()
     with book.snapshot():
@@ -122,8 +122,8 @@ def counted(election: Election, kept: Kept, casting: str | None) -> Sheet:
 def facts_of(
     election: Election, words: PublishedWords, pending: Pending, again: DoneAct | None
 ) -> dict[str, Facts]:
-    """The facts of each question, by its label, of a new publication or of one that is made again. Stops
-    if debvote does not find the ballots as they are kept.
+    """The facts of each question, by its label, of a new publication or of one that is made again.
+    Stops if debvote does not find the ballots as they are kept.
     """
     history, book = election.history(), election.book
     kept, call = kept_of(election, history, election.questions), current_call(election, history)
@@ -170,8 +170,8 @@ def early_close(history: History) -> Doubt | None:
 
 
 def closing_letter(election: Election, history: History) -> bytes:
-    """The letter of the last close, with what it says of the one before. In a secret vote the reason for
-    which the vote was opened again stays in the log.
+    """The letter of the last close, with what it says of the one before. In a secret vote the
+    reason for which the vote was opened again stays in the log.
     """
     questions = election.sealed().public
     reasons = [act.detail["because"] for act in history.since_call("reopen")]
@@ -259,9 +259,10 @@ def acts_of(book: Book, history: History, again: DoneAct | None, *, is_secret: b
 
 
 def labels_after_end(book: Book, history: History) -> list[Collection[str]]:
-    """Of each line that came after the end, and is in time, valid or not, the labels of the questions that
-    it answers. Of a letter it came when that arrived. A line of a file or a desk that was entered after the
-    first close is left out: whoever entered it said that it came before that close.
+    """Of each line that came after the end, and is in time, valid or not, the labels of the
+    questions that it answers. Of a letter it came when that arrived. A line of a file or a desk
+    that was entered after the first close is left out: whoever entered it said that it came before
+    that close.
     """
     if history.until is None:
         return []
@@ -311,7 +312,9 @@ def acts_of_page(act: DoneAct, book: Book, history: History, *, is_secret: bool)
 
 
 def taken_out(act: DoneAct, book: Book, reason: str | None, *, is_secret: bool) -> Iterator[Act]:
-    """The lines that an act took out: each of a `strike`, and of an `undo` those that did not come again."""
+    """The lines that an act took out: each of a `strike`, and of an `undo` those that did not come
+    again.
+    """
     if act.name == "strike":
         for one in queries.envelopes(book, "struck = ?", act.number):
             done = "struck in secret" if is_secret else "struck"
@@ -327,7 +330,9 @@ def taken_out(act: DoneAct, book: Book, reason: str | None, *, is_secret: bool) 
 
 
 def how_moved(detail: Detail, history: History) -> str:
-    """What the pages say of an act `moved`: they tell as restored only what the secretary says is."""
+    """What the pages say of an act `moved`: they tell as restored only what the secretary says
+    is.
+    """
     if detail["why"] == RESTORED:
         return "restored"
     noted, there = detail["noted"], detail["there"]["act"]
@@ -338,7 +343,9 @@ def how_moved(detail: Detail, history: History) -> str:
 
 
 def close_of(act: DoneAct, book: Book, history: History) -> dict[str, Any]:
-    """What a close says, and how many lines in time came in or were taken out since the one before."""
+    """What a close says, and how many lines in time came in or were taken out since the one
+    before.
+    """
     fixed = fixed_by(act).items()
     places: dict[str, Any] = {
         "lines": {label: its.lines for label, its in fixed},

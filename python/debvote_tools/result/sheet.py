@@ -107,21 +107,24 @@ CASTING = (
     "Of several questions each tie has its own, with its label: B=NAME",
 )
 
-# the options that casting votes choose, by their plain names: those of some questions, by the labels
+# the options that casting votes choose, by their plain names: those of some questions, by the
+# labels
 Castings = Mapping[str, str]
 
 
 def demand_countable(election: Election, history: History) -> None:
-    """Stops at a secret vote that is not closed: whoever sees its numbers grow sees who voted what."""
+    """Stops at a secret vote that is not closed: whoever sees its numbers grow sees who voted
+    what.
+    """
     if election.questions.is_secret and not history.is_closed:
         words = "the vote is secret, and can be counted only after the close"
         raise Fault(None, words, f"close it first: {election.command('close')}")
 
 
 def castings_in(given: Sequence[str] | None, questions: Questions) -> Castings:
-    """What the options --casting say. Stops at one without its label, if there are several questions, at
-    a second one for a question, and at a name that is no option, or that of two: each has a plain name,
-    and the one that people read.
+    """What the options --casting say. Stops at one without its label, if there are several
+    questions, at a second one for a question, and at a name that is no option, or that of two: each
+    has a plain name, and the one that people read.
     """
     castings: dict[str, str] = {}
     for text in given or ():
@@ -157,8 +160,8 @@ def named(label: str) -> str:
 
 
 def publishing(election: Election, castings: Castings) -> str:
-    """The command that publishes a result, with the casting votes if there are any. One that was published
-    before keeps its holder and its day; those of others the secretary writes.
+    """The command that publishes a result, with the casting votes if there are any. One that was
+    published before keeps its holder and its day; those of others the secretary writes.
     """
     details = [act.detail for act in election.history().named("publish")]
     words = list[str]()

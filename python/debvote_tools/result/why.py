@@ -32,8 +32,8 @@ class Why:
         return [self.row(pair) for pair in pairs]
 
     def row(self, pair: Iterable[int]) -> Row:
-        """Two options, the number of the second, and how many prefer the first, prefer the second, and rank
-        both equally.
+        """Two options, the number of the second, and how many prefer the first, prefer the second,
+        and rank both equally.
         """
         a, b = pair
         over, under = self.sheet.votes[a, b], self.sheet.votes[b, a]
@@ -55,8 +55,8 @@ class Why:
         return ratio * under + 1 if self.sheet.is_more_than else max(ratio * under, under + 1)
 
     def needs(self, option: int) -> Row:
-        """An option and the default option, and how many it needs: for what it was dropped for, or for
-        quorum and majority.
+        """An option and the default option, and how many it needs: for what it was dropped for, or
+        for quorum and majority.
         """
         row, majority = self.row((option, self.default)), self.majority(option)
         by_cause = {"quorum": self.sheet.quorum, "majority": majority}
@@ -101,7 +101,9 @@ class Why:
         return self.rows(pair for pair in self.removed if option in (None, pair[0]))
 
     def aside(self, option: int) -> list[Row]:
-        """An option, and each other one that it beats or that beats it by a defeat that was removed."""
+        """An option, and each other one that it beats or that beats it by a defeat that was
+        removed.
+        """
         pairs = (pair for pair in self.removed if option in pair)
         return self.rows((option, a if b == option else b) for a, b in pairs)
 
