@@ -45,7 +45,12 @@ SENTENCES = marked(
         "copied": "The line is copied.",
     }
 )
-OF_SEVERAL = {"unanswered": marked("Not answered: {questions}")}
+OF_SEVERAL = marked(
+    {
+        "some_answered": "{number} of {count} answered; not {questions}",
+        "all_answered": "{number} of {count} answered",
+    }
+)
 
 
 @dataclasses.dataclass(frozen=True)
