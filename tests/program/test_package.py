@@ -23,7 +23,7 @@ TOOLS = ["dpkg-deb", "objdump", "strip", "msgfmt"]
 PACKED = ["packaging", "bin", "python", "man", "completions", "docs", "examples", "CHANGELOG.md", "SECURITY.md", "HANDLES"]
 
 # the files that a user looks for, each in its folder
-DOCS = "SECRETARY SECRET-VOTES SPECIAL-CASES READING-A-SHEET FORMATS DEFINITIONS"
+DOCS = "SECRETARY SECRET-VOTES SPECIAL-CASES READING-A-SHEET FORMATS INSIDE DEFINITIONS"
 WANTED = {
     "bin": "debvote debvote-publish debvote-election",
     "share/man/man1": "debvote.1.gz debvote-publish.1.gz debvote-election.1.gz",

@@ -61,7 +61,7 @@ def inside(line: str, link: str, sent: str) -> str:
 
 
 def record(mark: str, link: str, number: int, time_: str, text: str) -> str:
-    """The record of what was sealed, as the host keeps it if it arrived at this time, as FORMATS has it."""
+    """The record of what was sealed, as the host keeps it if it arrived at this time, as INSIDE has it."""
     when = datetime.datetime.fromisoformat(time_)
     return (
         f"From box@page.invalid {when:%a %b %d %H:%M:%S %Y}\n"
