@@ -38,7 +38,7 @@ from debvote_tools.files import (
 from debvote_tools.inbox.stopping import Pending, pending_letters
 from debvote_tools.poll.questions import Questions
 from debvote_tools.result import folder, publication
-from debvote_tools.result.facts import Facts, Outcome, PublishedWords
+from debvote_tools.result.facts import Outcome, PublishedWords, QuestionFacts, VoteFacts
 from debvote_tools.result.file_names import BALLOTS, CHECKSUMS, PAGE, POLL
 from debvote_tools.result.sheet import (
     CASTING,
@@ -142,13 +142,15 @@ def filled_in_place(
     """
     history = election.history()
     pending = pending_letters(election, history) if history.is_closed else Pending()
-    facts = publication.facts_of(election, words, pending, None if is_new else again)
+    vote = publication.vote_facts(election, words, pending, None if is_new else again)
+    questions = publication.question_facts(election, vote)
     # the folder is whole and counted before the act, and takes its place after the act: so a kill
     # leaves no folder that the book does not know
     with folder.beside(target) as new:
         filled = folder.filled(
             new.folder,
-            facts,
+            vote,
+            questions,
             election.program_folder,
             is_forced=bool(arguments.force and arguments.because),
             known=again.detail["doubts"] if again else (),
@@ -158,7 +160,7 @@ def filled_in_place(
             raise WouldDiffer(again)
         # nobody is asked about a result that cannot be published
         if agreed := agreed_in_secret(
-            history, election.questions, facts.values(), is_agreed=arguments.yes
+            history, election.questions, vote, questions, is_agreed=arguments.yes
         ):
             detail["agreed"] = agreed
         put_in_place(election, history, new, filled.letter, target, detail if is_new else None)
@@ -350,23 +352,29 @@ def day_in(on: str, call: DoneAct) -> str:
 
 
 def agreed_in_secret(
-    history: History, questions: Questions, facts: Collection[Facts], *, is_agreed: bool
+    history: History,
+    questions: Questions,
+    vote: VoteFacts,
+    question_facts: Collection[QuestionFacts],
+    *,
+    is_agreed: bool,
 ) -> list[str]:
     """Asks before a secret vote is published, once for all questions: about texts that are new, by
     where they are from, and about what two results would show.
     """
     if not questions.is_secret:
         return []
-    # these are the same for each
-    words, acts = next((of_one.words, of_one.acts) for of_one in facts)
+    words = vote.words
     texts = texts_of(questions)
     texts |= {words.about or "": "--about", words.because or "": "--because"}
     texts |= {
         by: f"--cast-by{label and f' of question {label}'}" for label, by in words.cast_by.items()
     }
-    texts |= {act.because or "": f"the reason for the act of {act_time(act.time)}" for act in acts}
+    texts |= {
+        act.because or "": f"the reason for the act of {act_time(act.time)}" for act in vote.acts
+    }
     agreed = publication.agreed_texts(history, texts, is_agreed=is_agreed)
-    compared = dict.fromkeys(name for of_one in facts for name in of_one.compared)
+    compared = dict.fromkeys(name for facts in question_facts for name in facts.compared)
     if compared and not is_agreed:
         why = f"a comparison with the earlier result shows how these voted: {', '.join(compared)}"
         publication.demand_yes(f"Publish it, although {why}?", why)

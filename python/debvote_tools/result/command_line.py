@@ -14,9 +14,10 @@ from debvote_tools.cli.faults import Fault, Status, other_format
 from debvote_tools.debvote import Debvote
 from debvote_tools.files import BALLOTS_LIMIT, POLL_LIMIT, read_at_most, sha256_of
 from debvote_tools.poll.plain_names import bad_options, bad_title
+from debvote_tools.poll.questions import Questions
 from debvote_tools.poll.sealed import KEYS, REQUIRED, SealedPoll, poll_of
 from debvote_tools.result import folder
-from debvote_tools.result.facts import Facts, PublishedWords
+from debvote_tools.result.facts import PublishedWords, QuestionFacts, VoteFacts
 from debvote_tools.text.language import ENGLISH, LANGUAGES, language_of
 
 PROGRAM = "debvote-publish"
@@ -63,7 +64,7 @@ def main(program_folder: pathlib.Path, given: Sequence[str] | None = None) -> in
         facts = facts_of(arguments, program_folder)
         with folder.beside(target_folder) as new:
             # whoever has two files looks at the doubts on the page
-            filled = folder.filled(new.folder, {"": facts}, program_folder, is_forced=True)
+            filled = folder.filled(new.folder, facts.vote, [facts], program_folder, is_forced=True)
             new.take_place(target_folder)
     except Fault as fault:
         return console.failed(PROGRAM, fault.after("", "published").words, fault.status)
@@ -80,7 +81,7 @@ def main(program_folder: pathlib.Path, given: Sequence[str] | None = None) -> in
 
 
 # ---- the facts of two files
-def facts_of(arguments: Arguments, program_folder: pathlib.Path) -> Facts:
+def facts_of(arguments: Arguments, program_folder: pathlib.Path) -> QuestionFacts:
     """Each file is read once, so that all commands read the same bytes."""
     poll_bytes = input_in(arguments.poll, POLL_LIMIT, "poll", Status.BAD_POLL)
     ballots = input_in(arguments.ballots, BALLOTS_LIMIT, "ballots", Status.BAD_BALLOTS)
@@ -90,14 +91,14 @@ def facts_of(arguments: Arguments, program_folder: pathlib.Path) -> Facts:
         cure = "publish it from its election, with debvote-election publish"
         words = "the vote is secret, and this would publish each name with its vote"
         raise Fault(arguments.poll, words, cure, done=None)
-    return Facts(
-        poll,
-        ballots,
+    vote = VoteFacts(
+        Questions({"": poll}),
         language_of(arguments.language),
-        words=PublishedWords({"": arguments.casting} if arguments.casting else {}),
-        desks=arguments.desks,
-        given_checksum=sha256_of(poll_bytes),
+        PublishedWords({"": arguments.casting} if arguments.casting else {}),
+        arguments.desks,
+        sha256_of(poll_bytes),
     )
+    return QuestionFacts(vote, "", ballots)
 
 
 def input_in(file: str, limit: int, kind: str, status: int) -> bytes:

@@ -92,15 +92,6 @@ class Doubt(Told):
         return FOR_SECRETARY[self.kind].format(command=self.command, **self.shown(time_in_words))
 
 
-def doubts_about(sheet: Sheet, label: str) -> Iterator[Doubt]:
-    """The doubts about what came of a question, by the sheet of all lines that came."""
-    if not sheet.voters:
-        yield Doubt("no ballot", label=label)
-    if 2 * sheet.refused > sheet.lines:
-        numbers = {"refused": sheet.refused, "lines": sheet.lines}
-        yield Doubt("mostly refused", numbers, label=label)
-
-
 @dataclasses.dataclass(frozen=True)
 class Act(Told):
     """Something that was done in an election, at a time by the clock of the secretary's computer.
@@ -135,12 +126,11 @@ class Act(Told):
 
 
 @dataclasses.dataclass(frozen=True)
-class Facts:
-    """The facts of a question. What is about the whole vote each question has."""
+class VoteFacts:
+    """The facts of the whole vote, which are the same for each of its questions."""
 
-    poll: SealedPoll
-    # the lines in time; in a secret vote the ballots that stand, under aliases
-    ballots: bytes
+    # in a secret vote their rolls have the aliases
+    questions: Questions
     language: Language = ENGLISH
     words: PublishedWords = PublishedWords()
     desks: int = 1
@@ -148,34 +138,23 @@ class Facts:
     given_checksum: str | None = None
     # the day of the call that holds, and that of the first close
     days: Sequence[datetime.date] = ()
-    # what was done, about all questions; and of each line that came after the end, and is in time
-    # since the vote was not closed, the labels of the questions that it answers
+    # what was done; and of each line that came after the end, and is in time since the vote was not
+    # closed, the labels of the questions that it answers
     acts: Sequence[Act] = ()
     labels_after_end: Sequence[Collection[str]] = ()
-    # the lines that were entered after the close: how many; and unless the vote is secret all
-    late_number: int = 0
-    late: Sequence[bytes] | None = None
     # the letter of the last close, unless the vote was opened again: it has the checksum of other
     # ballots
     closed: bytes | None = None
     # by the names on the roll, if they are published
     real_names: Mapping[str, str] = dataclasses.field(default_factory=dict)
-    # those that are known before the count, about all questions
+    # those that are known before the count, about the whole vote and about each question
     doubts: Sequence[Doubt] = ()
-    # of a secret vote, and not published: the codes of the electors, of which none gets into the
-    # folder, the sheet of the files with names, and the electors whose votes a comparison with the
-    # last publication would show; and the random line of the last close, if it made one
+    # of a secret vote the codes of the electors, of which none gets into the folder
     codes: Collection[str] = ()
-    private: Sheet | None = None
-    compared: Sequence[str] = ()
-    seal: str = ""
     # whether the names on the roll are codes, and nobody has a list of them
     has_codes: bool = False
     # the web address of the result, if it is known
     at: str | None = None
-    # the label of the question, and all questions of the election; of two files none are known
-    label: str = ""
-    questions: Questions | None = None
 
     @property
     def is_of_two_files(self) -> bool:
@@ -184,7 +163,7 @@ class Facts:
 
     @property
     def has_aliases(self) -> bool:
-        return self.poll.secret and not self.has_codes
+        return self.questions.is_secret and not self.has_codes
 
     def acts_about(self, labels: Collection[str]) -> list[Act]:
         """What was done, as it is told of some questions."""
@@ -194,24 +173,47 @@ class Facts:
             if act.labels is None or any(label in act.labels for label in labels)
         ]
 
+
+@dataclasses.dataclass(frozen=True)
+class QuestionFacts:
+    """The facts of a question, with those of its vote."""
+
+    vote: VoteFacts
+    label: str
+    # the lines in time; in a secret vote the ballots that stand, under aliases
+    ballots: bytes
+    # the lines that were entered after the close: how many; and unless the vote is secret all
+    late_number: int = 0
+    late: Sequence[bytes] | None = None
+    # of a secret vote: the random line of the last close, if it made one; and not published the
+    # sheet of the files with names, and the electors whose votes a comparison with the last
+    # publication would show
+    seal: str = ""
+    private: Sheet | None = None
+    compared: Sequence[str] = ()
+
+    @property
+    def poll(self) -> SealedPoll:
+        return self.vote.questions[self.label]
+
     @property
     def lines_after_end(self) -> int:
-        return sum(self.label in labels for labels in self.labels_after_end)
+        return sum(self.label in labels for labels in self.vote.labels_after_end)
 
     @property
     def casting(self) -> str | None:
         """The plain name of the option that the casting vote chooses."""
-        return self.words.castings.get(self.label)
+        return self.vote.words.castings.get(self.label)
 
     @property
     def cast_by(self) -> str | None:
         """Whose the casting vote was; None if that is not said."""
-        return self.words.cast_by.get(self.label)
+        return self.vote.words.cast_by.get(self.label)
 
     @property
     def cast_day(self) -> datetime.date:
         """The day of a casting vote of which it is said whose it was."""
-        return datetime.date.fromisoformat(self.words.cast_on[self.label])
+        return datetime.date.fromisoformat(self.vote.words.cast_on[self.label])
 
     @property
     def casting_words(self) -> list[str]:
@@ -222,7 +224,7 @@ class Facts:
 class Outcome:
     """How a question ended: its facts, and what debvote answers about poll and ballots."""
 
-    facts: Facts
+    facts: QuestionFacts
     sheet: Sheet
     standing_text: str
     # the lines that are refused, those after a last envelope among them
@@ -239,11 +241,22 @@ class Outcome:
         return standing_in(self.standing_text)
 
     @property
+    def doubts_of_count(self) -> Iterator[Doubt]:
+        """Those about what came of the question, by the sheet of all lines that came."""
+        sheet = self.facts.private or self.sheet
+        label = self.facts.label
+        if not sheet.voters:
+            yield Doubt("no ballot", label=label)
+        if 2 * sheet.refused > sheet.lines:
+            numbers = {"refused": sheet.refused, "lines": sheet.lines}
+            yield Doubt("mostly refused", numbers, label=label)
+
+    @property
     def doubts(self) -> list[Doubt]:
         """Those about the question and about the whole vote."""
-        label = self.facts.label
-        known = (one for one in self.facts.doubts if one.label in ("", label))
-        return [*doubts_about(self.facts.private or self.sheet, label), *known]
+        labels = ("", self.facts.label)
+        known = (doubt for doubt in self.facts.vote.doubts if doubt.label in labels)
+        return [*self.doubts_of_count, *known]
 
     def why(self, said: Mapping[int, str]) -> Why:
         """Why it ended so; `said` has the options as parts of a sentence."""

@@ -21,7 +21,7 @@ from debvote_tools.debvote import Finding
 from debvote_tools.poll.plain_names import PLAIN_LETTERS, PUNCTUATION, SPELLINGS
 from debvote_tools.poll.sealed import SealedPoll
 from debvote_tools.result import file_names
-from debvote_tools.result.facts import Facts, Outcome
+from debvote_tools.result.facts import Outcome, VoteFacts
 from debvote_tools.text.ballots import (
     EQUALLY,
     NOTHING,
@@ -89,18 +89,19 @@ SPACE = "{http://www.w3.org/2000/svg}"
 SHAPES = {SPACE + name for name in ("svg", "g", "polygon", "polyline", "ellipse", "path", "text")}
 
 
-def letter_of(outcomes: Mapping[str, Outcome], checksums: Mapping[str, str]) -> bytes:
+def letter_of(
+    vote: VoteFacts, outcomes: Mapping[str, Outcome], checksums: Mapping[str, str]
+) -> bytes:
     """The letter of the result: what an elector compares with the web site, sent by a way that does
     not lead over it. `checksums` are those of the published files, by their places.
     """
-    facts = next(iter(outcomes.values())).facts
     return render_letter(
         __package__,
         "result.txt",
-        facts.language,
-        facts=facts,
+        vote.language,
+        vote=vote,
         outcomes=outcomes,
-        named=lambda poll: numbered_options(poll.names, facts.language),
+        named=lambda poll: numbered_options(poll.names, vote.language),
         checksums=checksums,
     ).encode()
 
@@ -111,36 +112,32 @@ def named_in_html(poll: SealedPoll, form: Markup = NAMED) -> dict[int, Markup]:
 
 
 def page_with(
-    template: str, outcomes: Sequence[Outcome], label: str = "", /, **values: Any
+    template: str, vote: VoteFacts, outcomes: Sequence[Outcome], label: str = "", /, **values: Any
 ) -> bytes:
     """A page with one outcome or with all, and the script that finds a ballot in them."""
-    facts = outcomes[0].facts
-    language = facts.language
+    language = vote.language
     return render_page(
         __package__,
         template,
         language,
-        days=[date_in_words(day, language) for day in facts.days],
+        days=[date_in_words(day, language) for day in vote.days],
         colon=language.between(COLON),
-        facts=facts,
-        poll=facts.poll,
+        vote=vote,
         label=label,
         # what is said of the whole vote, the page of all questions has
-        about=paragraphs_of("" if label else facts.words.about or ""),
-        example=next((name for one in outcomes for name in one.standing), ""),
-        # with those of a motion, if one is among them
-        find_words=find_words(
-            max((one.facts for one in outcomes), key=lambda facts: facts.poll.motion)
-        ),
+        about=paragraphs_of("" if label else vote.words.about or ""),
+        example=next((name for outcome in outcomes for name in outcome.standing), ""),
+        find_words=find_words(vote, motion=any(outcome.facts.poll.motion for outcome in outcomes)),
         find_letters=find_letters(language),
         **values,
     )
 
 
-def front_page_of(outcomes: Mapping[str, Outcome]) -> bytes:
+def front_page_of(vote: VoteFacts, outcomes: Mapping[str, Outcome]) -> bytes:
     """The page above those of several questions."""
     return page_with(
         "front.html",
+        vote,
         [*outcomes.values()],
         style=resources(__package__, *STYLES, "front.css"),
         script=resources(__package__, *SCRIPTS),
@@ -152,65 +149,93 @@ def front_page_of(outcomes: Mapping[str, Outcome]) -> bytes:
 
 def page_of(outcome: Outcome, drawing: bytes | None, checksums: Mapping[str, str]) -> bytes:
     """The page of a question, whole."""
-    facts, sheet = outcome.facts, outcome.sheet
-    language, poll, options = facts.language, facts.poll, len(sheet.names)
-    style, picture = resources(__package__, *STYLES) + table_on_paper(options, sheet.voters), None
-    if drawing is not None and options <= MOST_IN_PAGE:
-        picture, least_width = picture_in_page(drawing, language)
-        # paper does not scroll, and a page with something wider would be printed smaller
-        style += f"@media screen {{ .picture svg {{ min-width: {least_width}px; }} }}\n"
-    own_letter = [file_names.LETTER] if facts.is_of_two_files else []
+    facts = outcome.facts
+    poll = facts.poll
+    sheet = outcome.sheet
+    vote = facts.vote
     return page_with(
         "page.html",
+        vote,
         [outcome],
         facts.label,
-        style=style,
         script=resources(
             __package__, file_names.SCRIPT, "names.js", "count_again.js", *SCRIPTS[1:]
         ),
         plain_name=PLAIN_NAME,
+        facts=facts,
+        poll=poll,
         sheet=sheet,
         outcome=outcome,
         why=outcome.why(named_in_html(poll)),
-        share=share(sheet.voters, sheet.electors, language),
-        because=paragraphs_of(facts.words.because or ""),
+        share=share(sheet.voters, sheet.electors, vote.language),
+        because=paragraphs_of(vote.words.because or ""),
         explanations=explanations_of(poll),
-        picture=picture,
-        picture_command=shlex.join(drawing_words(options)),
-        by_python=of_question(BY_PYTHON, facts.label),
-        by_openssl=of_question(BY_OPENSSL, facts.label),
-        checksums=checksums,
-        # in a secret vote that of the close has the line of the seal, too
-        sealed_checksum=facts.seal and sealed_checksum(facts.seal, facts.ballots),
-        files=sorted({*checksums, file_names.CHECKSUMS, *own_letter}),
-        casting="".join(f" {word}" for word in map(shlex.quote, facts.casting_words)),
-        again_words=again_words(language, poll),
-        carried=carried_files(poll.as_bytes(), facts.ballots, sheet.text.encode()),
+        again_words=again_words(poll, vote.language),
+        **picture_on_page(outcome, drawing),
+        **files_on_page(outcome, checksums),
         **ballots_on_page(outcome),
     )
 
 
+def picture_on_page(outcome: Outcome, drawing: bytes | None) -> dict[str, Any]:
+    """The picture, unless it is too large for the page, the command that makes it, and the style
+    in which it is as wide as its words need.
+    """
+    sheet = outcome.sheet
+    options = len(sheet.names)
+    style = resources(__package__, *STYLES) + table_on_paper(options, sheet.voters)
+    picture = None
+    if drawing is not None and options <= MOST_IN_PAGE:
+        picture, least_width = picture_in_page(drawing, outcome.facts.vote.language)
+        # paper does not scroll, and a page with something wider would be printed smaller
+        style += f"@media screen {{ .picture svg {{ min-width: {least_width}px; }} }}\n"
+    return {
+        "style": style,
+        "picture": picture,
+        "picture_command": shlex.join(drawing_words(options)),
+    }
+
+
+def files_on_page(outcome: Outcome, checksums: Mapping[str, str]) -> dict[str, Any]:
+    """The files beside the page and those within it, and what is typed in commands about them."""
+    facts = outcome.facts
+    own_letter = [file_names.LETTER] if facts.vote.is_of_two_files else []
+    return {
+        "checksums": checksums,
+        # in a secret vote that of the close has the line of the seal, too
+        "sealed_checksum": facts.seal and sealed_checksum(facts.seal, facts.ballots),
+        "files": sorted({*checksums, file_names.CHECKSUMS, *own_letter}),
+        "carried": carried_files(facts.poll.as_bytes(), facts.ballots, outcome.sheet.text.encode()),
+        "casting": shlex.join(facts.casting_words),
+        "by_python": of_question(BY_PYTHON, facts.label),
+        "by_openssl": of_question(BY_OPENSSL, facts.label),
+    }
+
+
 def ballots_on_page(outcome: Outcome) -> dict[str, Any]:
     """What the page of a question says of the ballots, and of the lines that do not count."""
-    facts, poll, standing = outcome.facts, outcome.facts.poll, outcome.standing
-    language, named = facts.language, named_in_html(poll)
+    facts = outcome.facts
+    poll = facts.poll
+    language = facts.vote.language
+    standing = outcome.standing
+    named = named_in_html(poll)
     # many ballots are alike
     have_names = len(standing) * sum(map(len, named.values())) <= NAMES_LIMIT
     shown = [str(name if have_names else key) for key, name in named.items()]
     if poll.motion:
-        have_names, shown = True, [html.escape(name) for name in poll.names]
+        have_names = True
+        shown = [html.escape(name) for name in poll.names]
     in_words_of = ballots_in_words(shown, language, poll.motion)
-    lines = ballot_lines(facts.ballots)
-    # by their places in late.txt
-    late = ((at, line, "") for at, line in enumerate(facts.late or (), start=1))
-    refused = ((one.line, lines[one.line - 1], cause_of(one, language)) for one in outcome.refused)
     return {
         "standing": standing,
         "have_names": have_names,
         "ballot_words": {ranks: Markup(in_words_of(ranks)) for ranks in set(standing.values())},
         "are_long": sum(map(len, poll.names)) > LONG_BALLOT,
-        "refused": runs_of(refused, language),
-        "late": runs_of(late, language),
+        "refused": refused_runs(outcome),
+        # by their places in late.txt
+        "late": runs_of(
+            ((place, line, "") for place, line in enumerate(facts.late or (), start=1)), language
+        ),
     }
 
 
@@ -235,6 +260,19 @@ def share(voters: int, electors: int, language: Language = ENGLISH) -> str:
 
 
 # ---- lines that do not count
+def refused_runs(outcome: Outcome) -> list[dict[str, Any]]:
+    facts = outcome.facts
+    language = facts.vote.language
+    lines = ballot_lines(facts.ballots)
+    return runs_of(
+        (
+            (finding.line, lines[finding.line - 1], cause_of(finding, language))
+            for finding in outcome.refused
+        ),
+        language,
+    )
+
+
 def runs_of(found: Iterable[tuple[int, bytes, str]], language: Language) -> list[dict[str, Any]]:
     """Lines with their numbers and causes; those that are alike and follow each other are one
     entry. If the texts are too many, the last have none.
@@ -364,12 +402,14 @@ COUNT_AGAIN = marked(
 )
 
 
-def find_words(facts: Facts) -> str:
+def find_words(vote: VoteFacts, *, motion: bool) -> str:
     """For the script that finds a ballot, as JSON."""
-    own = FIND_BY_CODE if facts.has_codes else FIND_IN_SECRET if facts.poll.secret else FIND_IN_OPEN
-    between = facts.language.between("{entries} and {last}")
-    return facts.language.words(
-        FIND | own, **{"and": between}, **answers(facts.poll, facts.language)
+    is_secret = vote.questions.is_secret
+    own = FIND_BY_CODE if vote.has_codes else FIND_IN_SECRET if is_secret else FIND_IN_OPEN
+    return vote.language.words(
+        FIND | own,
+        **{"and": vote.language.between("{entries} and {last}")},
+        **answer_words(vote.language, motion=motion),
     )
 
 
@@ -380,14 +420,14 @@ def find_letters(language: Language) -> str:
     )
 
 
-def answers(poll: SealedPoll, language: Language) -> dict[str, str]:
+def answer_words(language: Language, *, motion: bool) -> dict[str, str]:
     """Of a motion the words of its answers, and what parts a word from the name of an option."""
-    if not poll.motion:
+    if not motion:
         return {}
     return {"answers": " ".join(WORDS[language.code]), "colon": language.between(COLON)}
 
 
-def again_words(language: Language, poll: SealedPoll) -> str:
+def again_words(poll: SealedPoll, language: Language) -> str:
     """For the script that counts again, as JSON; it says a ballot as the page does."""
     between = {
         "then": THEN,
@@ -395,8 +435,11 @@ def again_words(language: Language, poll: SealedPoll) -> str:
         "colon": COLON,
         "semicolon": marked("{before}; {after}"),
     }
-    said = {name: language.between(text) for name, text in between.items()}
-    return language.words(COUNT_AGAIN, **said | answers(poll, language))
+    return language.words(
+        COUNT_AGAIN,
+        **{name: language.between(text) for name, text in between.items()}
+        | answer_words(language, motion=poll.motion),
+    )
 
 
 # ---- what the page carries

@@ -3,6 +3,7 @@ result. What the book has of the questions `close`, `count` and `publish` read i
 compare it with what debvote says of each line (`kept_of`).
 """
 
+import dataclasses
 import itertools
 from collections.abc import Collection, Iterable, Iterator, Mapping
 from typing import Any, NamedTuple
@@ -14,14 +15,14 @@ from debvote_tools.call.secret import alias_in, aliased_ballots, sealed_checksum
 from debvote_tools.cli.console import in_runs, is_terminal, is_yes, tell_aside
 from debvote_tools.cli.faults import Fault
 from debvote_tools.debvote import casting_words
-from debvote_tools.election import Election, History, fixed_by
+from debvote_tools.election import Election, Fixed, History, fixed_by
 from debvote_tools.files import sha256_of
 from debvote_tools.grouping import grouped
 from debvote_tools.inbox.asked import is_unasked_since_end, other_pages
 from debvote_tools.inbox.lines import name_in
 from debvote_tools.inbox.stopping import BOX, LETTERS, Pending, letters_cure, what_stops
 from debvote_tools.poll.sealed import SealedPoll
-from debvote_tools.result.facts import Act, Doubt, Facts, PublishedWords
+from debvote_tools.result.facts import Act, Doubt, PublishedWords, QuestionFacts, VoteFacts
 from debvote_tools.result.file_names import CHECKSUMS
 from debvote_tools.result.sheet import Castings, publishing
 from debvote_tools.sheet import Sheet, sheet_in
@@ -52,35 +53,45 @@ def kept_of(election: Election, history: History, labels: Iterable[str]) -> dict
     name its line begins with, if ballots are not those that the close has fixed, and if debvote,
     asked anew, says another thing of a line than the book keeps of it.
     """
-    book, polls, kept = election.book, election.questions, dict[str, Kept]()
+    book = election.book
+    questions = election.questions
+    by_label = dict[str, Kept]()
     with book.snapshot():
-        demand_own_lines(book, polls.roll)
+        demand_own_lines(book, questions.roll)
         for label in labels:
             with book.question(label):
-                kept[label] = kept_of_question(book, label, polls[label])
+                by_label[label] = kept_of_question(book, label, questions[label])
     if history.is_closed:
-        fixed = fixed_by(history.closes[-1])
-        for label, its in kept.items():
-            checksum, then = sealed_checksum(fixed[label].seal, its.public), fixed[label].checksum
-            if checksum != then:
-                words = f"the ballots have the checksum {checksum}, and the close recorded {then}"
-                raise Fault(None, words, KEEP)
-    for its in kept.values():
-        found = election.debvote.findings(its.poll.as_bytes(), its.ballots)
+        demand_as_closed(by_label, fixed_by(history.closes[-1]))
+    for kept in by_label.values():
+        found = election.debvote.findings(kept.poll.as_bytes(), kept.ballots)
         # where the roll has codes, none was offered
-        refused = [
-            one._replace(near=()) if history.has_codes_on_roll else one for one in found.refused
-        ]
-        said = {one.line: one.verdict for one in refused}, found.voters
-        demand_kept(election, said, (its.refused, len(its.counting)))
-    return kept
+        refused = {
+            finding.line: (
+                finding._replace(near=()) if history.has_codes_on_roll else finding
+            ).verdict
+            for finding in found.refused
+        }
+        demand_kept(election, (refused, found.voters), (kept.refused, len(kept.counting)))
+    return by_label
+
+
+def demand_as_closed(by_label: Mapping[str, Kept], fixed: Mapping[str, Fixed]) -> None:
+    """Stops if ballots are not those that the close has fixed."""
+    for label, kept in by_label.items():
+        checksum = sealed_checksum(fixed[label].seal, kept.public)
+        closed = fixed[label].checksum
+        if checksum != closed:
+            words = f"the ballots have the checksum {checksum}, and the close recorded {closed}"
+            raise Fault(None, words, KEEP)
 
 
 def kept_of_question(book: Book, label: str, poll: SealedPoll) -> Kept:
     """What the book has of the question that is seen alone."""
-    answered, counting = queries.answered_lines(book), queries.what_counts(book)
+    answered = queries.answered_lines(book)
+    counting = queries.what_counts(book)
     ballots = ballot_file(line for line, _ in answered)
-    aliases = {one.name: alias_in(label, one) for one in queries.electors(book)}
+    aliases = {elector.name: alias_in(label, elector) for elector in queries.electors(book)}
     return Kept(
         poll=poll,
         ballots=ballots,
@@ -114,50 +125,59 @@ def demand_kept(election: Election, said: object, kept: object) -> None:
 
 def counted(election: Election, kept: Kept, casting: str | None) -> Sheet:
     """What debvote counts of a question, with the option of the casting vote."""
-    task = "count", kept.poll.as_bytes(), kept.ballots
-    return sheet_in(election.debvote.answer(*task, *casting_words(casting)).text)
+    words = casting_words(casting)
+    return sheet_in(
+        election.debvote.answer("count", kept.poll.as_bytes(), kept.ballots, *words).text
+    )
 
 
 # ---- the facts
-def facts_of(
+def vote_facts(
     election: Election, words: PublishedWords, pending: Pending, again: DoneAct | None
-) -> dict[str, Facts]:
-    """The facts of each question, by its label, of a new publication or of one that is made again.
-    Stops if debvote does not find the ballots as they are kept.
-    """
-    history, book = election.history(), election.book
-    kept, call = kept_of(election, history, election.questions), current_call(election, history)
-    public, days = call.questions, [election.called(history), *history.closes[:1]]
-    shared: dict[str, Any] = {
-        "words": words,
-        "language": election.language if words.language is None else language_of(words.language),
-        "days": [act.time.astimezone(history.zone).date() for act in days],
-        "acts": acts_of(book, history, again, is_secret=public.is_secret),
-        "labels_after_end": labels_after_end(book, history),
-        "closed": closing_letter(election, history) if history.is_closed else None,
-        "real_names": call.real_names or {},
-        "has_codes": call.has_codes_on_roll,
-        "at": call.at,
-        "questions": public,
-        "doubts": [*doubts_of(election, history, words.castings, pending)],
-    }
-    found = {}
-    for label, its in kept.items():
-        standing = election.debvote.standing(its.poll.as_bytes(), its.ballots)
-        demand_kept(election, standing, its.counting)
-        own: dict[str, Any] = {"late": its.late}
-        if public.is_secret:
-            own = {
-                "codes": frozenset(one.code for one in queries.electors(book) if one.code),
-                "seal": fixed_by(history.closes[-1])[label].seal,
-                "private": counted(election, its, words.castings.get(label)),
-                "compared": shown_by_comparison(election, history, label, its),
-            }
-        late = len(its.late)
-        found[label] = Facts(
-            public[label], its.public, label=label, late_number=late, **own, **shared
-        )
-    return found
+) -> VoteFacts:
+    """The facts of the whole vote, of a new publication or of one that is made again."""
+    history = election.history()
+    book = election.book
+    call = current_call(election, history)
+    is_secret = call.questions.is_secret
+    days = [election.called(history), *history.closes[:1]]
+    return VoteFacts(
+        questions=call.questions,
+        language=election.language if words.language is None else language_of(words.language),
+        words=words,
+        days=[act.time.astimezone(history.zone).date() for act in days],
+        acts=acts_of(book, history, again, is_secret=is_secret),
+        labels_after_end=labels_after_end(book, history),
+        closed=closing_letter(election, history) if history.is_closed else None,
+        real_names=call.real_names or {},
+        doubts=[*doubts_of(election, history, words.castings, pending)],
+        codes=[elector.code for elector in queries.electors(book) if is_secret and elector.code],
+        has_codes=call.has_codes_on_roll,
+        at=call.at,
+    )
+
+
+def question_facts(election: Election, vote: VoteFacts) -> list[QuestionFacts]:
+    """The facts of each question. Stops if debvote does not find the ballots as they are kept."""
+    history = election.history()
+    kept = kept_of(election, history, election.questions)
+    return [facts_of(election, history, vote, label, of_one) for label, of_one in kept.items()]
+
+
+def facts_of(
+    election: Election, history: History, vote: VoteFacts, label: str, kept: Kept
+) -> QuestionFacts:
+    standing = election.debvote.standing(kept.poll.as_bytes(), kept.ballots)
+    demand_kept(election, standing, kept.counting)
+    facts = QuestionFacts(vote, label, kept.public, late_number=len(kept.late))
+    if not vote.questions.is_secret:
+        return dataclasses.replace(facts, late=kept.late)
+    return dataclasses.replace(
+        facts,
+        seal=fixed_by(history.closes[-1])[label].seal,
+        private=counted(election, kept, facts.casting),
+        compared=shown_by_comparison(election, history, label, kept),
+    )
 
 
 def early_close(history: History) -> Doubt | None:
@@ -201,15 +221,11 @@ def shown_by_comparison(election: Election, history: History, label: str, kept: 
         {name: in_normal_form(ranks) for name, ranks in votes.items()}
         for votes in (before, kept.counting)
     )
-    roll = election.questions.roll
-    return [name for name in roll if then.get(name) != now.get(name)]
+    return [name for name in election.questions.roll if then.get(name) != now.get(name)]
 
 
 def doubts_of(
-    election: Election,
-    history: History,
-    castings: Castings,
-    pending: Pending,
+    election: Election, history: History, castings: Castings, pending: Pending
 ) -> Iterator[Doubt]:
     """The doubts that the book shows before the count."""
     stopping = what_stops(election, history, "publish", pending)
@@ -223,22 +239,27 @@ def doubts_of(
     for act in other_pages(history):
         places = {"time": act.time.astimezone(history.zone), "address": act.detail["box"]["at"]}
         yield Doubt("other page", places, stops=False)
-    last = history.last_publication
-    all_castings = {**(last.detail["casting"] if last else {}), **castings}
-    for label, poll in election.questions.items():
-        names, casting = dict(zip(poll.plain_names, poll.names)), castings.get(label)
-        # without one: since the last close, after which it was the same tie
-        acts = history.publications if casting is None else history.named("publish")
-        for option in dict.fromkeys(act.detail["casting"].get(label, casting) for act in acts):
-            if option != casting:
-                command = publishing(election, {**all_castings, label: option})
-                places = {"option": names[option]}
-                yield Doubt("other casting vote", places, label=label, command=command)
+    yield from other_castings(election, history, castings)
     if numbers := pending.untold:
         waits = {"number": len(numbers), "letters": ", ".join(map(str, numbers))}
         # an earlier publication may have had it
         cure = letters_cure(election, "publish", is_closed=True)
         yield Doubt(LETTERS, waits, stops=LETTERS in stopping, command=cure)
+
+
+def other_castings(election: Election, history: History, castings: Castings) -> Iterator[Doubt]:
+    """The doubts about earlier publications whose casting vote is for another option."""
+    last = history.last_publication
+    all_castings = {**(last.detail["casting"] if last else {}), **castings}
+    for label, poll in election.questions.items():
+        casting = castings.get(label)
+        # without one: since the last close, after which it was the same tie
+        acts = history.publications if casting is None else history.named("publish")
+        for option in dict.fromkeys(act.detail["casting"].get(label, casting) for act in acts):
+            if option != casting:
+                command = publishing(election, {**all_castings, label: option})
+                places = {"option": poll.names[poll.plain_names.index(option)]}
+                yield Doubt("other casting vote", places, label=label, command=command)
 
 
 # ---- what was done
