@@ -38,15 +38,15 @@ def message(due: LettersDue, letter: OutgoingLetter, *, is_draft: bool) -> bytes
     """The bytes of a letter. An answer goes to the address of the call. Mail programs offer to send
     a draft.
     """
-    said, mark = due.said(letter)
-    coding, body = body_of(said.text)
+    words, mark = due.text_of(letter)
+    coding, body = body_of(words.text)
     reply_to = due.composer.call_data.to
     fields = {
         "From": sender_of(due.sender_name, due.sender),
         "Reply-To": reply_to if reply_to != due.sender else None,
         "To": letter.address,
         # on a line of its own it is found in a letter that comes back
-        "Subject": f"{field('Subject', said.subject)}{GOES_ON}{mark}",
+        "Subject": f"{field('Subject', words.subject)}{GOES_ON}{mark}",
         "Date": email.utils.format_datetime(letter.time),
         "Message-ID": letter.message_id,
         "X-Unsent": "1" if is_draft else None,
@@ -100,8 +100,8 @@ def letter_files(due: LettersDue, letters: Sequence[OutgoingLetter]) -> dict[str
     for letter in letters:
         elector = due.electors[letter.elector]
         if not letter.address:
-            said, _ = due.said(letter)
-            printed.append((one_line(elector.who) or elector.name, rows_to_print(said.text)))
+            words, _ = due.text_of(letter)
+            printed.append((one_line(elector.who) or elector.name, rows_to_print(words.text)))
         elif not due.is_sending and due.can_be_sent(letter):
             # no name on a roll has the sign _
             name = (
