@@ -114,14 +114,12 @@ class LettersDue(Run):
         times = (letter.time for letter in self.noted_before)
         return max((time for time in times if self.time - time < LASTING), default=None)
 
-    def text_of(self, letter: OutgoingLetter) -> tuple[LetterText, str]:
-        """What a letter says, and the mark that ends its subject. An address that its elector no
-        longer has learns no own mark.
-        """
+    def text_of(self, letter: OutgoingLetter) -> LetterText:
+        """What a letter says. An address that its elector no longer has learns no own mark."""
         elector = self.electors[letter.elector]
         if not is_present(letter, self.electors):
             elector = elector._replace(mark="")
-        return self.compose(elector, letter), self.composer.call_data.mark_of(elector.mark)
+        return self.compose(elector, letter)
 
 
 def is_present(letter: OutgoingLetter, electors: Mapping[int, Elector]) -> bool:
@@ -142,13 +140,6 @@ def letters_due(
     """The letters of a kind that are due. Stops if none may go out now; `because` is the reason for
     which they go out although the box was not asked. Those of a call may have codes beside links.
     """
-    of_kinds = {
-        "call": calls_due,
-        "reminders": reminders_due,
-        "receipts": receipts_due,
-        "closed": letters_of_close_due,
-        "result": results_due,
-    }
     history = election.history()
     time = now()
     until = history.until
@@ -159,20 +150,22 @@ def letters_due(
     if history.is_secret_by_click and not has_codes:
         electors = {number: elector._replace(code="") for number, elector in electors.items()}
     noted_before = outgoing.outgoing_letters(election.book, kind)
+    composer = Composer(call_data, is_over)
+    tried_again = not_through(election, history, electors, noted_before)
     run = Run(
-        election=election,
-        history=history,
-        time=time,
-        kind=kind,
-        sender=sender,
-        is_sending=is_sending,
-        forced=forced,
-        electors=electors,
-        composer=Composer(call_data, is_over),
-        noted_before=noted_before,
-        tried_again=not_through(election, history, electors, noted_before),
+        election,
+        history,
+        time,
+        kind,
+        sender,
+        is_sending,
+        forced,
+        electors,
+        composer,
+        noted_before,
+        tried_again,
     )
-    return of_kinds[kind](run)
+    return OF_KINDS[kind](run)
 
 
 def not_through(
@@ -432,6 +425,15 @@ def results_due(run: Run) -> LettersDue:
             letter=letter,
         )._replace(subject=subject),
     )
+
+
+OF_KINDS = {
+    "call": calls_due,
+    "reminders": reminders_due,
+    "receipts": receipts_due,
+    "closed": letters_of_close_due,
+    "result": results_due,
+}
 
 
 # ---- what electors are told

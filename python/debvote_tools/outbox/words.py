@@ -101,9 +101,10 @@ OF_RECORD = marked(
 
 
 class LetterText(NamedTuple):
-    """What a letter says: its subject, before the mark that ends it, and its text."""
+    """What a letter says: its subject, the mark that ends it, and its text."""
 
     subject: str
+    mark: str
     text: str
 
 
@@ -144,7 +145,8 @@ class Composer:
             )
             if not is_on_paper(elector) or text.count("\n") <= TWO_SIDES:
                 break
-        return LetterText(self.subject("call", is_extension=is_extension), text)
+        subject = self.subject("call", is_extension=is_extension)
+        return LetterText(subject, self.call_data.mark_of(elector.mark), text)
 
     def reminder(
         self, elector: Elector, fates: Sequence[Fate], *, is_lost: bool = False
@@ -168,7 +170,7 @@ class Composer:
 
     def letter(self, kind: str, elector: Elector, **values: object) -> LetterText:
         text = self.rendered(PACKAGE, f"{kind}.txt", elector, **values)
-        return LetterText(self.subject(kind), text)
+        return LetterText(self.subject(kind), self.call_data.mark_of(elector.mark), text)
 
     def rendered(self, package: str, template: str, elector: Elector, **values: object) -> str:
         call = self.call_data

@@ -6,7 +6,7 @@ import dataclasses
 import datetime
 import functools
 from collections.abc import Callable, Collection, Iterator, Mapping, Sequence
-from typing import Any
+from typing import Any, NamedTuple
 
 from debvote_tools.debvote import Finding, casting_words, standing_in
 from debvote_tools.poll.questions import Questions
@@ -33,34 +33,29 @@ FOR_SECRETARY = {
 }
 
 
-# says a time
-Said = Callable[[datetime.datetime], Any]
-
-
 class Told:
     """What a sentence tells, whose places are filled."""
 
     places: Mapping[str, Any]
 
-    def shown(self, said: Said) -> dict[str, Any]:
+    def shown(self, say_time: Callable[[datetime.datetime], str]) -> dict[str, Any]:
         """What fills it, with each time as it is said."""
         return {
-            key: said(value) if isinstance(value, datetime.datetime) else value
+            key: say_time(value) if isinstance(value, datetime.datetime) else value
             for key, value in self.places.items()
         }
 
 
-@dataclasses.dataclass(frozen=True)
-class PublishedWords:
+class PublishedWords(NamedTuple):
     """What the secretary says of a publication. The act keeps it, so that the same folder can be
     made again.
     """
 
     # the options that casting votes choose; whose each was and on which day, by the same labels, if
     # that is said. No count can show it
-    castings: Castings = dataclasses.field(default_factory=dict)
-    cast_by: Mapping[str, str] = dataclasses.field(default_factory=dict)
-    cast_on: Mapping[str, str] = dataclasses.field(default_factory=dict)
+    castings: Castings = {}
+    cast_by: Mapping[str, str] = {}
+    cast_on: Mapping[str, str] = {}
     about: str | None = None
     # whether doubts stop nothing, which needs a reason
     is_forced: bool = False
@@ -125,8 +120,7 @@ class Act(Told):
         return dataclasses.replace(self, places=places, labels=labels)
 
 
-@dataclasses.dataclass(frozen=True)
-class VoteFacts:
+class VoteFacts(NamedTuple):
     """The facts of the whole vote, which are the same for each of its questions."""
 
     # in a secret vote their rolls have the aliases
@@ -146,7 +140,7 @@ class VoteFacts:
     # ballots
     closed: bytes | None = None
     # by the names on the roll, if they are published
-    real_names: Mapping[str, str] = dataclasses.field(default_factory=dict)
+    real_names: Mapping[str, str] = {}
     # those that are known before the count, about the whole vote and about each question
     doubts: Sequence[Doubt] = ()
     # of a secret vote the codes of the electors, of which none gets into the folder
@@ -174,8 +168,7 @@ class VoteFacts:
         ]
 
 
-@dataclasses.dataclass(frozen=True)
-class QuestionFacts:
+class QuestionFacts(NamedTuple):
     """The facts of a question, with those of its vote."""
 
     vote: VoteFacts
@@ -204,11 +197,6 @@ class QuestionFacts:
     def casting(self) -> str | None:
         """The plain name of the option that the casting vote chooses."""
         return self.vote.words.castings.get(self.label)
-
-    @property
-    def cast_by(self) -> str | None:
-        """Whose the casting vote was; None if that is not said."""
-        return self.vote.words.cast_by.get(self.label)
 
     @property
     def cast_day(self) -> datetime.date:

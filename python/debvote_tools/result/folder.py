@@ -16,7 +16,7 @@ from typing import NamedTuple
 from debvote_tools.call.secret import demand_no_code
 from debvote_tools.cli.console import tell_aside, tell_aside_as_it_is
 from debvote_tools.cli.faults import Fault, Status, bad_words, stop_at
-from debvote_tools.debvote import Answer, Debvote, Finding, findings_in
+from debvote_tools.debvote import Answer, Debvote, findings_in
 from debvote_tools.files import (
     TEMPORARY,
     folder_beside,
@@ -120,7 +120,7 @@ def is_publication(folder: pathlib.Path, checksum: str) -> bool:
         if sha256_of(data) != checksum:
             return False
         lines = (line.split("  ") for line in data.decode().splitlines())
-        listed = {folder / name: found for found, name in lines}
+        listed = {folder / name: listed_sum for listed_sum, name in lines}
         # what has a file of several questions below it is a folder
         above = {parent for file in listed for parent in file.parents}
         others = (file for file in folder.rglob("*") if file not in (folder / CHECKSUMS, *above))
@@ -165,9 +165,7 @@ def filled(
     """
     filling = Filling(folder, vote)
     outcomes = {facts.label: filling.counted(facts, program_folder) for facts in questions}
-    doubts = all_doubts(vote, outcomes)
-    is_forced = is_forced or all(doubt.as_data() in known for doubt in doubts if doubt.stops)
-    demand_publishable(outcomes, doubts, is_forced=is_forced)
+    doubts = doubts_told(vote, outcomes, is_forced=is_forced, known=known)
     for (label, outcome), picture in zip(outcomes.items(), pictures_of(outcomes.values())):
         filling.write(label, further_files(outcome, picture))
         demand_same(folder / label, outcome)
@@ -232,7 +230,11 @@ class Filling:
             facts,
             sheet,
             verified=verified_by(debvote, desks),
-            refused=refused_by(debvote) if sheet.refused else [],
+            refused=(
+                findings_in(answer_of(debvote, "explain", also=(Status.DOUBT,)).text).refused
+                if sheet.refused
+                else []
+            ),
             # in a secret vote only the ballots that stand are published
             standing_text=(
                 facts.ballots.decode() if facts.private else answer_of(debvote, "standing").text
@@ -253,10 +255,6 @@ def verified_by(debvote: Debvote, desks: Iterable[str]) -> str:
     if answer.status == Status.DOUBT:
         raise unlike("debvote verify", answer.text.strip().replace("\n", ", "))
     return answer.text.rstrip("\n")
-
-
-def refused_by(debvote: Debvote) -> list[Finding]:
-    return findings_in(answer_of(debvote, "explain", also=(Status.DOUBT,)).text).refused
 
 
 def answer_of(debvote: Debvote, task: str, *words: str, also: tuple[int, ...] = ()) -> Answer:
@@ -289,31 +287,35 @@ def files_above(
 
 
 # ---- doubts
-def all_doubts(vote: VoteFacts, outcomes: Mapping[str, Outcome]) -> list[Doubt]:
-    """The doubts about the whole vote, and then those about each of several questions."""
+def doubts_told(
+    vote: VoteFacts,
+    outcomes: Mapping[str, Outcome],
+    *,
+    is_forced: bool,
+    known: Collection[object],
+) -> list[Doubt]:
+    """The doubts about the whole vote, and then those about each of several questions. Stops at
+    those that are not forced, and at what is never published; tells the others.
+    """
     of_counts = (doubt for outcome in outcomes.values() for doubt in outcome.doubts_of_count)
-    return sorted([*of_counts, *vote.doubts], key=lambda doubt: doubt.label)
-
-
-def demand_publishable(
-    outcomes: Mapping[str, Outcome], doubts: Collection[Doubt], *, is_forced: bool
-) -> None:
-    """Stops at doubts that are not forced, and at what is never published. Tells the others."""
+    doubts = sorted([*of_counts, *vote.doubts], key=lambda doubt: doubt.label)
+    is_forced = is_forced or all(doubt.as_data() in known for doubt in doubts if doubt.stops)
     cure = (
         'put it right, or publish as it is with --force --because "TEXT" (the result page says so)'
     )
     faults = list[Fault]()
     for label in dict.fromkeys(("", *outcomes)):
-        its = list(never_published(outcomes[label])) if label in outcomes else []
+        never = [*never_published(outcomes[label])] if label in outcomes else []
         stopping = (doubt for doubt in doubts if doubt.stops and doubt.label == label)
         reasons = "; ".join(doubt.for_secretary() for doubt in stopping)
-        if reasons and not is_forced and not its:
-            its = [Fault(f"question {label}" if label else None, reasons, cure)]
-        faults += its
+        if reasons and not (is_forced or never):
+            faults.append(Fault(f"question {label}" if label else None, reasons, cure))
+        faults += never
     stop_at(faults)
     for doubt in doubts:
         where = f"question {doubt.label}: " if doubt.label else ""
         tell_aside(f"Note: {where}{doubt.for_secretary()}; the result page says so")
+    return doubts
 
 
 def never_published(outcome: Outcome) -> Iterator[Fault]:
@@ -324,8 +326,7 @@ def never_published(outcome: Outcome) -> Iterator[Fault]:
     if facts.casting is not None and facts.casting not in left:
         shown = " and ".join(f"{option} {name}" for name, option in left.items())
         words = f"no casting vote can choose {facts.casting}, which is not left; left {'are' if len(left) > 1 else 'is'} {shown}"
-        cure = "name an option that is left"
-        yield Fault("--casting", words, cure, Status.CASTING_OUTSIDE)
+        yield Fault("--casting", words, "name an option that is left", Status.CASTING_OUTSIDE)
     if facts.poll.secret and not (
         sheet.last_envelope is None and sheet.lines == sheet.valid == sheet.voters
     ):
@@ -349,11 +350,10 @@ def further_files(outcome: Outcome, picture: bytes | None) -> dict[str, bytes]:
     the guide beside them.
     """
     facts = outcome.facts
-    sheet = outcome.sheet
     files = {
         file_names.STANDING: outcome.standing_text.encode(),
-        file_names.DATA: result_json(sheet, facts.poll, outcome.version).encode(),
-        file_names.TABLE: votes_csv(sheet).encode(),
+        file_names.DATA: result_json(outcome.sheet, facts.poll, outcome.version).encode(),
+        file_names.TABLE: votes_csv(outcome.sheet).encode(),
         file_names.PICTURE: picture,
         file_names.LATE: None if facts.late is None else ballot_file(facts.late),
         file_names.CLOSED: facts.vote.closed,

@@ -205,7 +205,7 @@ def files_on_page(outcome: Outcome, checksums: Mapping[str, str]) -> dict[str, A
         # in a secret vote that of the close has the line of the seal, too
         "sealed_checksum": facts.seal and sealed_checksum(facts.seal, facts.ballots),
         "files": sorted({*checksums, file_names.CHECKSUMS, *own_letter}),
-        "carried": carried_files(facts.poll.as_bytes(), facts.ballots, outcome.sheet.text.encode()),
+        "carried": carried_files(outcome),
         "casting": shlex.join(facts.casting_words),
         "by_python": of_question(BY_PYTHON, facts.label),
         "by_openssl": of_question(BY_OPENSSL, facts.label),
@@ -443,17 +443,19 @@ def again_words(poll: SealedPoll, language: Language) -> str:
 
 
 # ---- what the page carries
-def carried_files(poll: bytes, ballots: bytes, sheet: bytes) -> dict[str, tuple[str, bool]]:
+def carried_files(outcome: Outcome) -> dict[str, tuple[str, bool]]:
     """The files at the end of the page that the browser gives back byte for byte, or the sheet
     alone if they are too large.
 
     Each by its place (no elector's name has a capital letter) is text, or base64 if it is not
     plain: a browser changes carriage returns.
     """
-    are_small = len(poll) + len(ballots) <= CARRIED_LIMIT
-    found = {"Poll-file": poll, "Ballots-file": ballots} if are_small else {}
+    files = {"Poll-file": outcome.facts.poll.as_bytes(), "Ballots-file": outcome.facts.ballots}
+    if sum(map(len, files.values())) > CARRIED_LIMIT:
+        files = {}
+    files["Sheet-file"] = outcome.sheet.text.encode()
     carried: dict[str, tuple[str, bool]] = {}
-    for place, data in {**found, "Sheet-file": sheet}.items():
+    for place, data in files.items():
         is_plain = re.fullmatch(rb"[\t\n\x20-\x7e]*", data) is not None
         text = (
             html.escape(data.decode(), quote=False) if is_plain else base64.b64encode(data).decode()
@@ -504,20 +506,10 @@ def picture_in_page(picture: bytes, language: Language) -> tuple[Markup, int]:
     """The picture within the page, and its least width there.
 
     It has shapes and texts alone, without the names by which Graphviz calls them: as node1, they
-    may be those of electors. The number of an option stands apart from its name, and why it was
-    dropped is said in the language.
+    may be those of electors.
     """
     svg = xml.fromstring(picture)
-    colon = language.between(COLON)
-    dropped = {"quorum": language.say("no quorum"), "majority": language.say("no majority")}
-    for node in svg.iterfind(f".//{SPACE}g[@class='node']"):
-        named, *why = node.iter(f"{SPACE}text")
-        named.text = NUMBERED.sub(rf"\1{colon}", named.text or "")
-        for text in why:
-            text.text = dropped.get(text.text or "", text.text)
-    for text in svg.iterfind(f".//{SPACE}g[@class='edge']/{SPACE}text"):
-        if removed := REMOVED.fullmatch(text.text or ""):
-            text.text = language.say("{votes}, round {round}", **removed.groupdict())
+    translate(svg, language)
     for part in list(svg.iter()):
         part.attrib.pop("id", None)
         for child in [child for child in part if child.tag not in SHAPES]:
@@ -530,6 +522,20 @@ def picture_in_page(picture: bytes, language: Language) -> tuple[Markup, int]:
         "aria-label", language.say("The defeats as a graph. The list above says the same in words.")
     )
     xml.register_namespace("", SPACE[1:-1])
-    return Markup(xml.tostring(svg, encoding="unicode")), round(
-        LEAST_SHARE * float(svg.get("width", "0"))
-    )
+    least_width = round(LEAST_SHARE * float(svg.get("width", "0")))
+    return Markup(xml.tostring(svg, encoding="unicode")), least_width
+
+
+def translate(svg: xml.Element, language: Language) -> None:
+    """The number of an option stands apart from its name, and why it was dropped, and in which
+    round a defeat was removed, is said in the language.
+    """
+    dropped = {"quorum": language.say("no quorum"), "majority": language.say("no majority")}
+    for node in svg.iterfind(f".//{SPACE}g[@class='node']"):
+        option, *causes = node.iter(f"{SPACE}text")
+        option.text = NUMBERED.sub(rf"\1{language.between(COLON)}", option.text or "")
+        for cause in causes:
+            cause.text = dropped.get(cause.text or "", cause.text)
+    for votes in svg.iterfind(f".//{SPACE}g[@class='edge']/{SPACE}text"):
+        if removed := REMOVED.fullmatch(votes.text or ""):
+            votes.text = language.say("{votes}, round {round}", **removed.groupdict())

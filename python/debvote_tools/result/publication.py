@@ -3,19 +3,18 @@ result. What the book has of the questions `close`, `count` and `publish` read i
 compare it with what debvote says of each line (`kept_of`).
 """
 
-import dataclasses
 import itertools
 from collections.abc import Collection, Iterable, Iterator, Mapping
 from typing import Any, NamedTuple
 
 from debvote_tools.book import queries
-from debvote_tools.book.book import RESTORED, Book, Detail, DoneAct, as_text, from_text
+from debvote_tools.book.book import RESTORED, Book, DoneAct, as_text, from_text
 from debvote_tools.call.call import current_call
 from debvote_tools.call.secret import alias_in, aliased_ballots, sealed_checksum
 from debvote_tools.cli.console import in_runs, is_terminal, is_yes, tell_aside
 from debvote_tools.cli.faults import Fault
 from debvote_tools.debvote import casting_words
-from debvote_tools.election import Election, Fixed, History, fixed_by
+from debvote_tools.election import Election, History, fixed_by
 from debvote_tools.files import sha256_of
 from debvote_tools.grouping import grouped
 from debvote_tools.inbox.asked import is_unasked_since_end, other_pages
@@ -61,29 +60,22 @@ def kept_of(election: Election, history: History, labels: Iterable[str]) -> dict
         for label in labels:
             with book.question(label):
                 by_label[label] = kept_of_question(book, label, questions[label])
-    if history.is_closed:
-        demand_as_closed(by_label, fixed_by(history.closes[-1]))
-    for kept in by_label.values():
-        found = election.debvote.findings(kept.poll.as_bytes(), kept.ballots)
-        # where the roll has codes, none was offered
-        refused = {
-            finding.line: (
-                finding._replace(near=()) if history.has_codes_on_roll else finding
-            ).verdict
-            for finding in found.refused
-        }
-        demand_kept(election, (refused, found.voters), (kept.refused, len(kept.counting)))
-    return by_label
-
-
-def demand_as_closed(by_label: Mapping[str, Kept], fixed: Mapping[str, Fixed]) -> None:
-    """Stops if ballots are not those that the close has fixed."""
-    for label, kept in by_label.items():
+    fixed = fixed_by(history.closes[-1]) if history.is_closed else {}
+    for label, kept in by_label.items() if fixed else ():
         checksum = sealed_checksum(fixed[label].seal, kept.public)
         closed = fixed[label].checksum
         if checksum != closed:
             words = f"the ballots have the checksum {checksum}, and the close recorded {closed}"
             raise Fault(None, words, KEEP)
+    for kept in by_label.values():
+        findings = election.debvote.findings(kept.poll.as_bytes(), kept.ballots)
+        refused = findings.refused
+        if history.has_codes_on_roll:
+            # then none was offered
+            refused = [finding._replace(near=()) for finding in refused]
+        said = {finding.line: finding.verdict for finding in refused}
+        demand_kept(election, (said, findings.voters), (kept.refused, len(kept.counting)))
+    return by_label
 
 
 def kept_of_question(book: Book, label: str, poll: SealedPoll) -> Kept:
@@ -160,24 +152,20 @@ def vote_facts(
 def question_facts(election: Election, vote: VoteFacts) -> list[QuestionFacts]:
     """The facts of each question. Stops if debvote does not find the ballots as they are kept."""
     history = election.history()
-    kept = kept_of(election, history, election.questions)
-    return [facts_of(election, history, vote, label, of_one) for label, of_one in kept.items()]
-
-
-def facts_of(
-    election: Election, history: History, vote: VoteFacts, label: str, kept: Kept
-) -> QuestionFacts:
-    standing = election.debvote.standing(kept.poll.as_bytes(), kept.ballots)
-    demand_kept(election, standing, kept.counting)
-    facts = QuestionFacts(vote, label, kept.public, late_number=len(kept.late))
-    if not vote.questions.is_secret:
-        return dataclasses.replace(facts, late=kept.late)
-    return dataclasses.replace(
-        facts,
-        seal=fixed_by(history.closes[-1])[label].seal,
-        private=counted(election, kept, facts.casting),
-        compared=shown_by_comparison(election, history, label, kept),
-    )
+    questions = list[QuestionFacts]()
+    for label, kept in kept_of(election, history, election.questions).items():
+        standing = election.debvote.standing(kept.poll.as_bytes(), kept.ballots)
+        demand_kept(election, standing, kept.counting)
+        facts = QuestionFacts(vote, label, kept.public, len(kept.late), kept.late)
+        if vote.questions.is_secret:
+            facts = facts._replace(
+                late=None,
+                seal=fixed_by(history.closes[-1])[label].seal,
+                private=counted(election, kept, facts.casting),
+                compared=shown_by_comparison(election, history, label, kept),
+            )
+        questions.append(facts)
+    return questions
 
 
 def early_close(history: History) -> Doubt | None:
@@ -271,12 +259,12 @@ def acts_of(book: Book, history: History, again: DoneAct | None, *, is_secret: b
         for act in history.acts
         if act.name != "publish" or again is None or act.number < again.number
     ]
-    found = list[Act]()
+    told = list[Act]()
     for before, act in itertools.pairwise(acts):
         if act.went_back(before):
-            found.append(Act(act.time, "clock", {"before": before.time}))
-        found += acts_of_page(act, book, history, is_secret=is_secret)
-    return found
+            told.append(Act(act.time, "clock", {"before": before.time}))
+        told += acts_of_page(act, book, history, is_secret=is_secret)
+    return told
 
 
 def labels_after_end(book: Book, history: History) -> list[Collection[str]]:
@@ -298,20 +286,14 @@ def acts_of_page(act: DoneAct, book: Book, history: History, *, is_secret: bool)
     """What the pages say of an act, which is nothing for most acts. In a secret vote the reasons of
     `strike` and `reopen` stay in the log.
     """
-    time, detail = act.time, act.detail
-    until = dict[str, Any]()
-    if detail.get("until"):
-        until["until"] = from_text(detail["until"]).astimezone(history.zone)
+    time = act.time
+    detail = act.detail
     reason = None if is_secret else detail.get("because")
     match act.name:
-        case "call":
-            yield Act(time, "called until" if until else "called", until)
+        case "call" | "extend":
+            yield from end_announced(act, history)
         case "take back":
             yield Act(time, "taken back")
-        case "extend" if until:
-            earlier = [one for one in history.timing if one.number < act.number]
-            done = "extended" if earlier[-1].detail.get("until") else "end said"
-            yield Act(time, done, until)
         case "addresses":
             yield Act(time, "roll changed", {"number": detail["electors"]})
         case "strike" | "undo":
@@ -321,15 +303,24 @@ def acts_of_page(act: DoneAct, book: Book, history: History, *, is_secret: bool)
         case "reopen":
             yield Act(time, "reopened", because=reason)
         case "publish" if history.call and act.number > history.call.number:
-            ended = [*detail.get("ended", {}).items()]
             checksum = detail["checksums"][CHECKSUMS]
+            ended = [*detail.get("ended", {}).items()]
             yield Act(time, "published", {"checksum": checksum, "ended": ended})
         case "moved":
-            noted, there = detail["noted"] and detail["noted"]["act"], detail["there"]["act"]
-            places = {"noted": noted, "there": there}
-            yield Act(time, how_moved(detail, history), places, detail["because"])
+            yield moved(act, history)
     if detail.get("keyring"):
         yield Act(time, "keyring")
+
+
+def end_announced(act: DoneAct, history: History) -> Iterator[Act]:
+    """A call, with the end that it says, or an act that says another end."""
+    until = act.detail.get("until")
+    places = {"until": from_text(until).astimezone(history.zone)} if until else {}
+    if act.name == "call":
+        yield Act(act.time, "called until" if until else "called", places)
+    elif until:
+        *_, before = (earlier for earlier in history.timing if earlier.number < act.number)
+        yield Act(act.time, "extended" if before.detail.get("until") else "end said", places)
 
 
 def taken_out(act: DoneAct, book: Book, reason: str | None, *, is_secret: bool) -> Iterator[Act]:
@@ -350,17 +341,22 @@ def taken_out(act: DoneAct, book: Book, reason: str | None, *, is_secret: bool) 
         yield Act(act.time, done, places, labels=numbers.keys())
 
 
-def how_moved(detail: Detail, history: History) -> str:
-    """What the pages say of an act `moved`: they tell as restored only what the secretary says
-    is.
+def moved(act: DoneAct, history: History) -> Act:
+    """What the pages say of a book with which the secretary went on elsewhere: they tell as
+    restored only what the secretary says is.
     """
+    detail = act.detail
+    noted = detail["noted"]
+    there = detail["there"]["act"]
     if detail["why"] == RESTORED:
-        return "restored"
-    noted, there = detail["noted"], detail["there"]["act"]
-    if noted is None:
-        return "moved from afar"
-    is_other = noted["act"] <= there and history.act(noted["act"]).digest != noted["digest"]
-    return "moved to others" if is_other else "moved"
+        done = "restored"
+    elif noted is None:
+        done = "moved from afar"
+    elif noted["act"] <= there and history.act(noted["act"]).digest != noted["digest"]:
+        done = "moved to others"
+    else:
+        done = "moved"
+    return Act(act.time, done, {"noted": noted and noted["act"], "there": there}, detail["because"])
 
 
 def close_of(act: DoneAct, book: Book, history: History) -> dict[str, Any]:

@@ -402,7 +402,7 @@ class Bytes(unittest.TestCase):
     def message(self, text: str, subject: str = "Vote: Fr\u00fchling", sender_name: str = "") -> bytes:
         due = types.SimpleNamespace(sender="vote@club.example", sender_name=sender_name)
         due.composer = types.SimpleNamespace(call_data=types.SimpleNamespace(to=None))
-        due.text_of = lambda letter: (LetterText(subject, text), "[0123456789abcdef-abcdefghjk]")
+        due.text_of = lambda letter: LetterText(subject, "[0123456789abcdef-abcdefghjk]", text)
         return message(due, LETTER, is_draft=False)  # type: ignore[arg-type]
 
     def test_texts_come_through_as_they_are(self) -> None:
