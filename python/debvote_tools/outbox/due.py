@@ -17,7 +17,7 @@ from debvote_tools.inbox.fates import COUNTS, NOBODY, Fate, fates_of
 from debvote_tools.inbox.rules import LetterOutcome
 from debvote_tools.inbox.stopping import pending_letters, what_stops
 from debvote_tools.outbox.reached import NO_LETTER, page_since, unreached, unreached_and_printed
-from debvote_tools.outbox.words import CORRECTED, Composer, LetterText
+from debvote_tools.outbox.words import CORRECTED, Composer, OutgoingText
 from debvote_tools.result.publication import closing_letter
 from debvote_tools.text.addresses import address_in
 from debvote_tools.text.language import language_of
@@ -28,7 +28,7 @@ LASTING = datetime.timedelta(days=1)
 
 
 # what a letter to an elector says
-Compose = Callable[[Elector, OutgoingLetter], LetterText]
+Compose = Callable[[Elector, OutgoingLetter], OutgoingText]
 
 
 @dataclasses.dataclass(frozen=True)
@@ -111,10 +111,10 @@ class LettersDue(Run):
         """When others were reminded, if this run would do so again within a day."""
         if self.kind != "reminders" or self.going_again or not self.new:
             return None
-        times = (letter.time for letter in self.noted_before)
-        return max((time for time in times if self.time - time < LASTING), default=None)
+        earlier = (letter.time for letter in self.noted_before if self.time - letter.time < LASTING)
+        return max(earlier, default=None)
 
-    def text_of(self, letter: OutgoingLetter) -> LetterText:
+    def text_of(self, letter: OutgoingLetter) -> OutgoingText:
         """What a letter says. An address that its elector no longer has learns no own mark."""
         elector = self.electors[letter.elector]
         if not is_present(letter, self.electors):
@@ -146,9 +146,11 @@ def letters_due(
     is_over = bool(history.closes) or (until is not None and time > until)
     demand_due(election, history, kind, is_over=is_over)
     call_data, forced = call_data_of(election, history, kind, because)
-    electors = {elector.number: elector for elector in queries.electors(election.book)}
-    if history.is_secret_by_click and not has_codes:
-        electors = {number: elector._replace(code="") for number, elector in electors.items()}
+    hides_codes = history.is_secret_by_click and not has_codes
+    electors = {
+        elector.number: elector._replace(code="") if hides_codes else elector
+        for elector in queries.electors(election.book)
+    }
     noted_before = outgoing.outgoing_letters(election.book, kind)
     composer = Composer(call_data, is_over)
     tried_again = not_through(election, history, electors, noted_before)
@@ -271,7 +273,8 @@ def calls_due(run: Run) -> LettersDue:
     last = run.history.since_call("call", "extend")[-1].number
     not_reached = unreached(run.election, run.history, without=last)
     had_call = run.electors.keys() - {elector.number for elector, _, _ in not_reached}
-    went = outgoing.call_addresses(run.election.book, run.election.called(run.history).number)
+    call = run.election.called(run.history)
+    called_at = outgoing.call_addresses(run.election.book, call.number)
     return to_each(
         run,
         last,
@@ -280,7 +283,7 @@ def calls_due(run: Run) -> LettersDue:
             is_extension=letter.elector in had_call,
             earlier=[
                 address
-                for address in went.get(elector.name, [])
+                for address in called_at.get(elector.name, [])
                 if address not in elector.addresses
             ],
         ),
@@ -325,7 +328,7 @@ def reminders_due(run: Run) -> LettersDue:
 
 def reminder_or_receipt(
     composer: Composer, elector: Elector, fates: Sequence[Fate], *, is_lost: bool
-) -> LetterText:
+) -> OutgoingText:
     told = [fate for fate in told_of(fates).values() if fate.became is not LetterOutcome.SET_ASIDE]
     if any(fate.became is LetterOutcome.GOES_IN for fate in fates):
         return composer.receipt(elector, told)
@@ -413,17 +416,17 @@ def results_due(run: Run) -> LettersDue:
     counting = queries.what_counts(run.election.book)
     ended = [act.detail.get("ended") for act in run.history.since_call("publish")]
     is_corrected = any(earlier != ended[-1] for earlier in ended)
-    subject = run.composer.subject(run.kind, CORRECTED if is_corrected else "")
     return to_each(
         run,
         act,
         lambda elector, _: run.composer.letter(
             "result",
             elector,
+            CORRECTED if is_corrected else "",
             answers=counting.get(elector.name),
             fates=told_of(fates[elector.name]).values(),
             letter=letter,
-        )._replace(subject=subject),
+        ),
     )
 
 
@@ -478,5 +481,5 @@ def beside_what_counts(about: Sequence[About], told: Mapping[About, Fate]) -> li
     """What a receipt says: what it is about, and the ballot that counts. Who reads that another one
     waits, or does not count, learns that an earlier ballot does.
     """
-    now = about_now(about, told)
-    return [fate for key, fate in told.items() if key in now or fate.became == COUNTS]
+    current = about_now(about, told)
+    return [fate for key, fate in told.items() if key in current or fate.became == COUNTS]

@@ -1,5 +1,6 @@
-"""The bytes of letters, and their folder: a file for each address, and a page to print for electors
-without one. The folder is its owner's alone.
+"""The bytes of letters, and their folder: a file for each address, a page to print for the others.
+
+The folder is its owner's alone.
 
 The head of a letter has only what was checked or made here: nothing of a letter that came gets into
 it.
@@ -88,7 +89,7 @@ def body_of(text: str) -> tuple[str, bytes]:
     ):
         return "7bit", data
     return "quoted-printable", CHANGED_ON_THE_WAY.sub(
-        lambda found: b"=%02X" % found[0][0], quopri.encodestring(data)
+        lambda changed: b"=%02X" % changed[0][0], quopri.encodestring(data)
     )
 
 

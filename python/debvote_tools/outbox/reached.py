@@ -1,8 +1,8 @@
-"""Whom the call has reached, and who gets it printed: the one answer for `status`, for each kind of
-letters and for what a letter after an extension says. `status` asks it, so nothing is imported here
-that judges letters or makes pages.
-"""
+"""Whom the call has reached, and who gets it printed.
 
+It is the one answer for `status`, for each kind of letters and for what a letter after an extension
+says. `status` asks it, so nothing is imported here that judges letters or makes pages.
+"""
 
 from debvote_tools.book import outgoing, queries
 from debvote_tools.book.queries import Elector

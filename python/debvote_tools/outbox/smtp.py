@@ -1,5 +1,7 @@
-"""Sends letters by SMTP. What the server answers to each is noted before the next begins, so a run
-that is cut off goes on. The letter that it was cut off in may go twice, with one Message-ID.
+"""Sends letters by SMTP.
+
+What the server answers to each is noted before the next begins, so a run that is cut off goes on.
+The letter that it was cut off in may go twice, with one Message-ID.
 """
 
 import contextlib
@@ -68,7 +70,8 @@ class NotNow(Exception):
 
 
 def server_of(text: str) -> Server:
-    bracketed, name, port = found.groups() if (found := SERVER.fullmatch(text)) else ("", "", "0")
+    parts = SERVER.fullmatch(text)
+    bracketed, name, port = parts.groups() if parts else ("", "", "0")
     host = bracketed or name
     if port is not None and not 0 < int(port) < 65536:
         cure = "write it as mail.example.org or mail.example.org:587"

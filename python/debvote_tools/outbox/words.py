@@ -11,6 +11,7 @@ from collections.abc import Iterator, Sequence
 from typing import NamedTuple
 
 from debvote_tools.book.queries import Elector
+from debvote_tools.call.call import PACKAGE as CALL_PACKAGE
 from debvote_tools.call.call import CallData
 from debvote_tools.inbox.fates import COUNTS, REFUSED, TAKEN_BACK, Fate
 from debvote_tools.inbox.reasons import ReasonWithValues, for_elector
@@ -100,7 +101,7 @@ OF_RECORD = marked(
 )
 
 
-class LetterText(NamedTuple):
+class OutgoingText(NamedTuple):
     """What a letter says: its subject, the mark that ends it, and its text."""
 
     subject: str
@@ -119,38 +120,32 @@ class Composer:
     def language(self) -> Language:
         return self.call_data.language
 
-    def subject(self, kind: str, other: str = "", *, is_extension: bool = False) -> str:
-        """The subject of a kind of letters, or another one, before the mark that ends it."""
-        questions = self.call_data.questions
-        subject = other or SUBJECTS[kind]
-        if is_extension:
-            subject = EXTENSION if questions.deadline_time else END_SAID
-        return self.language.say(subject, title=one_line(questions.name))
-
     def call_letter(
         self, elector: Elector, *, is_extension: bool, earlier: Sequence[str] = ()
-    ) -> LetterText:
+    ) -> OutgoingText:
         """The call; or that it ends later, which repeats no code. A code that went to earlier
         addresses is told as such. On paper it has at most two sides: if the texts about the options
         are too long for them, it says where they are.
         """
+        subject = SUBJECTS["call"]
+        if is_extension:
+            subject = EXTENSION if self.call_data.questions.deadline_time else END_SAID
         for are_texts_elsewhere in (False, True):
-            text = self.rendered(
-                "debvote_tools.call",
-                "call.txt",
+            letter = self.letter(
+                "call",
                 elector,
+                subject,
                 is_extension=is_extension,
                 are_texts_elsewhere=are_texts_elsewhere,
                 earlier=earlier,
             )
-            if not is_on_paper(elector) or text.count("\n") <= TWO_SIDES:
+            if not is_on_paper(elector) or letter.text.count("\n") <= TWO_SIDES:
                 break
-        subject = self.subject("call", is_extension=is_extension)
-        return LetterText(subject, self.call_data.mark_of(elector.mark), text)
+        return letter
 
     def reminder(
         self, elector: Elector, fates: Sequence[Fate], *, is_lost: bool = False
-    ) -> LetterText:
+    ) -> OutgoingText:
         """A letter to an elector without a ballot that counts, or whose last one is lost. If a line
         or a letter of theirs has come, it says what became of it, and that they can send a right
         line now.
@@ -158,26 +153,29 @@ class Composer:
         has_come = any(fate.is_own or fate.envelope for fate in fates)
         return self.letter("reminders", elector, fates=fates, has_come=has_come, is_lost=is_lost)
 
-    def receipt(self, elector: Elector, fates: Sequence[Fate]) -> LetterText:
+    def receipt(self, elector: Elector, fates: Sequence[Fate]) -> OutgoingText:
         """What became of what came from an elector. It has the right line if the last of it was
         refused, waits or was set aside. What goes in, was struck, taken back or late asks nobody to
         vote again.
         """
-        decide = (fate for fate in fates if fate.is_own or fate.became in (COUNTS, REFUSED))
-        *_, last = COUNTS, *(fate.became for fate in decide)
+        decide = (
+            fate.became
+            for fate in reversed(fates)
+            if fate.is_own or fate.became in (COUNTS, REFUSED)
+        )
+        last = next(decide, COUNTS)
         has_right_line = not self.is_over and last not in (COUNTS, LetterOutcome.GOES_IN)
         return self.letter("receipts", elector, fates=fates, has_right_line=has_right_line)
 
-    def letter(self, kind: str, elector: Elector, **values: object) -> LetterText:
-        text = self.rendered(PACKAGE, f"{kind}.txt", elector, **values)
-        return LetterText(self.subject(kind), self.call_data.mark_of(elector.mark), text)
-
-    def rendered(self, package: str, template: str, elector: Elector, **values: object) -> str:
+    def letter(
+        self, kind: str, elector: Elector, subject: str = "", **values: object
+    ) -> OutgoingText:
+        """A letter of a kind, with the subject of this kind or another one."""
         call = self.call_data
         name = one_line(elector.who)[:200] or elector.name
-        return render_letter(
-            package,
-            template,
+        text = render_letter(
+            CALL_PACKAGE if kind == "call" else PACKAGE,
+            f"{kind}.txt",
             self.language,
             call=call,
             elector=elector,
@@ -188,6 +186,9 @@ class Composer:
             is_whole=call.at is None or is_on_paper(elector),
             **values,
         )
+        title = one_line(call.questions.name)
+        subject = self.language.say(subject or SUBJECTS[kind], title=title)
+        return OutgoingText(subject, call.mark_of(elector.mark), text)
 
     def fate_in_words(self, fate: Fate, name: str) -> str:
         """Says what became of something that came, and what is wrong with it."""
@@ -225,12 +226,13 @@ class Composer:
             titles = map(self.call_data.questions.titled, fate.replaced)
             yield self.language.say(NOT_ALL, questions=self.language.joined(titles))
         letter = fate.came_by
-        envelope = fate.envelope
-        if letter is not None and envelope is not None:
+        if letter is not None and fate.envelope is not None:
             if letter.read.link:
                 yield self.language.say("It came by the page of the vote.")
             if any(
-                entered.is_typed for entered in letter.entered if entered.number == envelope.number
+                entered.is_typed
+                for entered in letter.entered
+                if entered.number == fate.envelope.number
             ):
                 yield self.language.say("The secretary typed it, by a letter that came.")
 

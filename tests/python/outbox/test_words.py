@@ -22,7 +22,7 @@ from debvote_tools.inbox.letter_lines import ReadLine
 from debvote_tools.inbox.reasons import Reason, ReasonWithValues, for_elector
 from debvote_tools.inbox.rules import LetterOutcome
 from debvote_tools.outbox.letter_folder import message, rows_to_print
-from debvote_tools.outbox.words import OF_BALLOT, PACKAGE, SUBJECTS, Composer, LetterText
+from debvote_tools.outbox.words import OF_BALLOT, PACKAGE, SUBJECTS, Composer, OutgoingText
 from debvote_tools.poll.questions import Questions
 from debvote_tools.poll.sealed import SealedPoll
 from debvote_tools.text.addresses import is_mail_address
@@ -79,13 +79,17 @@ def all_that_came(answers: str = "1,2,3") -> list[Fate]:
 WAITS = next(one for one in all_that_came() if one.became is LetterOutcome.WAITS and one.is_own)
 
 
-def texts(now: Composer, answers: str = "1,2,3") -> list[str]:
+def letters(now: Composer, answers: str = "1,2,3") -> list[OutgoingText]:
     came = all_that_came(answers)
-    calls = [now.call_letter(elector, is_extension=is_extension).text for elector, is_extension in ((ADA, False), (ADA._replace(key="A"), False), (ADA, True))]
-    calls += [now.call_letter(ADA._replace(code="c0de"), is_extension=False, earlier=["a@b.example"]).text]
-    results = (now.letter("result", ADA, letter="RESULT\n", answers=ranks, fates=came).text for ranks in (answers, None))
-    closed = now.letter("closed", ADA, letter="CLOSED\n").text
-    return [*calls, now.reminder(ADA, [WAITS]).text, now.reminder(ADA, []).text, now.receipt(ADA, came).text, closed, *results]
+    calls = [now.call_letter(elector, is_extension=is_extension) for elector, is_extension in ((ADA, False), (ADA._replace(key="A"), False), (ADA, True))]
+    calls += [now.call_letter(ADA._replace(code="c0de"), is_extension=False, earlier=["a@b.example"])]
+    results = (now.letter("result", ADA, letter="RESULT\n", answers=ranks, fates=came) for ranks in (answers, None))
+    closed = now.letter("closed", ADA, letter="CLOSED\n")
+    return [*calls, now.reminder(ADA, [WAITS]), now.reminder(ADA, []), now.receipt(ADA, came), closed, *results]
+
+
+def texts(now: Composer, answers: str = "1,2,3") -> list[str]:
+    return [letter.text for letter in letters(now, answers)]
 
 
 class Texts(unittest.TestCase):
@@ -101,8 +105,8 @@ class Texts(unittest.TestCase):
                     self.assertEqual(same - commands if code != "en" else set(), set(), code)
         # each kind has its own subject
         for code in LANGUAGES:
-            subjects = [vote(code).subject(kind) for kind in SUBJECTS] + [vote(code).subject("call", is_extension=True)]
-            self.assertEqual(len(set(subjects)), 6, subjects)
+            subjects = {letter.subject for letter in letters(vote(code))}
+            self.assertEqual(len(subjects), len(SUBJECTS) + 1, subjects)
             for subject in subjects:
                 self.assertTrue(subject.endswith(": Spring"), subject)
 
@@ -402,7 +406,7 @@ class Bytes(unittest.TestCase):
     def message(self, text: str, subject: str = "Vote: Fr\u00fchling", sender_name: str = "") -> bytes:
         due = types.SimpleNamespace(sender="vote@club.example", sender_name=sender_name)
         due.composer = types.SimpleNamespace(call_data=types.SimpleNamespace(to=None))
-        due.text_of = lambda letter: LetterText(subject, "[0123456789abcdef-abcdefghjk]", text)
+        due.text_of = lambda letter: OutgoingText(subject, "[0123456789abcdef-abcdefghjk]", text)
         return message(due, LETTER, is_draft=False)  # type: ignore[arg-type]
 
     def test_texts_come_through_as_they_are(self) -> None:
