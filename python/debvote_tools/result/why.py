@@ -1,5 +1,6 @@
-"""Why each option has won, is left in a tie, was dropped or has lost, in numbers. `why.jinja` has
-their sentences, each of which is filled by a row of places.
+"""Why each option has won, is left in a tie, was dropped or has lost, in numbers.
+
+`why.jinja` has their sentences, each of which is filled by a row of places.
 """
 
 import collections
@@ -12,11 +13,11 @@ Row = dict[str, Any]
 
 
 class Why:
-    """`said` has the options as parts of a sentence."""
+    """`options` has them by their numbers, as parts of a sentence."""
 
-    def __init__(self, sheet: Sheet, said: Mapping[int, str]) -> None:
+    def __init__(self, sheet: Sheet, options: Mapping[int, str]) -> None:
         self.sheet = sheet
-        self.said = said
+        self.options = options
         self.default = sheet.default
         # what the whole width of a bar means: all voters, or the quorum if it is greater
         self.whole = max(sheet.voters, sheet.quorum, 1)
@@ -28,7 +29,7 @@ class Why:
         }
 
     def names(self, options: Iterable[int]) -> list[str]:
-        return [self.said[option] for option in options]
+        return [self.options[option] for option in options]
 
     def rows(self, pairs: Iterable[Pair]) -> list[Row]:
         return [self.row(pair) for pair in pairs]
@@ -41,8 +42,8 @@ class Why:
         over = self.sheet.votes[a, b]
         under = self.sheet.votes[b, a]
         return {
-            "option": self.said[a],
-            "other": self.said[b],
+            "option": self.options[a],
+            "other": self.options[b],
             "rival": b,
             "over": over,
             "under": under,
@@ -101,8 +102,9 @@ class Why:
 
     def beaten(self, option: int) -> list[Row]:
         """The defeats by an option that were not removed, the narrowest first."""
-        left = (pair for pair in self.sheet.defeats if pair not in self.removed)
-        rows = self.rows(pair for pair in left if pair[0] == option)
+        rows = self.rows(
+            pair for pair in self.sheet.defeats if pair[0] == option and pair not in self.removed
+        )
         return sorted(rows, key=lambda row: int(row["over"] - row["under"]))
 
     def set_aside(self, option: int | None = None) -> list[Row]:
