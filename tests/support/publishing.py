@@ -93,7 +93,7 @@ class ResultPageTest(PublishTest):
         programs = PROGRAM.parent
         files = {"poll": str(room / "poll.toml"), "ballots": str(room / "ballots")}
         facts = command_line.facts_of(command_line.Arguments(**files, casting=None, desks=1, language="en", target="result"), programs)
-        of_vote = {key: changes.pop(key) for key in [*changes] if hasattr(facts.vote, key)}
+        of_vote = {key: changes.pop(key) for key in [*changes] if key in facts.vote._fields}
         vote = facts.vote._replace(**of_vote)
         made_room = plain_room(self.scratch / name)
         with folder.beside(made_room / "result") as new:

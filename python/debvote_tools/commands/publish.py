@@ -64,7 +64,8 @@ REFUSED_IN_NAME = '"\u201c\u201d\u201e\u201f\u2033\uff02\u00ab\u00bb'
 
 
 class Arguments(Acting):
-    checks, nothing = True, "published"
+    checks = True
+    nothing = "published"
 
     casting: list[str] | None = option(*CASTING, action="append")
     cast_by: list[str] | None = option(
@@ -157,7 +158,12 @@ def filled_in_place(
         )
         detail = detail_of(words, filled, pending)
         if again and not is_new and dict(detail, agreed=0) != dict(again.detail, agreed=0):
-            raise WouldDiffer(again)
+            differs = f"made again, the result would differ from the one that was published (act {again.number})"
+            why = (
+                "another version of a program makes it, or more was done since that the page tells"
+            )
+            cure = "leave it as it is; or publish it once more, with a letter of its own: --force"
+            raise WouldDiffer(None, f"{differs}: {why}", cure)
         # nobody is asked about a result that cannot be published
         if agreed := agreed_in_secret(history, vote, questions, is_agreed=arguments.yes):
             detail["agreed"] = agreed
@@ -254,8 +260,8 @@ def demand_place(election: Election, target_folder: pathlib.Path, history: Histo
     if folder.is_free(place):
         return
     sums = [act.detail["checksums"][CHECKSUMS] for act in history.publications][-2:]
-    left = left_beside(place, folder.BESIDE_PLACE)
-    if not any(folder.is_publication(beside, sum) for sum in sums[-1:] for beside in left):
+    killed = left_beside(place, folder.BESIDE_PLACE)
+    if not any(folder.is_publication(beside, sum) for sum in sums[-1:] for beside in killed):
         sums = sums[-1:]
     if any(folder.is_publication(place, sum) for sum in sums):
         return
@@ -275,12 +281,6 @@ def other_place(target_folder: pathlib.Path) -> pathlib.Path:
 class WouldDiffer(Fault):
     """Made again, a result would be another one than was published."""
 
-    def __init__(self, last: DoneAct) -> None:
-        words = f"made again, the result would differ from the one that was published (act {last.number})"
-        why = "another version of a program makes it, or more was done since that the page tells"
-        cure = "leave it as it is; or publish it once more, with a letter of its own: --force"
-        super().__init__(None, f"{words}: {why}", cure)
-
 
 # ---- words of those who publish
 def published_words(arguments: Arguments, questions: Questions, call: DoneAct) -> PublishedWords:
@@ -295,7 +295,9 @@ def published_words(arguments: Arguments, questions: Questions, call: DoneAct) -
             reason = demand_reason(reason, "--force", has_paragraphs=True)
     with kept_in(faults):
         if arguments.about is not None:
-            about = text_in(arguments.about)
+            unread = "give a file that you may read with --about"
+            empty = "write it, or leave --about out"
+            about = read_text(arguments.about, TEXT_LIMIT, unread, empty, may_wait=True)
     with kept_in(faults):
         castings = castings_in(arguments.casting, questions)
     stop_at(faults)
@@ -326,12 +328,6 @@ def holders_and_days(
     with kept_in(faults):
         days = [day_in(day, call) for day in given_for_each(number, "--cast-on", days)]
     return holders, days
-
-
-def text_in(file: str) -> str:
-    """The text for the page."""
-    unread = "give a file that you may read with --about"
-    return read_text(file, TEXT_LIMIT, unread, "write it, or leave --about out", may_wait=True)
 
 
 def given_for_each(number: int, option: str, given: list[str]) -> list[str]:

@@ -130,8 +130,8 @@ def sealed_of(poll_bytes: bytes, file: str) -> SealedPoll:
     try:
         document = tomllib.loads(poll_bytes.decode("utf-8-sig"))
     except (ValueError, RecursionError) as error:
-        words, cure = f"it can't be read ({error})", "write the poll as TOML 1.0"
-        raise Fault(file, words, cure, Status.BAD_POLL) from None
+        words = f"it can't be read ({error})"
+        raise Fault(file, words, "write the poll as TOML 1.0", Status.BAD_POLL) from None
     values = {key: document[key] for key in KEYS if key in document}
     strange = [key for key in values if not is_right(key, values[key], len(document["options"]))]
     cure = "give the poll.toml of a call, or take the key out"
@@ -139,12 +139,15 @@ def sealed_of(poll_bytes: bytes, file: str) -> SealedPoll:
         words = f"a sealed poll cannot have such a value of {', '.join(strange)}"
         raise Fault(file, words, cure, Status.BAD_POLL)
     poll = poll_of(values)
-    found = [*bad_title(poll.name)] if poll.name != poll.title else []
-    for number, name, why in bad_options(poll.names, poll.plain_names):
-        if name != poll.plain_names[number - 1]:
-            found.append((number, name, why))
-    for _, _, why in found[:1]:
-        raise Fault(file, f"a shown name can't be published: {why}", cure, Status.BAD_POLL)
+    reasons = [reason for _, _, reason in bad_title(poll.name) if poll.name != poll.title]
+    reasons += [
+        reason
+        for number, name, reason in bad_options(poll.names, poll.plain_names)
+        if name != poll.plain_names[number - 1]
+    ]
+    if reasons:
+        words = f"a shown name can't be published: {reasons[0]}"
+        raise Fault(file, words, cure, Status.BAD_POLL)
     return poll
 
 

@@ -1,5 +1,6 @@
-"""What a result is made from, beside the answers of debvote: one value for the page, the letters of
-the result and the data. `told.jinja` says it in words.
+"""The facts of a result, of the whole vote and of each question, for the page, the letter and data.
+
+`told.jinja` says them in words.
 """
 
 import dataclasses
@@ -15,22 +16,6 @@ from debvote_tools.result.sheet import Castings
 from debvote_tools.result.why import Why
 from debvote_tools.sheet import Sheet
 from debvote_tools.text.language import ENGLISH, Language
-from debvote_tools.text.times import time_in_words
-
-# of each doubt, by its kind, what the secretary reads of it and can do about it
-FOR_SECRETARY = {
-    "no ballot": "no elector has a ballot that counts; check that these are the ballots of this poll",
-    "mostly refused": "more than half of the lines are refused, {refused} of {lines}; debvote explain says why",
-    "not closed": "the vote is not closed; close it first",
-    "closed early": "the vote was closed on {closed}, before its announced end, {until}",
-    "box not asked": "the box of the web host was not asked since the end: run {command}",
-    "other page": "on {time} the page at {address} was not that of the call",
-    "letters left": "these letters arrived in time, and wait: {letters}; {command}",
-    "other casting vote": (
-        "an earlier publication has a casting vote for {option}; only one can be right, so find out which was given; the earlier one again: "
-        "{command}"
-    ),
-}
 
 
 class Told:
@@ -70,21 +55,18 @@ class Doubt(Told):
     """
 
     kind: str
+    # what the secretary reads of it, and can do about it; what electors read, `told.jinja` says
+    advice: str
     places: Mapping[str, Any] = dataclasses.field(default_factory=dict)
     # not so where an earlier act was forced although there was this doubt
     stops: bool = True
     # that of the question that it is about; empty if it is about the whole vote
     label: str = ""
-    # a command that puts it right
-    command: str = ""
 
     def as_data(self) -> dict[str, Any]:
         """As the act of a publication keeps it."""
         question = {"question": self.label} if self.label else {}
         return {"kind": self.kind, **self.shown(datetime.datetime.isoformat), **question}
-
-    def for_secretary(self) -> str:
-        return FOR_SECRETARY[self.kind].format(command=self.command, **self.shown(time_in_words))
 
 
 @dataclasses.dataclass(frozen=True)
@@ -234,10 +216,14 @@ class Outcome:
         sheet = self.facts.private or self.sheet
         label = self.facts.label
         if not sheet.voters:
-            yield Doubt("no ballot", label=label)
+            advice = (
+                "no elector has a ballot that counts; check that these are the ballots of this poll"
+            )
+            yield Doubt("no ballot", advice, label=label)
         if 2 * sheet.refused > sheet.lines:
+            advice = f"more than half of the lines are refused, {sheet.refused} of {sheet.lines}; debvote explain says why"
             numbers = {"refused": sheet.refused, "lines": sheet.lines}
-            yield Doubt("mostly refused", numbers, label=label)
+            yield Doubt("mostly refused", advice, numbers, label=label)
 
     @property
     def doubts(self) -> list[Doubt]:
@@ -246,6 +232,6 @@ class Outcome:
         known = (doubt for doubt in self.facts.vote.doubts if doubt.label in labels)
         return [*self.doubts_of_count, *known]
 
-    def why(self, said: Mapping[int, str]) -> Why:
-        """Why it ended so; `said` has the options as parts of a sentence."""
-        return Why(self.sheet, said)
+    def why(self, options: Mapping[int, str]) -> Why:
+        """Why it ended so; `options` has them by their numbers, as parts of a sentence."""
+        return Why(self.sheet, options)

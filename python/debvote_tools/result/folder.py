@@ -1,5 +1,6 @@
-"""The published folder. It is made beside its place, whole, and counted twice; only then it takes
-its place. For each question debvote is started at most six times, in a secret vote four times.
+"""The published folder, which is made whole and counted twice beside its place before it takes it.
+
+For each question debvote is started at most six times, in a secret vote four times.
 """
 
 import contextlib
@@ -165,7 +166,7 @@ def filled(
     """
     filling = Filling(folder, vote)
     outcomes = {facts.label: filling.counted(facts, program_folder) for facts in questions}
-    doubts = doubts_told(vote, outcomes, is_forced=is_forced, known=known)
+    doubts = demand_publishable(vote, outcomes, is_forced=is_forced, known=known)
     for (label, outcome), picture in zip(outcomes.items(), pictures_of(outcomes.values())):
         filling.write(label, further_files(outcome, picture))
         demand_same(folder / label, outcome)
@@ -287,7 +288,7 @@ def files_above(
 
 
 # ---- doubts
-def doubts_told(
+def demand_publishable(
     vote: VoteFacts,
     outcomes: Mapping[str, Outcome],
     *,
@@ -307,14 +308,14 @@ def doubts_told(
     for label in dict.fromkeys(("", *outcomes)):
         never = [*never_published(outcomes[label])] if label in outcomes else []
         stopping = (doubt for doubt in doubts if doubt.stops and doubt.label == label)
-        reasons = "; ".join(doubt.for_secretary() for doubt in stopping)
+        reasons = "; ".join(doubt.advice for doubt in stopping)
         if reasons and not (is_forced or never):
             faults.append(Fault(f"question {label}" if label else None, reasons, cure))
         faults += never
     stop_at(faults)
     for doubt in doubts:
         where = f"question {doubt.label}: " if doubt.label else ""
-        tell_aside(f"Note: {where}{doubt.for_secretary()}; the result page says so")
+        tell_aside(f"Note: {where}{doubt.advice}; the result page says so")
     return doubts
 
 
@@ -386,11 +387,12 @@ def demand_same(folder: pathlib.Path, outcome: Outcome) -> None:
     ):
         try:
             text, _ = program["answer"]([task, *files, *words])
-            said = "" if text == wanted else difference(text, wanted)
+            differs = "" if text == wanted else difference(text, wanted)
         except program["Fault"] as fault:
-            said = f"it says `{fault.args[0]}`"
-        if said:
-            raise unlike(f"{RECOUNT}, the second count, differs from debvote in its `{task}`", said)
+            differs = f"it says `{fault.args[0]}`"
+        if differs:
+            where = f"{RECOUNT}, the second count, differs from debvote in its `{task}`"
+            raise unlike(where, differs)
 
 
 def difference(text: str, wanted: str) -> str:

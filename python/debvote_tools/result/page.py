@@ -9,7 +9,7 @@ import shlex
 import shutil
 import subprocess
 import xml.etree.ElementTree as xml
-from collections.abc import Iterable, Mapping, Sequence
+from collections.abc import Collection, Iterable, Mapping
 from typing import Any
 
 from markupsafe import Markup
@@ -58,12 +58,10 @@ NAMED = Markup("<i>{}</i>\u00a0<bdi>{}</bdi>")
 # where no list has the numbers
 NAME_ALONE = Markup("<bdi>{1}</bdi>")
 
-# in characters; where the names in a ballot come to more, paper has their numbers alone
-LONG_BALLOT = 200
-
-# how many characters of a refused line are shown, and how many bytes of such lines in all, or a few
-# more
-SHOWN, TEXTS_LIMIT = 100, 1_000_000
+# how many characters of a refused line are shown
+SHOWN = 100
+# and how many bytes of such lines in all, or a few more
+TEXTS_LIMIT = 1_000_000
 
 # if Graphviz takes longer, there is no picture
 PICTURE_SECONDS = 60
@@ -112,7 +110,7 @@ def named_in_html(poll: SealedPoll, form: Markup = NAMED) -> dict[int, Markup]:
 
 
 def page_with(
-    template: str, vote: VoteFacts, outcomes: Sequence[Outcome], label: str = "", /, **values: Any
+    template: str, vote: VoteFacts, outcomes: Collection[Outcome], label: str = "", /, **values: Any
 ) -> bytes:
     """A page with one outcome or with all, and the script that finds a ballot in them."""
     language = vote.language
@@ -128,7 +126,10 @@ def page_with(
         about=paragraphs_of("" if label else vote.words.about or ""),
         example=next((name for outcome in outcomes for name in outcome.standing), ""),
         find_words=find_words(vote, motion=any(outcome.facts.poll.motion for outcome in outcomes)),
-        find_letters=find_letters(language),
+        # how letters are spelled in the name that the roll makes of a real name
+        find_letters=json.dumps(
+            {**PUNCTUATION, **PLAIN_LETTERS, **SPELLINGS.get(language.code, {})}, ensure_ascii=False
+        ),
         **values,
     )
 
@@ -138,7 +139,7 @@ def front_page_of(vote: VoteFacts, outcomes: Mapping[str, Outcome]) -> bytes:
     return page_with(
         "front.html",
         vote,
-        [*outcomes.values()],
+        outcomes.values(),
         style=resources(__package__, *STYLES, "front.css"),
         script=resources(__package__, *SCRIPTS),
         outcomes=outcomes,
@@ -151,7 +152,6 @@ def page_of(outcome: Outcome, drawing: bytes | None, checksums: Mapping[str, str
     """The page of a question, whole."""
     facts = outcome.facts
     poll = facts.poll
-    sheet = outcome.sheet
     vote = facts.vote
     return page_with(
         "page.html",
@@ -162,12 +162,9 @@ def page_of(outcome: Outcome, drawing: bytes | None, checksums: Mapping[str, str
             __package__, file_names.SCRIPT, "names.js", "count_again.js", *SCRIPTS[1:]
         ),
         plain_name=PLAIN_NAME,
-        facts=facts,
-        poll=poll,
-        sheet=sheet,
         outcome=outcome,
         why=outcome.why(named_in_html(poll)),
-        share=share(sheet.voters, sheet.electors, vote.language),
+        share=share(outcome.sheet.voters, outcome.sheet.electors, vote.language),
         because=paragraphs_of(vote.words.because or ""),
         explanations=explanations_of(poll),
         again_words=again_words(poll, vote.language),
@@ -219,23 +216,26 @@ def ballots_on_page(outcome: Outcome) -> dict[str, Any]:
     language = facts.vote.language
     standing = outcome.standing
     named = named_in_html(poll)
-    # many ballots are alike
-    have_names = len(standing) * sum(map(len, named.values())) <= NAMES_LIMIT
-    shown = [str(name if have_names else key) for key, name in named.items()]
-    if poll.motion:
-        have_names = True
-        shown = [html.escape(name) for name in poll.names]
+    have_names = poll.motion or len(standing) * sum(map(len, named.values())) <= NAMES_LIMIT
+    shown = (
+        [html.escape(name) for name in poll.names]
+        if poll.motion
+        else [*map(str, named.values() if have_names else named)]
+    )
     in_words_of = ballots_in_words(shown, language, poll.motion)
+    lines = ballot_lines(facts.ballots)
+    refused = (
+        (finding.line, lines[finding.line - 1], cause_of(finding, language))
+        for finding in outcome.refused
+    )
+    # by their places in late.txt
+    late = ((place, line, "") for place, line in enumerate(facts.late or (), start=1))
     return {
-        "standing": standing,
         "have_names": have_names,
+        # many ballots are alike
         "ballot_words": {ranks: Markup(in_words_of(ranks)) for ranks in set(standing.values())},
-        "are_long": sum(map(len, poll.names)) > LONG_BALLOT,
-        "refused": refused_runs(outcome),
-        # by their places in late.txt
-        "late": runs_of(
-            ((place, line, "") for place, line in enumerate(facts.late or (), start=1)), language
-        ),
+        "refused": runs_of(refused, language),
+        "late": runs_of(late, language),
     }
 
 
@@ -260,42 +260,30 @@ def share(voters: int, electors: int, language: Language = ENGLISH) -> str:
 
 
 # ---- lines that do not count
-def refused_runs(outcome: Outcome) -> list[dict[str, Any]]:
-    facts = outcome.facts
-    language = facts.vote.language
-    lines = ballot_lines(facts.ballots)
-    return runs_of(
-        (
-            (finding.line, lines[finding.line - 1], cause_of(finding, language))
-            for finding in outcome.refused
-        ),
-        language,
-    )
-
-
-def runs_of(found: Iterable[tuple[int, bytes, str]], language: Language) -> list[dict[str, Any]]:
+def runs_of(lines: Iterable[tuple[int, bytes, str]], language: Language) -> list[dict[str, Any]]:
     """Lines with their numbers and causes; those that are alike and follow each other are one
     entry. If the texts are too many, the last have none.
     """
     runs: list[dict[str, Any]] = []
-    in_html, left = InHtml(language.code, language.catalog), TEXTS_LIMIT
-    for number, line, cause in found:
-        text = line_on_page(line, in_html) if left > 0 else None
+    in_html = InHtml(language.code, language.catalog)
+    shown = 0
+    for number, line, cause in lines:
+        text = line_on_page(line, in_html) if shown < TEXTS_LIMIT else None
         same = {"last": number - 1, "cause": cause, "text": text}
         if runs and runs[-1].items() >= same.items():
             runs[-1]["last"] = number
         else:
             runs.append({"first": number, **same, "last": number})
-            left -= len(text or "")
+            shown += len(text or "")
     return runs
 
 
 def cause_of(finding: Finding, language: Language) -> str:
     """Why a line is refused: in English what debvote says, which follows in brackets in others."""
-    said = f"{finding.word}: {finding.hint}"
+    cause = f"{finding.word}: {finding.hint}"
     if language == ENGLISH:
-        return said
-    return " ".join([*faults_of(said, "", language), f"({said})"])
+        return cause
+    return " ".join([*faults_of(cause, "", language), f"({cause})"])
 
 
 def line_on_page(line: bytes, language: InHtml) -> str:
@@ -413,13 +401,6 @@ def find_words(vote: VoteFacts, *, motion: bool) -> str:
     )
 
 
-def find_letters(language: Language) -> str:
-    """How letters are spelled in the name that the roll makes of a real name, as JSON."""
-    return json.dumps(
-        {**PUNCTUATION, **PLAIN_LETTERS, **SPELLINGS.get(language.code, {})}, ensure_ascii=False
-    )
-
-
 def answer_words(language: Language, *, motion: bool) -> dict[str, str]:
     """Of a motion the words of its answers, and what parts a word from the name of an option."""
     if not motion:
@@ -480,14 +461,15 @@ def table_on_paper(options: int, voters: int) -> str:
 
 def pictures_of(outcomes: Iterable[Outcome]) -> list[bytes | None]:
     """The defeats of each question as a picture. Why there is none is said once."""
-    pictures, faults = list[bytes | None](), dict[str, None]()
-    for one in outcomes:
+    pictures = list[bytes | None]()
+    notes = dict[str, None]()
+    for outcome in outcomes:
         try:
-            pictures.append(drawn(one.graph, len(one.sheet.names)))
+            pictures.append(drawn(outcome.graph, len(outcome.sheet.names)))
         except (OSError, subprocess.SubprocessError) as error:
             pictures.append(None)
-            faults[f"Note: no picture: {error}"] = None
-    tell_aside(*faults)
+            notes[f"Note: no picture: {error}"] = None
+    tell_aside(*notes)
     return pictures
 
 

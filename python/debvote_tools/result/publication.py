@@ -1,6 +1,7 @@
-"""What is published of an election, from its book: the letter of the close, and the facts of a
-result. What the book has of the questions `close`, `count` and `publish` read in one way, and
-compare it with what debvote says of each line (`kept_of`).
+"""What is published of an election, from its book: the letter of a close, the facts of a result.
+
+What the book has of the questions `close`, `count` and `publish` read in one way, and compare it
+with what debvote says of each line (`kept_of`).
 """
 
 import itertools
@@ -28,6 +29,7 @@ from debvote_tools.sheet import Sheet, sheet_in
 from debvote_tools.text.ballots import ballot_file, in_normal_form
 from debvote_tools.text.language import language_of
 from debvote_tools.text.rendering import render_letter
+from debvote_tools.text.times import time_in_words
 
 
 # ---- what the book has of the questions
@@ -53,28 +55,27 @@ def kept_of(election: Election, history: History, labels: Iterable[str]) -> dict
     asked anew, says another thing of a line than the book keeps of it.
     """
     book = election.book
-    questions = election.questions
     by_label = dict[str, Kept]()
     with book.snapshot():
-        demand_own_lines(book, questions.roll)
+        demand_own_lines(book, election.questions.roll)
         for label in labels:
             with book.question(label):
-                by_label[label] = kept_of_question(book, label, questions[label])
-    fixed = fixed_by(history.closes[-1]) if history.is_closed else {}
-    for label, kept in by_label.items() if fixed else ():
-        checksum = sealed_checksum(fixed[label].seal, kept.public)
-        closed = fixed[label].checksum
-        if checksum != closed:
-            words = f"the ballots have the checksum {checksum}, and the close recorded {closed}"
-            raise Fault(None, words, KEEP)
+                by_label[label] = kept_of_question(book, label, election.questions[label])
+    if history.is_closed:
+        for label, kept in by_label.items():
+            fixed = fixed_by(history.closes[-1])[label]
+            checksum = sealed_checksum(fixed.seal, kept.public)
+            if checksum != fixed.checksum:
+                words = f"the ballots have the checksum {checksum}, and the close recorded {fixed.checksum}"
+                raise Fault(None, words, KEEP)
     for kept in by_label.values():
         findings = election.debvote.findings(kept.poll.as_bytes(), kept.ballots)
         refused = findings.refused
         if history.has_codes_on_roll:
             # then none was offered
             refused = [finding._replace(near=()) for finding in refused]
-        said = {finding.line: finding.verdict for finding in refused}
-        demand_kept(election, (said, findings.voters), (kept.refused, len(kept.counting)))
+        verdicts = {finding.line: finding.verdict for finding in refused}
+        demand_kept(election, (verdicts, findings.voters), (kept.refused, len(kept.counting)))
     return by_label
 
 
@@ -108,9 +109,9 @@ def demand_own_lines(book: Book, roll: Collection[str]) -> None:
             raise Fault(book.path, words, KEEP)
 
 
-def demand_kept(election: Election, said: object, kept: object) -> None:
+def demand_kept(election: Election, answer: object, kept: object) -> None:
     """Stops if debvote says another thing of the lines than the book keeps of it."""
-    if said != kept:
+    if answer != kept:
         words = "debvote says of its lines another thing than it keeps: a verdict was changed, or another version of debvote judges"
         raise Fault(election.book.path, words, KEEP)
 
@@ -143,7 +144,7 @@ def vote_facts(
         closed=closing_letter(election, history) if history.is_closed else None,
         real_names=call.real_names or {},
         doubts=[*doubts_of(election, history, words.castings, pending)],
-        codes=[elector.code for elector in queries.electors(book) if is_secret and elector.code],
+        codes={elector.code for elector in queries.electors(book) if is_secret and elector.code},
         has_codes=call.has_codes_on_roll,
         at=call.at,
     )
@@ -170,11 +171,13 @@ def question_facts(election: Election, vote: VoteFacts) -> list[QuestionFacts]:
 
 def early_close(history: History) -> Doubt | None:
     """The doubt about a first close before the announced end; after it nobody could vote."""
-    if not history.was_closed_early:
+    until = history.until
+    if until is None or not history.was_closed_early:
         return None
     closed = history.closes[0].time.astimezone(history.zone)
+    advice = f"the vote was closed on {time_in_words(closed)}, before its announced end, {time_in_words(until)}"
     # `close --early` has agreed to it
-    return Doubt("closed early", {"closed": closed, "until": history.until}, stops=False)
+    return Doubt("closed early", advice, {"closed": closed, "until": until}, stops=False)
 
 
 def closing_letter(election: Election, history: History) -> bytes:
@@ -218,21 +221,27 @@ def doubts_of(
     """The doubts that the book shows before the count."""
     stopping = what_stops(election, history, "publish", pending)
     if not history.is_closed:
-        yield Doubt("not closed")
+        yield Doubt("not closed", "the vote is not closed; close it first")
     if early := early_close(history):
         yield early
     if is_unasked_since_end(history):
+        ask = election.command("add", "--box")
+        advice = f"the box of the web host was not asked since the end: run {ask}"
         # at the end `close --force` has agreed to it
-        yield Doubt(BOX, stops=BOX in stopping, command=election.command("add", "--box"))
+        yield Doubt(BOX, advice, stops=BOX in stopping)
     for act in other_pages(history):
-        places = {"time": act.time.astimezone(history.zone), "address": act.detail["box"]["at"]}
-        yield Doubt("other page", places, stops=False)
+        time = act.time.astimezone(history.zone)
+        address = act.detail["box"]["at"]
+        advice = f"on {time_in_words(time)} the page at {address} was not that of the call"
+        yield Doubt("other page", advice, {"time": time, "address": address}, stops=False)
     yield from other_castings(election, history, castings)
-    if numbers := pending.untold:
-        waits = {"number": len(numbers), "letters": ", ".join(map(str, numbers))}
+    if pending.untold:
+        letters = ", ".join(map(str, pending.untold))
         # an earlier publication may have had it
         cure = letters_cure(election, "publish", is_closed=True)
-        yield Doubt(LETTERS, waits, stops=LETTERS in stopping, command=cure)
+        advice = f"these letters arrived in time, and wait: {letters}; {cure}"
+        places = {"number": len(pending.untold), "letters": letters}
+        yield Doubt(LETTERS, advice, places, stops=LETTERS in stopping)
 
 
 def other_castings(election: Election, history: History, castings: Castings) -> Iterator[Doubt]:
@@ -245,9 +254,10 @@ def other_castings(election: Election, history: History, castings: Castings) -> 
         acts = history.publications if casting is None else history.named("publish")
         for option in dict.fromkeys(act.detail["casting"].get(label, casting) for act in acts):
             if option != casting:
-                command = publishing(election, {**all_castings, label: option})
-                places = {"option": poll.names[poll.plain_names.index(option)]}
-                yield Doubt("other casting vote", places, label=label, command=command)
+                name = poll.names[poll.plain_names.index(option)]
+                again = publishing(election, {**all_castings, label: option})
+                advice = f"an earlier publication has a casting vote for {name}; only one can be right, so find out which was given; the earlier one again: {again}"
+                yield Doubt("other casting vote", advice, {"option": name}, label=label)
 
 
 # ---- what was done
@@ -279,7 +289,7 @@ def labels_after_end(book: Book, history: History) -> list[Collection[str]]:
     condition = f"{queries.TO_COUNT} AND ({entered} OR {queries.ARRIVED_AFTER})"
     first_close = history.closes[0].number if history.closes else history.last.number + 1
     values = as_text(history.until), first_close
-    return [one.by_question for one in queries.envelopes(book, condition, *values)]
+    return [envelope.by_question for envelope in queries.envelopes(book, condition, *values)]
 
 
 def acts_of_page(act: DoneAct, book: Book, history: History, *, is_secret: bool) -> Iterator[Act]:
@@ -328,17 +338,20 @@ def taken_out(act: DoneAct, book: Book, reason: str | None, *, is_secret: bool) 
     again.
     """
     if act.name == "strike":
-        for one in queries.envelopes(book, "struck = ?", act.number):
+        for envelope in queries.envelopes(book, "struck = ?", act.number):
             done = "struck in secret" if is_secret else "struck"
-            yield Act(act.time, done, {"envelope": one.number}, reason, one.by_question)
-    elif lost := [one for one in queries.lost(book) if one.struck == act.number]:
+            places = {"envelope": envelope.number}
+            yield Act(act.time, done, places, reason, envelope.by_question)
+    elif lost := [envelope for envelope in queries.lost(book) if envelope.struck == act.number]:
         done = "taken back in secret" if is_secret else "lines taken back"
-        numbers = grouped((label, one.number) for one in lost for label in one.by_question)
-        places = {
-            "envelopes": {label: in_runs(its) for label, its in numbers.items()},
-            "number": {label: len(its) for label, its in numbers.items()},
+        by_label = grouped(
+            (label, envelope.number) for envelope in lost for label in envelope.by_question
+        )
+        numbers = {
+            "envelopes": {label: in_runs(numbers) for label, numbers in by_label.items()},
+            "number": {label: len(numbers) for label, numbers in by_label.items()},
         }
-        yield Act(act.time, done, places, labels=numbers.keys())
+        yield Act(act.time, done, numbers, labels=by_label.keys())
 
 
 def moved(act: DoneAct, history: History) -> Act:
@@ -365,8 +378,8 @@ def close_of(act: DoneAct, book: Book, history: History) -> dict[str, Any]:
     """
     fixed = fixed_by(act).items()
     places: dict[str, Any] = {
-        "lines": {label: its.lines for label, its in fixed},
-        "checksum": {label: its.checksum for label, its in fixed},
+        "lines": {label: of_question.lines for label, of_question in fixed},
+        "checksum": {label: of_question.checksum for label, of_question in fixed},
         "came": None,
         "struck": None,
         "replaced": act.detail.get("replaced_in_time"),

@@ -1,6 +1,6 @@
-"""A result sheet as `result.json` for programs and `votes.csv` for
-spreadsheets (docs/FORMATS.md); and what a count needs: the casting vote, and a vote that may be
-counted now.
+"""A result sheet as `result.json` and `votes.csv` (docs/FORMATS.md), and what a count needs.
+
+That is the casting vote, and a vote that may be counted now.
 """
 
 import csv
