@@ -221,8 +221,8 @@ class Filling:
         label = facts.label
         folder = self.folder / label
         folder.mkdir(exist_ok=True)
-        self.write(label, {POLL: facts.poll.as_bytes(), BALLOTS: facts.ballots})
         debvote = Debvote(folder, program_folder)
+        self.write(label, {POLL: facts.poll.as_bytes(), BALLOTS: facts.ballots})
         desks = ["--desks", str(self.vote.desks)]
         words = [*desks, *facts.casting_words]
         sheet = sheet_in(answer_of(debvote, "count", *words, also=TIE).text)
