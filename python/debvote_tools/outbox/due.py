@@ -329,6 +329,7 @@ def reminders_due(run: Run) -> LettersDue:
 def reminder_or_receipt(
     composer: Composer, elector: Elector, fates: Sequence[Fate], *, is_lost: bool
 ) -> OutgoingText:
+    """A reminder; a receipt, if only a yes in `add` is lacking."""
     told = [fate for fate in told_of(fates).values() if fate.became is not LetterOutcome.SET_ASIDE]
     if any(fate.became is LetterOutcome.GOES_IN for fate in fates):
         return composer.receipt(elector, told)
