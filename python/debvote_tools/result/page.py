@@ -10,7 +10,7 @@ import shutil
 import subprocess
 import xml.etree.ElementTree as xml
 from collections.abc import Collection, Iterable, Mapping
-from typing import Any
+from typing import Any, NamedTuple
 
 from markupsafe import Markup
 
@@ -189,7 +189,7 @@ def picture_on_page(outcome: Outcome, drawing: bytes | None) -> dict[str, Any]:
     return {
         "style": style,
         "picture": picture,
-        "picture_command": shlex.join(drawing_words(options)),
+        "picture_command": shlex.join(drawing_command(options)),
     }
 
 
@@ -260,20 +260,28 @@ def share(voters: int, electors: int, language: Language = ENGLISH) -> str:
 
 
 # ---- lines that do not count
-def runs_of(lines: Iterable[tuple[int, bytes, str]], language: Language) -> list[dict[str, Any]]:
-    """Lines with their numbers and causes; those that are alike and follow each other are one
-    entry. If the texts are too many, the last have none.
+class LineRun(NamedTuple):
+    """Lines that are alike and follow each other, with the numbers of the first and the last one.
+    There is no text if those before are too many.
     """
-    runs: list[dict[str, Any]] = []
+
+    first: int
+    last: int
+    text: str | None
+    cause: str
+
+
+def runs_of(lines: Iterable[tuple[int, bytes, str]], language: Language) -> list[LineRun]:
+    """The runs of lines, which have their numbers and causes."""
+    runs = list[LineRun]()
     in_html = InHtml(language.code, language.catalog)
     shown = 0
     for number, line, cause in lines:
         text = line_on_page(line, in_html) if shown < TEXTS_LIMIT else None
-        same = {"last": number - 1, "cause": cause, "text": text}
-        if runs and runs[-1].items() >= same.items():
-            runs[-1]["last"] = number
+        if runs and runs[-1][1:] == (number - 1, text, cause):
+            runs[-1] = runs[-1]._replace(last=number)
         else:
-            runs.append({"first": number, **same, "last": number})
+            runs.append(LineRun(number, number, text, cause))
             shown += len(text or "")
     return runs
 
@@ -446,7 +454,7 @@ def carried_files(outcome: Outcome) -> dict[str, tuple[str, bool]]:
 
 
 # ---- the picture
-def drawing_words(options: int) -> list[str]:
+def drawing_command(options: int) -> list[str]:
     return ["dot", "-Tsvg", *([] if options <= MOST_IN_PAGE else IN_HASTE)]
 
 
@@ -478,9 +486,9 @@ def drawn(graph: str, options: int) -> bytes:
     dot = shutil.which("dot")
     if dot is None:
         raise FileNotFoundError("Graphviz (its program dot) is not installed")
-    words = [dot, *drawing_words(options)[1:]]
+    command = [dot, *drawing_command(options)[1:]]
     return subprocess.run(
-        words, input=graph.encode(), capture_output=True, timeout=PICTURE_SECONDS, check=True
+        command, input=graph.encode(), capture_output=True, timeout=PICTURE_SECONDS, check=True
     ).stdout
 
 
