@@ -1,6 +1,6 @@
-"""A result sheet as `result.json` for programs and `votes.csv` for
-spreadsheets (docs/FORMATS.md); and what a count needs: the casting vote, and a vote that may be
-counted now.
+"""A result sheet as `result.json` and `votes.csv` (docs/FORMATS.md), and what a count needs.
+
+That is the casting vote, and a vote that may be counted now.
 """
 
 import csv
@@ -131,18 +131,17 @@ def castings_in(given: Sequence[str] | None, questions: Questions) -> Castings:
         label, _, name = text.partition("=") if questions.is_several else ("", "", text)
         label = label.upper()
         if label not in questions:
-            words, cure = "no question has this label", f"write it as {min(questions)}=NAME"
-            raise bad_casting(text, words, f"{cure}; the labels are {', '.join(questions)}")
+            cure = f"write it as {min(questions)}=NAME; the labels are {', '.join(questions)}"
+            raise bad_casting(text, "no question has this label", cure)
         if label in castings:
             words = f"{named(label)} has the casting vote {in_shell([castings[label]])} already"
             raise bad_casting(text, words, "give one of them")
         poll = questions[label]
-        meant = [one[0] for one in zip(poll.plain_names, poll.names) if name in one]
+        meant = [names[0] for names in zip(poll.plain_names, poll.names) if name in names]
         if len(meant) != 1:
             words = f"{'two options have' if meant else 'no option has'} this name"
-            names = in_shell(meant or poll.plain_names)
-            cure = f"give one of these names, exactly as written here: {names}"
-            raise bad_casting(text, words, cure)
+            cure = "give one of these names, exactly as written here"
+            raise bad_casting(text, words, f"{cure}: {in_shell(meant or poll.plain_names)}")
         castings[label] = meant[0]
     return castings
 
@@ -166,11 +165,12 @@ def publishing(election: Election, castings: Castings) -> str:
     details = [act.detail for act in election.history().named("publish")]
     words = list[str]()
     for label, option in castings.items():
-        said = [("WHO", "DATE")]
-        for its in details:
-            if its["casting"].get(label) == option:
-                said.append((its["words"]["cast_by"][label], its["words"]["cast_on"][label]))
-        holder, day = said[-1]
+        holder = "WHO"
+        day = "DATE"
+        for detail in details:
+            if detail["casting"].get(label) == option:
+                holder = detail["words"]["cast_by"][label]
+                day = detail["words"]["cast_on"][label]
         words += option_words("--casting", f"{label and f'{label}='}{option}")
         words += [*option_words("--cast-by", holder), "--cast-on", day]
     return election.command("publish", *words)

@@ -81,7 +81,7 @@ class Result(ResultPageTest):
         """A folder with the result of a motion."""
         room = plain_room(self.scratch / f"{name}-{language}", OPEN_POLL, "ada 1,2\nben 7,-\ncleo -,-\ndan 2,1\n")
         poll = read_plain((room / "poll.toml").read_bytes(), motion=True)
-        return self.published(room, f"{name}-{language}-made", poll=poll, language=language_of(language))
+        return self.published(room, f"{name}-{language}-made", questions=Questions({"": poll}), language=language_of(language))
 
     def test_answers_in_words(self) -> None:
         for language, said in {
