@@ -15,7 +15,7 @@ from _pytest.terminal import TerminalReporter
 
 from debvote_tools.cli import console
 
-from tests.support import debian, forks, program
+from tests.support import debian, program
 
 # the classes that take longest begin first, so that none of them runs alone at the end
 LONGEST = ["Sequences", "WhatHappened", "SecretByClicks", "Many", "LargestTest", "Damaged", "In_", "Lines", "Marked", "RandomTest", "Sending"]
@@ -35,12 +35,6 @@ def pytest_configure(config: pytest.Config) -> None:
     os.umask(0o022)
     if getattr(config.option, "numprocesses", None):
         config.option.dist = "loadscope"
-
-
-def pytest_sessionstart(session: pytest.Session) -> None:
-    # with -n only the processes that run tests need this
-    if hasattr(session.config, "workerinput") or not getattr(session.config.option, "numprocesses", None):
-        forks.read_ahead()
 
 
 @pytest.hookimpl(tryfirst=True)
