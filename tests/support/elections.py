@@ -1,5 +1,6 @@
 """What the tests of elections share: a folder for each test, and the programs, which run as a user runs them."""
 
+import atexit
 import contextlib
 import hashlib
 import os
@@ -112,12 +113,16 @@ class ElectionTest(unittest.TestCase):
         self.folder = self.scratch / "election"
         self.begin()
 
+    def kind(self) -> tuple[object, ...]:
+        """What makes two new elections the same."""
+        words = (tuple(self.new_words), tuple(self.codes_words), self.call_words and tuple(self.call_words))
+        return (type(self).made, type(self).fill_in, self.poll, tuple(self.names), self.members, *words)
+
     def begin(self) -> None:
-        key = (self.poll, tuple(self.names), self.members, tuple(self.new_words), tuple(self.codes_words), self.call_words)
+        key = self.kind()
         if key not in TEMPLATES:
             TEMPLATES[key] = self.made()
-            type(self).addClassCleanup(shutil.rmtree, TEMPLATES[key].parent, ignore_errors=True)
-            type(self).addClassCleanup(TEMPLATES.pop, key)
+            atexit.register(shutil.rmtree, TEMPLATES[key].parent, ignore_errors=True)
         shutil.copytree(TEMPLATES[key], self.folder)
         # this machine knows the book of the copy
         book = open_book(self.folder / "election.db")
