@@ -7,6 +7,7 @@ tests were skipped, and above pytest's own last line 'N passed, M failed', as th
 import collections
 import locale
 import os
+import pathlib
 import shutil
 from collections.abc import Iterator
 
@@ -35,6 +36,12 @@ def pytest_configure(config: pytest.Config) -> None:
     os.umask(0o022)
     if getattr(config.option, "numprocesses", None):
         config.option.dist = "loadscope"
+
+
+def pytest_ignore_collect(collection_path: pathlib.Path, config: pytest.Config) -> bool | None:
+    """With `-m without_program` no module is read of which no test would run."""
+    is_left_out = collection_path.is_file() and collection_path.stem not in WITHOUT_PROGRAM
+    return True if is_left_out and config.option.markexpr == "without_program" else None
 
 
 @pytest.hookimpl(tryfirst=True)
