@@ -131,6 +131,14 @@ def is_plain(words: Sequence[object], how: Mapping[str, object]) -> bool:
     return is_known and is_captured and has_settings and is_alone and os.environ.get("DEBVOTE_FORKS") != "0"
 
 
+def become(words: Sequence[str], folder: pathlib.Path, env: Mapping[str, str]) -> None:
+    """In a fork that has its own terminal: it becomes a launcher with these words, and ends as that does."""
+    if os.environ.get("DEBVOTE_FORKS") == "0":
+        os.chdir(folder)
+        os.execve(words[0], words, env)
+    in_child(importlib.import_module(LAUNCHERS[words[1]]).main, words, {"cwd": folder, "env": env}, [])
+
+
 def in_child(main: Callable, words: Sequence[object], how: Mapping[str, object], streams: Sequence[int]) -> None:
     """Runs the program in this process, and ends the process."""
     status = 70
