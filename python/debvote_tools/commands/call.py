@@ -16,8 +16,8 @@ from debvote_tools.call.secret import aliased, demand_no_code
 from debvote_tools.cli.arguments import Acting, flag, given, option
 from debvote_tools.cli.console import act_time, is_terminal, is_yes, tell
 from debvote_tools.cli.faults import Fault, bad_words, kept_in, stop_at
-from debvote_tools.commands.begin import CODES, SLIPS, demand_read, write_slips
-from debvote_tools.commands.check import checked, faults_of_ballots, tell_checked
+from debvote_tools.commands.check import checked, demand_read, faults_of_ballots, tell_checked
+from debvote_tools.commands.codes import CODES, SLIPS, write_slips
 from debvote_tools.election import (
     CALL,
     KEYRING,

@@ -1,12 +1,14 @@
 """The command `check`, and what is checked of a draft before anything is sealed."""
 
 import itertools
+import operator
 import pathlib
 import re
 from collections.abc import Iterator, Mapping, Sequence
 from typing import NamedTuple
 
 from debvote_tools.book import queries
+from debvote_tools.book.book import Book
 from debvote_tools.book.queries import Elector
 from debvote_tools.call.draft import (
     BY_EDITOR,
@@ -22,11 +24,12 @@ from debvote_tools.call.draft import (
     texts_of,
     title_in,
 )
-from debvote_tools.call.members import label_of
+from debvote_tools.call.members import AGAIN, Roll, label_of, roll_of
 from debvote_tools.cli.arguments import Options
 from debvote_tools.cli.console import count_of, listed, quorum_words, shown_text, tell, wrapped
 from debvote_tools.cli.faults import Fault, bad_words, kept_in, stop_at
-from debvote_tools.election import LETTER_TEXT, POLLS, TEXTS, Election
+from debvote_tools.election import LETTER_TEXT, MEMBERS_FILE, POLLS, TEXTS, Election, History
+from debvote_tools.files import TABLE_LIMIT, read_whole
 from debvote_tools.inbox.letter_text import reading_of
 from debvote_tools.inbox.lines import names_of
 from debvote_tools.poll.questions import POLL_FILE, TITLE_FILE, Questions, place_of, read_questions
@@ -216,3 +219,27 @@ def poll_in_words(label: str, poll: SealedPoll) -> Iterator[str]:
         yield "A motion, yes: {}, no: {}".format(*poll.names)
     if poll.wording == "more_than":
         yield "Majority: more than the ratio (Debian's rule is at least the ratio)"
+
+
+# ---- the list of members
+def read_roll(election: Election, history: History) -> Roll:
+    file = election.path(MEMBERS_FILE)
+    unread = "the list of members is a CSV file, as a spreadsheet saves it: put it there"
+    data = read_whole(file, TABLE_LIMIT, unread, f", {AGAIN}")
+    known, language = queries.all_electors(election.book), election.language.code
+    return roll_of(data, file, known, language, is_called=history.call is not None)
+
+
+def demand_read(election: Election, history: History) -> None:
+    """Stops if the list of members is not the one that `roll` read. Codes on the roll come from no
+    list.
+    """
+    if not history.has_codes_on_roll and not is_kept(election.book, read_roll(election, history)):
+        cure = f"run {election.command('roll')} first"
+        raise Fault(election.path(MEMBERS_FILE), "it has changed since roll read it", cure)
+
+
+def is_kept(book: Book, roll: Roll) -> bool:
+    """Whether the book has these electors already, in this order."""
+    facts = operator.attrgetter("name", "who", "addresses", "key")
+    return list(map(facts, roll.electors)) == list(map(facts, queries.electors(book)))

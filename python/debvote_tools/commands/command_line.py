@@ -15,20 +15,12 @@ from debvote_tools.election import Election
 
 PROGRAM = "debvote-election"
 
-# in the order in which an election needs them. Each is a function with this name, in a module with
-# this name or one of `SHARED`; its docstring is the help, and the class of its arguments has the
-# options
+# in the order in which an election needs them. Each is a function in the module of the same name;
+# its docstring is the help, and the class of its arguments has the options
 COMMANDS = (
     "new roll check codes call add held undo strike desk letters show status "
     "close reopen count publish log export backup"
 ).split()
-
-SHARED = {
-    "begin": "new roll codes",
-    "correct": "undo strike reopen",
-    "look": "status show log export backup",
-}
-SHARING = {name: module for module, names in SHARED.items() for name in names.split()}
 
 # the commands that change nothing
 QUIET = ("check", "show", "status", "count", "log")
@@ -48,7 +40,7 @@ def parser(words: Sequence[str] = ()) -> argparse.ArgumentParser:
     arguments.add_version(top)
     commands = top.add_subparsers(dest="command", metavar="COMMAND", required=True)
     for name in words[:1] if words and words[0] in COMMANDS else COMMANDS:
-        module = importlib.import_module(f"debvote_tools.commands.{SHARING.get(name, name)}")
+        module = importlib.import_module(f"debvote_tools.commands.{name}")
         run = getattr(module, name)
         kind, text = run.__annotations__["arguments"], " ".join(run.__doc__.split())
         command = commands.add_parser(name, help=text.removesuffix("."), description=text, **how)

@@ -1,132 +1,33 @@
-"""The commands before the call: `new`, `roll` and `codes`."""
+"""The command `roll`, which reads the list of members, also after the call."""
 
-import contextlib
-import operator
-import os
-import pathlib
 import re
-import shlex
 from collections.abc import Iterable, Iterator, Mapping, Sequence
 
-from debvote_tools.book import book, outgoing, queries
-from debvote_tools.book.book import Book, Detail
+from debvote_tools.book import outgoing, queries
+from debvote_tools.book.book import Book
 from debvote_tools.book.queries import Elector
 from debvote_tools.call.box import SCRIPT, box_files
-from debvote_tools.call.call import current_call
-from debvote_tools.call.draft import NEW_POLL
-from debvote_tools.call.members import AGAIN, NEW_MEMBERS, Member, Roll, label_of, roll_of
-from debvote_tools.call.secret import alias_of, codes_csv, codes_for_roll, new_code, slips
-from debvote_tools.cli.arguments import Acting, Options, flag, option, positional
+from debvote_tools.call.members import Member, Roll, label_of
+from debvote_tools.cli.arguments import Acting, flag, option
 from debvote_tools.cli.console import count_of, is_terminal, is_yes, listed, shown_text, tell
 from debvote_tools.cli.faults import Fault, bad_words
-from debvote_tools.commands.check import MAX_NAMED, checked, next_call
-from debvote_tools.election import (
-    BOX_SCRIPT,
-    CALL,
-    MEMBERS_FILE,
-    POLLS,
-    PRIVATE,
-    Election,
-    History,
-    Sealed,
-)
-from debvote_tools.files import (
-    OWN,
-    PUBLIC,
-    TABLE_LIMIT,
-    read_whole,
-    uninterrupted,
-    whole_folder,
-    write_made,
-    write_whole,
-)
+from debvote_tools.commands.check import MAX_NAMED, is_kept, read_roll
+from debvote_tools.commands.codes import CODES, SLIPS, write_slips
+from debvote_tools.election import BOX_SCRIPT, CALL, MEMBERS_FILE, PRIVATE, Election, History
+from debvote_tools.files import PUBLIC, write_made
 from debvote_tools.grouping import several
 from debvote_tools.inbox.lines import Names
 from debvote_tools.poll.plain_names import ELECTOR_LIMIT, alike, similar_names
-from debvote_tools.poll.questions import LABELS, POLL_FILE, TITLE_FILE, Questions
 from debvote_tools.poll.sealed import new_own_mark
 from debvote_tools.text.addresses import address_in, address_key
-from debvote_tools.text.language import ENGLISH, LANGUAGES, Language
+from debvote_tools.text.language import Language
 
 
-# ---- new
-class NewArguments(Options):
-    language: str = option(
-        "CODE",
-        "The language of pages and letters for electors: de, en, es or fr (default: en)",
-        choices=sorted(LANGUAGES),
-        default=ENGLISH.code,
-    )
-    questions: int = option(
-        "N",
-        f"How many questions are voted on, 1 to {len(LABELS)}, each with a poll of its own (default: 1)",
-        type=int,
-        choices=range(1, len(LABELS) + 1),
-        default=1,
-    )
-    target: str = positional("FOLDER", "The folder to make; an existing folder must be empty")
-
-
-def new(election: Election, arguments: NewArguments) -> None:
-    """Make the folder of an election, with a poll and a list of members to fill in."""
-    if election.is_named:
-        words = "new makes the folder that follows it"
-        raise bad_words("--folder", words, "leave --folder out", None)
-    folder, language = pathlib.Path(arguments.target), arguments.language
-    # an empty folder is replaced
-    is_folder = folder.is_dir() and not folder.is_symlink()
-    if os.path.lexists(folder) and (not is_folder or any(folder.iterdir())):
-        what = "not empty" if folder.is_dir() else "not a folder"
-        if (folder / book.NAME).exists():
-            what = "an election already"
-        raise bad_words(folder, f"it exists, and is {what}", "choose another name")
-    polls = new_polls(arguments.questions)
-    first, *others = polls
-    files = f"{first} and {others[0]} to {pathlib.Path(others[-1]).name}" if others else first
-    with uninterrupted():
-        make(folder, language, polls)
-        disk = "Keep it on a disk of this computer, not in a shared or synced folder."
-        tell(f"Made the folder {folder} with {files} and {MEMBERS_FILE}. {disk}")
-        if language != ENGLISH.code:
-            tell(f"Pages and letters for electors will be in {LANGUAGES[language]}.")
-        steps = f"write the members into {MEMBERS_FILE} with a spreadsheet, fill in {files} with an editor"
-        tell(f"Next: cd {shlex.quote(str(folder))}, {steps}, then run: debvote-election roll")
-
-
-def new_polls(count: int) -> dict[str, bytes]:
-    """What is to be filled in: the poll of the one question, or of each, and their title."""
-    draft = NEW_POLL.read_bytes()
-    if count == 1:
-        return {POLL_FILE: draft}
-    files = {f"{POLLS}/{TITLE_FILE}": b""}
-    for label in LABELS[:count]:
-        text = draft.replace(b"texts/", f"texts/{label}/".encode())
-        files[f"{POLLS}/{label}.toml"] = text.replace(b"`ada ", f"`ada {label} ".encode())
-    return files
-
-
-def make(folder: pathlib.Path, language: str, polls: Mapping[str, bytes]) -> None:
-    """Makes the folder whole, with the book, which notes where it will lie."""
-    place = folder.absolute()
-    with contextlib.ExitStack() as stack:
-        try:
-            made = stack.enter_context(whole_folder(place))
-        except OSError as error:
-            cure = "choose an existing place where you can write"
-            raise bad_words(folder, error.strerror, cure) from None
-        for name, data in (*polls.items(), (MEMBERS_FILE, NEW_MEMBERS.encode())):
-            (made / name).parent.mkdir(exist_ok=True)
-            write_whole(made / name, data, 0o600)
-        final_path = place.parent.resolve() / place.name / book.NAME
-        book.create(made / book.NAME, {"language": language}, final_path)
-
-
-# ---- roll
 # `Eve & Dan`, `Eve und Dan`, `Eve/Dan`
 SEVERAL_PEOPLE = re.compile(r"\w ?[&+/] ?\w|\w (?:and|und|et) \w", re.IGNORECASE)
 
 
-class RollArguments(Acting):
+class Arguments(Acting):
     yes: bool = flag("After the call: take the new addresses and keys without a question")
     new_link: str | None = option(
         "NAME",
@@ -134,7 +35,7 @@ class RollArguments(Acting):
     )
 
 
-def roll(election: Election, arguments: RollArguments) -> None:
+def roll(election: Election, arguments: Arguments) -> None:
     """Read the list of members, and give each elector a name on the roll."""
     book = election.book_for(arguments)
     history = election.history()
@@ -171,29 +72,6 @@ def linked_anew(history: History, roll: Roll, name: str | None) -> list[Member]:
         words = f"{shown_text(name)} has no link that could be replaced"
         raise bad_words("--new-link", words, "name an elector of the roll, or leave it out")
     return named
-
-
-def read_roll(election: Election, history: History) -> Roll:
-    file = election.path(MEMBERS_FILE)
-    unread = "the list of members is a CSV file, as a spreadsheet saves it: put it there"
-    data = read_whole(file, TABLE_LIMIT, unread, f", {AGAIN}")
-    known, language = queries.all_electors(election.book), election.language.code
-    return roll_of(data, file, known, language, is_called=history.call is not None)
-
-
-def demand_read(election: Election, history: History) -> None:
-    """Stops if the list of members is not the one that `roll` read. Codes on the roll come from no
-    list.
-    """
-    if not history.has_codes_on_roll and not is_kept(election.book, read_roll(election, history)):
-        cure = f"run {election.command('roll')} first"
-        raise Fault(election.path(MEMBERS_FILE), "it has changed since roll read it", cure)
-
-
-def is_kept(book: Book, roll: Roll) -> bool:
-    """Whether the book has these electors already, in this order."""
-    facts = operator.attrgetter("name", "who", "addresses", "key")
-    return list(map(facts, roll.electors)) == list(map(facts, queries.electors(book)))
 
 
 # ---- the acts
@@ -344,92 +222,3 @@ def notes_on(
     words = "Without an address that every mail server takes (letters to them are printed)"
     unsent = [one.name for one in electors if one.addresses and not address_in(one.addresses)]
     yield words, unsent, ""
-
-
-# ---- codes
-SLIPS, CODES = "slips.html", "codes.csv"
-NOT_SECRET = "the vote is not secret, so it needs no codes"
-WITH_NAMES = "electors have names with codes already"
-
-
-class CodesArguments(Acting):
-    on_roll: bool = flag(
-        "Put codes on the roll in place of names, so that nobody knows who has which code"
-    )
-
-
-def codes(election: Election, arguments: CodesArguments) -> None:
-    """Make a secret code for each elector of a secret vote, before the call."""
-    election.demand_right_book(arguments)
-    if election.history().call is None:
-        questions, number = make_codes(election, arguments)
-        sealed = Sealed(questions, questions)
-        tell(f"Made {count_of(number, 'code')}.")
-    else:
-        sealed = election.sealed()
-        if not sealed.counted.is_secret:
-            raise Fault(None, NOT_SECRET, f"see {election.command('status')}")
-        if arguments.on_roll and not election.history().has_codes_on_roll:
-            raise Fault("--on-roll", WITH_NAMES, "begin anew in another folder")
-    history, private = election.history(), election.path(PRIVATE)
-    write_slips(election, sealed)
-    # another call would make the vote longer
-    when, after = "", election.command("status")
-    if history.call is None:
-        when = " after the call, which adds the end of the vote and the address for ballots"
-        after = next_call(election)
-    tell(f"The slips: {private / SLIPS}. Print them{when}.")
-    if history.has_codes_on_roll:
-        words = "Destroy the slips that are left over, and their file."
-        tell(f"Nobody may keep a list of who gets which code. {words}")
-    else:
-        tell(f"The table of codes: {private / CODES}. Let nobody else see it.")
-    tell(f"Next: {after}")
-
-
-def make_codes(election: Election, arguments: CodesArguments) -> tuple[Questions, int]:
-    """The act that makes a code for each elector who has none, beside the name or in its place:
-    then nothing ties it to a person. Returns the questions as they would be sealed, and how many
-    codes were made.
-    """
-    book, history = election.book, election.history()
-    demand_read(election, history)
-    questions = checked(election).questions
-    if not questions.is_secret:
-        place, into = (POLLS, "each poll") if questions.is_several else (POLL_FILE, "it")
-        cure = f"for a secret vote write into {into}: secret = true"
-        raise Fault(election.path(place), NOT_SECRET, cure)
-    electors = queries.electors(book)
-    without = [elector for elector in electors if not elector.code]
-    if arguments.on_roll and questions.is_several:
-        reason = "with several questions the row of all votes under one code would be a mark"
-        raise Fault("--on-roll", reason, "leave it out, or hold an election for each question")
-    if arguments.on_roll and len(without) < len(electors):
-        raise Fault("--on-roll", WITH_NAMES, "begin anew in another folder")
-    if history.has_codes_on_roll or not without:
-        return questions, 0
-    detail: Detail = {"codes": len(without)}
-    if arguments.on_roll:
-        detail["on_roll"] = True
-    with book.act("codes", detail, seen=history.last.number) as act:
-        if arguments.on_roll:
-            queries.put_electors(act, (elector._replace(position=None) for elector in electors))
-            coded = [
-                queries.new_elector(act, code)._replace(position=at)
-                for at, code in enumerate(codes_for_roll(len(electors)), start=1)
-            ]
-        else:
-            codes = [(one, new_code(one.name)) for one in without]
-            coded = [one._replace(code=code, alias=alias_of(code, one.name)) for one, code in codes]
-        queries.put_electors(act, coded)
-    return questions, len(without)
-
-
-def write_slips(election: Election, sealed: Sealed) -> None:
-    """Makes the folder `private`, with what the call says if there is one."""
-    electors, call = queries.electors(election.book), current_call(election, sealed=sealed)
-    files = {SLIPS: slips(call, electors)}
-    if not call.has_codes_on_roll:
-        files[CODES] = codes_csv(call, electors)
-    # a table of codes that are void may be there
-    write_made(election.path(PRIVATE), files, OWN, (SLIPS, CODES))
