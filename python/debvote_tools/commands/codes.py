@@ -1,7 +1,11 @@
 """The command `codes`, and the folder of slips."""
 
+from collections.abc import Iterator, Sequence
+
 from debvote_tools.book import queries
 from debvote_tools.book.book import Detail
+from debvote_tools.book.change import Change
+from debvote_tools.book.queries import Elector
 from debvote_tools.call.call import current_call
 from debvote_tools.call.secret import alias_of, codes_csv, codes_for_roll, new_code, slips
 from debvote_tools.cli.arguments import Acting, flag
@@ -12,8 +16,8 @@ from debvote_tools.election import POLLS, PRIVATE, Election, Sealed
 from debvote_tools.files import OWN, write_made
 from debvote_tools.poll.questions import POLL_FILE, Questions
 
-
-SLIPS, CODES = "slips.html", "codes.csv"
+SLIPS = "slips.html"
+CODES = "codes.csv"
 NOT_SECRET = "the vote is not secret, so it needs no codes"
 WITH_NAMES = "electors have names with codes already"
 
@@ -37,17 +41,20 @@ def codes(election: Election, arguments: Arguments) -> None:
             raise Fault(None, NOT_SECRET, f"see {election.command('status')}")
         if arguments.on_roll and not election.history().has_codes_on_roll:
             raise Fault("--on-roll", WITH_NAMES, "begin anew in another folder")
-    history, private = election.history(), election.path(PRIVATE)
+    history = election.history()
+    private = election.path(PRIVATE)
     write_slips(election, sealed)
     # another call would make the vote longer
-    when, after = "", election.command("status")
+    when = ""
+    after = election.command("status")
     if history.call is None:
         when = " after the call, which adds the end of the vote and the address for ballots"
         after = next_call(election)
     tell(f"The slips: {private / SLIPS}. Print them{when}.")
     if history.has_codes_on_roll:
-        words = "Destroy the slips that are left over, and their file."
-        tell(f"Nobody may keep a list of who gets which code. {words}")
+        tell(
+            "Nobody may keep a list of who gets which code. Destroy the slips that are left over, and their file."
+        )
     else:
         tell(f"The table of codes: {private / CODES}. Let nobody else see it.")
     tell(f"Next: {after}")
@@ -58,42 +65,58 @@ def make_codes(election: Election, arguments: Arguments) -> tuple[Questions, int
     then nothing ties it to a person. Returns the questions as they would be sealed, and how many
     codes were made.
     """
-    book, history = election.book, election.history()
+    history = election.history()
     demand_read(election, history)
     questions = checked(election).questions
+    electors = queries.electors(election.book)
+    without_code = [elector for elector in electors if not elector.code]
     if not questions.is_secret:
         place, into = (POLLS, "each poll") if questions.is_several else (POLL_FILE, "it")
         cure = f"for a secret vote write into {into}: secret = true"
         raise Fault(election.path(place), NOT_SECRET, cure)
-    electors = queries.electors(book)
-    without = [elector for elector in electors if not elector.code]
-    if arguments.on_roll and questions.is_several:
-        reason = "with several questions the row of all votes under one code would be a mark"
-        raise Fault("--on-roll", reason, "leave it out, or hold an election for each question")
-    if arguments.on_roll and len(without) < len(electors):
-        raise Fault("--on-roll", WITH_NAMES, "begin anew in another folder")
-    if history.has_codes_on_roll or not without:
+    if arguments.on_roll:
+        demand_nameless(questions, has_codes=len(without_code) < len(electors))
+    if history.has_codes_on_roll or not without_code:
         return questions, 0
-    detail: Detail = {"codes": len(without)}
+    detail: Detail = {"codes": len(without_code)}
     if arguments.on_roll:
         detail["on_roll"] = True
-    with book.act("codes", detail, seen=history.last.number) as act:
-        if arguments.on_roll:
-            queries.put_electors(act, (elector._replace(position=None) for elector in electors))
-            coded = [
-                queries.new_elector(act, code)._replace(position=at)
-                for at, code in enumerate(codes_for_roll(len(electors)), start=1)
-            ]
-        else:
-            codes = [(one, new_code(one.name)) for one in without]
-            coded = [one._replace(code=code, alias=alias_of(code, one.name)) for one, code in codes]
-        queries.put_electors(act, coded)
-    return questions, len(without)
+        changed = [*in_place_of(electors)]
+    else:
+        changed = list(map(with_code, without_code))
+    Change("codes", detail, electors=changed).do(election.book, history.last.number)
+    return questions, len(without_code)
+
+
+def demand_nameless(questions: Questions, *, has_codes: bool) -> None:
+    """Stops at codes on the roll that would tell whose they are."""
+    if questions.is_several:
+        raise Fault(
+            "--on-roll",
+            "with several questions the row of all votes under one code would be a mark",
+            "leave it out, or hold an election for each question",
+        )
+    if has_codes:
+        raise Fault("--on-roll", WITH_NAMES, "begin anew in another folder")
+
+
+def with_code(elector: Elector) -> Elector:
+    code = new_code(elector.name)
+    return elector._replace(code=code, alias=alias_of(code, elector.name))
+
+
+def in_place_of(electors: Sequence[Elector]) -> Iterator[Elector]:
+    """These electors, off the roll, and the codes that are on it in their place."""
+    for elector in electors:
+        yield elector._replace(position=None)
+    for position, code in enumerate(codes_for_roll(len(electors)), start=1):
+        yield queries.new_elector(code)._replace(position=position)
 
 
 def write_slips(election: Election, sealed: Sealed) -> None:
     """Makes the folder `private`, with what the call says if there is one."""
-    electors, call = queries.electors(election.book), current_call(election, sealed=sealed)
+    electors = queries.electors(election.book)
+    call = current_call(election, sealed=sealed)
     files = {SLIPS: slips(call, electors)}
     if not call.has_codes_on_roll:
         files[CODES] = codes_csv(call, electors)

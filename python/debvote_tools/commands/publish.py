@@ -1,4 +1,4 @@
-"""The command `publish`."""
+"""The command `publish`, which makes the folder of the result."""
 
 import dataclasses
 import datetime
@@ -10,6 +10,7 @@ from collections.abc import Collection, Mapping
 
 from debvote_tools.book import queries
 from debvote_tools.book.book import Detail, DoneAct, Overtaken
+from debvote_tools.book.change import Change
 from debvote_tools.call.box import SCRIPT, records_file
 from debvote_tools.call.draft import texts_of
 from debvote_tools.cli.arguments import Acting, demand_reason, flag, option, positional
@@ -52,9 +53,9 @@ from debvote_tools.result.sheet import (
 from debvote_tools.text import times
 from debvote_tools.text.language import LANGUAGES
 
-
 # of the text for the page in bytes, and of the name of who gave the casting vote in characters
-TEXT_LIMIT, NAME_LIMIT = 65_536, 200
+TEXT_LIMIT = 65_536
+NAME_LIMIT = 200
 
 # the files whose checksums the act keeps, of each question and above several
 NAMED = (POLL, BALLOTS, PAGE, CHECKSUMS)
@@ -64,7 +65,8 @@ REFUSED_IN_NAME = '"\u201c\u201d\u201e\u201f\u2033\uff02\u00ab\u00bb'
 
 
 class Arguments(Acting):
-    checks, nothing = True, "published"
+    checks = True
+    nothing = "published"
 
     casting: list[str] | None = option(*CASTING, action="append")
     cast_by: list[str] | None = option(
@@ -103,10 +105,10 @@ class Arguments(Acting):
 def publish(election: Election, arguments: Arguments) -> int:
     """Make the folder of the result for a web site; without options, make the last one again."""
     election.demand_right_book(arguments)
-    history, questions = election.history(), election.questions
+    history = election.history()
     demand_countable(election, history)
-    target = pathlib.Path(arguments.target) if arguments.target else election.path(RESULT)
-    given = published_words(arguments, questions, election.called(history))
+    target = pathlib.Path(arguments.target or election.path(RESULT))
+    given = published_words(arguments, election.questions, election.called(history))
     demand_place(election, target, history)
     last = history.last_publication
     is_bare = given == PublishedWords(is_forced=arguments.force)
@@ -123,7 +125,7 @@ def publish(election: Election, arguments: Arguments) -> int:
         is_new = True
         filled = make(is_new=is_new)
     tell_published(election, filled.outcomes, target, is_new=is_new)
-    sheets = {label: one.sheet for label, one in filled.outcomes.items()}
+    sheets = {label: outcome.sheet for label, outcome in filled.outcomes.items()}
     tell_aside(*unneeded_words(words.castings, sheets))
     return max(sheet.status for sheet in sheets.values())
 
@@ -169,17 +171,20 @@ def detail_of(words: PublishedWords, filled: folder.Filled, pending: Pending) ->
     """The detail of the act: how each question ended, with the casting votes that decide, and the
     checksums that letters name.
     """
-    checksums, ended = filled.checksums.items(), filled.outcomes.items()
+    ended = filled.outcomes.items()
     detail = {
         "words": dataclasses.asdict(words),
         "casting": {
-            label: words.castings[label] for label, one in ended if one.sheet.is_by_casting
+            label: words.castings[label] for label, outcome in ended if outcome.sheet.is_by_casting
         },
         "ended": {
-            label: outcome_as_data(one.sheet) | {"sheet": sha256_of(one.sheet.text.encode())}
-            for label, one in ended
+            label: outcome_as_data(outcome.sheet)
+            | {"sheet": sha256_of(outcome.sheet.text.encode())}
+            for label, outcome in ended
         },
-        "checksums": {place: its for place, its in checksums if place.endswith(NAMED)},
+        "checksums": {
+            file: checksum for file, checksum in filled.checksums.items() if file.endswith(NAMED)
+        },
         "doubts": [doubt.as_data() for doubt in filled.doubts],
     }
     return detail | ({"left": pending.arrived_in_time} if pending.arrived_in_time else {})
@@ -198,16 +203,19 @@ def put_in_place(
         # no other publication comes between the act and the folder that takes its place
         with locked(election.folder, is_directory=True), uninterrupted():
             if detail is not None:
-                with election.book.act("publish", detail, seen=history.last.number) as act:
-                    act.insert("sealed", name=f"{LETTERS}/{RESULT_LETTER}", data=letter)
+                sealed = {f"{LETTERS}/{RESULT_LETTER}": letter}
+                Change("publish", detail, sealed=sealed).do(election.book, history.last.number)
             elif election.book.last_number() != history.last.number:
                 raise Overtaken
             new.is_in_book = True
             new.take_place(target)
             write_made(election.path(LETTERS), {RESULT_LETTER: letter}, OWN)
     except BlockingIOError:
-        words = "another command is publishing this election now"
-        raise Fault(None, words, "run the command again when it is done") from None
+        raise Fault(
+            None,
+            "another command is publishing this election now",
+            "run the command again when it is done",
+        ) from None
 
 
 def tell_published(
@@ -215,26 +223,30 @@ def tell_published(
 ) -> None:
     """Tells what was published, and what comes next."""
     as_before = "" if is_new else ", as it was published before; nothing was changed in the book"
-    for label, one in outcomes.items():
-        tell(f"{label and f'{label}: '}{one.sheet.last_line}", one.verified)
+    for label, outcome in outcomes.items():
+        tell(f"{label and f'{label}: '}{outcome.sheet.last_line}", outcome.verified)
     tell(f"Made the folder {target}{as_before}.")
     history = election.history()
     if not history.is_closed:
         # where the page of the vote is, people still vote
-        later = election.command("publish", str(other_place(target)))
-        tell(f"Next: {election.command('close')}, then {later}")
+        tell(
+            f"Next: {election.command('close')}, then {election.command('publish', str(other_place(target)))}"
+        )
         return
-    if tied := [label for label, one in outcomes.items() if one.sheet.winner is None]:
-        castings = history.publications[-1].detail["casting"]
-        ask = "it is a tie: ask for the casting vote, and then give its option, its holder and its day"
+    if tied := [label for label, outcome in outcomes.items() if outcome.sheet.winner is None]:
         # the next result has the casting votes of its own command alone
-        tell(f"Next: {ask}: {publishing(election, {**castings, **dict.fromkeys(tied, 'NAME')})}")
+        castings = history.publications[-1].detail["casting"] | dict.fromkeys(tied, "NAME")
+        tell(
+            f"Next: it is a tie: ask for the casting vote, and then give its option, its holder and its day: {publishing(election, castings)}"
+        )
     else:
-        send = election.to_all("result", election.path(LETTERS) / RESULT_LETTER)
-        tell(f"Next: put the folder {target} on the web site as it is, then {send}")
+        tell(
+            f"Next: put the folder {target} on the web site as it is, then {election.to_all('result', election.path(LETTERS) / RESULT_LETTER)}"
+        )
     if history.announced("box"):
-        key = queries.sealed(election.book, BOX_KEY)
-        tell(f"Where it takes the place of the page, remove {SCRIPT} and {records_file(key)}.")
+        tell(
+            f"Where it takes the place of the page, remove {SCRIPT} and {records_file(queries.sealed(election.book, BOX_KEY))}."
+        )
 
 
 def demand_place(election: Election, target_folder: pathlib.Path, history: History) -> None:
@@ -254,15 +266,17 @@ def demand_place(election: Election, target_folder: pathlib.Path, history: Histo
         sums = sums[-1:]
     if any(folder.is_publication(place, sum) for sum in sums):
         return
-    words = "what this election has published last, since its last close"
-    cure = f"name another folder, as {other_place(target_folder)}"
-    raise folder.in_use(target_folder, words, f"{cure}: no result is replaced by a later one")
+    raise folder.in_use(
+        target_folder,
+        "what this election has published last, since its last close",
+        f"name another folder, as {other_place(target_folder)}: no result is replaced by a later one",
+    )
 
 
 def other_place(target_folder: pathlib.Path) -> pathlib.Path:
     """Where a result can be that may not replace the one in this folder."""
     places = (target_folder, real_place(target_folder), pathlib.Path(RESULT))
-    named = next(one for one in places if one.name not in ("", ".."))
+    named = next(place for place in places if place.name not in ("", ".."))
     others = (named.with_name(f"{named.name}-{number}") for number in itertools.count(2))
     return next(other for other in others if not os.path.lexists(other))
 
@@ -273,45 +287,63 @@ class WouldDiffer(Fault):
     def __init__(self, last: DoneAct) -> None:
         words = f"made again, the result would differ from the one that was published (act {last.number})"
         why = "another version of a program makes it, or more was done since that the page tells"
-        cure = "leave it as it is; or publish it once more, with a letter of its own: --force"
-        super().__init__(None, f"{words}: {why}", cure)
+        super().__init__(
+            None,
+            f"{words}: {why}",
+            "leave it as it is; or publish it once more, with a letter of its own: --force",
+        )
 
 
 # ---- words of those who publish
 def published_words(arguments: Arguments, questions: Questions, call: DoneAct) -> PublishedWords:
     """What the command line says, checked. Stops at all that is wrong."""
-    faults, number = list[Fault](), len(arguments.casting or ())
+    faults = list[Fault]()
     castings: Castings = {}
-    reason, about = arguments.because if arguments.force else None, None
-    by, on = arguments.cast_by or [], arguments.cast_on or []
-    if number and not (by and on):
-        words = "the page must say whose casting vote it was, and when it was given"
-        cure = 'say it with --cast-by "NAME" --cast-on 2026-12-05'
-        faults.append(bad_words("--casting", words, cure))
-    with kept_in(faults):
-        by = [*map(holder_in, said_of_each(number, "--cast-by", by))]
-    with kept_in(faults):
-        on = [day_in(day, call) for day in said_of_each(number, "--cast-on", on)]
+    reason = arguments.because if arguments.force else None
+    about = None
+    holders, days = holders_and_days(arguments, call, faults)
     with kept_in(faults):
         if reason is not None:
             reason = demand_reason(reason, "--force", has_paragraphs=True)
     with kept_in(faults):
         if arguments.about is not None:
-            unread = "give a file that you may read with --about"
-            empty = "write it, or leave --about out"
-            about = read_text(arguments.about, TEXT_LIMIT, unread, empty, may_wait=True)
+            about = read_text(
+                arguments.about,
+                TEXT_LIMIT,
+                "give a file that you may read with --about",
+                "write it, or leave --about out",
+                may_wait=True,
+            )
     with kept_in(faults):
         castings = castings_in(arguments.casting, questions)
     stop_at(faults)
     return PublishedWords(
         castings=castings,
-        cast_by=dict(zip(castings, by)),
-        cast_on=dict(zip(castings, on)),
+        cast_by=dict(zip(castings, holders)),
+        cast_on=dict(zip(castings, days)),
         about=about,
         is_forced=arguments.force,
         because=reason,
         language=arguments.language,
     )
+
+
+def holders_and_days(
+    arguments: Arguments, call: DoneAct, faults: list[Fault]
+) -> tuple[list[str], list[str]]:
+    """Who had each casting vote, and on which day, in the order of their options --casting."""
+    number = len(arguments.casting or ())
+    holders = arguments.cast_by or []
+    days = arguments.cast_on or []
+    if number and not (holders and days):
+        reason = "the page must say whose casting vote it was, and when it was given"
+        cure = 'say it with --cast-by "NAME" --cast-on 2026-12-05'
+        faults.append(bad_words("--casting", reason, cure))
+    with kept_in(faults):
+        holders = [*map(holder_in, said_of_each(number, "--cast-by", holders))]
+    with kept_in(faults):
+        days = [day_in(day, call) for day in said_of_each(number, "--cast-on", days)]
+    return holders, days
 
 
 def said_of_each(number: int, option: str, given: list[str]) -> list[str]:
@@ -321,17 +353,22 @@ def said_of_each(number: int, option: str, given: list[str]) -> list[str]:
     if given and not number:
         raise bad_words(option, "it describes the casting vote of --casting", "give --casting too")
     if len(given) not in (0, 1, number):
-        words = f"{len(given)} are given, and of --casting {number}"
-        cure = "give it once for all, or once for each --casting, in their order"
-        raise bad_words(option, words, cure)
+        raise bad_words(
+            option,
+            f"{len(given)} are given, and of --casting {number}",
+            "give it once for all, or once for each --casting, in their order",
+        )
     return given * number if len(given) == 1 else given
 
 
 def holder_in(by: str) -> str:
     """The holder of a casting vote."""
     if not by.strip() or odd_sign(by, refused=REFUSED_IN_NAME) is not None or len(by) > NAME_LIMIT:
-        reason = f"it must be a name on one line, of at most {NAME_LIMIT} characters, without quotation marks"
-        raise bad_words("--cast-by", reason, "write it again")
+        raise bad_words(
+            "--cast-by",
+            f"it must be a name on one line, of at most {NAME_LIMIT} characters, without quotation marks",
+            "write it again",
+        )
     return by.strip()
 
 
@@ -344,8 +381,7 @@ def day_in(on: str, call: DoneAct) -> str:
     days = [time.astimezone().date() for time in (call.time, times.now())]
     if not days[0] <= day <= days[1]:
         where = "in the future" if day > days[1] else f"before the call, which was on {days[0]}"
-        cure = "write the day on which it was given"
-        raise bad_words("--cast-on", f"{day} is {where}", cure)
+        raise bad_words("--cast-on", f"{day} is {where}", "write the day on which it was given")
     return day.isoformat()
 
 

@@ -5,7 +5,7 @@ from collections.abc import Iterable, Iterator, Mapping, Sequence
 
 from debvote_tools.book import outgoing, queries
 from debvote_tools.book.book import Book
-from debvote_tools.book.queries import Elector
+from debvote_tools.book.change import Change
 from debvote_tools.call.box import SCRIPT, box_files
 from debvote_tools.call.members import Member, Roll, label_of
 from debvote_tools.cli.arguments import Acting, flag, option
@@ -22,9 +22,11 @@ from debvote_tools.poll.sealed import new_own_mark
 from debvote_tools.text.addresses import address_in, address_key
 from debvote_tools.text.language import Language
 
-
 # `Eve & Dan`, `Eve und Dan`, `Eve/Dan`
 SEVERAL_PEOPLE = re.compile(r"\w ?[&+/] ?\w|\w (?:and|und|et) \w", re.IGNORECASE)
+
+# what may be wrong with the list: words, the names that they are about, and words after these
+Note = tuple[str, list[str], str]
 
 
 class Arguments(Acting):
@@ -42,22 +44,26 @@ def roll(election: Election, arguments: Arguments) -> None:
     if history.has_codes_on_roll:
         words = "codes are on the roll, and nobody knows whose they are"
         raise Fault(None, words, "for another roll, begin anew in another folder")
-    roll, after = read_roll(election, history), election.command("check")
-    linked = linked_anew(history, roll, arguments.new_link)
+    roll = read_roll(election, history)
+    changes = dict.fromkeys(linked_anew(history, roll, arguments.new_link), "a new link")
+    after = election.command("check")
     if history.call is None:
         keep_electors(book, roll, history.last.number)
         tell(*roll_in_words(roll, election.language))
     else:
         is_secret = election.questions.is_secret
         went = outgoing.call_addresses(book, history.call.number) if is_secret else {}
-        changes = dict.fromkeys(linked, "a new link")
-        changes |= {one: changes_in_words(one, went) for one in roll.electors if one.changes}
-        changed = {
-            one: words for one, words in changes.items() if arguments.yes or agreed(one, words)
+        changes |= {
+            member: changes_in_words(member, went) for member in roll.electors if member.changes
         }
-        change_addresses(election, history, changed, arguments.new_link)
+        agreed = {
+            member: words
+            for member, words in changes.items()
+            if arguments.yes or is_agreed(member, words)
+        }
+        change_addresses(election, history, agreed, arguments.new_link)
         after = election.command("status")
-        if changed and not history.closes:
+        if agreed and not history.closes:
             after = f"{election.command('letters', 'call')}, for the new addresses"
     tell(f"Next: {after}")
 
@@ -67,10 +73,13 @@ def linked_anew(history: History, roll: Roll, name: str | None) -> list[Member]:
     replaced.
     """
     has_links = history.announced("box") and not history.closes
-    named = [one for one in roll.electors if has_links and one.name == name]
+    named = [member for member in roll.electors if has_links and member.name == name]
     if name is not None and not named:
-        words = f"{shown_text(name)} has no link that could be replaced"
-        raise bad_words("--new-link", words, "name an elector of the roll, or leave it out")
+        raise bad_words(
+            "--new-link",
+            f"{shown_text(name)} has no link that could be replaced",
+            "name an elector of the roll, or leave it out",
+        )
     return named
 
 
@@ -80,15 +89,15 @@ def keep_electors(book: Book, roll: Roll, seen: int) -> None:
     if is_kept(book, roll):
         return
     before = {elector.name: elector for elector in queries.all_electors(book)}
-    with book.act("roll", {"electors": len(roll.electors)}, seen=seen) as act:
-        after = {name: elector._replace(position=None) for name, elector in before.items()}
-        for position, (_, name, who, addresses, key, *_) in enumerate(roll.electors, start=1):
-            known = before.get(name) or queries.new_elector(act, name)
-            if alike(known.who) != alike(who):
-                # a code that somebody else got shows this person nothing
-                known = known._replace(code="", alias="")
-            after[name] = known._replace(position=position, who=who, addresses=addresses, key=key)
-        queries.put_electors(act, (now for name, now in after.items() if before.get(name) != now))
+    after = {name: elector._replace(position=None) for name, elector in before.items()}
+    for position, (_, name, who, addresses, key, *_) in enumerate(roll.electors, start=1):
+        known = before.get(name) or queries.new_elector(name)
+        if alike(known.who) != alike(who):
+            # a code that somebody else got shows this person nothing
+            known = known._replace(code="", alias="")
+        after[name] = known._replace(position=position, who=who, addresses=addresses, key=key)
+    changed = [now for name, now in after.items() if before.get(name) != now]
+    Change("roll", {"electors": len(roll.electors)}, electors=changed).do(book, seen)
 
 
 def change_addresses(
@@ -108,35 +117,28 @@ def change_addresses(
     from debvote_tools.inbox.judging import letters_now
     from debvote_tools.inbox.vote import Vote
 
-    vote, now = Vote(election), [*electors_of(changed, new_link)]
+    vote = Vote(election)
+    book = election.book
+    electors = [*electors_of(changed, new_link)]
     letters_before = letters_now(vote)
-    book, files = election.book, dict[str, bytes]()
+    files = dict[str, bytes]()
     if history.announced("box") and not history.closes:
-        owns = {one.name: one.mark for one in (*queries.electors(book), *now)}
-        files = box_files(book, election.sealed().public.mark, owns)
-    with book.act("addresses", {"electors": len(changed)}, seen=history.last.number) as act:
-        queries.put_electors(act, now)
-        act.insert_all("sealed", "name, data", files.items())
+        marks = {elector.name: elector.mark for elector in (*queries.electors(book), *electors)}
+        files = box_files(book, election.sealed().public.mark, marks)
+    change = Change("addresses", {"electors": len(changed)}, electors=electors, sealed=files)
+    change.do(book, history.last.number)
     make_anew(election, history)
-    tell(*(f"{member.name}: {words}" for member, words in changed.items()))
-    if election.questions.is_secret:
-        tell(
-            f"Made {SLIPS} and {CODES} in {election.path(PRIVATE)} anew: a new address has a new mark."
-        )
-    tell(f"{count_of(len(changed), 'elector')} changed; the result page says how many.")
-    if files:
-        upload = f"Upload {election.path(CALL) / SCRIPT} again, since these electors have new links"
-        tell(f"{upload}; then run {election.command('add', '--box')}.")
+    tell(*changed_words(election, changed, has_new_script=bool(files)))
     tell(*letter_words.judged_anew(letters_before, letters_now(vote)))
 
 
-def electors_of(changed: Iterable[Member], new_link: str | None) -> Iterator[Elector]:
+def electors_of(changed: Iterable[Member], new_link: str | None) -> Iterator[queries.Elector]:
     """The electors as they are now, with new own marks if they have a new address or link."""
     for member in changed:
         if known := member.known:
-            is_new = "address" in member.changes or member.name == new_link
-            mark = new_own_mark() if is_new else known.mark
-            yield known._replace(addresses=member.addresses, key=member.key, mark=mark)
+            if "address" in member.changes or member.name == new_link:
+                known = known._replace(mark=new_own_mark())
+            yield known._replace(addresses=member.addresses, key=member.key)
 
 
 def make_anew(election: Election, history: History) -> None:
@@ -146,11 +148,11 @@ def make_anew(election: Election, history: History) -> None:
     if election.questions.is_secret:
         write_slips(election, election.sealed())
     if history.announced("box") and not history.closes:
-        script = queries.sealed(election.book, BOX_SCRIPT)
-        write_made(election.path(CALL), {SCRIPT: script}, PUBLIC)
+        files = {SCRIPT: queries.sealed(election.book, BOX_SCRIPT)}
+        write_made(election.path(CALL), files, PUBLIC)
 
 
-def agreed(member: Member, words: str) -> bool:
+def is_agreed(member: Member, words: str) -> bool:
     question = f"{label_of(member)}: {words}. Is that right?"
     if not is_terminal():
         raise Fault(None, question, "run it at a terminal, or with --yes")
@@ -167,23 +169,34 @@ def changes_in_words(member: Member, went: Mapping[str, Sequence[str]]) -> str:
     ]
     before, _ = member.changes.get("address", ("", ""))
     going = {*before.split(", ")}.difference(member.addresses)
-    if gone := [one for one in went.get(member.name, ()) if one in going]:
-        cure = "as long as nothing has come, call --take-back makes new codes"
+    if gone := [address for address in went.get(member.name, ()) if address in going]:
         words.append(
-            f"the secret code went to {', '.join(gone)}, and whoever reads it there will see this vote ({cure})"
+            f"the secret code went to {', '.join(gone)}, and whoever reads it there will see this vote "
+            "(as long as nothing has come, call --take-back makes new codes)"
         )
     return "; ".join(words)
 
 
 # ---- what is told
+def changed_words(
+    election: Election, changed: Mapping[Member, str], *, has_new_script: bool
+) -> Iterator[str]:
+    for member, words in changed.items():
+        yield f"{member.name}: {words}"
+    if election.questions.is_secret:
+        yield f"Made {SLIPS} and {CODES} in {election.path(PRIVATE)} anew: a new address has a new mark."
+    yield f"{count_of(len(changed), 'elector')} changed; the result page says how many."
+    if has_new_script:
+        yield f"Upload {election.path(CALL) / SCRIPT} again, since these electors have new links; then run {election.command('add', '--box')}."
+
+
 def roll_in_words(roll: Roll, language: Language) -> Iterator[str]:
     electors = roll.electors
     yield f"{count_of(len(electors), 'elector')}, each with the name on the roll:"
-    for one in electors:
-        yield f"  {one.name}: {shown_text(one.who)} {', '.join(one.addresses)}".rstrip()
-    if proposed := sum(bool(one.proposal) for one in electors):
-        how = f"To change a name, write it into a column `name` of {MEMBERS_FILE}, and run this again."
-        yield f"{count_of(proposed, 'name was', 'names were')} proposed. {how}"
+    for member in electors:
+        yield f"  {member.name}: {shown_text(member.who)} {', '.join(member.addresses)}".rstrip()
+    if proposed := sum(bool(member.proposal) for member in electors):
+        yield f"{count_of(proposed, 'name was', 'names were')} proposed. To change a name, write it into a column `name` of {MEMBERS_FILE}, and run this again."
     for words, names, after in notes_on(electors, language):
         if names:
             yield f"{words}: {listed(names, MAX_NAMED)}{after}"
@@ -191,34 +204,35 @@ def roll_in_words(roll: Roll, language: Language) -> Iterator[str]:
         yield f"No longer on the list: {label_of(gone)}"
 
 
-def notes_on(
-    electors: Sequence[Member], language: Language
-) -> Iterator[tuple[str, list[str], str]]:
-    """What may be wrong with the list: words, the names that they are about, and words after."""
+def notes_on(electors: Sequence[Member], language: Language) -> Iterator[Note]:
+    """What may be wrong with the list."""
     by_address = (
-        (key, one.name)
-        for one in electors
-        for key in dict.fromkeys(map(address_key, one.addresses))
+        (key, member.name)
+        for member in electors
+        for key in dict.fromkeys(map(address_key, member.addresses))
     )
     is_one = ". Is that one person?"
     for address, names in several(by_address).items():
         yield f"Note: several electors have the address {address}", names, is_one
-    for names in several((alike(one.who), one.name) for one in electors).values():
+    for names in several((alike(member.who), member.name) for member in electors).values():
         yield "Note: these real names look alike", names, is_one
-    cut = [label_of(one) for one in electors if not one.name.startswith(one.proposal)]
+    yield from notes_on_names(electors, language)
+    without = [member.name for member in electors if not member.addresses]
+    yield "Without an address (letters in their names wait, letters to them are printed)", without, ""
+    unsent = [
+        member.name for member in electors if member.addresses and not address_in(member.addresses)
+    ]
+    yield "Without an address that every mail server takes (letters to them are printed)", unsent, ""
+
+
+def notes_on_names(electors: Sequence[Member], language: Language) -> Iterator[Note]:
+    cut = [label_of(member) for member in electors if not member.name.startswith(member.proposal)]
     yield f"Note: a name has at most {ELECTOR_LIMIT} characters, so these were cut", cut, ""
-    pairs = similar_names(one.name for one in electors)
-    yield "Note: these names are easily mistaken for each other", list(map(" and ".join, pairs)), ""
-    real_names = {one.name: one.who for one in electors}
+    pairs = map(" and ".join, similar_names(member.name for member in electors))
+    yield "Note: these names are easily mistaken for each other", list(pairs), ""
+    real_names = {member.name: member.who for member in electors}
     taken = Names(frozenset(real_names), language.code, real_names, 0, {}).real_names_of_others
-    words = "Note: these names on the roll are the real name of somebody else"
-    theirs = [label_of(one) for one in electors if one.name in taken]
-    yield words, theirs, ". Give them other names."
-    couples = [label_of(one) for one in electors if SEVERAL_PEOPLE.search(one.who)]
-    words = "Note: these look like several people, who have one ballot together"
-    yield words, couples, ". Give each a line of their own."
-    words = "Without an address (letters in their names wait, letters to them are printed)"
-    yield words, [one.name for one in electors if not one.addresses], ""
-    words = "Without an address that every mail server takes (letters to them are printed)"
-    unsent = [one.name for one in electors if one.addresses and not address_in(one.addresses)]
-    yield words, unsent, ""
+    theirs = [label_of(member) for member in electors if member.name in taken]
+    yield "Note: these names on the roll are the real name of somebody else", theirs, ". Give them other names."
+    couples = [label_of(member) for member in electors if SEVERAL_PEOPLE.search(member.who)]
+    yield "Note: these look like several people, who have one ballot together", couples, ". Give each a line of their own."
