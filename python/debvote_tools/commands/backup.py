@@ -1,4 +1,4 @@
-"""The command `backup`."""
+"""The command `backup`, which copies the book into a file."""
 
 import pathlib
 
@@ -14,7 +14,8 @@ class Arguments(Options):
 
 def backup(election: Election, arguments: Arguments) -> None:
     """Write a copy of the book into a new file."""
-    book, target = election.whole_book(), pathlib.Path(arguments.file)
+    book = election.whole_book()
+    target = pathlib.Path(arguments.file)
     demand_new(election, target, "file")
     last = book.last_number()
     book.back_up(target)

@@ -1,19 +1,17 @@
-"""The command `export`."""
+"""The command `export`, which writes ballots and all that came into a folder."""
 
 import os
 import pathlib
 import re
 
 from debvote_tools.book import queries
-from debvote_tools.book.book import Book
 from debvote_tools.cli.arguments import Options, positional
 from debvote_tools.cli.console import tell
 from debvote_tools.cli.faults import bad_words
 from debvote_tools.election import CALL, LETTERS, PRIVATE, RESULT, Election
 from debvote_tools.files import whole_folder, write_whole
-from debvote_tools.poll.questions import Questions, place_of
+from debvote_tools.poll.questions import place_of
 from debvote_tools.text.ballots import ballot_file
-
 
 # what a file name keeps of the name under which something came
 UNSAFE = re.compile(r"[^A-Za-z0-9._-]+")
@@ -28,22 +26,26 @@ def export(election: Election, arguments: Arguments) -> None:
     """Write the poll, the ballots and everything that came into a new folder that only you can
     read.
     """
-    book, target_folder = election.whole_book(), pathlib.Path(arguments.target_folder)
+    election.whole_book()
+    target_folder = pathlib.Path(arguments.target_folder)
     demand_new(election, target_folder, "folder")
-    questions = election.questions
+    files = exported(election)
     with whole_folder(target_folder) as folder:
         (folder / "came").mkdir(mode=0o700)
-        for name, data in exported(book, questions).items():
+        for name, data in files.items():
             (folder / name).parent.mkdir(mode=0o700, exist_ok=True)
             write_whole(folder / name, data, 0o600)
-    several = "for each question poll.toml and ballots.txt, for all"
-    polls = several if questions.is_several else "poll.toml,"
+    polls = "poll.toml,"
+    if election.questions.is_several:
+        polls = "for each question poll.toml and ballots.txt, for all"
     tell(
         f"Made the folder {target_folder}: {polls} ballots.txt, late.txt, and in came/ all that came. Only you can read it."
     )
 
 
-def exported(book: Book, questions: Questions) -> dict[str, bytes]:
+def exported(election: Election) -> dict[str, bytes]:
+    book = election.book
+    questions = election.questions
     files = dict[str, bytes]()
     with book.snapshot():
         for label in queries.each_question_alone(book):

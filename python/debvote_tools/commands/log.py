@@ -1,4 +1,4 @@
-"""The command `log`."""
+"""The command `log`, which lists the acts."""
 
 import itertools
 import re
@@ -8,7 +8,6 @@ from debvote_tools.book.book import DoneAct
 from debvote_tools.cli.arguments import Options, flag
 from debvote_tools.cli.console import act_time, count_of, tell
 from debvote_tools.election import Election
-
 
 # the random line of a close, which stays in the book: with it few ballots can be guessed from the
 # checksum
@@ -23,16 +22,16 @@ def log(election: Election, arguments: Arguments) -> None:
     """List the acts of the election; with --check compute their digests again."""
     if arguments.check:
         acts = election.whole_book().acts()
-        whole = f"The chain is whole: {count_of(len(acts), 'act')}, the last digest is"
-        tell(f"{whole} {acts[-1].digest}")
+        tell(
+            f"The chain is whole: {count_of(len(acts), 'act')}, the last digest is {acts[-1].digest}"
+        )
     else:
         tell(*acts_in_words(election.history().acts))
 
 
 def acts_in_words(acts: Sequence[DoneAct]) -> Iterator[str]:
     for before, act in itertools.pairwise([acts[0], *acts]):
-        said = SEAL.sub("", act.detail_as_json)
-        yield f"{act.number} {act_time(act.time)} {act.name} {said}"
+        yield f"{act.number} {act_time(act.time)} {act.name} {SEAL.sub('', act.detail_as_json)}"
         yield f"  {act.digest} on {act.machine}"
         if act.went_back(before):
             yield "  the clock went back: the previous act has a later time"

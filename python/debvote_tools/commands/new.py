@@ -1,4 +1,4 @@
-"""The command `new`."""
+"""The command `new`, which makes the folder of an election."""
 
 import contextlib
 import os
@@ -38,12 +38,14 @@ class Arguments(Options):
 def new(election: Election, arguments: Arguments) -> None:
     """Make the folder of an election, with a poll and a list of members to fill in."""
     if election.is_named:
-        words = "new makes the folder that follows it"
-        raise bad_words("--folder", words, "leave --folder out", None)
-    folder, language = pathlib.Path(arguments.target), arguments.language
+        raise bad_words(
+            "--folder", "new makes the folder that follows it", "leave --folder out", None
+        )
+    folder = pathlib.Path(arguments.target)
     # an empty folder is replaced
-    is_folder = folder.is_dir() and not folder.is_symlink()
-    if os.path.lexists(folder) and (not is_folder or any(folder.iterdir())):
+    if os.path.lexists(folder) and (
+        not folder.is_dir() or folder.is_symlink() or any(folder.iterdir())
+    ):
         what = "not empty" if folder.is_dir() else "not a folder"
         if (folder / book.NAME).exists():
             what = "an election already"
@@ -52,13 +54,16 @@ def new(election: Election, arguments: Arguments) -> None:
     first, *others = polls
     files = f"{first} and {others[0]} to {pathlib.Path(others[-1]).name}" if others else first
     with uninterrupted():
-        make(folder, language, polls)
-        disk = "Keep it on a disk of this computer, not in a shared or synced folder."
-        tell(f"Made the folder {folder} with {files} and {MEMBERS_FILE}. {disk}")
-        if language != ENGLISH.code:
-            tell(f"Pages and letters for electors will be in {LANGUAGES[language]}.")
-        steps = f"write the members into {MEMBERS_FILE} with a spreadsheet, fill in {files} with an editor"
-        tell(f"Next: cd {shlex.quote(str(folder))}, {steps}, then run: debvote-election roll")
+        make(folder, arguments.language, polls)
+        tell(
+            f"Made the folder {folder} with {files} and {MEMBERS_FILE}. Keep it on a disk of this computer, not in a shared or synced folder."
+        )
+        if arguments.language != ENGLISH.code:
+            tell(f"Pages and letters for electors will be in {LANGUAGES[arguments.language]}.")
+        tell(
+            f"Next: cd {shlex.quote(str(folder))}, write the members into {MEMBERS_FILE} with a spreadsheet, "
+            f"fill in {files} with an editor, then run: debvote-election roll"
+        )
 
 
 def new_polls(count: int) -> dict[str, bytes]:
@@ -68,8 +73,8 @@ def new_polls(count: int) -> dict[str, bytes]:
         return {POLL_FILE: draft}
     files = {f"{POLLS}/{TITLE_FILE}": b""}
     for label in LABELS[:count]:
-        text = draft.replace(b"texts/", f"texts/{label}/".encode())
-        files[f"{POLLS}/{label}.toml"] = text.replace(b"`ada ", f"`ada {label} ".encode())
+        in_folder = draft.replace(b"texts/", f"texts/{label}/".encode())
+        files[f"{POLLS}/{label}.toml"] = in_folder.replace(b"`ada ", f"`ada {label} ".encode())
     return files
 
 
@@ -80,8 +85,9 @@ def make(folder: pathlib.Path, language: str, polls: Mapping[str, bytes]) -> Non
         try:
             made = stack.enter_context(whole_folder(place))
         except OSError as error:
-            cure = "choose an existing place where you can write"
-            raise bad_words(folder, error.strerror, cure) from None
+            raise bad_words(
+                folder, error.strerror, "choose an existing place where you can write"
+            ) from None
         for name, data in (*polls.items(), (MEMBERS_FILE, NEW_MEMBERS.encode())):
             (made / name).parent.mkdir(exist_ok=True)
             write_whole(made / name, data, 0o600)

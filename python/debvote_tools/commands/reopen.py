@@ -1,4 +1,4 @@
-"""The command `reopen`."""
+"""The command `reopen`, which opens the vote again after a close."""
 
 from collections.abc import Iterator
 
@@ -24,10 +24,9 @@ def reopen(election: Election, arguments: Arguments) -> None:
     book = election.book_for(arguments)
     carried_out(book, lambda: what_is_reopened(election, arguments, because))
     history = election.history()
-    closed = act_time(history.closes[-1].time)
     early = ["--early"] if history.ends_after(now()) else []
     tell(
-        f"The vote is open again; the close at {closed} stays in the log and on the result page.",
+        f"The vote is open again; the close at {act_time(history.closes[-1].time)} stays in the log and on the result page.",
         *late_words(Vote(election), history),
         "Of new ballots only those that arrived before the first close count: add and desk ask.",
         "What is late stays late: if it arrived before, enter it again, with add FILE --came-before-close yes or at a desk.",
@@ -37,10 +36,10 @@ def reopen(election: Election, arguments: Arguments) -> None:
 
 def what_is_reopened(election: Election, arguments: Arguments, because: str) -> Change:
     demand_closed(election, election.history())
-    is_secret = election.questions.is_secret
-    told = "Only the log tells this reason." if is_secret else "Everybody will read this reason."
-    question = f"Open the vote again, because: {because}? {told}"
-    asked = terminal_question(question, arguments.yes)
+    told = "Everybody will read this reason."
+    if election.questions.is_secret:
+        told = "Only the log tells this reason."
+    asked = terminal_question(f"Open the vote again, because: {because}? {told}", arguments.yes)
     return Change("reopen", {"because": because}, question=asked)
 
 
@@ -51,16 +50,18 @@ def late_words(vote: Vote, history: History) -> Iterator[str]:
     """
     others = queries.late_beside_others(vote.book)
     in_time = {*queries.lines_to_count(vote.book)}
-    found = grouped(
+    by_kind = grouped(
         (
-            one.line in others,
-            str(one.number) if vote.has_codes else f"{one.number} `{shown_line(one.line)}`",
+            envelope.line in others,
+            str(envelope.number)
+            if vote.has_codes
+            else f"{envelope.number} `{shown_line(envelope.line)}`",
         )
-        for one in queries.envelopes(vote.book, queries.LATE_BALLOTS)
-        if one.letter is None or one.time <= history.closes[0].time
-        if one.line in others or one.line not in in_time
+        for envelope in queries.envelopes(vote.book, queries.LATE_BALLOTS)
+        if envelope.letter is None or envelope.time <= history.closes[0].time
+        if envelope.line in others or envelope.line not in in_time
     )
-    for is_beside, shown in sorted(found.items()):
+    for is_beside, shown in sorted(by_kind.items()):
         what = (
             "Late ballots of electors with another ballot in time, which they would replace"
             if is_beside
@@ -73,7 +74,8 @@ def demand_closed(election: Election, history: History) -> None:
     if not history.is_closed:
         raise Fault(None, "the vote is not closed", f"see {election.command('status')}")
     if history.has_codes_on_roll and history.named("publish"):
-        words = (
-            "the published result shows the codes, so anybody could now vote in the name of others"
+        raise Fault(
+            None,
+            "the published result shows the codes, so anybody could now vote in the name of others",
+            "hold the vote anew, with new codes",
         )
-        raise Fault(None, words, "hold the vote anew, with new codes")

@@ -1,4 +1,4 @@
-"""The command `show`."""
+"""The command `show`, which shows what came of one elector, and what they were sent."""
 
 from collections.abc import Iterator, Sequence
 
@@ -29,48 +29,61 @@ def show(election: Election, arguments: Arguments) -> None:
     # nobody knows whose code it is
     tell(elector.name if vote.has_codes else f"{elector.name}{who.rstrip(': ')}")
     fates = fates_of(election, history, elector)[elector.name]
-    came = [one.envelope for one in fates if one.envelope]
-    tell(*(f"  {line}" for one in fates for line in fate_words(vote, history, one, came)))
+    came = [fate.envelope for fate in fates if fate.envelope]
+    tell(*(f"  {line}" for fate in fates for line in fate_words(vote, history, fate, came)))
     current = queries.what_counts(election.book, {elector.number}).get(elector.name)
     line = f"{elector.name} {current}: " if current and vote.questions.is_several else ""
     said = private(f"{line}{vote.in_words_of(current)}") if current else "none"
     tell(f"The current ballot: {said}")
-    out = outgoing.outgoing_letters(election.book, elector=elector.number)
-    for letter in sorted(out, key=lambda letter: letter.time):
+    for letter in sorted(
+        outgoing.outgoing_letters(election.book, elector=elector.number),
+        key=lambda letter: letter.time,
+    ):
         where = f"to {letter.address}" if letter.address else "to be printed"
         reply = f" ({shown_text(letter.reply)})" if letter.reply else ""
-        kind = letter.kind.removesuffix("s")
-        tell(f"  {kind}, {act_time(letter.time)}, {where}: {letter.state}{reply}")
+        tell(
+            f"  {letter.kind.removesuffix('s')}, {act_time(letter.time)}, {where}: {letter.state}{reply}"
+        )
 
 
 def elector_named(election: Election, vote: Vote, name: str) -> queries.Elector:
-    meant = vote.names.meant_by(name.strip())
-    found = [one for one in queries.electors(election.book) if one.name in meant]
-    if len(found) == 1:
-        return found[0]
-    if found:
+    names = vote.names.meant_by(name.strip())
+    meant = [elector for elector in queries.electors(election.book) if elector.name in names]
+    if len(meant) == 1:
+        return meant[0]
+    if meant:
         words = f"several electors have the name {shown_text(name)}"
-        cure = f"name one of {', '.join(elector.name for elector in found)}"
-        raise Fault("show", words, cure, done=None)
-    what, cure = "elector", f"{election.command('status')} and roll show the names"
-    if vote.has_codes:
-        what, cure = "code", "type the code as it was handed out"
-    raise Fault("show", f"no {what} on the roll is `{shown_text(name)}`", cure, done=None)
+        cure = f"name one of {', '.join(elector.name for elector in meant)}"
+    elif vote.has_codes:
+        words = f"no code on the roll is `{shown_text(name)}`"
+        cure = "type the code as it was handed out"
+    else:
+        words = f"no elector on the roll is `{shown_text(name)}`"
+        cure = f"{election.command('status')} and roll show the names"
+    raise Fault("show", words, cure, done=None)
 
 
 def fate_words(vote: Vote, history: History, fate: Fate, came: Sequence[Envelope]) -> Iterator[str]:
-    envelope, letter = fate.envelope, fate.letter
+    envelope = fate.envelope
+    letter = fate.letter
     if letter is not None:
         if letter.is_pending:
             yield from letter_words.why_it_waits(letter)
         else:
             yield f"{letter_words.who_and_when(letter)}: {letter_words.why(letter)}"
     if envelope is not None:
-        said = vote.answers_in_words(fate.answers) or refused_line(vote, envelope)
-        again = [one for one in came if one.line == envelope.line and one.number > envelope.number]
+        answers = vote.answers_in_words(fate.answers) or refused_line(vote, envelope)
         marks = list[str]()
         if envelope.is_late:
-            marks = ["late", *(f"entered again as {one.number}: {one.became}" for one in again)]
+            again = (
+                later
+                for later in came
+                if later.line == envelope.line and later.number > envelope.number
+            )
+            marks = [
+                "late",
+                *(f"entered again as {later.number}: {later.became}" for later in again),
+            ]
         marks += [f"{label} replaced" for label in fate.replaced]
         if envelope.struck is not None:
             act = history.act(envelope.struck)
@@ -78,8 +91,7 @@ def fate_words(vote: Vote, history: History, fate: Fate, came: Sequence[Envelope
             struck = f"struck by {act.name} at {act_time(act.time)}"
             marks.append(f"{struck}: {because}" if because else struck)
         marked = f" ({'; '.join(marks)})" if marks else ""
-        sent = letter_words.sent_words(fate.came_by)
-        yield f"envelope {envelope.number}, {act_time(envelope.time)}{sent}: {said}{marked}"
+        yield f"envelope {envelope.number}, {act_time(envelope.time)}{letter_words.sent_words(fate.came_by)}: {answers}{marked}"
 
 
 def refused_line(vote: Vote, envelope: Envelope) -> str:

@@ -1,10 +1,11 @@
-"""The command `status`."""
+"""The command `status`, which says how far the election is."""
 
 import json
-from collections.abc import Iterator
+from collections.abc import Iterator, Mapping
 from typing import Any
 
 from debvote_tools.book import queries
+from debvote_tools.book.book import Book
 from debvote_tools.book.queries import Envelope
 from debvote_tools.cli.arguments import Options, flag
 from debvote_tools.cli.console import (
@@ -25,7 +26,6 @@ from debvote_tools.outbox.reached import unreached_and_printed
 from debvote_tools.text import times
 from debvote_tools.text.ballots import ranks_by_label
 
-
 # how an election is, in numbers, as FORMATS has them; in a vote whose roll has codes nobody is
 # named
 State = dict[str, Any]
@@ -39,36 +39,36 @@ def status(election: Election, arguments: Arguments) -> None:
     """Show how far the election is: lines, ballots, electors without a ballot, refused lines."""
     with election.book.snapshot():
         history = election.history()
-        state, refused = state_of(election, history)
+        counting = queries.what_counts(election.book)
+        state = state_of(election, history, counting)
+        if history.call is not None and election.questions.is_several:
+            state["questions"] = questions_in(election, history, has_late=bool(state["late"]))
+        refused = still_refused(election.book, counting)
     if arguments.json:
         tell(json.dumps(state, ensure_ascii=False))
     else:
-        tell(
-            *stage_words(election, history, state), *state_words(election, history, state, refused)
-        )
+        stage = stage_words(election, history, state)
+        tell(*stage, *state_words(election, history, state, refused))
 
 
-def state_of(election: Election, history: History) -> tuple[State, list[Envelope]]:
-    """The numbers of an election, and the envelopes whose lines debvote refuses, but for those of
-    electors whose ballots answer the same questions.
-    """
-    book, has_codes = election.book, history.has_codes_on_roll
-    electors = queries.electors(book)
+def state_of(election: Election, history: History, counting: Mapping[str, str]) -> State:
+    """The numbers of an election; `counting` is what counts of each elector."""
+    book = election.book
+    electors = [elector.name for elector in queries.electors(book)]
     pending = Pending() if history.call is None else pending_letters(election, history)
-    numbers, counting = queries.numbers(book), queries.what_counts(book)
     unreached, printed = unreached_and_printed(election, history)
-    state = {
+    return {
         "stage": history.stage,
         "electors": len(electors),
-        **numbers._asdict(),
+        **queries.numbers(book)._asdict(),
         "late": len(queries.lines(book, queries.LATE)),
         "struck": len(history.since_call("strike")),
         "taken_back": len(queries.lost(book)),
         "waiting": pending.count,
         "stopping": pending.stopping,
         "without_ballot": None
-        if has_codes
-        else [elector.name for elector in electors if elector.name not in counting],
+        if history.has_codes_on_roll
+        else [name for name in electors if name not in counting],
         "box": asked_last(election, history),
         "lost": with_lost_records(election, history),
         "not_reached": {elector.name: why for elector, why, _ in unreached},
@@ -76,21 +76,30 @@ def state_of(election: Election, history: History) -> tuple[State, list[Envelope
         "act": history.last.number,
         "digest": history.last.digest,
     }
-    if history.call is not None and election.questions.is_several:
-        state["questions"] = questions_in(election, history, has_late=bool(state["late"]))
-    answered = {one.number: ranks_by_label(counting.get(one.name, "")) for one in electors}
-    refused = queries.envelopes(book, queries.REFUSED)
-    return state, [
-        one for one in refused if one.by_question.keys() - answered.get(one.elector or 0, {})
+
+
+def still_refused(book: Book, counting: Mapping[str, str]) -> list[Envelope]:
+    """The envelopes whose lines debvote refuses, but for those of electors whose ballots answer the
+    same questions.
+    """
+    answered = {
+        elector.number: ranks_by_label(counting.get(elector.name, ""))
+        for elector in queries.electors(book)
+    }
+    return [
+        envelope
+        for envelope in queries.envelopes(book, queries.REFUSED)
+        if envelope.by_question.keys() - answered.get(envelope.elector or 0, {})
     ]
 
 
 def questions_in(election: Election, history: History, *, has_late: bool) -> State:
     """The numbers of each of several questions."""
-    book, titles = election.book, election.questions
+    book = election.book
+    polls = election.questions
     return {
         label: {
-            "title": titles[label].name,
+            "title": polls[label].name,
             "stage": history.stage,
             **queries.numbers(book)._asdict(),
             "late": len(queries.lines(book, queries.LATE)) if has_late else 0,
@@ -106,21 +115,17 @@ def stage_words(election: Election, history: History, state: State) -> Iterator[
     questions = election.questions
     yield f"Title: {questions.name}"
     if questions.is_secret:
-        under = "codes" if history.has_codes_on_roll else "aliases"
-        yield f"The vote is secret: ballots are published under {under}. Keep the output of this command to yourself."
+        yield f"The vote is secret: ballots are published under {'codes' if history.has_codes_on_roll else 'aliases'}. Keep the output of this command to yourself."
     if history.until is not None:
-        over = "; that time has passed" if times.now() >= history.until else ""
-        yield f"End of the vote: {times.time_in_words(history.until)}{over}"
+        yield f"End of the vote: {times.time_in_words(history.until)}{'; that time has passed' if times.now() >= history.until else ''}"
     yield f"Call for votes: made at {act_time(history.call.time)}"
-    closed = f"at {act_time(history.closes[-1].time)}" if history.is_closed else "not yet"
-    yield f"Closed: {closed}"
+    yield f"Closed: {f'at {act_time(history.closes[-1].time)}' if history.is_closed else 'not yet'}"
     if history.is_reopened:
         yield f"Reopened: at {act_time(history.named('reopen')[-1].time)}"
     quorums = history.call.detail["quorum_votes"]
     for label, poll in questions.items():
         if label:
-            voters = count_of(state["questions"][label]["voters"], "elector")
-            yield f"Question {label}: {poll.name}: {voters} answered"
+            yield f"Question {label}: {poll.name}: {count_of(state['questions'][label]['voters'], 'elector')} answered"
         yield f"{'  ' if label else ''}{quorum_words(poll.quorum, quorums[label])}"
 
 
@@ -138,13 +143,19 @@ def state_words(
         "Ballots that nobody can open, and no later ones, by the links of", state["lost"]
     )
     yield from named("Electors without a ballot", state["without_ballot"])
-    yield from refused_words(refused, has_codes=history.has_codes_on_roll)
+    # with codes on the roll the lines would tell codes
+    if refused and history.has_codes_on_roll:
+        yield f"Refused: {envelope_words([envelope.number for envelope in refused])}"
+    elif refused:
+        yield f"Refused lines of electors without a ballot to the question, or of nobody known ({len(refused)}):"
+        for envelope in refused:
+            yield f"  envelope {envelope.number}: {shown_line(envelope.line)}"
+            yield f"    {private(str(envelope.why_refused))}"
     if state["waiting"]:
         yield f"{letter_words.wait_words(state['waiting'])} until you have looked at them: {election.command('held')}"
     if state["stopping"]:
         stops = "count and publish stop" if history.is_closed else "close stops"
-        numbers = ", ".join(map(str, state["stopping"]))
-        yield f"These arrived in time, and {stops} while they wait: {numbers}"
+        yield f"These arrived in time, and {stops} while they wait: {', '.join(map(str, state['stopping']))}"
     for reason in dict.fromkeys(state["not_reached"].values()):
         names = [name for name, why in state["not_reached"].items() if why == reason]
         yield from named(f"Not reached by the call: {reason}", names)
@@ -158,27 +169,13 @@ def named(what: str, names: list[str] | None) -> Iterator[str]:
         yield from (f"{what} ({len(names)}):", wrapped(names))
 
 
-def refused_words(refused: list[Envelope], *, has_codes: bool) -> Iterator[str]:
-    """Lines, each with what debvote says of it. With codes on the roll they would tell codes."""
-    if has_codes and refused:
-        yield f"Refused: {envelope_words([one.number for one in refused])}"
-    elif refused:
-        who = "of electors without a ballot to the question, or of nobody known"
-        yield f"Refused lines {who} ({len(refused)}):"
-        for one in refused:
-            yield f"  envelope {one.number}: {shown_line(one.line)}"
-            yield f"    {private(str(one.why_refused))}"
-
-
 def what_next(election: Election, history: History, state: State) -> str:
     if state["stage"] == "new":
         return f"{election.command('roll')}, then {election.command('check')}, then {election.command('call')}"
     if state["stage"] == "called":
-        add = f"{election.command('add', 'FILE')}, or {election.command('desk')}"
-        return f"add the ballots as they come: {add}; when the vote is over: {election.command('close')}"
+        return f"add the ballots as they come: {election.command('add', 'FILE')}, or {election.command('desk')}; when the vote is over: {election.command('close')}"
     if state["stage"] == "published" and not state["stopping"]:
-        send = election.to_all("result", election.path(LETTERS) / RESULT_LETTER)
-        return f"put the published folder on the web site as it is, then {send}"
+        return f"put the published folder on the web site as it is, then {election.to_all('result', election.path(LETTERS) / RESULT_LETTER)}"
     # what stops a count goes first
     is_unasked = unasked_fault(election, history, "count")
     first = f"{election.command('add', '--box')}, then " if is_unasked else ""

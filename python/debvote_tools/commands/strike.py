@@ -1,4 +1,4 @@
-"""The command `strike`."""
+"""The command `strike`, which takes out one envelope."""
 
 import re
 
@@ -14,7 +14,6 @@ from debvote_tools.inbox import letter_words
 from debvote_tools.inbox.judging import letters_now
 from debvote_tools.inbox.lines import name_in
 from debvote_tools.inbox.vote import Vote
-
 
 # what can be a code of the roll or half of one, as if it was typed with a gap
 LIKE_A_CODE = re.compile(rb"[0-9A-Za-z]{5,}")
@@ -69,8 +68,9 @@ def what_is_struck(vote: Vote, arguments: Arguments, because: str) -> Change:
 def in_words(envelope: Envelope, vote: Vote) -> str:
     # no code that nobody typed, nor one with a wrong digit
     line = LIKE_A_CODE.sub(b"CODE", envelope.line) if vote.has_codes else envelope.line
-    late = " (late)" if envelope.is_late else ""
-    return f"envelope {envelope.number}{late}: `{shown_line(line)}`"
+    return (
+        f"envelope {envelope.number}{' (late)' if envelope.is_late else ''}: `{shown_line(line)}`"
+    )
 
 
 def demand_envelope(vote: Vote, number: int) -> Envelope:
@@ -83,11 +83,16 @@ def demand_envelope(vote: Vote, number: int) -> Envelope:
     # a number that SQLite can't be asked about is none of them
     if not 0 < number <= last:
         there = f"there are envelopes 1 to {last}" if last else "no ballot has come yet"
-        cure = "show NAME lists the envelopes of an elector"
-        raise Fault(None, f"there is no envelope {number}; {there}", cure)
+        raise Fault(
+            None,
+            f"there is no envelope {number}; {there}",
+            "show NAME lists the envelopes of an elector",
+        )
     [envelope] = queries.envelopes(vote.book, "envelope = ?", number)
     if envelope.struck is not None:
-        time = act_time(history.act(envelope.struck).time)
-        words = f"envelope {number} is struck already, by act {envelope.struck} at {time}"
-        raise Fault(None, words, f"see {vote.election.command('log')}")
+        raise Fault(
+            None,
+            f"envelope {number} is struck already, by act {envelope.struck} at {act_time(history.act(envelope.struck).time)}",
+            f"see {vote.election.command('log')}",
+        )
     return envelope

@@ -1,4 +1,4 @@
-"""The command `undo`."""
+"""The command `undo`, which takes back the last act that entered lines."""
 
 import contextlib
 import dataclasses
@@ -58,73 +58,84 @@ def undo(election: Election, arguments: Arguments) -> None:
 
 def what(act: DoneAct, numbers: Sequence[int]) -> str:
     files = f" of {', '.join(act.detail['files'])}" if act.detail.get("files") else ""
-    which = f"act {act.number}: {act.name}{files}, {act_time(act.time)}, {envelope_words(numbers)}"
-    return f"{count_of(len(numbers), 'line')} ({which})"
+    return f"{count_of(len(numbers), 'line')} (act {act.number}: {act.name}{files}, {act_time(act.time)}, {envelope_words(numbers)})"
 
 
 def what_is_taken_back(vote: Vote, arguments: Arguments) -> TakenBack:
     """The last act that entered lines of which one is not struck, and what changes. Stops if there
     is none, or at a close.
     """
-    book, election = vote.book, vote.election
+    book = vote.book
     with book.snapshot():
-        history = election.history()
-        demand_open(election, history)
-        number = queries.last_entering_act(book)
-        if not number:
-            words = "there is nothing to take back"
-            raise Fault("undo", words, f"see {election.command('status')}")
-        envelopes = queries.envelopes(book, "act = ? AND struck IS NULL", number)
-        electors = {envelope.elector for envelope in envelopes if envelope.elector is not None}
-        before = queries.what_counts(book, electors)
-        after = queries.what_counted(book, history.last.number, electors, without=number)
-    act, struck = history.act(number), [envelope.number for envelope in envelopes]
-    letters = sorted({one.letter for one in envelopes if one.letter is not None})
+        history = vote.election.history()
+        act = last_entering_act(vote, history)
+        envelopes = queries.envelopes(book, "act = ? AND struck IS NULL", act.number)
+        before, after = what_counts(book, history, envelopes, act)
+    struck = [envelope.number for envelope in envelopes]
+    letters = sorted({envelope.letter for envelope in envelopes if envelope.letter is not None})
     question = terminal_question(f"Take back {what(act, struck)}?", arguments.yes)
-    none = "no ballot would be left" if question else "no ballot is left"
+    none = f"no ballot {'would be' if question else 'is'} left"
     ballots = standing_words(vote, before, after, none)
     others = [*what_else_changes(book, struck, letters)]
     return TakenBack(
         "undo",
-        {"act": number},
+        {"act": act.number},
         shown=[*ballots, *others] if question else (),
         question=question,
         struck=struck,
         letters=dict.fromkeys(letters, queries.TAKEN_BACK),
         undone=act,
-        is_typed=bool(queries.lines(book, "act = ? AND envelope IN typed", number)),
+        is_typed=bool(queries.lines(book, "act = ? AND envelope IN typed", act.number)),
         ballots=ballots,
         others=others,
     )
 
 
+def what_counts(
+    book: Book, history: History, envelopes: Sequence[queries.Envelope], act: DoneAct
+) -> tuple[dict[str, str], dict[str, str]]:
+    """What counts of the electors of these envelopes, with their act and without it."""
+    electors = {envelope.elector for envelope in envelopes if envelope.elector is not None}
+    after = queries.what_counted(book, history.last.number, electors, without=act.number)
+    return queries.what_counts(book, electors), after
+
+
+def last_entering_act(vote: Vote, history: History) -> DoneAct:
+    demand_open(vote.election, history)
+    if number := queries.last_entering_act(vote.book):
+        return history.act(number)
+    raise Fault("undo", "there is nothing to take back", f"see {vote.election.command('status')}")
+
+
 def what_else_changes(book: Book, struck: Sequence[int], letters: Sequence[int]) -> Iterator[str]:
     """Beside ballots: letters, and receipts, which tell of envelopes."""
     if letters:
-        wait = count_of(len(letters), "letter then waits", "letters then wait")
-        yield f"{wait} again, as taken back: {', '.join(map(str, letters))}"
+        yield f"{count_of(len(letters), 'letter then waits', 'letters then wait')} again, as taken back: {', '.join(map(str, letters))}"
     about = {("envelope", number, False) for number in struck}
     written = outgoing.outgoing_letters(book, "receipts")
     having = {letter.elector for letter in written if about.intersection(letter.about)}
-    if names := [one.name for one in queries.electors(book) if one.number in having]:
+    if names := [elector.name for elector in queries.electors(book) if elector.number in having]:
         yield f"These electors have receipts that are no longer true: {', '.join(names)}"
 
 
-def words_to_enter(vote: Vote, found: Mapping[int, LetterCase], change: TakenBack) -> list[str]:
+def words_to_enter(vote: Vote, letters: Mapping[int, LetterCase], change: TakenBack) -> list[str]:
     """What is typed after `held` to enter again what was taken back; empty if no one command does
     it.
     """
     numbers = [*change.letters]
     if len(numbers) <= MOST_NAMED:
         ranges = [range(number, number + 1) for number in numbers]
-        how = held.Arguments(numbers=ranges, enter=True, force=False, yes=True)
+        arguments = held.Arguments(numbers=ranges, enter=True, force=False, yes=True)
         with contextlib.suppress(Fault):
-            held.what_is_entered(vote, [*found.values()], how)
+            held.what_is_entered(vote, [*letters.values()], arguments)
             return [*map(str, numbers), "--enter"]
     return []
 
 
 def demand_open(election: Election, history: History) -> None:
     if history.is_closed:
-        words = f"the vote was closed at {act_time(history.closes[-1].time)}, and its ballots stay"
-        raise Fault(None, words, f"if they are wrong, see {election.command('reopen')}")
+        raise Fault(
+            None,
+            f"the vote was closed at {act_time(history.closes[-1].time)}, and its ballots stay",
+            f"if they are wrong, see {election.command('reopen')}",
+        )
