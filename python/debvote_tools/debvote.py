@@ -67,9 +67,15 @@ class Debvote:
         beside = shutil.which("debvote", path=str(program_folder)) if program_folder else None
         path = beside or shutil.which("debvote")
         if path is None:
-            words = "the program is neither beside this one nor in the PATH"
-            raise Fault("debvote", words, "install the package debvote", Status.NOT_FOUND, None)
-        self.path, self.folder = os.path.abspath(path), folder
+            raise Fault(
+                "debvote",
+                "the program is neither beside this one nor in the PATH",
+                "install the package debvote",
+                Status.NOT_FOUND,
+                None,
+            )
+        self.path = os.path.abspath(path)
+        self.folder = folder
 
     def run(self, *words: str | os.PathLike[str], given: bytes = b"") -> Answer:
         """Runs debvote, with these bytes as its standard input."""
@@ -78,11 +84,11 @@ class Debvote:
                 [self.path, *words], cwd=self.folder, capture_output=True, input=given
             )
         except OSError as error:
-            reason, cure = f"it can't be started ({error.strerror})", "run the command again"
-            raise Fault(self.path, reason, cure, Status.BAD_OUTPUT) from None
+            reason = f"it can't be started ({error.strerror})"
+            raise Fault(self.path, reason, "run the command again", Status.BAD_OUTPUT) from None
         status = ended.returncode if ended.returncode >= 0 else 128 - ended.returncode
-        text, faults = ended.stdout.decode("ascii", "replace"), ended.stderr
-        return Answer(text, faults.decode("utf-8", "replace"), status)
+        text = ended.stdout.decode("ascii", "replace")
+        return Answer(text, ended.stderr.decode("utf-8", "replace"), status)
 
     def answer(
         self, task: str, poll_bytes: bytes, ballots_bytes: bytes = b"", *words: str
@@ -113,8 +119,8 @@ def refusal(answer: Answer) -> Fault:
         Status.BAD_BALLOTS: f"debvote takes at most {LINES_LIMIT} lines and {BALLOTS_LIMIT} bytes of ballots: add fewer",
     }
     cure = cures.get(answer.status, "run the command again")
-    said = answer.refusal or f"it ended with status {answer.status}"
-    return Fault("debvote", said, cure, answer.status)
+    reason = answer.refusal or f"it ended with status {answer.status}"
+    return Fault("debvote", reason, cure, answer.status)
 
 
 def casting_words(name: str | None) -> list[str]:

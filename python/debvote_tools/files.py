@@ -1,6 +1,4 @@
-"""Files that are read up to a limit, and written whole or not at all; what is no plain text; and
-the lock of a folder.
-"""
+"""Files that are read up to a limit, and written whole or not at all, and the lock of a folder."""
 
 import contextlib
 import fcntl
@@ -20,12 +18,15 @@ from debvote_tools.cli.console import number_of, odd_sign
 
 # in bytes and in lines; of a longer file a byte more is read, so that debvote says that it is too
 # long
-POLL_LIMIT, BALLOTS_LIMIT, LINES_LIMIT = 1_048_576, 33_554_432, 100_000
+POLL_LIMIT = 1_048_576
+BALLOTS_LIMIT = 33_554_432
+LINES_LIMIT = 100_000
 
 # in bytes; ten thousand members or electors, with a letter about each, are shorter
 TABLE_LIMIT = 33_554_432
 
-PACKED, PDF = "a ZIP, as word processors and spreadsheets save", "a PDF"
+PACKED = "a ZIP, as word processors and spreadsheets save"
+PDF = "a PDF"
 # how files begin that are no plain text
 BEGINNINGS = {
     b"PK\x03\x04": PACKED,
@@ -96,13 +97,18 @@ def read_text(
         text = data.decode().removeprefix("\ufeff").replace("\r\n", "\n")
     except UnicodeDecodeError as error:
         line = data.count(b"\n", 0, error.start) + 1
-        cure = f"save it as plain text in UTF-8{then}"
-        raise bad_words(f"{file}:{line}", "it is not in UTF-8", cure, None) from None
+        raise bad_words(
+            f"{file}:{line}", "it is not in UTF-8", f"save it as plain text in UTF-8{then}", None
+        ) from None
     odd = odd_sign(text, allowed="\t\n", refused=refused)
     if odd is not None:
         line = text.count("\n", 0, text.index(odd)) + 1
-        words = f"it has the character {number_of(odd)}, which no plain text has"
-        raise bad_words(f"{file}:{line}", words, f"take it out{then}", None)
+        raise bad_words(
+            f"{file}:{line}",
+            f"it has the character {number_of(odd)}, which no plain text has",
+            f"take it out{then}",
+            None,
+        )
     if not text.strip():
         raise bad_words(file, "it is empty", empty + then, None)
     return text
@@ -147,9 +153,13 @@ def write_whole(file: pathlib.Path, data: bytes, mode: int) -> None:
         sync_folder(file.parent)
     except OSError as error:
         # after a power cut its name may be gone
-        done = "it was written, but may not be on the disk yet"
-        cure = "put this right, then run the command again"
-        raise Fault(file, error.strerror, cure, Status.BAD_OUTPUT, done) from None
+        raise Fault(
+            file,
+            error.strerror,
+            "put this right, then run the command again",
+            Status.BAD_OUTPUT,
+            "it was written, but may not be on the disk yet",
+        ) from None
 
 
 def temporary_folder(place: pathlib.Path, prefix: str = TEMPORARY) -> pathlib.Path:
@@ -229,12 +239,10 @@ def locked(
 
     The lock of a process that is killed is free.
     """
-    flags, how = os.O_RDWR | os.O_CREAT, fcntl.LOCK_EX
-    if is_directory:
-        flags, how = os.O_DIRECTORY, fcntl.LOCK_EX | (0 if waits else fcntl.LOCK_NB)
+    flags = os.O_DIRECTORY if is_directory else os.O_RDWR | os.O_CREAT
     handle = os.open(place, flags | os.O_CLOEXEC, 0o644)
     try:
-        fcntl.flock(handle, how)
+        fcntl.flock(handle, fcntl.LOCK_EX | (fcntl.LOCK_NB if is_directory and not waits else 0))
         yield
     finally:
         os.close(handle)
@@ -246,8 +254,12 @@ def in_memory(data: bytes) -> Iterator[str]:
     try:
         handle = os.memfd_create("debvote")
     except OSError as error:
-        words = f"there is not enough for a copy of the input ({error.strerror})"
-        raise Fault("memory", words, "run the command again", Status.BAD_OUTPUT) from None
+        raise Fault(
+            "memory",
+            f"there is not enough for a copy of the input ({error.strerror})",
+            "run the command again",
+            Status.BAD_OUTPUT,
+        ) from None
     with open(handle, "wb") as target:
         target.write(data)
         target.flush()
@@ -267,7 +279,8 @@ def uninterrupted() -> Iterator[None]:
 
 # ---- folders that are made from the book
 # the modes of a folder and its files: for everybody, and for the secretary alone
-PUBLIC, OWN = (0o755, 0o644), (0o700, 0o600)
+PUBLIC = (0o755, 0o644)
+OWN = (0o700, 0o600)
 
 
 def remove_left_in(folder: pathlib.Path) -> None:

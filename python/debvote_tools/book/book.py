@@ -234,18 +234,13 @@ class Book:
 
     # ---- acts
     @contextlib.contextmanager
-    def act(
-        self, name: ActName, detail: Detail | None = None, *, seen: int | None = None
-    ) -> Iterator[NewAct]:
-        """One act: its rows are committed at the end, or none after an exception. `seen` is the
-        last act that was known when this one was decided; if others came since, it is `Overtaken`.
-        Within the act nobody is asked and no program runs.
+    def act(self, name: ActName, detail: Detail | None = None) -> Iterator[NewAct]:
+        """One act: its rows are committed at the end, or none after an exception. Within the act
+        nobody is asked and no program runs.
         """
         self.note().make_ready()
         with self.transaction("BEGIN IMMEDIATE"):
             before = self.last_act()
-            if seen not in (None, before.number):
-                raise Overtaken
             if file_at(self.path) != self.file:
                 # what is written into the open file, nobody finds again
                 words = "another file took its place while this command was running"

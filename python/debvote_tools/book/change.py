@@ -5,7 +5,7 @@ import dataclasses
 from collections.abc import Callable, Mapping, Sequence
 from typing import TypeVar
 
-from debvote_tools.book import queries
+from debvote_tools.book import outgoing, queries
 from debvote_tools.book.book import ActName, Book, Detail, NewAct, Overtaken
 from debvote_tools.cli.console import is_terminal, is_yes, tell
 from debvote_tools.cli.faults import Fault
@@ -30,6 +30,10 @@ class Change:
     # the envelopes that are struck, and what is decided of letters
     struck: Sequence[int] = ()
     letters: Mapping[int, str] = dataclasses.field(default_factory=dict)
+    # the electors who change, what is sealed, by its names, and the letters that are written
+    electors: Sequence[queries.Elector] = ()
+    sealed: Mapping[str, bytes] = dataclasses.field(default_factory=dict)
+    written: Sequence[outgoing.OutgoingLetter] = ()
 
     def show(self) -> None:
         if self.shown:
@@ -50,12 +54,17 @@ class Change:
         queries.strike_envelopes(act, self.struck)
         for letter, state in self.letters.items():
             queries.decide(act, letter, state)
+        queries.put_electors(act, self.electors)
+        act.insert_all("sealed", "name, data", self.sealed.items())
+        outgoing.note(act, self.written)
 
     def report(self, act: int) -> None:
         """What is told of the act, whose number this is, before an interrupt can end the run."""
 
     def do(self, book: Book, seen: int) -> None:
-        """The act. `seen` is the last act before it was planned."""
+        """The act. `seen` is the last act before it was planned; if others came since, and it would
+        not be planned so again, it is `Overtaken`.
+        """
         with contextlib.ExitStack() as stack:
             with book.act(self.name, self.detail) as act:
                 if act.number != seen + 1 and not self.is_same_now():
@@ -74,7 +83,8 @@ Planned = TypeVar("Planned", bound=Change)
 
 
 def carried_out(book: Book, plan: Callable[[], Planned]) -> Planned:
-    """Shows what is planned, asks, and does it. If other acts came meanwhile it is planned anew,
+    """Shows what is planned, asks, and does it. A plan may ask at the terminal, too, what only a
+    person knows, as whether a line came in time. If other acts came meanwhile it is planned anew,
     and shown again if it differs: what was agreed to is done. Returns the last plan.
     """
     shown: Planned | None = None

@@ -48,16 +48,26 @@ def electors(book: Book) -> list[Elector]:
     return [elector for elector in all_electors(book) if elector.position is not None]
 
 
-def new_elector(act: NewAct, name: str) -> Elector:
-    """An elector whom the book did not know, not yet on the list."""
-    return Elector(act.insert("elector", name=name), name, None, "", ())
+def new_elector(name: str) -> Elector:
+    """An elector whom the book does not know, and so without a number; not yet on the list."""
+    return Elector(0, name, None, "", ())
 
 
 def put_electors(act: NewAct, electors: Iterable[Elector]) -> None:
-    rows = (
-        (number, position, who, json.dumps(addresses, ensure_ascii=False), key, code, alias, mark)
-        for number, _, position, who, addresses, key, code, alias, mark in electors
-    )
+    """Puts electors as they are now; those without a number get one."""
+    rows = [
+        (
+            number or act.insert("elector", name=name),
+            position,
+            who,
+            json.dumps(addresses, ensure_ascii=False),
+            key,
+            code,
+            alias,
+            mark,
+        )
+        for number, name, position, who, addresses, key, code, alias, mark in electors
+    ]
     act.insert_all("elector_state", "elector, position, who, mail, key, code, alias, mark", rows)
 
 

@@ -1,5 +1,6 @@
-"""The options of a command, each written once: as a field of the command's class `Arguments`, from
-which the parser is made.
+"""The options of a command, each written once, as a field of its class `Arguments`.
+
+The parser is made from these fields:
 
     class Arguments(Acting):
         number: int = positional("NUMBER", "The number of the envelope", type=int)
@@ -62,7 +63,8 @@ class Acting(Options):
     )
 
     # whether the command needs a folder that is writable, and computes all digests anew
-    writes, checks = True, False
+    writes = True
+    checks = False
 
 
 class Parser(argparse.ArgumentParser):
@@ -82,10 +84,9 @@ class Parser(argparse.ArgumentParser):
             # it takes a while to be imported
             import difflib
 
-            near = difflib.get_close_matches(found[1], found[2].split("', '"), 1)
-            message = f"there is no command {found[1]!r}" + "".join(
-                f"; did you mean {one}?" for one in near
-            )
+            message = f"there is no command {found[1]!r}"
+            for near in difflib.get_close_matches(found[1], found[2].split("', '"), 1):
+                message += f"; did you mean {near}?"
         if message == "unrecognized arguments: --marked":
             message = "--marked: it is always so now; leave it out"
         super().error(message)
@@ -123,13 +124,19 @@ def demand_reason(because: str | None, option: str, *, has_paragraphs: bool = Fa
     """The reason that an option needs: one line of plain text, or several."""
     text = (because or "").strip()
     if not text:
-        words, cure = "it needs a reason, which the log keeps", 'write it: --because "TEXT"'
-        raise bad_words(option, words, cure)
+        reason = "it needs a reason, which the log keeps"
+        raise bad_words(option, reason, 'write it: --because "TEXT"')
     odd = odd_sign(text, allowed="\t\n") if has_paragraphs else odd_sign(text, refused=LINE_ENDS)
     if odd is not None:
-        words = f"the text has the character {number_of(odd)}, which no plain text has"
-        raise bad_words("--because", words, "take it out")
+        raise bad_words(
+            "--because",
+            f"the text has the character {number_of(odd)}, which no plain text has",
+            "take it out",
+        )
     if len(text) > LONGEST_REASON:
-        words = f"the text has {len(text)} characters; at most {LONGEST_REASON} are allowed"
-        raise bad_words("--because", words, "shorten it")
+        raise bad_words(
+            "--because",
+            f"the text has {len(text)} characters; at most {LONGEST_REASON} are allowed",
+            "shorten it",
+        )
     return text

@@ -1,6 +1,6 @@
-"""What both programs say and ask: only this module writes to standard output and standard error,
-and reads an answer. And the words that several commands say.
+"""What both programs say and ask, and the words that several commands say.
 
+Only this module writes to standard output and standard error, and reads an answer.
 Characters that steer a terminal are replaced by `written` in all that is printed; what debvote
 wrote has none, and is written as it is. `shown_line` and `shown_text` are for what others wrote.
 """
@@ -33,14 +33,19 @@ LEAVING_OUT = contextvars.ContextVar[Callable[[str], str]]("leaving out", defaul
 FOR_TERMINALS = contextvars.ContextVar[bool]("for terminals", default=False)
 
 
+# of a command that came to no good end
+REPORTED = "what the command has reported is done"
+
+
 class OutputFailed(Fault):
     """Standard output takes nothing more. Who reads the first lines alone, as `head` does, closes
     the pipe, and has what was asked for.
     """
 
     def __init__(self, *, is_closed_pipe: bool = False) -> None:
-        cure, done = "see debvote-election status", "what the command has reported is done"
-        super().__init__(None, "the output failed", cure, Status.BAD_OUTPUT, done)
+        super().__init__(
+            None, "the output failed", "see debvote-election status", Status.BAD_OUTPUT, REPORTED
+        )
         self.is_closed_pipe = is_closed_pipe
 
 
@@ -153,7 +158,8 @@ def is_yes(question: str) -> bool | None:
 
 # ---- characters
 # how many characters are shown of a line that came, and of a short text
-SHOWN_OF_LINE, SHOWN_OF_TEXT = 100, 60
+SHOWN_OF_LINE = 100
+SHOWN_OF_TEXT = 60
 
 # control characters but for line feed and carriage return, and what turns the direction of a text
 # or ends a line unseen
@@ -163,7 +169,8 @@ STEERING = re.compile(
 
 # what no plain text has: control characters, surrogates, private use, and what turns the text
 # around it; and what ends a line or a paragraph beside the line feed
-ODD, TURNING = ("Cc", "Cs", "Co"), "\u202a\u202b\u202c\u202d\u202e\u2066\u2067\u2068\u2069"
+ODD = ("Cc", "Cs", "Co")
+TURNING = "\u202a\u202b\u202c\u202d\u202e\u2066\u2067\u2068\u2069"
 LINE_ENDS = "\u2028\u2029"
 
 # characters that people know by a name
@@ -268,5 +275,4 @@ def quorum_words(multiple: int, votes: int) -> str:
     """What a quorum asks for: a number of times Q, which is a number of votes."""
     if multiple == 0:
         return "Quorum: none"
-    least = f"at least {count_of(votes, 'elector')} must prefer an option to the default option"
-    return f"Quorum: {count_of(votes, 'vote')} ({multiple}Q): {least}"
+    return f"Quorum: {count_of(votes, 'vote')} ({multiple}Q): at least {count_of(votes, 'elector')} must prefer an option to the default option"

@@ -3,7 +3,7 @@
 import contextlib
 import dataclasses
 import enum
-from collections.abc import Iterator, Sequence
+from collections.abc import Iterable, Iterator
 
 
 class Status(enum.IntEnum):
@@ -43,8 +43,8 @@ class Fault(Exception):
 
     @property
     def words(self) -> str:
-        where = "" if self.file is None else f"{self.file}: "
         done = "; " if self.done is None else f"; {self.done}: " if self.done else ": "
+        where = "" if self.file is None else f"{self.file}: "
         return f"{where}{self.reason}{done}{self.cure}"
 
     def __str__(self) -> str:
@@ -60,11 +60,6 @@ class Fault(Exception):
             self.done = f"{acts}; {done}"
         return self
 
-    def with_done(self, done: str) -> "Fault":
-        """The same fault, if this was done, too."""
-        self.done = "; ".join(filter(None, [self.done, done]))
-        return self
-
 
 def bad_words(
     option: object, reason: object, cure: str, done: str | None = NOTHING_CHANGED
@@ -73,10 +68,10 @@ def bad_words(
     return Fault(option, reason, cure, Status.BAD_WORDS, done)
 
 
-def stop_at(faults: Sequence[Fault]) -> None:
+def stop_at(faults: Iterable[Fault]) -> None:
     """Stops if there are faults, which are all reported. The exit status is that of the first."""
-    if faults:
-        first, *others = [one for fault in faults for one in (fault, *fault.others)]
+    if together := [each for fault in faults for each in (fault, *fault.others)]:
+        first, *others = together
         first.others = tuple(others)
         raise first
 

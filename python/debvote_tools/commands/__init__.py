@@ -1,1 +1,1 @@
-"""The commands of debvote-election, one module each."""
+"""The commands of debvote-election, each in a module of its name, and its command line."""

@@ -1,4 +1,4 @@
-"""The command `add`."""
+"""The command `add`, which enters ballots from letters, files or standard input."""
 
 import collections
 import dataclasses
@@ -18,7 +18,6 @@ from debvote_tools.debvote import TABLE
 from debvote_tools.election import Election, History
 from debvote_tools.grouping import grouped
 from debvote_tools.inbox import entering
-from debvote_tools.inbox.entering import Entry
 from debvote_tools.inbox.given_files import GivenFile, read_files
 from debvote_tools.inbox.lines import MARK, Line, lines_in
 from debvote_tools.inbox.option_names import OptionNames
@@ -26,11 +25,14 @@ from debvote_tools.inbox.vote import IN_ORDER, CheckedLine, Vote, replies_to, su
 from debvote_tools.text.ballots import part_of
 
 FORCE = "add it anyway with --force"
+NOTHING_NEW = "There is nothing new, and nothing was added."
 
 # how many lines are shown that are no ballots, and how many that came before and no longer count
-MAX_REFUSED, MAX_REPEATED = 10, 20
+MAX_REFUSED = 10
+MAX_REPEATED = 20
 
-is_ballot, AS_ENTERED = operator.attrgetter("is_ballot"), operator.attrgetter("as_entered")
+is_ballot = operator.attrgetter("is_ballot")
+as_entered = operator.attrgetter("as_entered")
 
 # the heads of a list of members
 MEMBERS_HEADS = {"who", "mail"}
@@ -65,8 +67,9 @@ def add(election: Election, arguments: Arguments) -> None:
         take_lines(vote, files, arguments)
         return
     if of_lines := given(arguments, "force", "came_before_close"):
-        words = "only for lines, and these are letters"
-        raise bad_words(", ".join(of_lines), words, "leave this out")
+        raise bad_words(
+            ", ".join(of_lines), "only for lines, and these are letters", "leave this out"
+        )
     # what reads letters takes a while to be imported
     from debvote_tools.inbox.taking import take_letters
 
@@ -107,6 +110,7 @@ class NewLines:
 
     history: History = dataclasses.field(compare=False)
     timing: Sequence[DoneAct]
+    is_late: bool
     files: Sequence[ComparedLines]
     # those that were late, and would replace ballots in time, each in words
     replacing: Mapping[CheckedLine, str]
@@ -123,15 +127,15 @@ def new_lines(vote: Vote, files: Sequence[FileLines], came_before_close: bool | 
     compared = compared_with_book(vote.book, files, is_late)
     lines = [line for file in compared for line in file.new]
     replacing = entering.replaced_in_time(vote, lines, is_late)
-    return NewLines(history, history.timing, compared, replacing)
+    return NewLines(history, history.timing, is_late, compared, replacing)
 
 
-def without_declined(new: NewLines, arguments: Arguments) -> NewLines:
-    """The same without the late lines of which somebody at a terminal says that they replace
-    none.
+def asked_of_late(new: NewLines, arguments: Arguments) -> NewLines:
+    """Asks at a terminal of each late line that would replace a ballot in time; returns the same
+    without those that are not to be entered.
     """
-    asked = () if arguments.force else new.replacing.items()
-    declined = [line for line, words in asked if not is_yes(f"{words}. Enter it?")]
+    replacing = () if arguments.force else new.replacing.items()
+    declined = [line for line, words in replacing if not is_yes(f"{words}. Enter it?")]
     files = [
         dataclasses.replace(file, new=[line for line in file.new if line not in declined])
         for file in new.files
@@ -140,7 +144,7 @@ def without_declined(new: NewLines, arguments: Arguments) -> NewLines:
 
 
 @dataclasses.dataclass(frozen=True, kw_only=True)
-class Addition(Entry):
+class Addition(entering.Entry):
     """An act that enters the new lines of files."""
 
     files: Sequence[FileLines]
@@ -153,20 +157,16 @@ class Addition(Entry):
 
     def write(self, act: NewAct) -> None:
         """Keeps each file whole, and enters its lines."""
-        files = [
-            (queries.keep_source(act, file.file.kept_name, file.file.data), file.new)
-            for file in self.new.files
-        ]
-        self.enter(
-            act,
-            [
+        envelopes = list[NewEnvelope]()
+        for file in self.new.files:
+            source = queries.keep_source(act, file.file.kept_name, file.file.data)
+            envelopes += [
                 NewEnvelope(
                     line.as_entered, line.original.place, source, why_refused=line.why_refused
                 )
-                for source, lines in files
-                for line in lines
-            ],
-        )
+                for line in file.new
+            ]
+        self.enter(act, envelopes)
 
     def words(self, numbers: range, replies: Sequence[str]) -> Iterator[str]:
         yield from report_of_files(self.vote, self.new, numbers, replies)
@@ -174,14 +174,11 @@ class Addition(Entry):
 
 
 def what_is_added(vote: Vote, files: Sequence[FileLines], arguments: Arguments) -> Addition:
+    """The act that enters the new lines. It asks what only a person knows of them."""
     came_before_close = entering.came_before_close(vote.history(), arguments.came_before_close)
     new = new_lines(vote, files, came_before_close)
-    stop_at(list(faults_of_lines(vote, new, arguments)))
-    new = without_declined(new, arguments)
-    if not new.lines:
-        nothing = "There is nothing new, and nothing was added."
-        shown = [*report_of_files(vote, new, (), ()), nothing]
-        return Addition("add", {}, shown=shown, is_nothing=True, vote=vote, files=files, new=new)
+    stop_at(faults_of_lines(vote, new, arguments))
+    new = asked_of_late(new, arguments)
     detail: Detail = {
         "files": [file.file.kept_name for file in new.files],
         "lines": len(new.lines),
@@ -189,14 +186,19 @@ def what_is_added(vote: Vote, files: Sequence[FileLines], arguments: Arguments) 
     }
     if came_before_close is not None:
         detail["came_before_close"] = came_before_close
-    if vote.is_signed:
+    shown = list[str]()
+    if not new.lines:
+        shown = [*report_of_files(vote, new, (), ()), NOTHING_NEW]
+    elif vote.is_signed:
         detail["unsigned"] = True
         detail["because"] = demand_reason(arguments.because, "--force")
     return Addition(
         "add",
         detail,
+        shown=shown,
+        is_nothing=not new.lines,
         vote=vote,
-        is_late=new.history.is_late(came_before_close),
+        is_late=new.is_late,
         files=files,
         new=new,
     )
@@ -206,38 +208,47 @@ def take_lines(vote: Vote, files: Sequence[GivenFile], arguments: Arguments) -> 
     """Enters the lines that are new, and prints the replies; or tells what would become of them.
     Letters are taken by `take_letters` in `inbox/taking.py`.
     """
-    found, command = file_lines(vote, files), vote.election.command
+    lines = lines_of_files(vote, files)
     if arguments.look:
-        look(vote, found, arguments)
+        look(vote, lines, arguments)
         return
-    change = carried_out(vote.book, lambda: what_is_added(vote, found, arguments))
+    change = carried_out(vote.book, lambda: what_is_added(vote, lines, arguments))
+    command = vote.election.command
     if change.new.history.is_closed:
         tell(f"Next: {command('count')}")
     else:
-        more = f"add more ballots with {command('add', 'FILE')}"
-        tell(f"Next: {command('status')}; {more}, and when the vote is over: {command('close')}")
+        tell(
+            f"Next: {command('status')}; add more ballots with {command('add', 'FILE')}, "
+            f"and when the vote is over: {command('close')}"
+        )
 
 
-def file_lines(vote: Vote, files: Sequence[GivenFile]) -> list[FileLines]:
+def lines_of_files(vote: Vote, files: Sequence[GivenFile]) -> list[FileLines]:
     """The lines of each file, with what debvote says of them."""
     longest = vote.questions.longest_line
     lists = [lines_in(file.data, file.name, longest) for file in files]
-    what, cure = "it has only empty lines", "write one ballot on each line"
     empty = [file for file, lines in zip(files, lists) if all(line.is_empty for line in lines)]
-    stop_at([Fault(file.name, what, cure) for file in empty])
+    reason = "it has only empty lines"
+    stop_at(Fault(file.name, reason, "write one ballot on each line") for file in empty)
     checked = vote.checked_lines([line for lines in lists for line in lines if not line.is_empty])
-    cure = f"write it as `{vote.right_line}`, or take it out"
     no_form = [line for line in checked if not line.can_be_entered][:MAX_REFUSED]
-    stop_at([Fault(line.original.where, vote.why_not_entered(line), cure) for line in no_form])
-    by_file, found = grouped((line.original.file_name, line) for line in checked), []
-    for file, lines in zip(files, lists):
-        its_lines = by_file[file.name]
-        # of a table no ranks are repaired
-        if is_table := vote.are_table(its_lines):
-            unrepaired = (line.original for line in its_lines)
-            its_lines = vote.checked_lines([one.written(one.unframed) for one in unrepaired])
-        found.append(FileLines(file, its_lines, [one for one in lines if one.is_empty], is_table))
-    return found
+    cure = f"write it as `{vote.right_line}`, or take it out"
+    stop_at(Fault(line.original.where, vote.why_not_entered(line), cure) for line in no_form)
+    by_file = grouped((line.original.file_name, line) for line in checked)
+    return [
+        lines_of_file(vote, file, by_file[file.name], [line for line in lines if line.is_empty])
+        for file, lines in zip(files, lists)
+    ]
+
+
+def lines_of_file(
+    vote: Vote, file: GivenFile, lines: Sequence[CheckedLine], empty: Sequence[Line]
+) -> FileLines:
+    # of a table no ranks are repaired
+    if is_table := vote.are_table(lines):
+        unrepaired = (line.original for line in lines)
+        lines = vote.checked_lines([line.written(line.unframed) for line in unrepaired])
+    return FileLines(file, lines, empty, is_table)
 
 
 def compared_with_book(
@@ -249,43 +260,63 @@ def compared_with_book(
     not count. A file that goes in now is an earlier one for the next.
     """
     copies_before = queries.lines_that_came(book, is_late)
-    is_known = any(line.as_entered in copies_before for file in files for line in file.lines)
-    if not is_known and len(files) == 1:
-        return [ComparedLines(**vars(files[0]), new=files[0].lines, repeated=())]
-    before = queries.came_in_files(book, is_late) if is_known else {}
-    counting = queries.counting_envelopes(book) if is_known else {}
+    if any(line.as_entered in copies_before for file in files for line in file.lines):
+        came = queries.came_in_files(book, is_late)
+        since = counting_since(book, files, came)
+        return [compared(file, copies_before, came, since) for file in files]
+    if len(files) > 1:
+        return [compared(file, copies_before, {}, {}) for file in files]
+    return [ComparedLines(**vars(file), new=file.lines, repeated=()) for file in files]
+
+
+# number and line of the envelope that counts, by elector and label
+Counting = Mapping[tuple[int, str], tuple[int, bytes]]
+
+
+def counting_since(
+    book: Book, files: Sequence[FileLines], came: Mapping[bytes, Sequence[Envelope]]
+) -> Counting:
+    """What counts now, without what these files have brought: a later line of theirs did not come
+    since.
+    """
     own = {
         envelope.number
         for file in files
-        for line, copies in collections.Counter(map(AS_ENTERED, file.lines)).items()
-        for envelope in before.get(line, ())[:copies]
+        for line, copies in collections.Counter(map(as_entered, file.lines)).items()
+        for envelope in came.get(line, ())[:copies]
     }
-    # what counts now; a later line of these files did not come since
-    since = {answered: now for answered, now in counting.items() if now[0] not in own}
-    found = list[ComparedLines]()
-    for file in files:
-        so_far, new, repeated = collections.Counter[bytes](), [], []
-        for line in file.lines:
-            nth, copies = so_far[line.as_entered], copies_before[line.as_entered]
-            so_far[line.as_entered] += 1
-            if nth >= copies:
-                new.append(line)
-                continue
-            # one of which a copy goes in now, too, counts
-            its = before.get(line.as_entered, ())
-            is_changed = len(its) == copies
-            change = change_since(line, its[nth], since) if is_changed else None
-            repeated.append((line, change))
-        copies_before.update(map(AS_ENTERED, new))
-        found.append(ComparedLines(**vars(file), new=new, repeated=repeated))
-    return found
+    counting = queries.counting_envelopes(book).items()
+    return {answered: envelope for answered, envelope in counting if envelope[0] not in own}
 
 
-def change_since(
-    line: CheckedLine, came: Envelope, since: Mapping[tuple[int, str], tuple[int, bytes]]
-) -> str | None:
-    """Why a line that came in an envelope no longer counts, by what came `since` and counts, by
-    elector and label; None if it does, or the same ballot does.
+def compared(
+    file: FileLines,
+    copies_before: collections.Counter[bytes],
+    came: Mapping[bytes, Sequence[Envelope]],
+    since: Counting,
+) -> ComparedLines:
+    """A file, compared with the copies that came before it, to which its new lines are added."""
+    so_far = collections.Counter[bytes]()
+    new = []
+    repeated = []
+    for line in file.lines:
+        nth = so_far[line.as_entered]
+        copies = copies_before[line.as_entered]
+        so_far[line.as_entered] += 1
+        if nth >= copies:
+            new.append(line)
+            continue
+        envelopes = came.get(line.as_entered, ())
+        # one of which a copy goes in now, too, counts
+        is_changed = len(envelopes) == copies
+        repeated.append((line, change_since(line, envelopes[nth], since) if is_changed else None))
+    copies_before.update(map(as_entered, new))
+    return ComparedLines(**vars(file), new=new, repeated=repeated)
+
+
+def change_since(line: CheckedLine, came: Envelope, since: Counting) -> str | None:
+    """Why a line that came in an envelope no longer counts, by what came `since` and counts; None
+    if it does, or the same ballot does.
     """
     for label, became in came.by_question.items():
         own = part_of(line.as_entered, label)
@@ -302,27 +333,29 @@ def look(vote: Vote, files: Sequence[FileLines], arguments: Arguments) -> None:
     came_before_close = arguments.came_before_close != "no"
     with vote.book.snapshot():
         new = new_lines(vote, files, came_before_close)
-        counting, first = queries.what_counts(vote.book), queries.last_envelope(vote.book) + 1
-    is_late = new.history.is_late(came_before_close)
+        counting = queries.what_counts(vote.book)
+        first = queries.last_envelope(vote.book) + 1
     lines = [(line.as_entered, line.why_refused) for line in new.lines]
     numbers = range(first, first + len(lines))
-    replies = [*replies_to(lines, counting, is_late=is_late)]
+    replies = [*replies_to(lines, counting, is_late=new.is_late)]
     if new.history.is_reopened and arguments.came_before_close is None:
-        asks = "Note: add will ask whether these lines came before the close"
-        tell(f"{asks}; this preview assumes that they did.")
+        tell(
+            "Note: add will ask whether these lines came before the close; this preview assumes that they did."
+        )
     tell_many(report_of_files(vote, new, numbers, replies))
-    stop_at(list(faults_of_lines(vote, new, arguments)))
+    stop_at(faults_of_lines(vote, new, arguments))
     tell(f"These would be {summary(replies)}. Nothing was changed.")
 
 
 # ---- what a person has to look at first
 def faults_of_lines(vote: Vote, new: NewLines, arguments: Arguments) -> Iterator[Fault]:
     """All that stands against entering these lines."""
-    is_reasoned = arguments.force and has_reason(arguments.because)
-    if new.lines and vote.is_signed and not is_reasoned:
-        words = "in this vote letters must be signed, and nothing shows who sent a line of a file"
-        cure = "add the letters themselves; or, if you know by other means who sent each line, give --force --because TEXT"
-        yield Fault(new.files[0].name, words, cure)
+    if new.lines and vote.is_signed and not (arguments.force and has_reason(arguments.because)):
+        yield Fault(
+            new.files[0].name,
+            "in this vote letters must be signed, and nothing shows who sent a line of a file",
+            "add the letters themselves; or, if you know by other means who sent each line, give --force --because TEXT",
+        )
     if arguments.force:
         return
     # at a terminal each is asked about
@@ -339,9 +372,12 @@ def faults_of_lines(vote: Vote, new: NewLines, arguments: Arguments) -> Iterator
     yield from few_ballots(vote, no_tables)
     for file in new.files:
         if pair := new_one_above(file):
-            older, newer = (one.original.number for one in pair)
-            words = f"the ballot of {pair[0].voter} in line {older} is older than that in line {newer}, which came before, and would replace it"
-            yield Fault(file.name, words, f"take the older ballot out, or {FORCE}")
+            older, newer = pair
+            yield Fault(
+                file.name,
+                f"the ballot of {older.voter} in line {older.original.number} is older than that in line {newer.original.number}, which came before, and would replace it",
+                f"take the older ballot out, or {FORCE}",
+            )
 
 
 def odd_lines(vote: Vote, file: ComparedLines) -> Iterator[Fault]:
@@ -349,14 +385,14 @@ def odd_lines(vote: Vote, file: ComparedLines) -> Iterator[Fault]:
     several electors have.
     """
     cure = f"take the line out if it is not a ballot, or {FORCE}"
-    for one in file.new:
-        if why := vote.why_too_long(one.original):
-            yield Fault(one.original.where, why, cure)
+    for line in file.new:
+        if why := vote.why_too_long(line.original):
+            yield Fault(line.original.where, why, cure)
             break
     cure = f"write the name on the roll of the one who is meant, or {FORCE}"
-    for one in file.new:
-        if one.why_unclear:
-            yield Fault(one.original.where, one.why_unclear, cure)
+    for line in file.new:
+        if line.why_unclear:
+            yield Fault(line.original.where, line.why_unclear, cure)
 
 
 def under_other_names(vote: Vote, files: Sequence[FileLines]) -> Iterator[Fault]:
@@ -364,12 +400,15 @@ def under_other_names(vote: Vote, files: Sequence[FileLines]) -> Iterator[Fault]
     polls = [OptionNames(poll) for poll in vote.questions.values()]
     for file in files:
         for line in file.lines:
-            text = line.original.unframed
-            if not line.is_ballot and any(one.are_in_another_order(text) for one in polls):
+            if not line.is_ballot and any(
+                names.are_in_another_order(line.original.unframed) for names in polls
+            ):
                 place = f"line {line.original.number}"
-                words = f"{place} names options of the poll in another order than the poll has them: the ranks below it may stand in that order"
-                cure = f"if they do, put them into the order of the poll, and take {place} out; if they do not, {FORCE}"
-                yield Fault(file.name, words, cure)
+                yield Fault(
+                    file.name,
+                    f"{place} names options of the poll in another order than the poll has them: the ranks below it may stand in that order",
+                    f"if they do, put them into the order of the poll, and take {place} out; if they do not, {FORCE}",
+                )
                 break
 
 
@@ -396,22 +435,19 @@ def few_ballots(vote: Vote, files: Sequence[FileLines]) -> Iterator[Fault]:
     if not few and len(files) > 1 and has_few_ballots(all_lines):
         few = [dataclasses.replace(files[0], lines=all_lines)]
     for file in few:
-        lines, count = lines_and_ballots(file.lines)
-        reason = (
-            f"debvote takes {f'only {count}' if count else 'none'} of the {lines} lines as ballots"
+        count = that_came(filter(is_ballot, file.lines))
+        taken = f"only {count}" if count else "none"
+        yield Fault(
+            file.name,
+            f"debvote takes {taken} of the {that_came(file.lines)} lines as ballots",
+            f"{cure_of(vote, file)}, or {FORCE}",
         )
-        yield Fault(file.name, reason, f"{cure_of(vote, file)}, or {FORCE}")
 
 
 def has_few_ballots(lines: Sequence[CheckedLine]) -> bool:
     """One line alone is looked at by whoever adds it."""
-    count, ballots = lines_and_ballots(lines)
-    return count > 1 and ballots * 2 < count
-
-
-def lines_and_ballots(lines: Sequence[CheckedLine]) -> tuple[int, int]:
-    """How many lines came, and of how many a ballot is entered."""
-    return that_came(lines), that_came(filter(is_ballot, lines))
+    count = that_came(lines)
+    return count > 1 and that_came(filter(is_ballot, lines)) * 2 < count
 
 
 def that_came(lines: Iterable[CheckedLine]) -> int:
@@ -446,8 +482,7 @@ def repeated_words(file: ComparedLines) -> Iterator[str]:
         return
     ignored = "is ignored, since it" if count == 1 else "are ignored, since they"
     new = that_came(file.new)
-    before = f"{count_of(count, 'line')} {ignored} came before"
-    yield f"{file.name}: {before}; {new} {'is' if new == 1 else 'are'} new"
+    yield f"{file.name}: {count_of(count, 'line')} {ignored} came before; {new} {'is' if new == 1 else 'are'} new"
     changed = [(line, change) for line, change in file.repeated if change]
     for line, change in changed[:MAX_REPEATED]:
         yield f"  {line.original.where}: `{shown_line(line.as_entered)}` came before, and {change}"

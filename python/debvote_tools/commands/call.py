@@ -1,14 +1,15 @@
-"""The command `call`."""
+"""The command `call`, which makes the call for votes, extends the vote, and takes the call back."""
 
 import dataclasses
+import datetime
 import os
-import pathlib
 import shlex
 import shutil
 from collections.abc import Iterator
 
 from debvote_tools.book import queries
 from debvote_tools.book.book import ActName, Detail
+from debvote_tools.book.change import Change
 from debvote_tools.call.box import SCRIPT, box_files, records_file, script_address
 from debvote_tools.call.call import CallData, call_files, call_letter, current_call, until_of
 from debvote_tools.call.draft import letter_text_in, texts_of
@@ -16,8 +17,14 @@ from debvote_tools.call.secret import aliased, demand_no_code
 from debvote_tools.cli.arguments import Acting, flag, given, option
 from debvote_tools.cli.console import act_time, is_terminal, is_yes, tell
 from debvote_tools.cli.faults import Fault, bad_words, kept_in, stop_at
-from debvote_tools.commands.begin import CODES, SLIPS, demand_read, write_slips
-from debvote_tools.commands.check import checked, faults_of_ballots, tell_checked
+from debvote_tools.commands.check import (
+    Checked,
+    checked,
+    demand_read,
+    faults_of_ballots,
+    tell_checked,
+)
+from debvote_tools.commands.codes import CODES, SLIPS, write_slips
 from debvote_tools.election import (
     CALL,
     KEYRING,
@@ -37,6 +44,7 @@ from debvote_tools.poll.announced import (
     named_address,
     parse_until,
 )
+from debvote_tools.poll.questions import Questions
 from debvote_tools.poll.sealed import new_own_mark
 from debvote_tools.result.publication import agreed_texts
 from debvote_tools.text import times
@@ -104,112 +112,153 @@ def call(election: Election, arguments: Arguments) -> None:
 
 # ---- the acts
 def call_first(election: Election, arguments: Arguments) -> None:
-    history, faults = election.history(), list[Fault]()
-    said, is_on_roll = announced(arguments, history, faults), history.has_codes_on_roll
+    history = election.history()
+    faults = list[Fault]()
+    detail = announced(arguments, history, faults)
     keyring: bytes | None = None
     with kept_in(faults):
         keyring = keyring_in(election, arguments.keyring)
     with kept_in(faults):
         demand_read(election, history)
     with kept_in(faults):
-        found = checked(election, deadline=said.get("until"), address=said.get("to"))
-        questions = found.questions
-        faults += faults_by_secrecy(arguments, questions.is_secret, is_on_roll)
-        if found.lacks_codes:
-            cure = f"run {election.command('codes')} first"
-            raise Fault(None, "the vote is secret, and electors have no codes", cure)
+        draft = checked(election, deadline=detail.get("until"), address=detail.get("to"))
+        faults += faults_by_secrecy(arguments, history, draft.questions)
+        if draft.lacks_codes:
+            raise Fault(
+                None,
+                "the vote is secret, and electors have no codes",
+                f"run {election.command('codes')} first",
+            )
     stop_at(faults)
-    electors = queries.electors(election.book)
-    if arguments.box and questions.is_secret:
-        said["slips"] = arguments.slips or asked_slips()
-    said |= {
+    if arguments.box and draft.questions.is_secret:
+        detail["slips"] = arguments.slips or asked_slips()
+    detail |= {
         "names": arguments.names,
         "box": arguments.box,
-        "codes_on_roll": is_on_roll,
-        "quorum_votes": found.quorums,
+        "codes_on_roll": history.has_codes_on_roll,
+        "quorum_votes": draft.quorums,
         "signed": arguments.keyring is not None,
     }
+    act = sealing(election, arguments, detail, draft, keyring)
+    act.do(election.book, history.last.number)
+    tell_checked(draft, election.language)
+
+
+def sealing(
+    election: Election,
+    arguments: Arguments,
+    detail: Detail,
+    draft: Checked,
+    keyring: bytes | None,
+) -> Change:
+    """The act of the call, which seals the polls."""
+    electors = queries.electors(election.book)
+    questions = draft.questions
     public = aliased(questions, electors) if questions.is_secret else questions
     sealed = Sealed(public, questions)
-    files = sealed_by(election, arguments, said, found.letter_text, keyring, sealed)
+    files = sealed_by(election, arguments, detail, draft.letter_text, sealed)
+    if keyring is not None:
+        files[KEYRING] = keyring
     files |= sealed.files()
     # nobody knows whose a code on the roll is
-    marked = [] if is_on_roll else [one._replace(mark=new_own_mark()) for one in electors]
+    named = [] if detail["codes_on_roll"] else electors
+    marked = [elector._replace(mark=new_own_mark()) for elector in named]
     if arguments.box:
-        files |= box_files(election.book, public.mark, {one.name: one.mark for one in marked})
-    with election.book.act("call", said, seen=history.last.number) as act:
-        act.insert_all("sealed", "name, data", files.items())
-        queries.put_electors(act, marked)
-    tell_checked(found, election.language)
+        files |= box_files(
+            election.book, public.mark, {elector.name: elector.mark for elector in marked}
+        )
+    return Change("call", detail, electors=marked, sealed=files)
 
 
 def call_again(election: Election, arguments: Arguments) -> None:
-    """Extends the vote, or adds what the call did not say yet. A new end is refused after a close,
-    and if it is not later than the one that electors know.
-    """
-    history, faults = election.history(), list[Fault]()
-    said = announced(arguments, history, faults)
-    if said.get("at") not in (None, history.announced("at")):
+    """Extends the vote, or adds what the call did not say yet."""
+    history = election.history()
+    faults = list[Fault]()
+    announcing = announced(arguments, history, faults).items()
+    # a run that was killed is repeated with its words
+    detail = {key: value for key, value in announcing if value != history.announced(key)}
+    if "at" in detail:
         faults += filter(None, [unasked_fault(election, history, "at")])
     stop_at(faults)
-    demand_no_change(election, history, arguments, said)
-    # a run that was killed is repeated with its words
-    said = {key: value for key, value in said.items() if value != history.announced(key)}
+    demand_no_change(election, history, arguments, detail)
     before = current_call(election, history).letter_text
     # after a close no letter begins with it
     letter_text = before if history.closes else letter_text_in(election.folder)
-    stop_at([*faults_of_ballots(election, election.questions, letter_text)])
-    if not said and arguments.keyring is None and letter_text == before:
+    stop_at(faults_of_ballots(election, election.questions, letter_text))
+    if not detail and arguments.keyring is None and letter_text == before:
         return
+    until = until_of(detail)
+    demand_open(election, history, until)
+    name: ActName = "extend" if until else "announce"
+    keyring = keyring_in(election, arguments.keyring)
+    files = sealed_by(election, arguments, detail, letter_text)
+    if keyring is not None:
+        files[KEYRING] = keyring
+        detail["keyring"] = True
+    Change(name, detail, sealed=files).do(election.book, history.last.number)
+
+
+def demand_open(election: Election, history: History, until: datetime.datetime | None) -> None:
+    """Stops if the vote is closed; at a new end after a close, though it was reopened; and at one
+    that is not later than the end that electors know.
+    """
     if history.is_closed:
         raise Fault(None, "the vote is closed", f"see {election.command('status')}")
-    until = until_of(said)
-    if until is not None and history.closes:
-        words = f"the vote was closed at {act_time(history.closes[0].time)}, and only ballots that came before then count"
-        cure = f"leave it out; enter ballots that came in time with {election.command('add')}"
-        raise Fault("--until", words, cure)
-    if until is not None and history.until is not None and until <= history.until:
-        words = f"electors rely on {times.time_in_words(history.until)}, and {times.time_in_words(until)} is not later"
-        raise bad_words("--until", words, "name a later time")
-    keyring = keyring_in(election, arguments.keyring)
-    files = sealed_by(election, arguments, said, letter_text, keyring)
-    if arguments.keyring is not None:
-        said["keyring"] = True
-    name: ActName = "announce" if until is None else "extend"
-    with election.book.act(name, said, seen=history.last.number) as act:
-        act.insert_all("sealed", "name, data", files.items())
+    if until is None:
+        return
+    if history.closes:
+        raise Fault(
+            "--until",
+            f"the vote was closed at {act_time(history.closes[0].time)}, and only ballots that came before then count",
+            f"leave it out; enter ballots that came in time with {election.command('add')}",
+        )
+    if history.until is not None and until <= history.until:
+        raise bad_words(
+            "--until",
+            f"electors rely on {times.time_in_words(history.until)}, and {times.time_in_words(until)} is not later",
+            "name a later time",
+        )
 
 
 def take_back(election: Election) -> None:
-    book, history = election.book, election.history()
+    book = election.book
+    history = election.history()
     call_act = election.called(history)
     if history.closes:
-        words = f"the vote was closed at {act_time(history.closes[0].time)}, and electors rely on the close"
-        raise Fault(None, words, "hold the vote anew in another folder")
+        raise Fault(
+            None,
+            f"the vote was closed at {act_time(history.closes[0].time)}, and electors rely on the close",
+            "hold the vote anew in another folder",
+        )
     if queries.has_come(book, call_act.number):
-        words = "ballots or letters have come, and electors rely on the call"
-        raise Fault(None, words, "finish this vote, or hold it anew in another folder")
+        raise Fault(
+            None,
+            "ballots or letters have come, and electors rely on the call",
+            "finish this vote, or hold it anew in another folder",
+        )
     if unasked := unasked_fault(election, history, "at"):
         raise unasked
-    electors, is_on_roll = queries.electors(book), history.has_codes_on_roll
-    coded = len(electors) if election.questions.is_secret else 0
-    detail: Detail = {"call": call_act.number, "codes": coded}
-    with book.act("take back", detail, seen=history.last.number) as act:
-        # own marks lapse, and codes: whoever compares the roll of this call with that of the next
-        # would see the alias of each elector who is new
-        lapsed = (
-            one._replace(position=None if is_on_roll else one.position, code="", alias="", mark="")
-            for one in electors
+    is_on_roll = history.has_codes_on_roll
+    # own marks lapse, and codes: whoever compares the roll of this call with that of the next would
+    # see the alias of each elector who is new
+    lapsed = [
+        elector._replace(
+            position=None if is_on_roll else elector.position, code="", alias="", mark=""
         )
-        queries.put_electors(act, lapsed)
+        for elector in queries.electors(book)
+    ]
+    void_codes = len(lapsed) if election.questions.is_secret else 0
+    detail: Detail = {"call": call_act.number, "codes": void_codes}
+    Change("take back", detail, electors=lapsed).do(book, history.last.number)
     remove_void(election, election.history())
     tell("Took the call back. If anybody has seen it, tell them that it is void.")
     if history.announced("box"):
         tell(f"Remove {SCRIPT} from the web host, until the next call.")
     first = "call"
-    if coded:
-        words = "their slips and table are removed: destroy what is printed"
-        tell(f"All {coded} codes are void, and {words}.")
+    if void_codes:
+        tell(
+            f"All {void_codes} codes are void, and their slips and table are removed: destroy what is printed."
+        )
         first = "roll" if is_on_roll else "codes"
     tell(f"Next: put right what was wrong, then run {election.command(first)}")
 
@@ -231,33 +280,32 @@ def remove_void(election: Election, history: History) -> None:
 def sealed_by(
     election: Election,
     arguments: Arguments,
-    said: Detail,
+    detail: Detail,
     letter_text: str,
-    keyring: bytes | None,
     sealed: Sealed | None = None,
 ) -> dict[str, bytes]:
     """What an act seals: the files of the call, so that they can be made again with the same bytes,
-    the text of the letters if it is new, and the keyring. In a secret vote the act says, too, which
-    texts everybody may read.
+    and the text of the letters if it is new. In a secret vote the act says, too, which texts
+    everybody may read.
     """
-    data = dataclasses.replace(
-        current_call(election, said=said, sealed=sealed), letter_text=letter_text
-    )
+    call = current_call(election, said=detail, sealed=sealed)
+    call = dataclasses.replace(call, letter_text=letter_text)
     files = {}
     if letter_text.encode() != queries.sealed(election.book, LETTER_TEXT):
         files[LETTER_TEXT] = letter_text.encode()
-    files |= {f"{CALL}/{name}": content for name, content in call_files(data).items()}
-    if sealed is None and "until" in said:
-        files[f"{LETTERS}/{EXTENSION}"] = call_letter(data, is_extension=True).encode()
-    if data.questions.is_secret:
+    files |= {f"{CALL}/{name}": content for name, content in call_files(call).items()}
+    if sealed is None and "until" in detail:
+        files[f"{LETTERS}/{EXTENSION}"] = call_letter(call, is_extension=True).encode()
+    if call.questions.is_secret:
         codes = {elector.code or elector.name for elector in queries.electors(election.book)}
         for name, content in files.items():
             demand_no_code(name, content, codes)
         if sealed or LETTER_TEXT in files:
+            texts = texts_of(sealed.counted) if sealed else {}
             # letter.txt begins the letter to all
-            texts = {**(texts_of(sealed.counted) if sealed else {}), letter_text: LETTER_TEXT}
-            said["agreed"] = agreed_texts(election.history(), texts, is_agreed=arguments.yes)
-    return files if keyring is None else {**files, KEYRING: keyring}
+            texts |= {letter_text: LETTER_TEXT}
+            detail["agreed"] = agreed_texts(election.history(), texts, is_agreed=arguments.yes)
+    return files
 
 
 # ---- the words of the command line
@@ -265,39 +313,46 @@ def announced(arguments: Arguments, history: History, faults: list[Fault]) -> De
     """What the act keeps of these options. An extension is in the zone of the end before, unless it
     names another.
     """
-    said: Detail = {}
+    detail: Detail = {}
     with kept_in(faults):
         if arguments.until is not None:
             until, zone = parse_until(arguments.until, arguments.zone, history.announced("zone"))
             demand_future(until, times.now())
-            said["until"] = until.isoformat()
+            detail["until"] = until.isoformat()
             if zone is not None:
-                said["zone"] = zone
+                detail["zone"] = zone
     with kept_in(faults):
         if arguments.to is not None:
-            said["to_name"], said["to"] = named_address(arguments.to)
+            detail["to_name"], detail["to"] = named_address(arguments.to)
     with kept_in(faults):
         if arguments.at is not None:
             demand_web_address(arguments.at)
-            said["at"] = arguments.at
+            detail["at"] = arguments.at
     is_new = arguments.box and history.call is None
     if is_new or history.announced("box"):
         with kept_in(faults):
-            script_address(said.get("at") or history.announced("at"))
+            script_address(detail.get("at") or history.announced("at"))
     if is_new and arguments.keyring is not None:
         faults.append(bad_words("--box", "letters have to be signed, and no click is", LEAVE_OUT))
-    return said
+    return detail
 
 
-def faults_by_secrecy(arguments: Arguments, is_secret: bool, is_on_roll: bool) -> Iterator[Fault]:
+def faults_by_secrecy(
+    arguments: Arguments, history: History, questions: Questions
+) -> Iterator[Fault]:
+    is_secret = questions.is_secret
     if arguments.slips and not (is_secret and arguments.box):
         yield bad_words("--slips", "only in a secret vote, with --box", LEAVE_OUT)
     if arguments.names and is_secret:
-        cure = "leave it out: in a secret vote no names are published"
-        yield bad_words("--names", "the vote is secret", cure)
-    if arguments.box and is_secret and is_on_roll:
-        words = "codes are on the roll, and the result would show whoever keeps the web host whose each is"
-        yield bad_words("--box", words, LEAVE_OUT)
+        yield bad_words(
+            "--names", "the vote is secret", "leave it out: in a secret vote no names are published"
+        )
+    if arguments.box and is_secret and history.has_codes_on_roll:
+        yield bad_words(
+            "--box",
+            "codes are on the roll, and the result would show whoever keeps the web host whose each is",
+            LEAVE_OUT,
+        )
 
 
 def asked_slips() -> str:
@@ -305,19 +360,25 @@ def asked_slips() -> str:
     result.
     """
     question = "Will slips with codes be handed out, with which electors find their ballots?"
-    said = is_yes(question) if is_terminal() else None
-    if said is None:
-        words = "nobody says whether slips with codes will be handed out, as page and letters say"
-        raise Fault("--slips", words, "give --slips yes, or --slips no")
-    return "yes" if said else "no"
+    answer = is_yes(question) if is_terminal() else None
+    if answer is None:
+        raise Fault(
+            "--slips",
+            "nobody says whether slips with codes will be handed out, as page and letters say",
+            "give --slips yes, or --slips no",
+        )
+    return "yes" if answer else "no"
 
 
 def demand_no_change(
-    election: Election, history: History, arguments: Arguments, said: Detail
+    election: Election, history: History, arguments: Arguments, detail: Detail
 ) -> None:
-    flags = given(arguments, "names", "box")
-    changed = [flag for flag in flags if not history.announced(flag.removeprefix("--"))]
-    if said.get("to") not in (None, history.announced("to")):
+    changed = [
+        option
+        for option in given(arguments, "names", "box")
+        if not history.announced(option.removeprefix("--"))
+    ]
+    if "to" in detail:
         changed.append("--to")
     if arguments.keyring is not None and not history.announced("signed"):
         changed.append("--keyring")
@@ -327,8 +388,11 @@ def demand_no_change(
         words = "the call was made without it"
         if changed == ["--to"]:
             words = "the call has sealed the address"
-        again = f"take the call back and call anew: {election.command('call', '--take-back')}"
-        raise Fault(", ".join(changed), words, f"as long as nothing has come, {again}")
+        raise Fault(
+            ", ".join(changed),
+            words,
+            f"as long as nothing has come, take the call back and call anew: {election.command('call', '--take-back')}",
+        )
 
 
 def keyring_in(election: Election, file: str | None) -> bytes | None:
@@ -336,11 +400,18 @@ def keyring_in(election: Election, file: str | None) -> bytes | None:
     if file is None:
         return None
     data = read_whole(file, KEYRING_LIMIT, "name the file that gpg --export wrote", may_wait=True)
-    keyring, electors = read_keyring(file, data), queries.electors(election.book)
-    missing = [one.name for one in electors if one.key and one.key not in keyring.fingerprints]
-    if missing:
-        words = f"it lacks the keys that the list of members has for: {', '.join(missing)}"
-        raise Fault(file, words, "export these keys, too")
+    keyring = read_keyring(file, data)
+    electors = queries.electors(election.book)
+    if missing := [
+        elector.name
+        for elector in electors
+        if elector.key and elector.key not in keyring.fingerprints
+    ]:
+        raise Fault(
+            file,
+            f"it lacks the keys that the list of members has for: {', '.join(missing)}",
+            "export these keys, too",
+        )
     if without := [elector.name for elector in electors if not elector.key]:
         tell(f"Note: the list of members has no key for {', '.join(without)}; their letters wait.")
     return keyring.data
@@ -348,15 +419,17 @@ def keyring_in(election: Election, file: str | None) -> bytes | None:
 
 # ---- the folders
 def make_folders(election: Election) -> None:
-    book, history = election.book, election.history()
-    call_act, sealed = election.called(history), queries.files_sealed(book, CALL)
+    book = election.book
+    history = election.history()
+    call_act = election.called(history)
+    sealed = queries.files_sealed(book, CALL)
     # not what a call that was taken back had alone
-    there = {
+    files = {
         name: queries.sealed(book, f"{CALL}/{name}")
         for name, act in sealed.items()
         if act >= call_act.number
     }
-    write_made(election.path(CALL), there, PUBLIC, sealed)
+    write_made(election.path(CALL), files, PUBLIC, sealed)
     extension = queries.sealed(book, f"{LETTERS}/{EXTENSION}")
     if extension and history.since_call("extend"):
         write_made(election.path(LETTERS), {EXTENSION: extension}, OWN)
@@ -364,22 +437,18 @@ def make_folders(election: Election) -> None:
         write_slips(election, election.sealed())
 
 
-def secrecy_in_words(data: CallData, slips: pathlib.Path) -> Iterator[str]:
+def call_in_words(election: Election, data: CallData) -> Iterator[str]:
+    folder = election.path(CALL)
+    is_several = data.questions.is_several
+    yield f"Made the folder {folder} with the page index.html and the letter call.txt."
+    slips = election.path(PRIVATE) / SLIPS
     if data.has_codes_on_roll:
         yield "Codes are on the roll: the call has the checksum of the poll, but no poll.toml."
         yield f"Print {slips}, cut the slips out, and let each elector draw one."
     elif data.has_aliases:
         yield "The vote is secret: the poll of the call has aliases, and the folder has no names of electors."
         yield f"Print {slips}, cut the slips out, and give each elector their own."
-
-
-def call_in_words(election: Election, data: CallData) -> Iterator[str]:
-    folder, polls, sealed = election.path(CALL), "poll", "The poll is sealed: poll.toml"
-    if data.questions.is_several:
-        polls, sealed = "polls", "The polls are sealed: polls/"
-    yield f"Made the folder {folder} with the page index.html and the letter call.txt."
-    yield from secrecy_in_words(data, election.path(PRIVATE) / SLIPS)
-    yield f"Checksum of the {polls}: {data.questions.checksum}"
+    yield f"Checksum of the {'polls' if is_several else 'poll'}: {data.questions.checksum}"
     yield f"Mark of the poll, at the end of each subject: {data.mark}"
     if data.until is not None:
         yield f"End of the vote: {times.time_in_words(data.until)}"
@@ -394,13 +463,12 @@ def call_in_words(election: Election, data: CallData) -> Iterator[str]:
     if data.has_box:
         *notes, put = box_in_words(election, data)
         yield from notes
+    sealed = "The polls are sealed: polls/" if is_several else "The poll is sealed: poll.toml"
     yield f"{sealed} and texts/ of this folder are no longer read; roll still reads addresses and keys."
     if election.history().closes:
         yield f"Next: {election.command('status')}"
         return
-    send = election.to_all("call", letter)
-    enter = f"{election.command('add', 'FILE')} or {election.command('desk')}"
-    yield f"Next: {put}, and write to the electors: {send}; enter the ballots that come: {enter}"
+    yield f"Next: {put}, and write to the electors: {election.to_all('call', letter)}; enter the ballots that come: {election.command('add', 'FILE')} or {election.command('desk')}"
 
 
 def box_in_words(election: Election, data: CallData) -> Iterator[str]:
@@ -408,7 +476,8 @@ def box_in_words(election: Election, data: CallData) -> Iterator[str]:
     asking; and last what is done with the folder: what lies at its address is fetched before
     somebody deletes it.
     """
-    ask, asked_at = election.command("add", "--box"), last_box(election.history()).get("at")
+    ask = election.command("add", "--box")
+    asked_at = last_box(election.history()).get("at")
     if asked_at not in (None, data.at):
         yield f"Note: the page at {asked_at} still takes ballots, which add --box fetches no more: remove its {SCRIPT}, then fetch its file {records_file(data.box_key)} by FTP, and add it: {election.command('add', 'FILE')}."
     yield f"Make a copy of the book now: {election.command('backup', 'FILE')}. Without the book nobody can open what lies on the web host."

@@ -1,17 +1,19 @@
 """The command `check`, and what is checked of a draft before anything is sealed."""
 
 import itertools
+import operator
 import pathlib
 import re
 from collections.abc import Iterator, Mapping, Sequence
 from typing import NamedTuple
 
 from debvote_tools.book import queries
-from debvote_tools.book.queries import Elector
+from debvote_tools.book.book import Book
 from debvote_tools.call.draft import (
     BY_EDITOR,
     LONGEST_LINE,
     THEN,
+    DraftPoll,
     bad_poll,
     draft_in,
     faults_of_names,
@@ -22,11 +24,12 @@ from debvote_tools.call.draft import (
     texts_of,
     title_in,
 )
-from debvote_tools.call.members import label_of
+from debvote_tools.call.members import AGAIN, Roll, label_of, roll_of
 from debvote_tools.cli.arguments import Options
 from debvote_tools.cli.console import count_of, listed, quorum_words, shown_text, tell, wrapped
 from debvote_tools.cli.faults import Fault, bad_words, kept_in, stop_at
-from debvote_tools.election import LETTER_TEXT, POLLS, TEXTS, Election
+from debvote_tools.election import LETTER_TEXT, MEMBERS_FILE, POLLS, TEXTS, Election, History
+from debvote_tools.files import TABLE_LIMIT, read_whole
 from debvote_tools.inbox.letter_text import reading_of
 from debvote_tools.inbox.lines import names_of
 from debvote_tools.poll.questions import POLL_FILE, TITLE_FILE, Questions, place_of, read_questions
@@ -50,38 +53,42 @@ def check(election: Election, arguments: Options) -> None:
             sealed = "polls, and polls/ is"
         tell(f"The call has sealed the {sealed} no longer read. Next: {election.command('status')}")
         return
-    found = checked(election)
-    questions, roll = found.questions, found.questions.roll
-    counts = f"The polls are in order: {len(questions)} questions"
-    if not questions.is_several:
-        counts = f"The poll is in order: {len(questions[''].names)} options"
-    tell(f"{counts}, {len(roll)} electors.")
-    tell_checked(found, election.language)
+    draft = checked(election)
+    questions = draft.questions
+    electors = f"{len(questions.roll)} electors"
+    if questions.is_several:
+        tell(f"The polls are in order: {len(questions)} questions, {electors}.")
+    else:
+        tell(f"The poll is in order: {len(questions[''].names)} options, {electors}.")
+    tell_checked(draft, election.language)
     tell(*names_like_answers(questions, queries.electors(election.book), election.language))
     for label, poll in questions.items():
-        quorum = quorum_words(poll.quorum, found.quorums[label])
-        tell(f"{label}: {quorum}" if label else quorum)
+        tell(f"{label and f'{label}: '}{quorum_words(poll.quorum, draft.quorums[label])}")
     if not history.has_codes_on_roll:
-        tell(f"Electors: {len(roll)}", wrapped(roll))
+        tell(f"Electors: {len(questions.roll)}", wrapped(questions.roll))
     after = next_call(election)
-    if found.lacks_codes:
-        why = "since the vote is secret and electors have no codes yet"
-        after = f"{election.command('codes')}, {why}"
+    if draft.lacks_codes:
+        after = (
+            f"{election.command('codes')}, since the vote is secret and electors have no codes yet"
+        )
     tell(f"Next: {after}")
 
 
 def names_like_answers(
-    questions: Questions, electors: Sequence[Elector], language: Language
+    questions: Questions, electors: Sequence[queries.Elector], language: Language
 ) -> Iterator[str]:
     """Notes on people whose names may be read as a part of an answer."""
     words = questions.words(language)
-    if named := [one.who for one in electors if with_ranks(one.who, words) != one.who]:
-        note = "Note: these real names end in a word of the motion, and a name is no ballot"
-        yield f"{note}: {listed(named, MAX_NAMED)}"
-    like = [one for one in electors if LIKE_LABEL.search(one.who) or len(one.name) == 1]
-    if like and questions.is_several:
-        note = "Note: these names end in a letter that may be read as the label of a question"
-        yield f"{note}: {listed(list(map(label_of, like)), MAX_NAMED)}"
+    real_names = [elector.who for elector in electors]
+    if names := [name for name in real_names if with_ranks(name, words) != name]:
+        yield f"Note: these real names end in a word of the motion, and a name is no ballot: {listed(names, MAX_NAMED)}"
+    names = [
+        label_of(elector)
+        for elector in electors
+        if LIKE_LABEL.search(elector.who) or len(elector.name) == 1
+    ]
+    if names and questions.is_several:
+        yield f"Note: these names end in a letter that may be read as the label of a question: {listed(names, MAX_NAMED)}"
 
 
 def next_call(election: Election) -> str:
@@ -105,36 +112,52 @@ def checked(election: Election, **announced: object) -> Checked:
     """Checks the polls and all texts. Raises all faults at once. The polls are sealed with what is
     announced, as `sealed_form` has it.
     """
-    faults, title, letter_text, language = list[Fault](), "", "", election.language.code
-    electors = queries.electors(election.book)
-    roll = [elector.name for elector in electors]
-    drafts = {label: draft_in(election, label) for label in labels_in(election.folder)}
-    for draft in drafts.values():
-        faults += [*draft.faults, *faults_of_names(draft, roll, language)]
-    if "" not in drafts:
-        with kept_in(faults):
-            faults += faults_of_several(election, drafts)
-        with kept_in(faults):
-            title = title_in(election.folder)
+    roll = [elector.name for elector in queries.electors(election.book)]
+    faults = list[Fault]()
+    drafts = drafts_in(election, roll, faults)
+    title = letter_text = ""
+    with kept_in(faults):
+        title = "" if "" in drafts else title_in(election.folder)
     if not roll:
         cure = f"run {election.command('roll')} first"
         faults.append(Fault(None, "there are no electors yet", cure, done=None))
     with kept_in(faults):
         letter_text = letter_text_in(election.folder)
-    polls = {}
+    polls = {
+        label: sealed_form(draft, roll or ["nobody"], election.language.code, **announced)
+        for label, draft in drafts.items()
+    }
     for label, draft in drafts.items():
-        polls[label] = sealed_form(draft, roll or ["nobody"], language, **announced)
         faults += faults_by_debvote(election, draft.file, polls[label])
     stop_at(faults)
-    quorums = {
-        label: sheet_in(election.debvote.answer("count", data).text).quorum
-        for label, data in polls.items()
-    }
     motions = [label for label, draft in drafts.items() if draft.says("motion")]
     questions = read_questions(polls, motions, title)
-    stop_at([*faults_of_ballots(election, questions, letter_text)])
-    has_codes = election.history().has_codes_on_roll or all(one.code for one in electors)
+    return checked_by_debvote(election, questions, polls, letter_text)
+
+
+def checked_by_debvote(
+    election: Election, questions: Questions, polls: Mapping[str, bytes], letter_text: str
+) -> Checked:
+    """The same of polls that are in order, with what debvote says of each."""
+    quorums = {
+        label: sheet_in(election.debvote.answer("count", poll).text).quorum
+        for label, poll in polls.items()
+    }
+    stop_at(faults_of_ballots(election, questions, letter_text))
+    electors = queries.electors(election.book)
+    has_codes = election.history().has_codes_on_roll or all(elector.code for elector in electors)
     return Checked(questions, quorums, letter_text, questions.is_secret and not has_codes)
+
+
+def drafts_in(election: Election, roll: Sequence[str], faults: list[Fault]) -> dict[str, DraftPoll]:
+    """The drafts of the polls, by their labels."""
+    drafts = {label: draft_in(election, label) for label in labels_in(election.folder)}
+    for draft in drafts.values():
+        faults += [*draft.faults, *faults_of_names(draft, roll, election.language.code)]
+    if "" not in drafts:
+        with kept_in(faults):
+            faults += faults_of_several(election, drafts)
+    return drafts
 
 
 def faults_by_debvote(election: Election, file: pathlib.Path, poll_bytes: bytes) -> Iterator[Fault]:
@@ -154,15 +177,16 @@ def like_answers(
     """What letters have of the secretary's words that looks like an answer: titles, options and
     lines of texts, each behind its file, and the number of its line.
     """
-    found = [(f"{POLLS}/{TITLE_FILE}", questions.title)]
+    quoted = [(f"{POLLS}/{TITLE_FILE}", questions.title)]
     for label, poll in questions.items():
-        file, before = (f"{POLLS}/{label}.toml", f"{label}: ") if label else (POLL_FILE, "")
-        found += [(file, f"{before}{poll.name}"), *((file, name) for name in poll.names)]
+        file = f"{POLLS}/{label}.toml" if label else POLL_FILE
+        texts = (f"{label and f'{label}: '}{poll.name}", *poll.names)
+        quoted += [(file, text) for text in texts]
     for text, file in {**texts_of(questions), letter_text: LETTER_TEXT}.items():
         lines = enumerate(text.splitlines(), start=1)
-        found += [(f"{file}:{number}", line) for number, line in lines]
+        quoted += [(f"{file}:{number}", line) for number, line in lines]
     answers = questions.answers(language)
-    return [(place, text) for place, text in found if answers.search(text)]
+    return [(place, text) for place, text in quoted if answers.search(text)]
 
 
 def faults_of_ballots(
@@ -173,24 +197,27 @@ def faults_of_ballots(
     for text, file in {**texts_of(questions), letter_text: LETTER_TEXT}.items():
         lines = text.splitlines()
         for ballot in reading_of(lines, names).ballots:
-            reason = f"`{shown_text(lines[ballot.number - 1])}` reads as a ballot"
             yield bad_words(
-                f"{file}:{ballot.number}", reason, f"write it in another way{THEN}", None
+                f"{file}:{ballot.number}",
+                f"`{shown_text(lines[ballot.number - 1])}` reads as a ballot",
+                f"write it in another way{THEN}",
+                None,
             )
 
 
-def tell_checked(found: Checked, language: Language) -> None:
-    tell(f"Title: {found.questions.name}")
-    for label, poll in found.questions.items():
+def tell_checked(draft: Checked, language: Language) -> None:
+    tell(f"Title: {draft.questions.name}")
+    for label, poll in draft.questions.items():
         tell(*poll_in_words(label, poll))
-    own = found.letter_text.splitlines()
-    if own:
+    lines = draft.letter_text.splitlines()
+    if lines:
         tell(f"Letters to electors begin with {LETTER_TEXT}:")
-        tell(*(f"  {line}".rstrip() for line in own))
-    if long := [str(number) for number, line in enumerate(own, 1) if len(line) > LONGEST_LINE]:
-        why = f"have more than {LONGEST_LINE} characters, so mail programs may break them"
-        tell(f"Note: these lines of {LETTER_TEXT} {why}: {', '.join(long)}")
-    if like := like_answers(found.questions, found.letter_text, language):
+        tell(*(f"  {line}".rstrip() for line in lines))
+    if long := [str(number) for number, line in enumerate(lines, 1) if len(line) > LONGEST_LINE]:
+        tell(
+            f"Note: these lines of {LETTER_TEXT} have more than {LONGEST_LINE} characters, so mail programs may break them: {', '.join(long)}"
+        )
+    if like := like_answers(draft.questions, draft.letter_text, language):
         tell("Note: these look like answers, and letters that quote one of them wait:")
         tell(*(f"  {place}: {shown_text(text)}" for place, text in like))
 
@@ -205,14 +232,43 @@ def poll_in_words(label: str, poll: SealedPoll) -> Iterator[str]:
     # the default option is the last, and has no ratio and no text
     options = itertools.zip_longest(poll.names, poll.plain_names, poll.ratios, poll.explanations)
     for number, (name, plain, ratio, text) in enumerate(options, start=1):
-        kind = f"majority ratio {ratio}" if ratio else "the default option"
-        yield f"{number:3}  {name} ({kind})"
+        yield f"{number:3}  {name} ({f'majority ratio {ratio}' if ratio else 'the default option'})"
         if name != plain:
             yield f"     plain: {plain}"
         if text:
-            words = count_of(len(text.split()), "word")
-            yield f"     text: {words} from {TEXTS}/{place_of(label, f'{number}.txt')}"
+            yield f"     text: {count_of(len(text.split()), 'word')} from {TEXTS}/{place_of(label, f'{number}.txt')}"
     if poll.motion:
         yield "A motion, yes: {}, no: {}".format(*poll.names)
     if poll.wording == "more_than":
         yield "Majority: more than the ratio (Debian's rule is at least the ratio)"
+
+
+# ---- the list of members
+def read_roll(election: Election, history: History) -> Roll:
+    file = election.path(MEMBERS_FILE)
+    data = read_whole(
+        file,
+        TABLE_LIMIT,
+        "the list of members is a CSV file, as a spreadsheet saves it: put it there",
+        f", {AGAIN}",
+    )
+    known = queries.all_electors(election.book)
+    return roll_of(data, file, known, election.language.code, is_called=history.call is not None)
+
+
+def demand_read(election: Election, history: History) -> None:
+    """Stops if the list of members is not the one that `roll` read. Codes on the roll come from no
+    list.
+    """
+    if not history.has_codes_on_roll and not is_kept(election.book, read_roll(election, history)):
+        raise Fault(
+            election.path(MEMBERS_FILE),
+            "it has changed since roll read it",
+            f"run {election.command('roll')} first",
+        )
+
+
+def is_kept(book: Book, roll: Roll) -> bool:
+    """Whether the book has these electors already, in this order."""
+    facts = operator.attrgetter("name", "who", "addresses", "key")
+    return list(map(facts, roll.electors)) == list(map(facts, queries.electors(book)))

@@ -1,6 +1,7 @@
-"""The command `close`."""
+"""The command `close`, which closes the vote, and fixes what is counted."""
 
 import dataclasses
+import datetime
 from collections.abc import Mapping
 
 from debvote_tools.book import queries
@@ -13,6 +14,7 @@ from debvote_tools.cli.faults import Fault, stop_at
 from debvote_tools.election import LETTERS, Election, Fixed, History, fixed_by
 from debvote_tools.files import OWN, write_made
 from debvote_tools.inbox.stopping import (
+    Pending,
     other_votes_words,
     pending_letters,
     taken_out_words,
@@ -21,7 +23,6 @@ from debvote_tools.inbox.stopping import (
 from debvote_tools.result.file_names import CLOSED
 from debvote_tools.result.publication import Kept, closing_letter, kept_of
 from debvote_tools.text import times
-
 
 # the question before the close
 ALL = "Is that all? It is if the mailbox was added just now, all paper is entered, and no desk is open."
@@ -44,18 +45,20 @@ def close(election: Election, arguments: Arguments) -> None:
     if is_new := not election.history().is_closed:
         carried_out(election.book, lambda: what_is_closed(election, arguments))
     history = election.history()
-    act, path = history.closes[-1], election.path(LETTERS) / CLOSED
+    act = history.closes[-1]
+    path = election.path(LETTERS) / CLOSED
     written = write_made(path.parent, {CLOSED: closing_letter(election, history)}, OWN)
     fixed = fixed_by(act)
     if is_new:
         tell_closed(act)
         if act.detail["early"] and history.announced("box"):
-            ask = election.command("add", "--box")
-            tell(f"Note: the page still takes ballots, and says that they arrived: run {ask}.")
+            tell(
+                f"Note: the page still takes ballots, and says that they arrived: run {election.command('add', '--box')}."
+            )
     else:
-        lines = lines_in_words(fixed)
-        when = f"The vote was closed at {act_time(act.time)}, with {lines} in time."
-        tell(f"{when} Nothing was changed.")
+        tell(
+            f"The vote was closed at {act_time(act.time)}, with {lines_in_words(fixed)} in time. Nothing was changed."
+        )
     if written:
         tell(f"Made {path}.")
     # where nobody knows whose each code is, no letter can be written to an elector
@@ -78,11 +81,11 @@ def lines_in_words(fixed: Mapping[str, Fixed]) -> str:
 
 
 def tell_closed(act: DoneAct) -> None:
-    detail, lines = act.detail, lines_in_words(fixed_by(act))
+    detail = act.detail
     if detail["early"]:
         tell("Note: the announced end of the vote has not come yet; the result page says so.")
     tell(
-        f"Closed: {lines} came in time. Lines that are entered from now on are late, and do not count."
+        f"Closed: {lines_in_words(fixed_by(act))} came in time. Lines that are entered from now on are late, and do not count."
     )
     for number, when in (
         (detail["waiting"], "arrived in time did not go in; the result page says so."),
@@ -104,8 +107,11 @@ class Closing(Change):
         return isinstance(other, Closing)
 
     def declined(self, _: bool | None) -> None:
-        cure = "enter what is missing, then run the command again"
-        raise Fault(None, "you did not say that this is all", cure)
+        raise Fault(
+            None,
+            "you did not say that this is all",
+            "enter what is missing, then run the command again",
+        )
 
 
 def came_last(election: Election, history: History, lines: str) -> str:
@@ -119,34 +125,55 @@ def came_last(election: Election, history: History, lines: str) -> str:
         for act in history.named("letters", "add", "enter", "desk")
         if act.number not in undone and act.detail.get("letters") != 0
     }
-    added, at_desks = (last.get(is_desk, "never") for is_desk in (False, True))
     end = times.time_in_words(history.until) if history.until else "not announced"
-    said = (
-        f"Until now {lines} came in time. Added last: {added}. Entered last at a desk: {at_desks}."
+    return (
+        f"Until now {lines} came in time. Added last: {last.get(False, 'never')}. Entered last at a desk: {last.get(True, 'never')}. "
+        f"{taken_out_words(election, history)} End of the vote: {end}."
     )
-    return f"{said} {taken_out_words(election, history)} End of the vote: {end}."
 
 
 def what_is_closed(election: Election, arguments: Arguments) -> Closing:
     """Stops at what stands against it."""
-    history, now = election.history(), times.now()
+    history = election.history()
+    now = times.now()
     if history.is_closed:
-        words = "another command closed the vote meanwhile"
-        raise Fault(None, words, "run the command again: it says what is closed")
-    pending, faults, until = pending_letters(election, history), [], history.until
+        raise Fault(
+            None,
+            "another command closed the vote meanwhile",
+            "run the command again: it says what is closed",
+        )
     is_early = history.ends_after(now)
-    if until is not None and is_early and not arguments.early:
-        here = times.minute_in_words(now, until.tzinfo)
-        words = f"the vote ends {times.time_in_words(until)}, and by the clock of this computer it is {here}"
-        how = f"{election.command('close', '--early')} (the result page says so)"
-        faults.append(Fault(None, words, f"close after that time, or now with {how}"))
-    is_forced = arguments.force and has_reason(arguments.because)
+    pending = pending_letters(election, history)
     stopping = what_stops(election, history, "early" if is_early else "close", pending)
-    if not is_forced:
+    faults = list[Fault]()
+    if history.until is not None and is_early and not arguments.early:
+        faults.append(too_early(election, history.until, now))
+    if not (arguments.force and has_reason(arguments.because)):
         faults += stopping.values()
     stop_at(faults)
-    kept = kept_of(election, history, election.questions)
-    fixed = {label: what_is_fixed(its) for label, its in kept.items()}
+    fixed = {
+        label: what_is_fixed(kept)
+        for label, kept in kept_of(election, history, election.questions).items()
+    }
+    detail = detail_of(election, fixed, pending, is_early=is_early)
+    if stopping:
+        detail["because"] = demand_reason(arguments.because, "--force")
+    came = came_last(election, history, lines_in_words(fixed))
+    shown = [came, *other_votes_words(pending.other_votes)]
+    return Closing("close", detail, shown=shown, question=terminal_question(ALL, arguments.yes))
+
+
+def too_early(election: Election, until: datetime.datetime, now: datetime.datetime) -> Fault:
+    return Fault(
+        None,
+        f"the vote ends {times.time_in_words(until)}, and by the clock of this computer it is {times.minute_in_words(now, until.tzinfo)}",
+        f"close after that time, or now with {election.command('close', '--early')} (the result page says so)",
+    )
+
+
+def detail_of(
+    election: Election, fixed: Mapping[str, Fixed], pending: Pending, *, is_early: bool
+) -> Detail:
     detail: Detail = {
         "questions": {label: of_one._asdict() for label, of_one in fixed.items()},
         "waiting": len(pending.arrived_in_time),
@@ -158,11 +185,7 @@ def what_is_closed(election: Election, arguments: Arguments) -> Closing:
         detail["left"] = pending.arrived_in_time
     if replaced := queries.late_lines_over_others(election.book):
         detail["replaced_in_time"] = replaced
-    if stopping:
-        detail["because"] = demand_reason(arguments.because, "--force")
-    came = came_last(election, history, lines_in_words(fixed))
-    shown = [came, *other_votes_words(pending.other_votes)]
-    return Closing("close", detail, shown=shown, question=terminal_question(ALL, arguments.yes))
+    return detail
 
 
 def what_is_fixed(kept: Kept) -> Fixed:

@@ -1,4 +1,4 @@
-"""The command `count`."""
+"""The command `count`, which prints the result sheet."""
 
 from collections.abc import Collection, Mapping
 
@@ -24,7 +24,9 @@ from debvote_tools.sheet import Sheet
 
 
 class Arguments(Acting):
-    writes, checks, nothing = False, True, "counted"
+    writes = False
+    checks = True
+    nothing = "counted"
 
     casting: list[str] | None = option(*CASTING, action="append")
     question: str | None = option("LABEL", "Of several questions count this one alone")
@@ -36,7 +38,8 @@ class Arguments(Acting):
 def count(election: Election, arguments: Arguments) -> int:
     """Print the result sheet; of several questions all, each with its label above it."""
     election.demand_right_book(arguments)
-    questions, history = election.questions, election.history()
+    questions = election.questions
+    history = election.history()
     demand_countable(election, history)
     castings = castings_in(arguments.casting, questions)
     labels = labels_asked_for(questions, arguments.question)
@@ -44,15 +47,16 @@ def count(election: Election, arguments: Arguments) -> int:
     if not history.is_closed:
         tell_aside(*asked_words(history))
     elif not arguments.force:
-        stop_at([*what_stops(election, history, "count", pending).values()])
+        stop_at(what_stops(election, history, "count", pending).values())
     sheets = {
         label: counted(election, kept, castings.get(label))
         for label, kept in kept_of(election, history, labels).items()
     }
     for label, sheet in sheets.items():
         # the sheet alone, so that it can go into a file
-        above = "" if arguments.question or not label else f"Question {label}\n"
-        tell_as_it_is(above + sheet.text)
+        tell_as_it_is(
+            sheet.text if arguments.question or not label else f"Question {label}\n{sheet.text}"
+        )
     tell_aside(*unneeded_words(castings, sheets))
     if pending.stopping:
         tell_aside(f"Note: {pending.why_they_stop}; they are in no count.")
@@ -82,14 +86,12 @@ def what_next(
         # what several ties need together has no names
         names, *others = map(names_left, tied.values())
         ways = (cast | dict.fromkeys(tied, name) for name in (["NAME"] if others else names))
-        chosen = " or ".join(publishing(election, way) for way in ways)
-        said = f"{ties}; the holder of the casting vote chooses one of them: {chosen}"
+        step = f"{ties}; the holder of the casting vote chooses one of them: {' or '.join(publishing(election, way) for way in ways)}"
     else:
-        said = publishing(election, cast)
+        step = publishing(election, cast)
     if history.is_closed:
-        return said
-    over = f"when the vote is over, run {election.command('close')}"
-    return f"this is not the result yet: {over}{'; now' if tied else ', then'} {said}"
+        return step
+    return f"this is not the result yet: when the vote is over, run {election.command('close')}{'; now' if tied else ', then'} {step}"
 
 
 def names_left(sheet: Sheet) -> list[str]:

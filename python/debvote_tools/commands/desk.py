@@ -1,4 +1,4 @@
-"""The command `desk`."""
+"""The command `desk`, at which ballots are entered by hand."""
 
 import dataclasses
 import functools
@@ -18,7 +18,6 @@ from debvote_tools.debvote import TABLE
 from debvote_tools.election import Election, History
 from debvote_tools.files import BALLOTS_LIMIT
 from debvote_tools.inbox import entering
-from debvote_tools.inbox.entering import Entry
 from debvote_tools.inbox.lines import Line, Names, lines_in
 from debvote_tools.inbox.vote import IN_ORDER, CheckedLine, Vote, change_words, summary
 from debvote_tools.poll.plain_names import alike
@@ -74,8 +73,10 @@ class Desk:
     @functools.cached_property
     def texts(self) -> list[tuple[Elector, str]]:
         """The electors, each with what a part of a name is looked for in."""
-        electors = queries.electors(self.vote.book)
-        return [(one, f"{alike(one.name)}\n{alike(one.who)}") for one in electors]
+        return [
+            (elector, f"{alike(elector.name)}\n{alike(elector.who)}")
+            for elector in queries.electors(self.vote.book)
+        ]
 
     def ask_if_reopened(self, history: History) -> None:
         """If the vote was opened again, asks once whether what is cast came before the first
@@ -98,13 +99,14 @@ class Desk:
 
     def with_label(self, line: Line) -> Line:
         """A line that answers one question without its label, with it."""
-        text, names = line.named.decode("utf-8", "replace"), self.vote.names
+        text = line.named.decode("utf-8", "replace")
+        names = self.vote.names
         if names.taken_apart(names.with_ranks(text)):
             # with labels it may be meant for another desk
             return line._replace(unframed=NO_LINE)
-        if (found := self.names.taken_apart(self.names.with_ranks(text))) is None:
+        if (parts := self.names.taken_apart(self.names.with_ranks(text))) is None:
             return line
-        name, ranks = found
+        name, ranks = parts
         # behind a colon the label is no part of the name
         colon = "" if name in names.roll else ":"
         return line.written(f"{name}{colon} {self.vote.label} {ranks}".encode())
@@ -124,7 +126,7 @@ class Desk:
 
 
 @dataclasses.dataclass(frozen=True, kw_only=True)
-class Casting(Entry):
+class Casting(entering.Entry):
     """Lines that are cast, by the timing of the vote, and what came of the elector of whom it is
     asked.
     """
@@ -152,10 +154,11 @@ class Casting(Entry):
 
     def words(self, numbers: range, replies: Sequence[str]) -> Iterator[str]:
         self.desk.replies += replies
-        election, told = self.vote.election, self.desk.notes
+        is_told = bool(self.desk.notes)
+        election = self.vote.election
         self.desk.notes = entering.late_notes(election, election.history(), "what is entered")
         # the end may pass while a desk is open; of a late line its reply says so
-        if not (told or self.is_late):
+        if not (is_told or self.is_late):
             yield from self.desk.notes
         yield from self.vote.report_of_lines(self.lines, numbers, replies)
 
@@ -188,8 +191,8 @@ def what_is_cast(desk: Desk, lines: list[CheckedLine], elector: int | None, asks
         is_nothing=not lines,
         vote=vote,
         envelopes=[
-            NewEnvelope(one.as_entered, one.original.place, why_refused=one.why_refused)
-            for one in lines
+            NewEnvelope(line.as_entered, line.original.place, why_refused=line.why_refused)
+            for line in lines
         ],
         is_late=is_late,
         desk=desk,
@@ -205,21 +208,24 @@ def desk(election: Election, arguments: Arguments) -> None:
     its own terminal.
     """
     if sys.stdin is None:
-        cure = "run it at a terminal"
-        raise Fault("standard input", "it is closed", cure, Status.BAD_BALLOTS)
+        raise Fault("standard input", "it is closed", "run it at a terminal", Status.BAD_BALLOTS)
     election.demand_right_book(arguments)
     label = (arguments.question or "").upper()
     vote = Vote(election, label)
     if label and vote.poll is None:
-        labels = ", ".join(vote.names.labels) or "none: this vote has one question"
-        raise bad_words("--question", f"the labels are {labels}", "give one of them")
+        raise bad_words(
+            "--question",
+            f"the labels are {', '.join(vote.names.labels) or 'none: this vote has one question'}",
+            "give one of them",
+        )
     desk = Desk(vote, arguments.came_before_close, arguments.force)
     history = election.history()
     desk.notes = entering.late_notes(election, history, "what is entered")
     tell(*desk.notes)
     if desk.vote.is_signed:
-        words = "in this vote letters must be signed, and a desk checks no signature"
-        tell(f"Note: {words}: enter only ballots on paper or by word of mouth.")
+        tell(
+            "Note: in this vote letters must be signed, and a desk checks no signature: enter only ballots on paper or by word of mouth."
+        )
     try:
         desk.ask_if_reopened(history)
         cast = at_terminal if sys.stdin.isatty() else from_pipe
@@ -238,22 +244,28 @@ def from_pipe(desk: Desk) -> None:
             if line.is_empty:
                 tell(f"{line.where}: it is empty, and was left out")
             elif why := desk.vote.why_too_long(line):
-                add = desk.vote.election.command("add", "--force", "FILE")
-                tell(f"{line.where}: {why}; it was not entered.", f"  To add it from a file: {add}")
+                tell(
+                    f"{line.where}: {why}; it was not entered.",
+                    f"  To add it from a file: {desk.vote.election.command('add', '--force', 'FILE')}",
+                )
             else:
                 lines.append(line)
         checked = desk.vote.checked_lines(lines)
         desk.demand_no_table(checked)
-        for one in checked:
-            if why := desk.vote.why_not_entered(one):
-                tell(f"{one.original.where}: {why}; it was not entered.")
-        if clear := [one for one in checked if not desk.vote.why_not_entered(one)]:
+        clear = []
+        for ballot in checked:
+            if why := desk.vote.why_not_entered(ballot):
+                tell(f"{ballot.original.where}: {why}; it was not entered.")
+            else:
+                clear.append(ballot)
+        if clear:
             desk.enter(clear, asks=False)
 
 
 def whole_lines() -> Iterator[bytes]:
     """The lines that each read completes. A line end of Windows may come in two reads."""
-    unfinished, ended_with_return = bytearray(), False
+    unfinished = bytearray()
+    ended_with_return = False
     while data := os.read(sys.stdin.fileno(), READ):
         unfinished += data.removeprefix(b"\n") if ended_with_return else data
         ended_with_return = data.endswith(b"\r")
@@ -270,7 +282,7 @@ def whole_lines() -> Iterator[bytes]:
 
 # ---- at a terminal
 def at_terminal(desk: Desk) -> None:
-    vote, who = desk.vote, "the code" if desk.vote.has_codes else "the elector"
+    vote = desk.vote
     for label, poll in vote.questions.items():
         if vote.poll is None or vote.poll is poll:
             tell(*([f"{label} {poll.name}"] if label else []))
@@ -278,7 +290,9 @@ def at_terminal(desk: Desk) -> None:
     order = "then a rank for each option in this order"
     if vote.poll is None:
         order = "then for each question that is answered its label, and a rank for each option in this order"
-    tell(f"Type a ballot as {vote.right_line} ({who}, {order}); q ends.")
+    tell(
+        f"Type a ballot as {vote.right_line} ({'the code' if vote.has_codes else 'the elector'}, {order}); q ends."
+    )
     while not desk.is_over and (answer := typed("Ballot: ")) is not None:
         line = next(iter(desk.lines_of(answer)), None)
         if line is None or line.is_empty:
@@ -295,9 +309,10 @@ def ask_and_cast(desk: Desk, line: Line) -> None:
         tell(NOT_ENTERED)
         return
     checked = desk.vote.checked_lines([meant])
-    if no_form := [one for one in checked if not one.can_be_entered]:
-        tell(desk.vote.why_not_entered(no_form[0]), NOT_ENTERED)
-        return
+    for ballot in checked:
+        if not ballot.can_be_entered:
+            tell(desk.vote.why_not_entered(ballot), NOT_ENTERED)
+            return
     [elector] = desk.vote.electors_of([checked[0].as_entered])
     desk.enter(checked, elector, asks=True)
 
@@ -312,56 +327,60 @@ def completed(desk: Desk, line: Line) -> Line | None:
     if desk.vote.has_codes or not name or (name in desk.vote.names.roll and not meant):
         return line
     words = [alike(word) for word in name.split()]
-    found = [
+    electors = [
         elector
         for elector, text in desk.texts
         if (elector.name in meant if meant else all(word in text for word in words))
     ]
-    if not found:
+    if not electors:
         return line
-    if why := why_no_label(desk, line, name, found):
+    if why := why_no_label(desk, line, name, electors):
         tell(why)
         return None
-    if (chosen := chosen_of(found, shown_text(name))) is None:
+    if (chosen := chosen_of(electors, shown_text(name))) is None:
         return None
     return line.written(f"{chosen.name} {answers}".encode())
 
 
-def why_no_label(desk: Desk, line: Line, name: str, found: Sequence[Elector]) -> str:
+def why_no_label(desk: Desk, line: Line, name: str, electors: Sequence[Elector]) -> str:
     """Why the first label of a line may be none, if it is a word of the name of one of these
     electors.
     """
-    names, text = desk.vote.names, line.unframed.decode("utf-8", "replace")
-    label = names.label_behind_name(names.with_ranks(text))
+    names = desk.vote.names
+    label = names.label_behind_name(names.with_ranks(line.unframed.decode("utf-8", "replace")))
     words = {label.lower()} - names.words_of(name)
-    longer = [one.name for one in found if label and words & names.words_of(one.name, one.who)]
-    said = f"the {label} behind `{shown_text(name)}` may be a label, or belong to the name of"
-    cure = "type the name on the roll, with a colon behind it"
-    return f"{said} {ENGLISH.joined(longer)}: {cure}" if longer else ""
+    longer = [
+        elector.name
+        for elector in electors
+        if label and words & names.words_of(elector.name, elector.who)
+    ]
+    if not longer:
+        return ""
+    return f"the {label} behind `{shown_text(name)}` may be a label, or belong to the name of {ENGLISH.joined(longer)}: type the name on the roll, with a colon behind it"
 
 
-def chosen_of(found: Sequence[Elector], name: str) -> Elector | None:
+def chosen_of(electors: Sequence[Elector], name: str) -> Elector | None:
     """The one elector who is meant by a part of a name, or the one of several who is chosen."""
-    if len(found) == 1:
-        tell(f"`{name}` was completed to `{found[0].name}`")
-        return found[0]
-    tell(f"`{name}` is part of {len(found)} names:")
-    for place, elector in enumerate(found[:MAX_NAMES], start=1):
+    if len(electors) == 1:
+        tell(f"`{name}` was completed to `{electors[0].name}`")
+        return electors[0]
+    tell(f"`{name}` is part of {len(electors)} names:")
+    for place, elector in enumerate(electors[:MAX_NAMES], start=1):
         tell(f"  {place} {elector.name} ({shown_text(elector.who)})")
     answer = (typed("Type the number of one, or n for none: ") or b"").strip()
     number = int(answer) if answer.isdigit() else 0
-    return found[number - 1] if 0 < number <= len(found[:MAX_NAMES]) else None
+    return electors[number - 1] if 0 < number <= len(electors[:MAX_NAMES]) else None
 
 
 def typed_parts(desk: Desk, line: bytes) -> tuple[str, str]:
     """The words that were typed in the place of a name, and what is behind them; empty of no
     ballot.
     """
-    text, names = line.decode("utf-8", "replace"), desk.vote.names
-    if names.labels:
-        return names.taken_apart(text) or ("", "")
-    found = TYPED.fullmatch(text)
-    return (found[1], found[2]) if found else ("", "")
+    text = line.decode("utf-8", "replace")
+    if desk.vote.names.labels:
+        return desk.vote.names.taken_apart(text) or ("", "")
+    parts = TYPED.fullmatch(text)
+    return (parts[1], parts[2]) if parts else ("", "")
 
 
 def question(
@@ -389,13 +408,12 @@ def question(
 def earlier_words(vote: Vote, ballot: CheckedLine, elector: int) -> Iterator[str]:
     """What a ballot would replace, and which answers to other questions stay."""
     counting = queries.what_counts(vote.book, {elector})
-    earlier, new = ranks_by_label(counting.get(ballot.voter, "")), ballot.answers
-    goes, stays = (
-        answers_text({label: earlier[label] for label in earlier if (label in new) == is_new})
+    earlier = ranks_by_label(counting.get(ballot.voter, ""))
+    replaced, stays = (
+        {label: ranks for label, ranks in earlier.items() if (label in ballot.answers) is is_new}
         for is_new in (True, False)
     )
-    if goes:
-        words = vote.answers_in_words(goes)
-        yield f"{ballot.voter} has a ballot: {words}. It will be replaced."
+    if replaced:
+        yield f"{ballot.voter} has a ballot: {vote.answers_in_words(answers_text(replaced))}. It will be replaced."
     if stays:
-        yield f"These earlier answers of {ballot.voter} stay: {vote.answers_in_words(stays)}."
+        yield f"These earlier answers of {ballot.voter} stay: {vote.answers_in_words(answers_text(stays))}."

@@ -1,4 +1,4 @@
-"""The command `held`."""
+"""The command `held`, which shows the letters that wait, and decides what becomes of them."""
 
 import collections
 import itertools
@@ -33,7 +33,6 @@ from debvote_tools.inbox.taking import LetterEntry, envelope_of
 from debvote_tools.inbox.vote import Vote
 from debvote_tools.text.ballots import differ, without
 from debvote_tools.text.language import ENGLISH
-
 
 FORCE = "if this ballot must count, repeat it with --force"
 
@@ -79,40 +78,54 @@ def held(election: Election, arguments: Arguments) -> None:
     elif arguments.enter or arguments.typed:
         typed = [BallotLine(0, ballot) for ballot in typed_ballots(vote, arguments.typed or ())]
         carried_out(vote.book, lambda: what_is_entered(vote, all_letters(vote), arguments, typed))
-    found = all_letters(vote)
-    pending = [letter for letter in found if letter.is_pending]
-    named = chosen_letters(found, arguments.numbers)
+    letters = all_letters(vote)
+    pending = [letter for letter in letters if letter.is_pending]
+    named = chosen_letters(letters, arguments.numbers)
     for letter in named:
         tell(*(left_words(vote, letter) if is_act else letter_words.whole(letter)))
     if not named:
         tell(*letter_words.table(pending))
-        if aside := [
-            str(letter.number) for letter in found if letter.outcome is LetterOutcome.SET_ASIDE
-        ]:
-            tell(f"Set aside: {', '.join(aside)}")
-    others = (letter.other_vote for letter in found if letter.outcome is LetterOutcome.OTHER_VOTE)
-    tell(*other_votes_words(others))
+        tell(*aside_words(letters))
+    others = (letter for letter in letters if letter.outcome is LetterOutcome.OTHER_VOTE)
+    tell(*other_votes_words(letter.other_vote for letter in others))
+    tell(*next_words(election, pending, () if is_act else named))
+
+
+def aside_words(letters: Sequence[LetterCase]) -> Iterator[str]:
+    aside = (letter for letter in letters if letter.outcome is LetterOutcome.SET_ASIDE)
+    if numbers := ", ".join(str(letter.number) for letter in aside):
+        yield f"Set aside: {numbers}"
+
+
+def next_words(
+    election: Election, pending: Sequence[LetterCase], shown: Sequence[LetterCase]
+) -> Iterator[str]:
+    """How many letters wait, and what is done with the first, which may be shown already."""
     if not pending:
-        tell("No letter waits.", f"Next: {election.command('status')}")
+        yield "No letter waits."
+        yield f"Next: {election.command('status')}"
         return
-    waiting = [letter for letter in named if letter.is_pending and not is_act]
+    waiting = [letter for letter in shown if letter.is_pending]
     command = election.command("held", str((waiting or pending)[0].number))
-    how = "--enter enters its ballot, --as LINE the ballot that you type, --set-aside sets it aside"
-    tell(f"{letter_words.wait_words(len(pending))}.")
-    tell(f"Next: {command} {'with' if waiting else 'shows one;'} {how}")
+    yield f"{letter_words.wait_words(len(pending))}."
+    yield f"Next: {command} {'with' if waiting else 'shows one;'} --enter enters its ballot, --as LINE the ballot that you type, --set-aside sets it aside"
 
 
 def demand_words(arguments: Arguments) -> bool:
     """Whether it is an act. Stops if the options do not go together."""
     chosen = given(arguments, "enter", "typed", "set_aside", "wait")
     if len(chosen) > 1:
-        cure = "give only one of --enter, --as, --set-aside and --wait"
-        raise bad_words("held", "it does one thing at a time", cure, None)
+        raise bad_words(
+            "held",
+            "it does one thing at a time",
+            "give only one of --enter, --as, --set-aside and --wait",
+            None,
+        )
     if arguments.typed is not None and len(arguments.numbers) != 1:
         raise bad_words("--as", "a line is of one letter", "name one number before --as")
     if chosen and not arguments.numbers:
         raise bad_words("held", "no letter is named", "name its number")
-    if not arguments.set_aside and any(len(its) != 1 for its in arguments.numbers):
+    if not arguments.set_aside and any(len(row) != 1 for row in arguments.numbers):
         raise bad_words("held", "only --set-aside takes several in a row", "name each number")
     return bool(chosen)
 
@@ -124,51 +137,56 @@ def left_words(vote: Vote, letter: LetterCase) -> Iterator[str]:
     electors = {*letter.sharing, *(line.elector for line in letter.ballots)}
     entered = {elector for elector, _ in letter.entered_answers}
     if len(electors) > 1 and letter.outcome is LetterOutcome.ENTERED:
-        command = vote.election.command("held", str(letter.number), "--as")
         for elector in sorted(electors - entered):
-            force = "" if letter.is_tied(elector) else " --force"
-            yield f"{elector} has no ballot of {name_of(letter)}; {command} LINE{force} enters one"
+            command = vote.election.command("held", str(letter.number), "--as")
+            yield f"{elector} has no ballot of {name_of(letter)}; {command} LINE{'' if letter.is_tied(elector) else ' --force'} enters one"
 
 
 def all_letters(vote: Vote) -> list[LetterCase]:
     return judged(vote, vote.election.history(), queries.kept_letters(vote.book))
 
 
-def chosen_letters(found: Sequence[LetterCase], numbers: Sequence[range]) -> list[LetterCase]:
+def chosen_letters(letters: Sequence[LetterCase], numbers: Sequence[range]) -> list[LetterCase]:
     """Those that are named by a number of their own."""
-    by_number = {letter.number: letter for letter in found}
-    named = [its.start for its in numbers if len(its) == 1]
+    by_number = {letter.number: letter for letter in letters}
+    named = [row.start for row in numbers if len(row) == 1]
     if unknown := [str(number) for number in named if number not in by_number]:
-        words, cure = "there is no such letter", "held lists the letters that wait"
-        raise bad_words(f"letter {', '.join(unknown)}", words, cure)
+        place = f"letter {', '.join(unknown)}"
+        raise bad_words(place, "there is no such letter", "held lists the letters that wait")
     return [by_number[number] for number in dict.fromkeys(named)]
 
 
-def of_rows(found: Sequence[LetterCase], numbers: Sequence[range]) -> list[list[LetterCase]]:
+def of_rows(letters: Sequence[LetterCase], numbers: Sequence[range]) -> list[list[LetterCase]]:
     """Those that wait among several in a row, by their reasons, in the order of the first of
     each.
     """
-    rows = [its for its in numbers if len(its) != 1]
-    within = [one for one in found if one.is_pending and any(one.number in its for its in rows)]
-    return [*grouped((one.reason and one.reason.reason, one) for one in within).values()]
+    rows = [row for row in numbers if len(row) != 1]
+    by_reason = grouped(
+        (letter.reason and letter.reason.reason, letter)
+        for letter in letters
+        if letter.is_pending and any(letter.number in row for row in rows)
+    )
+    return [*by_reason.values()]
 
 
 def what_is_decided(vote: Vote, arguments: Arguments) -> Change:
     """The act that sets letters aside, or has them wait again."""
-    found = all_letters(vote)
-    chosen = chosen_letters(found, arguments.numbers)
+    letters = all_letters(vote)
+    chosen = chosen_letters(letters, arguments.numbers)
     shown = list[str]()
-    if rows := of_rows(found, arguments.numbers):
-        chosen += rows[0]
-        others = sum(map(len, rows[1:]))
+    if of_reasons := of_rows(letters, arguments.numbers):
+        chosen += of_reasons[0]
         shown = [
-            f"{count_of(len(rows[0]), 'letter')} of one reason; of these numbers {others} wait on."
+            f"{count_of(len(of_reasons[0]), 'letter')} of one reason; of these numbers {sum(map(len, of_reasons[1:]))} wait on."
         ]
     if not chosen:
         raise Fault("held", "none of these waits", "held lists the letters that wait")
     if entered := [letter for letter in chosen if letter.outcome is LetterOutcome.ENTERED]:
-        cure = "strike takes out one envelope, undo takes back the last act"
-        raise Fault(name_of(entered[0]), "its ballot was entered", cure)
+        raise Fault(
+            name_of(entered[0]),
+            "its ballot was entered",
+            "strike takes out one envelope, undo takes back the last act",
+        )
     state: ActName = queries.SET_ASIDE if arguments.set_aside else queries.PUT_BACK
     numbers = [letter.number for letter in chosen]
     return Change(
@@ -190,41 +208,50 @@ class Chosen(NamedTuple):
     def again(self) -> list[EnteredBallot]:
         """Those in which answers of these ballots were entered already."""
         entered = self.letter.entered_answers
-        answers = (one for line in self.lines for one in line.answers)
-        return [*dict.fromkeys(entered[one] for one in answers if one in entered)]
+        answers = (answer for line in self.lines for answer in line.answers)
+        return [*dict.fromkeys(entered[answer] for answer in answers if answer in entered)]
 
 
 def what_is_entered(
-    vote: Vote, found: Sequence[LetterCase], arguments: Arguments, typed: Sequence[BallotLine] = ()
+    vote: Vote,
+    letters: Sequence[LetterCase],
+    arguments: Arguments,
+    typed: Sequence[BallotLine] = (),
 ) -> LetterEntry:
     """The act that enters ballots of letters. Stops at all that stands against it; `undo` asks
     that, too.
     """
     history = vote.election.history()
-    wanted = chosen_letters(found, arguments.numbers)
-    if arguments.force and len(wanted) > 1 and not vote.has_codes:
+    named = chosen_letters(letters, arguments.numbers)
+    if arguments.force and len(named) > 1 and not vote.has_codes:
         raise bad_words("--force", "it is for one letter", "name one number")
-    chosen, faults = list[Chosen](), list[Fault]()
-    for letter in sorted(wanted, key=lambda one: (one.time is None, one.time or one.number)):
-        with kept_in(faults):
-            lines = typed or [the_ballot(letter)]
-            demand_one_answer(letter, lines)
-            chosen.append(Chosen(letter, lines))
-    there = ballots_in(vote, {line.elector for one in chosen for line in one.lines})
+    faults = list[Fault]()
+    chosen = chosen_ballots(named, typed, faults)
+    beside = ballots_in(vote, {line.elector for one in chosen for line in one.lines})
     faults += why_not_now(vote, history, chosen)
     # of what was entered nothing more is said: no --force enters it again
     not_entered = [one for one in chosen if not one.again]
     if not arguments.force:
         faults += why_not_unforced(not_entered)
-        faults += why_typed_again(vote, not_entered, found)
-    faults += why_not_beside(vote, not_entered, there, is_forced=arguments.force)
+        faults += why_typed_again(vote, not_entered, letters)
+    faults += why_not_beside(vote, not_entered, beside, is_forced=arguments.force)
     if not (typed or arguments.yes or is_terminal()):
         faults += why_not_unseen(chosen)
     stop_at(faults)
-    if len({would_be_late(history, one.letter) for one in chosen}) > 1:
-        words = "some of these letters arrived before the first close, and some after it"
-        raise Fault("--enter", words, "enter those that arrived before it apart")
     return entry_of(vote, history, chosen, is_agreed=arguments.yes)
+
+
+def chosen_ballots(
+    letters: Sequence[LetterCase], typed: Sequence[BallotLine], faults: list[Fault]
+) -> list[Chosen]:
+    """What is entered of letters, in the order of their times."""
+    chosen = list[Chosen]()
+    for letter in sorted(letters, key=lambda one: (one.time is None, one.time or one.number)):
+        with kept_in(faults):
+            lines = typed or [the_ballot(letter)]
+            demand_one_answer(letter, lines)
+            chosen.append(Chosen(letter, lines))
+    return chosen
 
 
 def entry_of(
@@ -233,32 +260,41 @@ def entry_of(
     """The act that enters these ballots. Those of letters in which their senders wrote more are
     shown last.
     """
-    lines = [(one.letter, line) for one in chosen for line in one.lines]
+    is_late, *others = {would_be_late(history, one.letter) for one in chosen}
+    if others:
+        raise Fault(
+            "--enter",
+            "some of these letters arrived before the first close, and some after it",
+            "enter those that arrived before it apart",
+        )
     numbers = [one.letter.number for one in chosen]
+    ballots = [(one.letter, line) for one in chosen for line in one.lines]
     plain, worded = (
-        [shown(vote, *one) for one in lines if bool(one[0].read.text.words) is has_words]
+        [shown(vote, *ballot) for ballot in ballots if bool(ballot[0].read.text.words) is has_words]
         for has_words in (False, True)
     )
     return LetterEntry(
         "enter",
-        {
-            "letters": numbers,
-            "lines": [line.number for _, line in lines if line.number],
-        },
+        {"letters": numbers, "lines": [line.number for _, line in ballots if line.number]},
         shown=[*plain, *(["Read these:"] if worded else []), *worded],
-        question=terminal_question(f"Enter {count_of(len(lines), 'ballot')}?", is_agreed),
+        question=terminal_question(f"Enter {count_of(len(ballots), 'ballot')}?", is_agreed),
         letters=dict.fromkeys(numbers, queries.ENTERED),
         vote=vote,
-        envelopes=[envelope_of(letter, line.as_entered) for letter, line in lines],
-        is_late=would_be_late(history, chosen[0].letter),
+        envelopes=[envelope_of(letter, line.as_entered) for letter, line in ballots],
+        is_late=is_late,
     )
 
 
 def shown(vote: Vote, letter: LetterCase, line: BallotLine) -> str:
     """A ballot of a letter, and all that one has to know of the letter to decide of it."""
-    said = [f"subject: {subject_of(letter)}", *other_words(letter), *attachment_words(letter)]
-    below = (f"\n  {words}" for words in (why(letter, line.elector), *said))
-    return f"{who_and_when(letter)}: {vote.ballot_in_words(line.as_entered)}{''.join(below)}"
+    texts = (
+        f"{who_and_when(letter)}: {vote.ballot_in_words(line.as_entered)}",
+        why(letter, line.elector),
+        f"subject: {subject_of(letter)}",
+        *other_words(letter),
+        *attachment_words(letter),
+    )
+    return "\n  ".join(texts)
 
 
 def would_be_late(history: History, letter: LetterCase) -> bool:
@@ -271,10 +307,8 @@ def would_be_late(history: History, letter: LetterCase) -> bool:
 # ---- which lines
 def typed_ballots(vote: Vote, texts: Sequence[str]) -> list[str]:
     """The ballots that were typed. debvote is asked about all of them together."""
-    given, longest = (
-        text.encode("utf-8", "surrogateescape") for text in texts
-    ), vote.questions.longest_line
-    lists = [lines_in(data, "--as", longest) for data in given]
+    given = (text.encode("utf-8", "surrogateescape") for text in texts)
+    lists = [lines_in(data, "--as", vote.questions.longest_line) for data in given]
     vote.checked_lines([line for lines in lists for line in lines if not line.is_empty])
     return [ballot_of(vote, text, lines) for text, lines in zip(texts, lists)]
 
@@ -288,17 +322,22 @@ def ballot_of(vote: Vote, text: str, lines: Sequence[Line]) -> str:
         if (finding := line.lasting) is None:
             return line.as_entered.decode("ascii")
         answer = private(line.why_unclear or finding.verdict)
-    shown = shown_line(text.encode("utf-8", "backslashreplace"))
-    raise Fault("--as", f"`{shown}` is no ballot of this poll: {answer}", vote.right_words())
+    raise Fault(
+        "--as",
+        f"`{shown_line(text.encode('utf-8', 'backslashreplace'))}` is no ballot of this poll: {answer}",
+        vote.right_words(),
+    )
 
 
 def the_ballot(letter: LetterCase) -> BallotLine:
     if letter.ballot is not None and letter.can_be_entered:
         return letter.ballot
-    count = count_of(len(letter.ballots), "ballot")
     more = ", and other lines that look like answers" if letter.has_more_answers else ""
-    cure = "type the ballot that is meant with --as LINE"
-    raise Fault(name_of(letter), f"it has {count}{more}", cure)
+    raise Fault(
+        name_of(letter),
+        f"it has {count_of(len(letter.ballots), 'ballot')}{more}",
+        "type the ballot that is meant with --as LINE",
+    )
 
 
 def demand_one_answer(letter: LetterCase, lines: Sequence[BallotLine]) -> None:
@@ -306,30 +345,37 @@ def demand_one_answer(letter: LetterCase, lines: Sequence[BallotLine]) -> None:
     answers = itertools.chain.from_iterable(line.answers for line in lines)
     [((elector, _), count)] = collections.Counter(answers).most_common(1)
     if count > 1:
-        words = f"{count} of these lines are ballots of {elector}"
-        raise Fault(name_of(letter), words, "name the one that counts")
+        raise Fault(
+            name_of(letter),
+            f"{count} of these lines are ballots of {elector}",
+            "name the one that counts",
+        )
 
 
 # ---- what stands against it
 def why_not_now(vote: Vote, history: History, chosen: Sequence[Chosen]) -> Iterator[Fault]:
     """What can't be forced."""
     for one in chosen:
-        letter, name = one.letter, name_of(one.letter)
+        letter = one.letter
+        name = name_of(letter)
         if again := one.again:
-            electors = dict.fromkeys(ballot.elector for ballot in again)
-            words = f"its ballot of {ENGLISH.joined([*electors])} was entered"
-            cure = what_then(vote, letter, one.lines, again)
+            words = f"its ballot of {ENGLISH.joined(dict.fromkeys(ballot.elector for ballot in again))} was entered"
             # who reads that there is nothing to do takes it for one that counts
             if any(ballot.is_late for ballot in again):
                 words = f"{words}, and is late"
-            yield Fault(name, words, cure)
+            yield Fault(name, words, what_then(vote, letter, one.lines, again))
         elif letter.outcome is LetterOutcome.COPY:
-            cure = "to enter its ballot once more, have the letter wait first with --wait"
-            yield Fault(name, "it is a copy of another letter", cure)
+            yield Fault(
+                name,
+                "it is a copy of another letter",
+                "to enter its ballot once more, have the letter wait first with --wait",
+            )
         elif history.is_closed and letter.arrived_in_time:
-            reopen = vote.election.command("reopen", "--because", "TEXT")
-            words = "it arrived in time, and the vote is closed"
-            yield Fault(name, words, f"if it has a ballot, run {reopen} first")
+            yield Fault(
+                name,
+                "it arrived in time, and the vote is closed",
+                f"if it has a ballot, run {vote.election.command('reopen', '--because', 'TEXT')} first",
+            )
 
 
 def what_then(
@@ -338,8 +384,8 @@ def what_then(
     """What is done in place of entering what was entered already."""
     if {line.elector for line in lines} - {ballot.elector for ballot in again}:
         return "leave it out"
-    pairs = ((line, one) for line in lines for one in again if line.elector == one.elector)
-    if other := next((one for line, one in pairs if differ(line.as_entered, one.line)), None):
+    pairs = ((line, old) for line in lines for old in again if line.elector == old.elector)
+    if other := next((old for line, old in pairs if differ(line.as_entered, old.line)), None):
         # then no strike is taken, either
         if letter.circumstances.is_closed:
             return f"the vote is closed, and its ballots stay; if this one is wrong, see {vote.election.command('reopen')}"
@@ -352,15 +398,17 @@ def why_not_unforced(chosen: Sequence[Chosen]) -> Iterator[Fault]:
     """The letter has the mark of another vote or call, or nothing ties it to the elector of a
     ballot.
     """
-    for one in chosen:
-        letter, name = one.letter, name_of(one.letter)
+    for letter, lines in chosen:
         if why_other := why_other_mark(letter):
             words, _, advice = for_secretary(why_other).partition("; ")
-            yield Fault(name, words, f"{advice}; {FORCE}")
-        for line in one.lines:
+            yield Fault(name_of(letter), words, f"{advice}; {FORCE}")
+        for line in lines:
             if not letter.is_tied(line.elector):
-                words = f"its sender and its subject do not show that it is of {line.elector}"
-                yield Fault(name, words, f"check who sent it; {FORCE}")
+                yield Fault(
+                    name_of(letter),
+                    f"its sender and its subject do not show that it is of {line.elector}",
+                    f"check who sent it; {FORCE}",
+                )
 
 
 def why_not_beside(
@@ -370,55 +418,62 @@ def why_not_beside(
     that is entered before it; to some of its answers alone, no --force enters it.
     """
     for letter, lines in chosen:
-        name = name_of(letter)
         for line in lines:
-            own, its = ballot_in(letter, line.as_entered), by_elector[line.elector]
-            later = its.later(own)
-            if later and (left := without(line.as_entered, later)):
-                answers = ENGLISH.joined(sorted(later))
-                words = f"its elector has later answers to {answers}"
-                cure = vote.election.command("held", str(letter.number), "--as", private(left))
-                yield Fault(name, words, f"enter the others: {cure}")
-            elif not is_forced and (words := why_unsure(letter, its, own)):
-                yield Fault(name, words, FORCE)
+            ballot = ballot_in(letter, line.as_entered)
+            beside = by_elector[line.elector]
+            later = beside.later(ballot)
+            if later and (others := without(line.as_entered, later)):
+                words = f"its elector has later answers to {ENGLISH.joined(sorted(later))}"
+                cure = vote.election.command("held", str(letter.number), "--as", private(others))
+                yield Fault(name_of(letter), words, f"enter the others: {cure}")
+            elif not is_forced and (words := why_unsure(letter, beside, ballot)):
+                yield Fault(name_of(letter), words, FORCE)
         for line in lines:
             by_elector[line.elector].add(ballot_in(letter, line.as_entered))
 
 
-def why_unsure(letter: LetterCase, its: Beside, own: Ballot) -> str:
+def why_unsure(letter: LetterCase, beside: Beside, ballot: Ballot) -> str:
     """Why a ballot beside others of its elector is entered by force alone; empty if it is not."""
-    has_voted = its.has_voted_since(own)
+    has_voted = beside.has_voted_since(ballot)
     if has_voted:
         return "its elector has voted since"
     if has_voted is not None:
-        off = "as the clock of the web host was off"
-        return f"its elector may have voted since, {off if letter.time else 'as nobody knows when it arrived'}"
-    return "another ballot of its elector has the same time" if its.has_other_at_once(own) else ""
+        why = "the clock of the web host was off" if letter.time else "nobody knows when it arrived"
+        return f"its elector may have voted since, as {why}"
+    if beside.has_other_at_once(ballot):
+        return "another ballot of its elector has the same time"
+    return ""
 
 
 def why_not_unseen(chosen: Sequence[Chosen]) -> Iterator[Fault]:
     """Their senders wrote more, which nobody is shown."""
-    for one in chosen:
-        for words in other_words(one.letter):
-            cure = "look at it, then run it at a terminal, or agree with --yes"
-            yield Fault(name_of(one.letter), f"its sender wrote more, {words}", cure)
+    for letter, _ in chosen:
+        for words in other_words(letter):
+            yield Fault(
+                name_of(letter),
+                f"its sender wrote more, {words}",
+                "look at it, then run it at a terminal, or agree with --yes",
+            )
 
 
 def why_typed_again(
-    vote: Vote, chosen: Sequence[Chosen], found: Sequence[LetterCase]
+    vote: Vote, chosen: Sequence[Chosen], letters: Sequence[LetterCase]
 ) -> Iterator[Fault]:
     """What was typed for a letter or a copy of it, though it may be taken back: its own lines may
     say something else.
     """
-    entered = [(letter.read.identity, ballot) for letter in found for ballot in letter.entered]
-    of_identity = grouped(sorted(entered, key=lambda one: one[1].number))
-    for one in chosen:
-        letter = one.letter
-        its_ballots = of_identity.get(letter.read.identity, ())
-        typed_last = {ballot.elector: ballot.is_typed for ballot in its_ballots}
-        if any(line.number and typed_last.get(line.elector) for line in one.lines):
-            is_taken_back = letter.state == queries.TAKEN_BACK
-            words = f"its ballot was typed{', and taken back' if is_taken_back else ''}"
-            again = vote.election.command("held", str(letter.number), "--as")
-            cure = f"type it again with {again} LINE; if this line is meant, repeat it with --force"
-            yield Fault(name_of(letter), words, cure)
+    entered = grouped(
+        (letter.read.identity, ballot) for letter in letters for ballot in letter.entered
+    )
+    for letter, lines in chosen:
+        ballots = sorted(entered.get(letter.read.identity, ()), key=lambda ballot: ballot.number)
+        typed_last = {ballot.elector: ballot.is_typed for ballot in ballots}
+        if any(line.number and typed_last.get(line.elector) for line in lines):
+            words = "its ballot was typed"
+            if letter.state == queries.TAKEN_BACK:
+                words += ", and taken back"
+            yield Fault(
+                name_of(letter),
+                words,
+                f"type it again with {vote.election.command('held', str(letter.number), '--as')} LINE; if this line is meant, repeat it with --force",
+            )

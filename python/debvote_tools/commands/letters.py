@@ -1,21 +1,30 @@
-"""The command `letters`."""
+"""The command `letters`, which writes letters to the electors, and sends them."""
 
 import dataclasses
-import datetime
 import getpass
-import itertools
 import pathlib
 from collections.abc import Iterator, Mapping, Sequence
 
-from debvote_tools.book import outgoing
 from debvote_tools.book.book import Detail
-from debvote_tools.book.outgoing import TAKEN, WRITTEN, OutgoingLetter
-from debvote_tools.cli import console
+from debvote_tools.book.change import Change
+from debvote_tools.book.outgoing import TAKEN, WRITTEN, OutgoingLetter, note
 from debvote_tools.cli.arguments import Acting, flag, given, option, positional
-from debvote_tools.cli.console import act_time, count_of, listed, shown_text, tell
+from debvote_tools.cli.console import (
+    act_time,
+    bar,
+    count_of,
+    is_terminal,
+    is_yes,
+    listed,
+    shown_text,
+    shows,
+    tell,
+    tell_as_it_is,
+)
 from debvote_tools.cli.faults import Fault, Status, bad_words, kept_in, stop_at
 from debvote_tools.election import LETTERS, Election, History
 from debvote_tools.files import locked, uninterrupted
+from debvote_tools.grouping import grouped
 from debvote_tools.outbox import letter_folder, smtp
 from debvote_tools.outbox.due import LettersDue, demand_due, is_present, letters_due
 from debvote_tools.outbox.reached import WAS_REFUSED, unreached_and_printed
@@ -75,59 +84,78 @@ def letters(election: Election, arguments: Arguments) -> int:
     election.demand_right_book(arguments)
     election.called(election.history())
     server = server_of(election.history(), arguments) if arguments.send else None
+    # a password takes a while to be typed
     history = election.history()
-    if arguments.codes:
-        demand_codes(history, arguments)
+    demand_codes(history, arguments)
     sender = sender_of(history, arguments)
-    if arguments.at not in (None, history.announced("at")):
-        demand_due(election, history, arguments.kind)
-        with election.book.act("announce", {"at": arguments.at}, seen=history.last.number):
-            pass
-    letter_folder.make_own(election.path(LETTERS) / arguments.kind)
+    announce(election, history, arguments)
+    folder = election.path(LETTERS) / arguments.kind
+    letter_folder.make_own(folder)
     # two runs at once would send each letter twice
-    with locked(election.path(LETTERS) / ".lock"):
-        due = letters_due(
-            election,
-            arguments.kind,
-            sender,
-            is_sending=arguments.send,
-            because=arguments.because if arguments.force else None,
-            has_codes=arguments.codes,
-        )
-        if due.reminded and not (arguments.yes or reminds_again(due.reminded)):
+    with locked(folder.with_name(".lock")):
+        due = letters_of(election, arguments, sender)
+        if not (arguments.yes or is_right_time(due)):
             tell("Nobody was reminded.")
             return Status.DONE
-        place = election.path(LETTERS) / due.kind / str(due.for_act)
+        place = folder / str(due.for_act)
         written = write(due, place)
-        lost = write_lost(due, place.parent)
-        tried = [] if server is None else send_letters(due, server)
+        lost = write_lost(due, folder)
+        tried = send_letters(due, server)
     tell(*notes_on(due, {place: [*due.going_again, *due.new], **lost}))
     tell(*(sent_words(due, tried) if server else written_words(due, place, written, lost)))
     tell(*unreached_words(election))
-    # that an address that an elector had before refuses a letter is no fault
-    is_refused = any(one.state != TAKEN and is_present(one, due.electors) for one in tried)
+    return exit_status(due, tried)
+
+
+def exit_status(due: LettersDue, tried: Sequence[OutgoingLetter]) -> Status:
+    """A doubt if an address refuses a letter, but for one that an elector had before."""
+    refused = [letter for letter in tried if letter.state != TAKEN]
+    is_refused = any(is_present(letter, due.electors) for letter in refused)
     return Status.DOUBT if is_refused else Status.DONE
+
+
+def announce(election: Election, history: History, arguments: Arguments) -> None:
+    """The act that says at which address the result is, if nobody has said it."""
+    if arguments.at not in (None, history.announced("at")):
+        demand_due(election, history, arguments.kind)
+        Change("announce", {"at": arguments.at}).do(election.book, history.last.number)
+
+
+def letters_of(election: Election, arguments: Arguments, sender: str) -> LettersDue:
+    """The letters that are due now."""
+    return letters_due(
+        election,
+        arguments.kind,
+        sender,
+        is_sending=arguments.send,
+        because=arguments.because if arguments.force else None,
+        has_codes=arguments.codes,
+    )
 
 
 def demand_codes(history: History, arguments: Arguments) -> None:
     """Stops at codes where letters have no link beside them, and unless somebody agrees to both."""
+    if not arguments.codes:
+        return
     if not history.is_secret_by_click:
         raise bad_words("--codes", "only in a secret vote with a box", "leave it out")
     if not (arguments.yes or is_agreed(CODES, "write them")):
         raise Fault(None, "you did not agree to codes in letters", "give them on slips")
 
 
-def reminds_again(before: datetime.datetime) -> bool:
-    return is_agreed(f"Reminders were written at {act_time(before)}", "remind again")
+def is_right_time(due: LettersDue) -> bool:
+    """Whether no others were reminded within a day, or somebody agrees to remind again."""
+    before = due.reminded
+    return before is None or is_agreed(
+        f"Reminders were written at {act_time(before)}", "remind again"
+    )
 
 
-def is_agreed(said: str, how: str) -> bool:
-    """Whether letters are to be written, whatever is said of them. Stops where nobody can be
-    asked.
-    """
-    if not console.is_terminal():
-        raise Fault(None, said, f"if it is right, {how} with --yes")
-    return bool(console.is_yes(f"{said}. {how.capitalize()}?"))
+def is_agreed(warning: str, task: str) -> bool:
+    """Whether letters are to be written in spite of a warning. Stops where nobody can be asked."""
+    if not is_terminal():
+        raise Fault(None, warning, f"if it is right, {task} with --yes")
+    return bool(is_yes(f"{warning}. {task.capitalize()}?"))
 
 
 # ---- what is told
@@ -138,20 +166,14 @@ ByPlace = Mapping[pathlib.Path, Sequence[OutgoingLetter]]
 def notes_on(due: LettersDue, by_place: ByPlace) -> Iterator[str]:
     """Who gets a letter on paper, and what waits."""
     for folder, letters in by_place.items():
-        if names := [due.electors[one.elector].name for one in letters if not one.address]:
+        if names := [due.electors[letter.elector].name for letter in letters if not letter.address]:
             yield f"Without an address: {listed(names, MOST)}. Print {folder}/{letter_folder.TO_PRINT}."
             if due.kind == "call" and not due.composer.call_data.letter_text:
-                where = (
-                    "these letters do not say where a ballot on paper goes. Say it in letter.txt"
-                )
-                yield f"Note: {where}, run {due.election.command('call')}, and write them again."
+                yield f"Note: these letters do not say where a ballot on paper goes. Say it in letter.txt, run {due.election.command('call')}, and write them again."
     if due.in_no_receipt:
-        why = "since no elector alone has the sender's address"
-        numbers = listed([str(number) for number in due.in_no_receipt], MOST)
-        yield f"No receipt is about these letters that wait, {why}: {numbers}"
+        yield f"No receipt is about these letters that wait, since no elector alone has the sender's address: {listed(list(map(str, due.in_no_receipt)), MOST)}"
     if due.letters_pending:
-        wait = count_of(due.letters_pending, "letter waits", "letters wait")
-        yield f"{wait} until you have looked at them: {due.election.command('held')}"
+        yield f"{count_of(due.letters_pending, 'letter waits', 'letters wait')} until you have looked at them: {due.election.command('held')}"
 
 
 def written_words(
@@ -159,15 +181,13 @@ def written_words(
 ) -> Iterator[str]:
     for folder, letters in lost.items():
         if number := sum(bool(letter.address) for letter in letters):
-            earlier = count_of(number, "earlier letter")
-            yield f"Wrote {earlier}, since the folder was not there: {folder}"
+            yield f"Wrote {count_of(number, 'earlier letter')}, since the folder was not there: {folder}"
     if written:
         host = [] if remembered(due.history) else ["--server", "HOST"]
-        command = due.election.command("letters", due.kind, "--send", *host)
         new = sum(bool(letter.address) for letter in due.new)
         of_them = "" if new == written else f", {new or 'none'} of them new"
         yield f"Wrote {count_of(written, 'letter')}{of_them}: {place}"
-        yield f"Next: send them with your mail program, or by {command}"
+        yield f"Next: send them with your mail program, or by {due.election.command('letters', due.kind, '--send', *host)}"
     else:
         yield "No other letter is to be sent." if lost else "There is no letter to send."
 
@@ -179,22 +199,19 @@ def sent_words(due: LettersDue, tried: Sequence[OutgoingLetter]) -> Iterator[str
     else:
         yield "There is no letter to send: the server has taken all that are due."
     for letter in refused:
-        name = due.electors[letter.elector].name
-        yield f"Refused: {name}, {letter.address}: {shown_text(letter.reply)}"
+        yield f"Refused: {due.electors[letter.elector].name}, {letter.address}: {shown_text(letter.reply)}"
     if any(map(due.can_be_sent, refused)):
-        command = due.election.command("letters", due.kind, "--send")
-        yield f"Next: in a quarter of an hour, or with corrected addresses, try again: {command}"
+        yield f"Next: in a quarter of an hour, or with corrected addresses, try again: {due.election.command('letters', due.kind, '--send')}"
 
 
 def unreached_words(election: Election) -> Iterator[str]:
     """Names those whom the call has not reached, until a letter to them is taken."""
     unreached, _ = unreached_and_printed(election, election.history())
-    found = [
+    if names := [
         f"{elector.name} ({why}{f': {shown_text(reply)}' if why == WAS_REFUSED else ''})"
         for elector, why, reply in unreached
-    ]
-    if found:
-        yield f"Not reached by the call: {listed(found, MOST)}"
+    ]:
+        yield f"Not reached by the call: {listed(names, MOST)}"
 
 
 # ---- the words of the command line
@@ -204,8 +221,9 @@ def demand_words(arguments: Arguments) -> None:
     """Stops at all that is wrong with them alone."""
     faults = list[Fault]()
     if not arguments.send and (options := given(arguments, "server", "user", "password_file")):
-        cure = "give --send too, or leave this out"
-        faults.append(bad_words(", ".join(options), "only with --send", cure))
+        faults.append(
+            bad_words(", ".join(options), "only with --send", "give --send too, or leave this out")
+        )
     asked = "call" if arguments.codes else "reminders"
     for option, kind in (("at", "result"), ("codes", "call"), ("yes", asked)):
         if arguments.kind != kind and given(arguments, option):
@@ -248,24 +266,29 @@ def server_of(history: History, arguments: Arguments) -> Server:
         user = user or detail.get("user")
         server = dataclasses.replace(smtp.server_of(detail["server"]), is_remembered=True)
         tell(f"To the server of the last letters: {server}{f', user {user}' if user else ''}")
-    if user is None:
-        if arguments.password_file is not None:
-            raise bad_words("--password-file", "only with --user", "give --user too")
-        return server
+    if user is not None:
+        password = password_of(user, server, arguments.password_file)
+        return dataclasses.replace(server, user=user, password=password)
     if arguments.password_file is not None:
+        raise bad_words("--password-file", "only with --user", "give --user too")
+    return server
+
+
+def password_of(user: str, server: Server, file: str | None) -> str:
+    """The password, from a file or as it is typed."""
+    if file is not None:
         try:
-            password = pathlib.Path(arguments.password_file).read_text("utf-8").rstrip("\r\n")
+            return pathlib.Path(file).read_text("utf-8").rstrip("\r\n")
         except (OSError, UnicodeDecodeError) as error:
             words = error.strerror if isinstance(error, OSError) else "it is not text in UTF-8"
-            cure = "name the file that has the password"
-            raise bad_words(arguments.password_file, words, cure) from None
-    elif console.is_terminal():
-        password = getpass.getpass(f"The password of {shown_text(user)} on {server.host}: ")
-    else:
-        words = f"the password of {shown_text(user)} can't be asked here"
-        cure = "give --password-file FILE, or run the command at a terminal"
-        raise bad_words("--user", words, cure)
-    return dataclasses.replace(server, user=user, password=password)
+            raise bad_words(file, words, "name the file that has the password") from None
+    if not is_terminal():
+        raise bad_words(
+            "--user",
+            f"the password of {shown_text(user)} can't be asked here",
+            "give --password-file FILE, or run the command at a terminal",
+        )
+    return getpass.getpass(f"The password of {shown_text(user)} on {server.host}: ")
 
 
 # ---- the acts
@@ -281,10 +304,9 @@ def write(due: LettersDue, place: pathlib.Path) -> int:
     with letter_folder.in_place(made, place):
         if due.new or changed:
             detail: Detail = {"kind": due.kind, "letters": len(due.new)} | due.forced
-            seen = due.history.last.number
-            with due.election.book.act("letters out", detail, seen=seen) as act:
-                letters = (*changed, *due.new)
-                outgoing.note(act, (one._replace(by_server=due.is_sending) for one in letters))
+            noted = [letter._replace(by_server=due.is_sending) for letter in (*changed, *due.new)]
+            change = Change("letters out", detail, written=noted)
+            change.do(due.election.book, due.history.last.number)
     return len(made.keys() - {letter_folder.TO_PRINT})
 
 
@@ -295,19 +317,23 @@ def write_lost(
     letters. A folder from which files were taken out is left alone: they may have been sent.
     """
     lost = {}
-    for act, letters in itertools.groupby(due.earlier_receipts, key=lambda letter: letter.for_act):
-        folder, its_letters = kind_folder / str(act), list(letters)
-        made = letter_folder.letter_files(due, its_letters)
+    receipts = grouped((receipt.for_act, receipt) for receipt in due.earlier_receipts)
+    for act, letters in receipts.items():
+        folder = kind_folder / str(act)
+        made = letter_folder.letter_files(due, letters)
         if made and not folder.exists():
             with letter_folder.in_place(made, folder):
-                lost[folder] = its_letters
+                lost[folder] = letters
     return lost
 
 
-def send_letters(due: LettersDue, server: Server) -> list[OutgoingLetter]:
-    """Sends the letters that no server has taken, and returns them with what the server said."""
-    letters, tried = due.to_send, list[OutgoingLetter]()
-    if not letters:
+def send_letters(due: LettersDue, server: Server | None) -> list[OutgoingLetter]:
+    """Sends the letters that no server has taken, if one is named, and returns them with what it
+    said.
+    """
+    letters = due.to_send
+    tried = list[OutgoingLetter]()
+    if server is None or not letters:
         return tried
     detail: Detail = {"kind": due.kind, "server": str(server)}
     if server.user is not None:
@@ -317,19 +343,19 @@ def send_letters(due: LettersDue, server: Server) -> list[OutgoingLetter]:
         show_progress(0, len(letters))
         for letter in smtp.send_all(messages, due.sender, server):
             with uninterrupted(), due.election.book.act("letter sent", detail) as act:
-                outgoing.note(act, [letter])
+                note(act, [letter])
             tried.append(letter)
             show_progress(len(tried), len(letters))
     except Fault as fault:
-        taken = sum(letter.state == TAKEN for letter in tried)
-        done = f"{taken} of {count_of(len(letters), 'letter')} taken in this run"
-        raise fault.with_done(done) from None
+        taken = f"{sum(letter.state == TAKEN for letter in tried)} of {count_of(len(letters), 'letter')} taken in this run"
+        fault.done = "; ".join(filter(None, [fault.done, taken]))
+        raise
     finally:
-        if console.shows():
+        if shows():
             tell("")
     return tried
 
 
 def show_progress(count: int, total: int) -> None:
-    if console.shows():
-        console.tell_as_it_is(f"\r{console.bar(count, total, BAR)} {count} of {total}")
+    if shows():
+        tell_as_it_is(f"\r{bar(count, total, BAR)} {count} of {total}")

@@ -1,4 +1,4 @@
-"""The command `publish`."""
+"""The command `publish`, which makes the folder of the result."""
 
 import datetime
 import functools
@@ -9,6 +9,7 @@ from collections.abc import Iterable, Mapping
 
 from debvote_tools.book import queries
 from debvote_tools.book.book import Detail, DoneAct, Overtaken
+from debvote_tools.book.change import Change
 from debvote_tools.call.box import SCRIPT, records_file
 from debvote_tools.call.draft import texts_of
 from debvote_tools.cli.arguments import Acting, demand_reason, flag, option, positional
@@ -50,7 +51,6 @@ from debvote_tools.result.sheet import (
 )
 from debvote_tools.text import times
 from debvote_tools.text.language import LANGUAGES
-
 
 # of the text for the page in bytes, and of the name of who gave the casting vote in characters
 TEXT_LIMIT = 65_536
@@ -209,16 +209,19 @@ def put_in_place(
         # no other publication comes between the act and the folder that takes its place
         with locked(election.folder, is_directory=True), uninterrupted():
             if detail is not None:
-                with election.book.act("publish", detail, seen=history.last.number) as act:
-                    act.insert("sealed", name=f"{LETTERS}/{RESULT_LETTER}", data=letter)
+                sealed = {f"{LETTERS}/{RESULT_LETTER}": letter}
+                Change("publish", detail, sealed=sealed).do(election.book, history.last.number)
             elif election.book.last_number() != history.last.number:
                 raise Overtaken
             new.is_in_book = True
             new.take_place(target)
             write_made(election.path(LETTERS), {RESULT_LETTER: letter}, OWN)
     except BlockingIOError:
-        words = "another command is publishing this election now"
-        raise Fault(None, words, "run the command again when it is done") from None
+        raise Fault(
+            None,
+            "another command is publishing this election now",
+            "run the command again when it is done",
+        ) from None
 
 
 def tell_published(
@@ -232,20 +235,24 @@ def tell_published(
     history = election.history()
     if not history.is_closed:
         # where the page of the vote is, people still vote
-        later = election.command("publish", str(other_place(target)))
-        tell(f"Next: {election.command('close')}, then {later}")
+        tell(
+            f"Next: {election.command('close')}, then {election.command('publish', str(other_place(target)))}"
+        )
         return
-    if tied := [label for label, outcome in outcomes.items() if not outcome.sheet.winner]:
-        castings = history.publications[-1].detail["casting"]
-        ask = "it is a tie: ask for the casting vote, and then give its option, its holder and its day"
+    if tied := [label for label, outcome in outcomes.items() if outcome.sheet.winner is None]:
         # the next result has the casting votes of its own command alone
-        tell(f"Next: {ask}: {publishing(election, {**castings, **dict.fromkeys(tied, 'NAME')})}")
+        castings = history.publications[-1].detail["casting"] | dict.fromkeys(tied, "NAME")
+        tell(
+            f"Next: it is a tie: ask for the casting vote, and then give its option, its holder and its day: {publishing(election, castings)}"
+        )
     else:
-        send = election.to_all("result", election.path(LETTERS) / RESULT_LETTER)
-        tell(f"Next: put the folder {target} on the web site as it is, then {send}")
+        tell(
+            f"Next: put the folder {target} on the web site as it is, then {election.to_all('result', election.path(LETTERS) / RESULT_LETTER)}"
+        )
     if history.announced("box"):
-        key = queries.sealed(election.book, BOX_KEY)
-        tell(f"Where it takes the place of the page, remove {SCRIPT} and {records_file(key)}.")
+        tell(
+            f"Where it takes the place of the page, remove {SCRIPT} and {records_file(queries.sealed(election.book, BOX_KEY))}."
+        )
 
 
 def demand_place(election: Election, target_folder: pathlib.Path, history: History) -> None:
@@ -265,9 +272,11 @@ def demand_place(election: Election, target_folder: pathlib.Path, history: Histo
         sums = sums[-1:]
     if any(folder.is_publication(place, sum) for sum in sums):
         return
-    words = "what this election has published last, since its last close"
-    cure = f"name another folder, as {other_place(target_folder)}"
-    raise folder.in_use(target_folder, words, f"{cure}: no result is replaced by a later one")
+    raise folder.in_use(
+        target_folder,
+        "what this election has published last, since its last close",
+        f"name another folder, as {other_place(target_folder)}: no result is replaced by a later one",
+    )
 
 
 def other_place(target_folder: pathlib.Path) -> pathlib.Path:
@@ -295,9 +304,13 @@ def published_words(arguments: Arguments, questions: Questions, call: DoneAct) -
             reason = demand_reason(reason, "--force", has_paragraphs=True)
     with kept_in(faults):
         if arguments.about is not None:
-            unread = "give a file that you may read with --about"
-            empty = "write it, or leave --about out"
-            about = read_text(arguments.about, TEXT_LIMIT, unread, empty, may_wait=True)
+            about = read_text(
+                arguments.about,
+                TEXT_LIMIT,
+                "give a file that you may read with --about",
+                "write it, or leave --about out",
+                may_wait=True,
+            )
     with kept_in(faults):
         castings = castings_in(arguments.casting, questions)
     stop_at(faults)
@@ -337,17 +350,22 @@ def given_for_each(number: int, option: str, given: list[str]) -> list[str]:
     if given and not number:
         raise bad_words(option, "it describes the casting vote of --casting", "give --casting too")
     if len(given) not in (0, 1, number):
-        words = f"{len(given)} are given, and of --casting {number}"
-        cure = "give it once for all, or once for each --casting, in their order"
-        raise bad_words(option, words, cure)
+        raise bad_words(
+            option,
+            f"{len(given)} are given, and of --casting {number}",
+            "give it once for all, or once for each --casting, in their order",
+        )
     return given * number if len(given) == 1 else given
 
 
 def holder_in(by: str) -> str:
     """The holder of a casting vote."""
     if not by.strip() or odd_sign(by, refused=REFUSED_IN_NAME) is not None or len(by) > NAME_LIMIT:
-        reason = f"it must be a name on one line, of at most {NAME_LIMIT} characters, without quotation marks"
-        raise bad_words("--cast-by", reason, "write it again")
+        raise bad_words(
+            "--cast-by",
+            f"it must be a name on one line, of at most {NAME_LIMIT} characters, without quotation marks",
+            "write it again",
+        )
     return by.strip()
 
 
@@ -360,8 +378,7 @@ def day_in(on: str, call: DoneAct) -> str:
     days = [time.astimezone().date() for time in (call.time, times.now())]
     if not days[0] <= day <= days[1]:
         where = "in the future" if day > days[1] else f"before the call, which was on {days[0]}"
-        cure = "write the day on which it was given"
-        raise bad_words("--cast-on", f"{day} is {where}", cure)
+        raise bad_words("--cast-on", f"{day} is {where}", "write the day on which it was given")
     return day.isoformat()
 
 

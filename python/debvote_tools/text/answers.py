@@ -1,6 +1,7 @@
-"""What looks like an answer to a question, wherever it stands in a line: as many ranks as a
-question has options, or its label with a rank or a word of a motion behind it. A letter in which
-such a line stands beside its ballot is looked at, and no line of ours is one.
+"""What looks like an answer to a question, wherever it stands in a line.
+
+It is as many ranks as a question has options, or its label with a rank or a word of a motion behind
+it. A letter in which such a line stands beside its ballot is looked at, and no line of ours is one.
 """
 
 import functools

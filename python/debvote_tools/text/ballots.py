@@ -1,5 +1,6 @@
-"""Ballot files; a ballot in words, from its ranks as `standing` and the ballot file spell them,
-such as `1,2,-,3`; why a line is none.
+"""Ballot files, a ballot in words, and why a line is none.
+
+Ranks are spelled as `standing` and the ballot file spell them, such as `1,2,-,3`.
 """
 
 import functools
@@ -75,8 +76,8 @@ def answers_in(ballot: str) -> set[tuple[str, str]]:
 
 def differ(ballot: str, other: str) -> bool:
     """Whether two ballots answer a question in different ways."""
-    ranks, others = answers_of(ballot), answers_of(other)
-    return any(others.get(label, one) != one for label, one in ranks.items())
+    others = answers_of(other)
+    return any(others.get(label, ranks) != ranks for label, ranks in answers_of(ballot).items())
 
 
 def without(ballot: str, labels: Collection[str]) -> str:
@@ -152,7 +153,8 @@ def faults_of(
     if answer is None:
         yield language.say("It is a ballot.")
     elif count := RANK_COUNT.match(answer):
-        number, options = int(count[1]), count[2]
+        number = int(count[1])
+        options = count[2]
         yield language.say_number(
             "One of its answers has {number} rank, and the question has {options} options.",
             "One of its answers has {number} ranks, and the question has {options} options.",

@@ -37,7 +37,8 @@ class Language:
     FORMS = {"given": "{}", "strong": "{}", "exact": "{}", "quoted": "({})", "link": "{1}"}
 
     def __init__(self, code: str, catalog: gettext.NullTranslations) -> None:
-        self.code, self.catalog = code, catalog
+        self.code = code
+        self.catalog = catalog
 
     def made(self, text: str) -> str:
         """A text of ours, into which others are put."""

@@ -1,5 +1,6 @@
-"""The words of a motion: yes, no and abstain, which may be in place of the ranks of its option and
-of the default option.
+"""The words of a motion: yes, no and abstain.
+
+They may be in place of the ranks of its option and of the default option.
 """
 
 import re

@@ -1,5 +1,6 @@
-"""Pages and letters are made from templates of jinja2. A page escapes what it is given, a letter
-does not; an unknown name is an error.
+"""Pages and letters are made from templates of jinja2.
+
+A page escapes what it is given, a letter does not; an unknown name is an error.
 
 A template says its sentences itself, by `say` and `say_number`. One that pages and letters share
 uses what both have, as the filters `paragraph` and `given`. The templates of a package are in its

@@ -17,7 +17,7 @@ def book(tmp_path: pathlib.Path) -> Book:
     create(tmp_path / NAME, {"language": "en"}, tmp_path / NAME)
     book = open_book(tmp_path / NAME)
     with book.act("roll", {"electors": 2}) as act:
-        ada, ben = (queries.new_elector(act, name).number for name in ("ada", "ben"))
+        ada, ben = (act.insert("elector", name=name) for name in ("ada", "ben"))
     with book.act("add") as act:
         new = [queries.NewEnvelope(line, why_refused=answer) for line, answer in LINES]
         queries.add_envelopes(act, new, [ada, ben, ada, ben], is_late=False)

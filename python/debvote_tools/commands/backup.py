@@ -1,0 +1,24 @@
+"""The command `backup`, which copies the book into a file."""
+
+import pathlib
+
+from debvote_tools.cli.arguments import Options, positional
+from debvote_tools.cli.console import tell
+from debvote_tools.commands.export import demand_new
+from debvote_tools.election import Election
+
+
+class Arguments(Options):
+    file: str = positional("FILE", "The new file, best on another disk")
+
+
+def backup(election: Election, arguments: Arguments) -> None:
+    """Write a copy of the book into a new file."""
+    book = election.whole_book()
+    target = pathlib.Path(arguments.file)
+    demand_new(election, target, "file")
+    last = book.last_number()
+    book.back_up(target)
+    tell(
+        f"Copied the book up to act {last} into {target}. Only you can read it; it holds everything that came or was done."
+    )

@@ -1,0 +1,69 @@
+"""The command `export`, which writes ballots and all that came into a folder."""
+
+import os
+import pathlib
+import re
+
+from debvote_tools.book import queries
+from debvote_tools.cli.arguments import Options, positional
+from debvote_tools.cli.console import tell
+from debvote_tools.cli.faults import bad_words
+from debvote_tools.election import CALL, LETTERS, PRIVATE, RESULT, Election
+from debvote_tools.files import whole_folder, write_whole
+from debvote_tools.poll.questions import place_of
+from debvote_tools.text.ballots import ballot_file
+
+# what a file name keeps of the name under which something came
+UNSAFE = re.compile(r"[^A-Za-z0-9._-]+")
+LONGEST_FILE_NAME = 100
+
+
+class Arguments(Options):
+    target_folder: str = positional("FOLDER", "The folder to make")
+
+
+def export(election: Election, arguments: Arguments) -> None:
+    """Write the poll, the ballots and everything that came into a new folder that only you can
+    read.
+    """
+    election.whole_book()
+    target_folder = pathlib.Path(arguments.target_folder)
+    demand_new(election, target_folder, "folder")
+    files = exported(election)
+    with whole_folder(target_folder) as folder:
+        (folder / "came").mkdir(mode=0o700)
+        for name, data in files.items():
+            (folder / name).parent.mkdir(mode=0o700, exist_ok=True)
+            write_whole(folder / name, data, 0o600)
+    polls = "poll.toml,"
+    if election.questions.is_several:
+        polls = "for each question poll.toml and ballots.txt, for all"
+    tell(
+        f"Made the folder {target_folder}: {polls} ballots.txt, late.txt, and in came/ all that came. Only you can read it."
+    )
+
+
+def exported(election: Election) -> dict[str, bytes]:
+    book = election.book
+    questions = election.questions
+    files = dict[str, bytes]()
+    with book.snapshot():
+        for label in queries.each_question_alone(book):
+            files[place_of(label, "poll.toml")] = questions[label].as_bytes()
+            files[place_of(label, "ballots.txt")] = ballot_file(queries.lines_to_count(book))
+        files["ballots.txt"] = ballot_file(queries.lines_to_count(book))
+        files["late.txt"] = ballot_file(queries.lines(book, queries.LATE))
+        # what came has its number before its name, which is no path and has no characters that a
+        # shell reads
+        for number, name, data in queries.sources(book):
+            safe = UNSAFE.sub("-", name.rpartition("/")[2])[-LONGEST_FILE_NAME:].strip(".")
+            files[f"came/{number:05}-{safe or 'file'}"] = data
+    return files
+
+
+def demand_new(election: Election, target: pathlib.Path, what: str) -> None:
+    """Stops if there is something, or a folder for others above it."""
+    nothing = "nothing was written"
+    election.demand_outside(target, CALL, LETTERS, RESULT, PRIVATE, done=nothing)
+    if os.path.lexists(target):
+        raise bad_words(target, "it exists already", f"name a new {what}", nothing)

@@ -1,0 +1,81 @@
+"""The command `reopen`, which opens the vote again after a close."""
+
+from collections.abc import Iterator
+
+from debvote_tools.book import queries
+from debvote_tools.book.change import Change, carried_out, terminal_question
+from debvote_tools.cli.arguments import Acting, demand_reason, flag
+from debvote_tools.cli.console import act_time, listed, shown_line, tell
+from debvote_tools.cli.faults import Fault
+from debvote_tools.election import Election, History
+from debvote_tools.grouping import grouped
+from debvote_tools.inbox.taking import MOST_NAMED
+from debvote_tools.inbox.vote import Vote
+from debvote_tools.text.times import now
+
+
+class Arguments(Acting):
+    yes: bool = flag("Open it without asking")
+
+
+def reopen(election: Election, arguments: Arguments) -> None:
+    """Open the vote again after a close, for ballots that came in time; the result page says so."""
+    because = demand_reason(arguments.because, "reopen")
+    book = election.book_for(arguments)
+    carried_out(book, lambda: what_is_reopened(election, arguments, because))
+    history = election.history()
+    early = ["--early"] if history.ends_after(now()) else []
+    tell(
+        f"The vote is open again; the close at {act_time(history.closes[-1].time)} stays in the log and on the result page.",
+        *late_words(Vote(election), history),
+        "Of new ballots only those that arrived before the first close count: add and desk ask.",
+        "What is late stays late: if it arrived before, enter it again, with add FILE --came-before-close yes or at a desk.",
+        f"Next: {election.command('add', 'FILE')}, then {election.command('close', *early)}",
+    )
+
+
+def what_is_reopened(election: Election, arguments: Arguments, because: str) -> Change:
+    demand_closed(election, election.history())
+    told = "Everybody will read this reason."
+    if election.questions.is_secret:
+        told = "Only the log tells this reason."
+    asked = terminal_question(f"Open the vote again, because: {because}? {told}", arguments.yes)
+    return Change("reopen", {"because": because}, question=asked)
+
+
+def late_words(vote: Vote, history: History) -> Iterator[str]:
+    """The late ballots that may have come in time, of a desk or a file, or of a letter of before
+    the first close; and apart from them those whose electors have another ballot in time. Others
+    that were entered again are left out.
+    """
+    others = queries.late_beside_others(vote.book)
+    in_time = {*queries.lines_to_count(vote.book)}
+    by_kind = grouped(
+        (
+            envelope.line in others,
+            str(envelope.number)
+            if vote.has_codes
+            else f"{envelope.number} `{shown_line(envelope.line)}`",
+        )
+        for envelope in queries.envelopes(vote.book, queries.LATE_BALLOTS)
+        if envelope.letter is None or envelope.time <= history.closes[0].time
+        if envelope.line in others or envelope.line not in in_time
+    )
+    for is_beside, shown in sorted(by_kind.items()):
+        what = (
+            "Late ballots of electors with another ballot in time, which they would replace"
+            if is_beside
+            else "Late ballots that may have come before the first close"
+        )
+        yield f"{what} ({len(shown)}): {listed(shown, MOST_NAMED)}"
+
+
+def demand_closed(election: Election, history: History) -> None:
+    if not history.is_closed:
+        raise Fault(None, "the vote is not closed", f"see {election.command('status')}")
+    if history.has_codes_on_roll and history.named("publish"):
+        raise Fault(
+            None,
+            "the published result shows the codes, so anybody could now vote in the name of others",
+            "hold the vote anew, with new codes",
+        )

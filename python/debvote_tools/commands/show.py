@@ -1,0 +1,100 @@
+"""The command `show`, which shows what came of one elector, and what they were sent."""
+
+from collections.abc import Iterator, Sequence
+
+from debvote_tools.book import outgoing, queries
+from debvote_tools.book.queries import Envelope
+from debvote_tools.cli.arguments import Options, positional
+from debvote_tools.cli.console import act_time, private, shown_line, shown_text, tell
+from debvote_tools.cli.faults import Fault
+from debvote_tools.election import Election, History
+from debvote_tools.inbox import letter_words
+from debvote_tools.inbox.fates import Fate, fates_of
+from debvote_tools.inbox.vote import IS_CODE, Vote
+from debvote_tools.poll.codes import has_code
+
+
+class Arguments(Options):
+    name: str = positional("NAME", "The elector's name on the roll, or the real name")
+
+
+def show(election: Election, arguments: Arguments) -> None:
+    """Show one elector: the ballots and letters that came, the current ballot, and what was
+    sent.
+    """
+    history = election.history()
+    vote = Vote(election)
+    elector = elector_named(election, vote, arguments.name)
+    who = f": {shown_text(elector.who)} {', '.join(map(shown_text, elector.addresses))}"
+    # nobody knows whose code it is
+    tell(elector.name if vote.has_codes else f"{elector.name}{who.rstrip(': ')}")
+    fates = fates_of(election, history, elector)[elector.name]
+    came = [fate.envelope for fate in fates if fate.envelope]
+    tell(*(f"  {line}" for fate in fates for line in fate_words(vote, history, fate, came)))
+    current = queries.what_counts(election.book, {elector.number}).get(elector.name)
+    line = f"{elector.name} {current}: " if current and vote.questions.is_several else ""
+    said = private(f"{line}{vote.in_words_of(current)}") if current else "none"
+    tell(f"The current ballot: {said}")
+    for letter in sorted(
+        outgoing.outgoing_letters(election.book, elector=elector.number),
+        key=lambda letter: letter.time,
+    ):
+        where = f"to {letter.address}" if letter.address else "to be printed"
+        reply = f" ({shown_text(letter.reply)})" if letter.reply else ""
+        tell(
+            f"  {letter.kind.removesuffix('s')}, {act_time(letter.time)}, {where}: {letter.state}{reply}"
+        )
+
+
+def elector_named(election: Election, vote: Vote, name: str) -> queries.Elector:
+    names = vote.names.meant_by(name.strip())
+    meant = [elector for elector in queries.electors(election.book) if elector.name in names]
+    if len(meant) == 1:
+        return meant[0]
+    if meant:
+        words = f"several electors have the name {shown_text(name)}"
+        cure = f"name one of {', '.join(elector.name for elector in meant)}"
+    elif vote.has_codes:
+        words = f"no code on the roll is `{shown_text(name)}`"
+        cure = "type the code as it was handed out"
+    else:
+        words = f"no elector on the roll is `{shown_text(name)}`"
+        cure = f"{election.command('status')} and roll show the names"
+    raise Fault("show", words, cure, done=None)
+
+
+def fate_words(vote: Vote, history: History, fate: Fate, came: Sequence[Envelope]) -> Iterator[str]:
+    envelope = fate.envelope
+    letter = fate.letter
+    if letter is not None:
+        if letter.is_pending:
+            yield from letter_words.why_it_waits(letter)
+        else:
+            yield f"{letter_words.who_and_when(letter)}: {letter_words.why(letter)}"
+    if envelope is not None:
+        answers = vote.answers_in_words(fate.answers) or refused_line(vote, envelope)
+        marks = list[str]()
+        if envelope.is_late:
+            again = (
+                later
+                for later in came
+                if later.line == envelope.line and later.number > envelope.number
+            )
+            marks = [
+                "late",
+                *(f"entered again as {later.number}: {later.became}" for later in again),
+            ]
+        marks += [f"{label} replaced" for label in fate.replaced]
+        if envelope.struck is not None:
+            act = history.act(envelope.struck)
+            because = shown_text(str(act.detail.get("because", "")))
+            struck = f"struck by {act.name} at {act_time(act.time)}"
+            marks.append(f"{struck}: {because}" if because else struck)
+        marked = f" ({'; '.join(marks)})" if marks else ""
+        yield f"envelope {envelope.number}, {act_time(envelope.time)}{letter_words.sent_words(fate.came_by)}: {answers}{marked}"
+
+
+def refused_line(vote: Vote, envelope: Envelope) -> str:
+    is_code = has_code(envelope.line.decode("utf-8", "replace")) and not vote.has_codes
+    said = private(f"{shown_line(envelope.line)}: {envelope.why_refused}")
+    return said + (IS_CODE if is_code else "")

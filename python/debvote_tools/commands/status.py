@@ -1,0 +1,183 @@
+"""The command `status`, which says how far the election is."""
+
+import json
+from collections.abc import Iterator, Mapping
+from typing import Any
+
+from debvote_tools.book import queries
+from debvote_tools.book.book import Book
+from debvote_tools.book.queries import Envelope
+from debvote_tools.cli.arguments import Options, flag
+from debvote_tools.cli.console import (
+    act_time,
+    count_of,
+    private,
+    quorum_words,
+    shown_line,
+    tell,
+    wrapped,
+)
+from debvote_tools.election import LETTERS, RESULT_LETTER, Election, History
+from debvote_tools.inbox import letter_words
+from debvote_tools.inbox.asked import asked_last, asked_words, unasked_fault, with_lost_records
+from debvote_tools.inbox.stopping import Pending, pending_letters, taken_out_words
+from debvote_tools.inbox.vote import envelope_words
+from debvote_tools.outbox.reached import unreached_and_printed
+from debvote_tools.text import times
+from debvote_tools.text.ballots import ranks_by_label
+
+# how an election is, in numbers, as FORMATS has them; in a vote whose roll has codes nobody is
+# named
+State = dict[str, Any]
+
+
+class Arguments(Options):
+    json: bool = flag("Print the numbers as JSON, for programs")
+
+
+def status(election: Election, arguments: Arguments) -> None:
+    """Show how far the election is: lines, ballots, electors without a ballot, refused lines."""
+    with election.book.snapshot():
+        history = election.history()
+        counting = queries.what_counts(election.book)
+        state = state_of(election, history, counting)
+        if history.call is not None and election.questions.is_several:
+            state["questions"] = questions_in(election, history, has_late=bool(state["late"]))
+        refused = still_refused(election.book, counting)
+    if arguments.json:
+        tell(json.dumps(state, ensure_ascii=False))
+    else:
+        stage = stage_words(election, history, state)
+        tell(*stage, *state_words(election, history, state, refused))
+
+
+def state_of(election: Election, history: History, counting: Mapping[str, str]) -> State:
+    """The numbers of an election; `counting` is what counts of each elector."""
+    book = election.book
+    electors = [elector.name for elector in queries.electors(book)]
+    pending = Pending() if history.call is None else pending_letters(election, history)
+    unreached, printed = unreached_and_printed(election, history)
+    return {
+        "stage": history.stage,
+        "electors": len(electors),
+        **queries.numbers(book)._asdict(),
+        "late": len(queries.lines(book, queries.LATE)),
+        "struck": len(history.since_call("strike")),
+        "taken_back": len(queries.lost(book)),
+        "waiting": pending.count,
+        "stopping": pending.stopping,
+        "without_ballot": None
+        if history.has_codes_on_roll
+        else [name for name in electors if name not in counting],
+        "box": asked_last(election, history),
+        "lost": with_lost_records(election, history),
+        "not_reached": {elector.name: why for elector, why, _ in unreached},
+        "printed": printed,
+        "act": history.last.number,
+        "digest": history.last.digest,
+    }
+
+
+def still_refused(book: Book, counting: Mapping[str, str]) -> list[Envelope]:
+    """The envelopes whose lines debvote refuses, but for those of electors whose ballots answer the
+    same questions.
+    """
+    answered = {
+        elector.number: ranks_by_label(counting.get(elector.name, ""))
+        for elector in queries.electors(book)
+    }
+    return [
+        envelope
+        for envelope in queries.envelopes(book, queries.REFUSED)
+        if envelope.by_question.keys() - answered.get(envelope.elector or 0, {})
+    ]
+
+
+def questions_in(election: Election, history: History, *, has_late: bool) -> State:
+    """The numbers of each of several questions."""
+    book = election.book
+    polls = election.questions
+    return {
+        label: {
+            "title": polls[label].name,
+            "stage": history.stage,
+            **queries.numbers(book)._asdict(),
+            "late": len(queries.lines(book, queries.LATE)) if has_late else 0,
+        }
+        for label in queries.each_question_alone(book)
+    }
+
+
+def stage_words(election: Election, history: History, state: State) -> Iterator[str]:
+    if history.call is None:
+        yield from ("Call for votes: not made yet", "Closed: not yet")
+        return
+    questions = election.questions
+    yield f"Title: {questions.name}"
+    if questions.is_secret:
+        yield f"The vote is secret: ballots are published under {'codes' if history.has_codes_on_roll else 'aliases'}. Keep the output of this command to yourself."
+    if history.until is not None:
+        yield f"End of the vote: {times.time_in_words(history.until)}{'; that time has passed' if times.now() >= history.until else ''}"
+    yield f"Call for votes: made at {act_time(history.call.time)}"
+    yield f"Closed: {f'at {act_time(history.closes[-1].time)}' if history.is_closed else 'not yet'}"
+    if history.is_reopened:
+        yield f"Reopened: at {act_time(history.named('reopen')[-1].time)}"
+    quorums = history.call.detail["quorum_votes"]
+    for label, poll in questions.items():
+        if label:
+            yield f"Question {label}: {poll.name}: {count_of(state['questions'][label]['voters'], 'elector')} answered"
+        yield f"{'  ' if label else ''}{quorum_words(poll.quorum, quorums[label])}"
+
+
+def state_words(
+    election: Election, history: History, state: State, refused: list[Envelope]
+) -> Iterator[str]:
+    yield f"Lines: {state['lines']} ({state['valid']} valid, {state['refused']} refused)"
+    if state["late"]:
+        yield f"Late, and not counted: {state['late']}"
+    if state["struck"] or state["taken_back"]:
+        yield taken_out_words(election, history)
+    yield f"Electors with a valid ballot: {state['voters']} of {state['electors']}"
+    yield from asked_words(history)
+    yield from named(
+        "Ballots that nobody can open, and no later ones, by the links of", state["lost"]
+    )
+    yield from named("Electors without a ballot", state["without_ballot"])
+    # with codes on the roll the lines would tell codes
+    if refused and history.has_codes_on_roll:
+        yield f"Refused: {envelope_words([envelope.number for envelope in refused])}"
+    elif refused:
+        yield f"Refused lines of electors without a ballot to the question, or of nobody known ({len(refused)}):"
+        for envelope in refused:
+            yield f"  envelope {envelope.number}: {shown_line(envelope.line)}"
+            yield f"    {private(str(envelope.why_refused))}"
+    if state["waiting"]:
+        yield f"{letter_words.wait_words(state['waiting'])} until you have looked at them: {election.command('held')}"
+    if state["stopping"]:
+        stops = "count and publish stop" if history.is_closed else "close stops"
+        yield f"These arrived in time, and {stops} while they wait: {', '.join(map(str, state['stopping']))}"
+    for reason in dict.fromkeys(state["not_reached"].values()):
+        names = [name for name, why in state["not_reached"].items() if why == reason]
+        yield from named(f"Not reached by the call: {reason}", names)
+    yield from named("Get the call printed", state["printed"])
+    yield f"Last act: {state['act']}, digest {state['digest']}"
+    yield f"Next: {what_next(election, history, state)}"
+
+
+def named(what: str, names: list[str] | None) -> Iterator[str]:
+    if names:
+        yield from (f"{what} ({len(names)}):", wrapped(names))
+
+
+def what_next(election: Election, history: History, state: State) -> str:
+    if state["stage"] == "new":
+        return f"{election.command('roll')}, then {election.command('check')}, then {election.command('call')}"
+    if state["stage"] == "called":
+        return f"add the ballots as they come: {election.command('add', 'FILE')}, or {election.command('desk')}; when the vote is over: {election.command('close')}"
+    if state["stage"] == "published" and not state["stopping"]:
+        return f"put the published folder on the web site as it is, then {election.to_all('result', election.path(LETTERS) / RESULT_LETTER)}"
+    # what stops a count goes first
+    is_unasked = unasked_fault(election, history, "count")
+    first = f"{election.command('add', '--box')}, then " if is_unasked else ""
+    first += f"{election.command('held')}, then " if state["stopping"] else ""
+    return f"{first}{election.command('count')}, then {election.command('publish')}"

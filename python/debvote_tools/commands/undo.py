@@ -1,0 +1,141 @@
+"""The command `undo`, which takes back the last act that entered lines."""
+
+import contextlib
+import dataclasses
+from collections.abc import Iterator, Mapping, Sequence
+
+from debvote_tools.book import outgoing, queries
+from debvote_tools.book.book import Book, DoneAct
+from debvote_tools.book.change import Change, carried_out, terminal_question
+from debvote_tools.cli.arguments import Acting, flag
+from debvote_tools.cli.console import act_time, count_of, tell
+from debvote_tools.cli.faults import Fault
+from debvote_tools.commands import held
+from debvote_tools.election import Election, History
+from debvote_tools.inbox import letter_words
+from debvote_tools.inbox.judging import letters_now
+from debvote_tools.inbox.rules import LetterCase
+from debvote_tools.inbox.taking import MOST_NAMED
+from debvote_tools.inbox.vote import Vote, envelope_words, standing_words
+
+
+class Arguments(Acting):
+    yes: bool = flag("Take it back without asking")
+
+
+@dataclasses.dataclass(frozen=True, kw_only=True)
+class TakenBack(Change):
+    """What an `undo` takes back, or would."""
+
+    undone: DoneAct
+    # whether it was typed for a letter: --enter does not enter it again
+    is_typed: bool
+    # what it changes, in words: current ballots, told once; and letters and receipts
+    ballots: Sequence[str]
+    others: Sequence[str]
+
+
+def undo(election: Election, arguments: Arguments) -> None:
+    """Take back the last act whose lines are not all struck; a second undo the one before."""
+    book = election.book_for(arguments)
+    vote = Vote(election)
+    judged_before = letters_now(vote)
+    change = carried_out(book, lambda: what_is_taken_back(vote, arguments))
+    ballots = () if change.question else change.ballots
+    tell(f"Took back {what(change.undone, change.struck)}.", *ballots, *change.others)
+    # the letters whose own ballots it was are told apart
+    judged_after = letters_now(vote)
+    tell(*letter_words.judged_anew(judged_before, judged_after, change.letters))
+    following = election.command("status")
+    if queries.last_entering_act(book):
+        following += f"; another {election.command('undo')} takes back the act before"
+    if change.letters and not change.is_typed:
+        enter = words_to_enter(vote, judged_after, change)
+        does = "enters these letters again" if enter else "lists these letters"
+        following += f"; {election.command('held', *enter)} {does}"
+    tell(f"Next: {following}")
+
+
+def what(act: DoneAct, numbers: Sequence[int]) -> str:
+    files = f" of {', '.join(act.detail['files'])}" if act.detail.get("files") else ""
+    return f"{count_of(len(numbers), 'line')} (act {act.number}: {act.name}{files}, {act_time(act.time)}, {envelope_words(numbers)})"
+
+
+def what_is_taken_back(vote: Vote, arguments: Arguments) -> TakenBack:
+    """The last act that entered lines of which one is not struck, and what changes. Stops if there
+    is none, or at a close.
+    """
+    book = vote.book
+    with book.snapshot():
+        history = vote.election.history()
+        act = last_entering_act(vote, history)
+        envelopes = queries.envelopes(book, "act = ? AND struck IS NULL", act.number)
+        before, after = what_counts(book, history, envelopes, act)
+    struck = [envelope.number for envelope in envelopes]
+    letters = sorted({envelope.letter for envelope in envelopes if envelope.letter is not None})
+    question = terminal_question(f"Take back {what(act, struck)}?", arguments.yes)
+    none = f"no ballot {'would be' if question else 'is'} left"
+    ballots = standing_words(vote, before, after, none)
+    others = [*what_else_changes(book, struck, letters)]
+    return TakenBack(
+        "undo",
+        {"act": act.number},
+        shown=[*ballots, *others] if question else (),
+        question=question,
+        struck=struck,
+        letters=dict.fromkeys(letters, queries.TAKEN_BACK),
+        undone=act,
+        is_typed=bool(queries.lines(book, "act = ? AND envelope IN typed", act.number)),
+        ballots=ballots,
+        others=others,
+    )
+
+
+def what_counts(
+    book: Book, history: History, envelopes: Sequence[queries.Envelope], act: DoneAct
+) -> tuple[dict[str, str], dict[str, str]]:
+    """What counts of the electors of these envelopes, with their act and without it."""
+    electors = {envelope.elector for envelope in envelopes if envelope.elector is not None}
+    after = queries.what_counted(book, history.last.number, electors, without=act.number)
+    return queries.what_counts(book, electors), after
+
+
+def last_entering_act(vote: Vote, history: History) -> DoneAct:
+    demand_open(vote.election, history)
+    if number := queries.last_entering_act(vote.book):
+        return history.act(number)
+    raise Fault("undo", "there is nothing to take back", f"see {vote.election.command('status')}")
+
+
+def what_else_changes(book: Book, struck: Sequence[int], letters: Sequence[int]) -> Iterator[str]:
+    """Beside ballots: letters, and receipts, which tell of envelopes."""
+    if letters:
+        yield f"{count_of(len(letters), 'letter then waits', 'letters then wait')} again, as taken back: {', '.join(map(str, letters))}"
+    about = {("envelope", number, False) for number in struck}
+    written = outgoing.outgoing_letters(book, "receipts")
+    having = {letter.elector for letter in written if about.intersection(letter.about)}
+    if names := [elector.name for elector in queries.electors(book) if elector.number in having]:
+        yield f"These electors have receipts that are no longer true: {', '.join(names)}"
+
+
+def words_to_enter(vote: Vote, letters: Mapping[int, LetterCase], change: TakenBack) -> list[str]:
+    """What is typed after `held` to enter again what was taken back; empty if no one command does
+    it.
+    """
+    numbers = [*change.letters]
+    if len(numbers) <= MOST_NAMED:
+        ranges = [range(number, number + 1) for number in numbers]
+        arguments = held.Arguments(numbers=ranges, enter=True, force=False, yes=True)
+        with contextlib.suppress(Fault):
+            held.what_is_entered(vote, [*letters.values()], arguments)
+            return [*map(str, numbers), "--enter"]
+    return []
+
+
+def demand_open(election: Election, history: History) -> None:
+    if history.is_closed:
+        raise Fault(
+            None,
+            f"the vote was closed at {act_time(history.closes[-1].time)}, and its ballots stay",
+            f"if they are wrong, see {election.command('reopen')}",
+        )
