@@ -15,7 +15,13 @@ from debvote_tools.cli.faults import Fault, bad_words, kept_in, stop_at
 from debvote_tools.election import Election, History
 from debvote_tools.grouping import grouped
 from debvote_tools.inbox import letter_words
-from debvote_tools.inbox.judging import BallotsByElector, Beside, ballot_in, ballots_in, judged
+from debvote_tools.inbox.judging import (
+    BallotsByElector,
+    ElectorBallots,
+    ballot_in,
+    ballots_in,
+    judged,
+)
 from debvote_tools.inbox.letter_lines import BallotLine
 from debvote_tools.inbox.letter_words import (
     attachment_words,
@@ -385,7 +391,7 @@ def why_not_beside(
             by_elector[line.elector].add(ballot_in(letter, line.as_entered))
 
 
-def why_unsure(letter: LetterCase, its: Beside, own: Ballot) -> str:
+def why_unsure(letter: LetterCase, its: ElectorBallots, own: Ballot) -> str:
     """Why a ballot beside others of its elector is entered by force alone; empty if it is not."""
     has_voted = its.has_voted_since(own)
     if has_voted:
@@ -417,7 +423,7 @@ def why_typed_again(
         its_ballots = of_identity.get(letter.read.identity, ())
         typed_last = {ballot.elector: ballot.is_typed for ballot in its_ballots}
         if any(line.number and typed_last.get(line.elector) for line in one.lines):
-            is_taken_back = letter.state == queries.TAKEN_BACK
+            is_taken_back = letter.kept.state == queries.TAKEN_BACK
             words = f"its ballot was typed{', and taken back' if is_taken_back else ''}"
             again = vote.election.command("held", str(letter.number), "--as")
             cure = f"type it again with {again} LINE; if this line is meant, repeat it with --force"

@@ -1,5 +1,7 @@
-"""Letters that `add` is given: it keeps those that are new, has all judged, and enters the ballots
-that go in. `held` enters others by a `LetterEntry`. Lines are taken in `commands/add.py`.
+"""Letters that `add` is given: `take_letters` leads through all that becomes of them.
+
+It keeps those that are new, has all judged, and enters the ballots that go in. `held` enters others
+by a `LetterEntry`. Lines are taken in `commands/add.py`.
 """
 
 import dataclasses
@@ -18,7 +20,7 @@ from debvote_tools.inbox.entering import Entry
 from debvote_tools.inbox.judging import judged
 from debvote_tools.inbox.letter_lines import ReadLetter, read_letters, to_json
 from debvote_tools.inbox.mailbox import RawLetter
-from debvote_tools.inbox.box_records import asked_box, opened, unopened_words
+from debvote_tools.inbox.box_records import Brought, asked_box, opened, unopened_words
 from debvote_tools.inbox.rules import LetterCase, LetterOutcome
 from debvote_tools.inbox.vote import Vote
 from debvote_tools.inbox.stopping import other_votes_words
@@ -39,14 +41,14 @@ def take_letters(
     Those `of_box` are its records: the others that wait stay as they are.
     """
     files = [opened(vote.book, raw) if raw.is_fetched else raw for raw in given]
-    came, detail, words, has_unopened = asked_box(vote) if of_box else (files, {}, [], False)
-    raws = [raw for raw in came if raw.why_not_read is None]
+    brought = asked_box(vote) if of_box else Brought(files)
+    raws = [raw for raw in brought.letters if raw.why_not_read is None]
     new = new_of(vote, raws)
     read = read_letters(vote, new)
-    tell(*words)
+    tell(*brought.words)
     if not is_look:
-        keep(vote, new, read, detail)
-    for raw in came:
+        keep(vote, new, read, brought.detail)
+    for raw in brought.letters:
         if why := raw.why_not_read:
             what, cure = why.value
             tell(f"{shown_text(raw.where)}: {what}, and was passed over; {cure}")
@@ -55,12 +57,11 @@ def take_letters(
     if is_look:
         would = plan(read)
         tell_letters(vote, would.found)
-        said = would.end.replace("went in", "would go in")
-        tell(came_before, said, "Nothing was changed.")
+        tell(came_before, would.end.replace("went in", "would go in"), "Nothing was changed.")
         return
     tell(came_before)
     change = carried_out(vote.book, plan)
-    if has_unopened:
+    if brought.has_unopened:
         # now who has a later ballot need not vote again
         tell(unopened_words(vote))
     tell_next(change)
@@ -98,8 +99,9 @@ def keep(vote: Vote, raws: Sequence[RawLetter], read: Sequence[ReadLetter], deta
         for raw, letter in zip(raws, read):
             # another command may have kept it meanwhile
             if is_not_kept(letter.digest, letter.is_parted_off, kept):
-                where, read_json = safe(raw.where), to_json(letter)
-                queries.keep_letter(act, where, raw.data, letter.identity, read_json)
+                queries.keep_letter(
+                    act, safe(raw.where), raw.data, letter.identity, to_json(letter)
+                )
 
 
 # ---- entering
@@ -119,7 +121,7 @@ class LetterEntry(Entry):
 
 
 def envelope_of(letter: LetterCase, ballot: str) -> NewEnvelope:
-    return NewEnvelope(ballot.encode(), "", letter.source, letter.number, letter.time)
+    return NewEnvelope(ballot.encode(), "", letter.kept.source, letter.number, letter.time)
 
 
 def going_in(found: Iterable[LetterCase]) -> list[LetterCase]:
@@ -138,10 +140,8 @@ class GoingIn(LetterEntry):
             tell(self.end)
         elif self.question and not is_terminal():
             ballots = count_of(len(self.letters), "ballot")
-            cure, done = (
-                "agree with --yes, or run it at a terminal",
-                "nothing was added, and the letters are kept",
-            )
+            cure = "agree with --yes, or run it at a terminal"
+            done = "nothing was added, and the letters are kept"
             raise Fault(None, f"{ballots} would go in", cure, done=done)
 
     def declined(self, _: bool | None) -> None:
