@@ -71,7 +71,8 @@ class Entry(Change):
 def demand_room(book: Book, new: Sequence[NewEnvelope]) -> None:
     """Stops at more lines than debvote takes."""
     count, size = queries.size_to_count(book)
-    count, size = count + len(new), size + sum(len(envelope.line) + 1 for envelope in new)
+    count += len(new)
+    size += sum(len(envelope.line) + 1 for envelope in new)
     if count > LINES_LIMIT or size > BALLOTS_LIMIT:
         words = f"with the new lines there would be {count_of(count, 'line')} and {size} bytes of ballots"
         cure = f"debvote takes at most {LINES_LIMIT} lines and {BALLOTS_LIMIT} bytes: add fewer"

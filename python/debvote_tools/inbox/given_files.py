@@ -1,6 +1,4 @@
-"""What `add` is given: files and standard input, each read once and whole, and folders of
-letters.
-"""
+"""What `add` is given: files and standard input, each read once and whole, and folders."""
 
 import codecs
 import itertools
@@ -27,7 +25,8 @@ from debvote_tools.inbox.mailbox import (
 from debvote_tools.poll.sealed import REQUIRED
 
 # what names standard input on the command line, and how messages name it
-HYPHEN, STANDARD_INPUT = "-", "standard input"
+HYPHEN = "-"
+STANDARD_INPUT = "standard input"
 
 AS_TEXT = "save it as plain text in UTF-8"
 # what is done with a file that may have letters in it
@@ -125,8 +124,7 @@ def demand_lines(file: GivenFile) -> None:
     poll.
     """
     if not file.data:
-        words, cure = "it is empty", "write one ballot on each line"
-        raise Fault(file.name, words, cure)
+        raise Fault(file.name, "it is empty", "write one ballot on each line")
     if len(file.data) > BALLOTS_LIMIT:
         words = f"it is longer than {BALLOTS_LIMIT} bytes, the most that debvote takes"
         raise bad_ballots(file.name, words, "add it in parts")
@@ -136,5 +134,5 @@ def demand_lines(file: GivenFile) -> None:
     if what is not None:
         raise bad_ballots(file.name, f"it is {what}", CURES.get(what, AS_TEXT))
     if len({key[1] for key in POLL_KEY.finditer(file.data)}) > 1:
-        words = "it looks like a poll, not like ballots"
-        raise Fault(file.name, words, "name the file of the ballots")
+        cure = "name the file of the ballots"
+        raise Fault(file.name, "it looks like a poll, not like ballots", cure)

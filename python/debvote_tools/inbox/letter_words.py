@@ -1,6 +1,4 @@
-"""What the secretary reads about letters: what goes in, what waits and why, and a letter line by
-line.
-"""
+"""What the secretary reads about letters: what goes in, what waits and why, and a whole letter."""
 
 import itertools
 from collections.abc import Collection, Iterator, Mapping, Sequence
@@ -21,9 +19,11 @@ from debvote_tools.inbox.reasons import for_secretary
 from debvote_tools.inbox.vote import IS_CODE, Vote
 from debvote_tools.text.language import ENGLISH
 
-# how many attachments are named; in characters, what is listed of what else a sender wrote; and how
-# many lines of a quotation are shown
-MAX_ATTACHMENTS, MAX_LISTED, MAX_QUOTED = 5, 60, 100
+# how many attachments are named, and how many lines of a quotation are shown
+MAX_ATTACHMENTS = 5
+MAX_QUOTED = 100
+# in characters: what is listed of what else a sender wrote
+MAX_LISTED = 60
 
 
 def who_and_when(letter: LetterCase) -> str:
@@ -163,7 +163,8 @@ def whole(letter: LetterCase) -> Iterator[str]:
     """What its sender wrote, line by line, and below it what the letter quotes."""
     yield who_and_when(letter)
     yield f"  subject: {subject_of(letter)}"
-    lines, quoted = letter.read.body.lines, sorted(letter.read.text.quoted)
+    lines = letter.read.body.lines
+    quoted = sorted(letter.read.text.quoted)
     yield from numbered(lines, sorted({*range(len(lines))}.difference(quoted)))
     if quoted:
         yield "Quoted:"

@@ -29,7 +29,8 @@ from debvote_tools.text.ballots import answers_text
 from debvote_tools.text.language import Language
 from debvote_tools.text.motions import Words, with_ranks
 
-MARK, BLANKS = codecs.BOM_UTF8, b" \t"
+MARK = codecs.BOM_UTF8
+BLANKS = b" \t"
 
 NOTHING_TO_REPAIR = re.compile(rb"[a-z0-9.-]+(?: [0-9-][0-9,-]*|(?: [A-Z] [0-9-][0-9,-]*)+)")
 
@@ -41,7 +42,8 @@ MAX_NAME = 100
 # of so many lines that letters have it is kept what they are
 MOST_QUOTED = 1_000
 # what parts the words of a name, and what each name on a roll has
-NO_NAME, LATIN = re.compile(r"(?:[^\w.-]|[_\u02b0-\u02ff])+"), re.compile("[a-z0-9]")
+NO_NAME = re.compile(r"(?:[^\w.-]|[_\u02b0-\u02ff])+")
+LATIN = re.compile("[a-z0-9]")
 # the ranks of a ballot; and a name as people write it, with letters of any script, and ranks
 ONE_RANK = "(?:-|[1-9][0-9]?)"
 RANKS = rf"{ONE_RANK}(?:,{ONE_RANK})*"
@@ -137,7 +139,8 @@ class Names:
         """What begins with a label that has a sign, a rank or a word behind it; None if there is
         one question.
         """
-        labels, sign = "".join(self.labels), r"\s*[^\w\s]"
+        labels = "".join(self.labels)
+        sign = r"\s*[^\w\s]"
         capital = rf"[{labels}](?:{sign}|\s+[^\W_])"
         small = rf"[{labels.lower()}](?:{sign}|\s+[\d{DASHES}-])"
         return re.compile(rf"\W*(?:{capital}|{small})") if labels else None
@@ -175,7 +178,8 @@ class Names:
         is entered, or with a colon behind the name.
         """
         before, *rest = LABEL.split(bare_text(line)) if self.labels else [line]
-        name, is_right = before.strip(), RIGHT_ANSWERS.fullmatch(line.strip())
+        name = before.strip()
+        is_right = RIGHT_ANSWERS.fullmatch(line.strip())
         is_apart = name.endswith(":") or (is_right and name in self.roll)
         return rest[0].upper() if name and rest and not is_apart else ""
 
@@ -233,10 +237,12 @@ class Names:
         ranked = WORD.sub(self.with_rank, bare) if self.labels else with_ranks(line, self.words)
         return line if ranked == bare or self.meant_by(bare.rstrip(" .!")) else ranked
 
-    def with_rank(self, found: re.Match[str]) -> str:
-        label, word = found[1] or found[2], unicodedata.normalize("NFC", found[3]).lower()
-        is_answer = label.upper() in self.motions and word in self.words
-        return f"{label} {self.words[word]}" if is_answer else found[0]
+    def with_rank(self, answer: re.Match[str]) -> str:
+        """A word behind a label, with ranks in its place if that is of a motion."""
+        label = answer[1] or answer[2]
+        word = unicodedata.normalize("NFC", answer[3]).lower()
+        is_of_motion = label.upper() in self.motions and word in self.words
+        return f"{label} {self.words[word]}" if is_of_motion else answer[0]
 
     def folds(self, name: str) -> set[str]:
         """A name as `roll` makes one from it, but whole: `roll` cuts a long name, and omits letters

@@ -1,6 +1,7 @@
-"""What stops a close, and after it a count, a publication and the letters of the result: all of
-them ask `what_stops`. Letters that arrived in time and wait, whenever they were added, and, but for
-the letters of the result, ballots in a box that was not asked may decide the vote.
+"""What stops a close, and after it a count, a publication and the letters of the result.
+
+All of them ask `what_stops`. Letters that arrived in time and wait, whenever they were added, and,
+but for the letters of the result, ballots in a box that was not asked may decide the vote.
 
 What judges letters takes a while to be imported, so it is only if some came.
 """
@@ -17,7 +18,9 @@ from debvote_tools.election import Election, History
 from debvote_tools.inbox.asked import CLOSES, unasked_fault, with_lost_records
 
 # the kinds of what stops, as the page names the doubts about them, but for what nobody can open
-LETTERS, BOX, LOST = "letters left", "box not asked", "records lost"
+LETTERS = "letters left"
+BOX = "box not asked"
+LOST = "records lost"
 CLOSE_ANYWAY = "or close anyway with --force --because TEXT (the result page says so)"
 # how each later step goes on without the letters that stop it; a publication says it in its doubts
 ANYWAY = {
@@ -85,7 +88,8 @@ def letters_cure(election: Election, step: str, *, is_closed: bool) -> str:
 def pending_letters(election: Election, history: History) -> Pending:
     # where letters have to be signed, what was signed says which are copies, which the book may not
     # have known when they came
-    book, is_signed = election.book, history.announced("signed")
+    is_signed = history.announced("signed")
+    book = election.book
     if not (kept := queries.kept_letters(book) if is_signed else queries.may_wait(book)):
         return Pending()
     from debvote_tools.inbox.judging import judged
@@ -96,7 +100,8 @@ def pending_letters(election: Election, history: History) -> Pending:
     found = [letter for letter in letters if letter.is_pending]
     arrived_in_time = sorted(letter.number for letter in found if letter.arrived_in_time)
     # what a close or a publication left so stops nothing again
-    left, told = left_by(history.since_call("close", "publish")), left_by(history.closes[-1:])
+    left = left_by(history.since_call("close", "publish"))
+    told = left_by(history.closes[-1:])
     after_end = sum(letter.arrived_after_end for letter in found)
     return Pending(
         arrived_in_time,

@@ -94,7 +94,8 @@ class Vote:
     """
 
     def __init__(self, election: Election, label: str = "") -> None:
-        self.election, self.book, self.debvote = election, election.book, election.debvote
+        self.election = election
+        self.book = election.book
         history = election.history()
         self.call = election.called(history)
         if history.announced("box"):
@@ -257,7 +258,7 @@ class Vote:
         asked = [self.as_asked(line) for line in lines]
         heads = (place for place, line in enumerate(lines) if self.is_head_of_words(line))
         return any(
-            self.debvote.findings(poll.as_bytes(), ballot_file(part)).are_table
+            self.election.debvote.findings(poll.as_bytes(), ballot_file(part)).are_table
             for first in {0, next(heads, 0)}
             for part in in_parts(asked[first:])
         )
@@ -292,7 +293,7 @@ class Vote:
             parts = [(line, part) for line in right if (part := part_of(line, label)) is not None]
             if parts:
                 ballots = ballot_file(part for _, part in parts)
-                found = self.debvote.findings(poll.as_bytes(), ballots)
+                found = self.election.debvote.findings(poll.as_bytes(), ballots)
                 yield label, [line for line, _ in parts], found
 
     def other_names(self, offered: Sequence[str]) -> list[str]:
@@ -372,7 +373,8 @@ def turned_rank(number: int, options: int) -> str:
 
 # what is said of an answer that is the first one, or another one, of its elector to its question.
 # Here it has replaced the earlier one; in the view `fate` it is the earlier one that is replaced
-COUNTED, REPLACED = "counted", "replaced"
+COUNTED = "counted"
+REPLACED = "replaced"
 # the same of a ballot of which the answers differ
 IN_PART = f"{REPLACED} in part"
 
@@ -410,7 +412,8 @@ def in_parts(lines: Sequence[bytes]) -> Iterator[list[bytes]]:
     for line in lines:
         if len(part) == LINES_LIMIT or size + len(line) + 1 > BALLOTS_LIMIT:
             yield part
-            part, size = [], 0
+            part = []
+            size = 0
         part.append(line)
         size += len(line) + 1
     if part:
@@ -419,7 +422,8 @@ def in_parts(lines: Sequence[bytes]) -> Iterator[list[bytes]]:
 
 def change_words(line: CheckedLine) -> Iterator[str]:
     """What was changed of a line that is not entered as it came."""
-    came, meant = line.original.unframed, line.as_meant
+    came = line.original.unframed
+    meant = line.as_meant
     if came not in (line.as_entered, meant):
         yield f"{line.original.where}: `{shown_line(came)}` was changed to `{shown_line(meant)}`"
 
