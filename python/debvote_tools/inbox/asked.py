@@ -103,7 +103,7 @@ def with_lost_records(election: Election, history: History) -> list[str]:
     return [
         name
         for name, time in sorted(came.items())
-        if all(one.time <= from_text(time) for one in ballots.get(name, ()))
+        if all(ballot.time <= from_text(time) for ballot in ballots.get(name, ()))
     ]
 
 

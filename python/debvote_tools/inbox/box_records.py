@@ -108,8 +108,8 @@ class HostAnswer(NamedTuple):
 
 
 class Asked(NamedTuple):
-    """What the box answered. It was asked at this time by its own clock, which is `behind` that of this
-    computer by so many seconds at least; if that is less than 0, it is ahead.
+    """What the box answered. It was asked at this time by its own clock, which is `behind` that of
+    this computer by so many seconds at least; if that is less than 0, it is ahead.
     """
 
     time: datetime.datetime
@@ -279,7 +279,7 @@ def box_words(box: Detail, before: Detail) -> Iterator[str]:
 
 def upload_words(election: Election, box: Detail) -> Iterator[str]:
     """What is said of a page and a script that are not those of the folder."""
-    if not has_page_of_now(election, box):
+    if not box["is_right"]:
         yield PAGE_OF_BEFORE if box["page"] else OTHER_PAGE
     if not has_list_of_now(election, box["list"]):
         yield f"Note: the web host has another {SCRIPT} than the folder call, as an older one: upload that of the folder, since who has a new link cannot vote there."
@@ -321,8 +321,8 @@ def records_in(
     counts = collections.Counter(record.link for record in kept)
     known = {record.digest for record in kept}
     latest = {record.elector: from_text(record.sent) for record in kept}
-    letters = list[RawLetter]()
-    unopened = list[RawLetter]()
+    letters = []
+    unopened = []
     for raw in in_order(asked.records):
         if raw.digest in known:
             letters.append(raw)

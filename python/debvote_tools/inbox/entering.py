@@ -102,8 +102,7 @@ def came_before_close(history: History, answer: str | None) -> bool | None:
     """
     if not history.is_reopened:
         if answer is not None and not history.is_closed:
-            words = "the vote was never closed"
-            raise bad_words(CAME_BEFORE_CLOSE, words, "leave it out")
+            raise bad_words(CAME_BEFORE_CLOSE, "the vote was never closed", "leave it out")
         return None
     if answer is not None:
         return answer == "yes"
@@ -112,11 +111,11 @@ def came_before_close(history: History, answer: str | None) -> bool | None:
         words = f"the {closed}, and only what came before counts"
         cure = f"say whether this came before that close: {CAME_BEFORE_CLOSE} yes, or {CAME_BEFORE_CLOSE} no, which makes it late"
         raise Fault(CAME_BEFORE_CLOSE, words, cure)
-    said = console.is_yes(f"The {closed}. Did this come before that close?")
-    if said is None:
+    came_before = console.is_yes(f"The {closed}. Did this come before that close?")
+    if came_before is None:
         words = "you did not say whether it came before the close"
         raise Fault(None, words, "run the command again")
-    return said
+    return came_before
 
 
 # ---- late lines that are entered again
@@ -135,7 +134,3 @@ def replaced_in_time(
         for line in lines
         if line.as_entered in others
     }
-
-
-def bad_ballots(where: object, reason: object, cure: str) -> Fault:
-    return Fault(where, reason, cure, Status.BAD_BALLOTS)

@@ -10,10 +10,9 @@ from collections.abc import Sequence
 from typing import BinaryIO, NamedTuple
 
 from debvote_tools.cli.console import tell
-from debvote_tools.cli.faults import Fault, bad_words, kept_in, stop_at
+from debvote_tools.cli.faults import Fault, Status, bad_words, kept_in, stop_at
 from debvote_tools.election import Election
 from debvote_tools.files import BALLOTS_LIMIT, PACKED, PDF, kind_of
-from debvote_tools.inbox.entering import bad_ballots
 from debvote_tools.inbox.mailbox import (
     NotRead,
     RawLetter,
@@ -79,9 +78,8 @@ def read_files(election: Election, paths: Sequence[str]) -> tuple[list[RawLetter
     stop_at(faults)
     if letters and files:
         names = ", ".join(STANDARD_INPUT if path == HYPHEN else path for path in letters)
-        words = "it has letters, and the other files have none"
         cure = "add letters and other files with separate commands"
-        raise bad_words(names, words, cure)
+        raise bad_words(names, "it has letters, and the other files have none", cure)
     return [*itertools.chain(*letters.values())], [*files.values()]
 
 
@@ -90,8 +88,7 @@ def read_folder(path: str) -> list[RawLetter]:
     try:
         return letters_of_folder(pathlib.Path(path))
     except OSError as error:
-        cure = "name letters that you may read"
-        raise bad_ballots(path, error.strerror, cure) from None
+        raise bad_ballots(path, error.strerror, "name letters that you may read") from None
 
 
 def read_file(election: Election, path: str) -> GivenFile:
@@ -136,3 +133,7 @@ def demand_lines(file: GivenFile) -> None:
     if len({key[1] for key in POLL_KEY.finditer(file.data)}) > 1:
         cure = "name the file of the ballots"
         raise Fault(file.name, "it looks like a poll, not like ballots", cure)
+
+
+def bad_ballots(where: object, reason: object, cure: str) -> Fault:
+    return Fault(where, reason, cure, Status.BAD_BALLOTS)

@@ -10,7 +10,7 @@ import datetime
 import functools
 import itertools
 import operator
-from collections.abc import Callable, Collection, Iterable, Mapping, Sequence, Set
+from collections.abc import Collection, Iterable, Mapping, Sequence, Set
 
 from debvote_tools.book import queries
 from debvote_tools.book.queries import Ballot, KeptLetter
@@ -81,7 +81,7 @@ class ElectorBallots:
         """The last ballots that are later than one in a letter, by whichever clock, by the labels
         of its questions: all, or those that came by letter; nothing where its time is not known.
         """
-        last_later = dict[str, Ballot]()
+        last_later = {}
         for label in self.labels_of(own) if own.is_by_letter else ():
             for ballot in reversed(self.by_label[label]):
                 if queries.by_time(ballot) <= queries.by_time(own):
@@ -111,7 +111,7 @@ class ElectorBallots:
         """The first one from a time until before another one, but for these envelopes, that answers
         a question in another way than a ballot. Of thousands that are alike it looks at one.
         """
-        others = list[Ballot]()
+        others = []
         for label, ranks in answers_of(ballot).items():
             ballots = self.by_label.get(label, [])
             at = bisect.bisect_left(ballots, begin, key=TIME)
@@ -191,7 +191,7 @@ def checked_again(
 ) -> dict[int, ReadLetter]:
     """Those letters of which a signature may be good now, read again, by number."""
     sealed = queries.last_act_that_sealed(vote.book, KEYRING)
-    raws = dict[int, RawLetter]()
+    raws = {}
     for letter in kept:
         before = read[letter.number]
         if before.is_slow or (letter.act < sealed and not before.is_never_signed):
@@ -213,8 +213,6 @@ def circumstances_now(vote: Vote, history: History) -> Circumstances:
     """What letters are judged by, as the election is now."""
     election = vote.election
     book = vote.book
-    call = history.call
-    assert call is not None
     return Circumstances(
         mark=election.sealed().public.mark,
         marks={election.sealed(act).public.mark for act in history.named("call")},
@@ -222,7 +220,7 @@ def circumstances_now(vote: Vote, history: History) -> Circumstances:
         electors={elector.name: elector for elector in queries.electors(book)},
         is_signed=vote.is_signed,
         tells_codes=vote.questions.is_secret and not vote.has_codes,
-        called=call.time,
+        called=vote.call.time,
         end=history.until,
         first_close=history.closes[0].time if history.closes else None,
         is_closed=history.is_closed,
@@ -269,7 +267,7 @@ def voted_since(case: LetterCase, by_elector: BallotsByElector) -> dict[str, boo
     """The electors of a letter who have a later ballot, or may have, and whether it is sure. If
     answers of theirs stand in the letter, it is one that answers one of the same questions.
     """
-    since = dict[str, bool]()
+    since: dict[str, bool] = {}
     for elector in case.electors:
         lines = [ballot.as_entered for ballot in case.ballots if ballot.elector == elector]
         for line in lines or [""]:

@@ -198,7 +198,7 @@ def is_server(address: str) -> bool:
 def marks_of(subjects: Iterable[str]) -> tuple[tuple[str, str], ...]:
     """The marks of votes in subjects, each once, as people read these and as they came."""
     texts = (text for subject in subjects for text in (decoded(subject), subject))
-    return tuple(dict.fromkeys(itertools.chain.from_iterable(map(marks_in, texts))))
+    return tuple(dict.fromkeys(itertools.chain(*map(marks_in, texts))))
 
 
 def returned_in(data: bytes, sender: str) -> tuple[str, ...]:
@@ -215,7 +215,7 @@ def returned_in(data: bytes, sender: str) -> tuple[str, ...]:
         texts += [*map(decoded, part.values("subject")), part.payload.decode("latin-1")]
     bare = ("".join(text.lower().split()) for text in texts)
     marks = ("".join(mark) for text in bare for mark in OWN.findall(text))
-    return tuple(itertools.islice(dict.fromkeys(marks), MAX_OWN))
+    return tuple(dict.fromkeys(marks))[:MAX_OWN]
 
 
 # ---- the head
@@ -314,11 +314,11 @@ def body_of(parts: Sequence[Part]) -> Body:
             first.note_ambiguous("what may be crossed out or hidden in its HTML")
     lines = text.rstrip("\r\n").splitlines()
     first.note_too_long(len(lines), "lines", MAX_LINES)
+    trouble = next(filter(None, (part.trouble for part in parts)), None)
     # that it is HTML is the last trouble, since such a letter can be entered
-    troubles = [part.trouble for part in parts if part.trouble is not None]
-    if not troubles and first.kind == "text/html":
-        troubles.append(Reason.HTML_ALONE())
-    return Body(tuple(lines[:MAX_LINES]), next(iter(troubles), None))
+    if trouble is None and first.kind == "text/html":
+        trouble = Reason.HTML_ALONE()
+    return Body(tuple(lines[:MAX_LINES]), trouble)
 
 
 def the_text(parts: Sequence[Part]) -> Part:

@@ -1,4 +1,4 @@
-"""The text of a letter, by a grammar of its lines:
+"""The grammar by which each line of a letter is known.
 
     text      = greetings ballot farewells [signature] [quotation]
     signature = a line "-- " and all below it
@@ -98,17 +98,18 @@ class Parts(NamedTuple):
 
 def parted(lines: Sequence[str]) -> Parts:
     parts = Parts([], [], [], [], [])
-    its = parts.own
+    # of these the next line is one, if no quotation begins
+    current = parts.own
     head: Sequence[int] = ()
     for index, line in enumerate(lines):
         if not head and is_first_marked(lines, index):
             head = head_of_marked(lines, index)
             parts.heads.extend(head)
-            while head and its and its[-1] >= head[0]:
-                its.pop()
+            while head and current and current[-1] >= head[0]:
+                current.pop()
         if not head and (fields := end_of_outlook(lines, index)):
-            while its and not lines[its[-1]].strip(" _"):
-                its.pop()
+            while current and not lines[current[-1]].strip(" _"):
+                current.pop()
             parts.heads.extend(range(index, fields))
             parts.quoted.extend(range(fields, len(lines)))
             break
@@ -116,10 +117,10 @@ def parted(lines: Sequence[str]) -> Parts:
             continue
         if head:
             (parts.quoted if is_marked(line) else parts.below).append(index)
-        elif line == END and its is parts.own:
-            its = parts.signature
+        elif line == END and current is parts.own:
+            current = parts.signature
         else:
-            its.append(index)
+            current.append(index)
     return parts
 
 

@@ -98,7 +98,11 @@ class LetterText:
     """
 
     def __init__(self, lines: Sequence[str], names: Names, is_signed: bool) -> None:
-        self.lines = [line if line.isascii() else composed(line) for line in lines]
+        # with accents in one form; a very long line as it is, since that takes quadratic time
+        self.lines = [
+            unicodedata.normalize("NFC", line) if len(line) <= MAX_COMPOSED else line
+            for line in lines
+        ]
         self.names = names
         self.is_signed = is_signed
         parts = parted(self.lines)
@@ -202,13 +206,6 @@ class LetterText:
             return None
         written = " ".join(" ".join(lines).split())
         return ReadLine(places[0] + 1, written, tuple(meant), ranks)
-
-
-def composed(line: str) -> str:
-    """A line with its accents in one form; a very long one as it is, since that takes quadratic
-    time.
-    """
-    return unicodedata.normalize("NFC", line) if len(line) <= MAX_COMPOSED else line
 
 
 def names_of(line: ReadLine, names: Names) -> set[str]:

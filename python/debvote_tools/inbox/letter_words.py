@@ -101,8 +101,10 @@ def judged_anew(
     otherwise or be of somebody else.
     """
     for number, letter in after.items():
-        known = (letter, before.get(number, letter))
-        facts = {(one.outcome, one.reason, one.is_pending and one.electors) for one in known}
+        facts = {
+            (case.outcome, case.reason, case.is_pending and case.electors)
+            for case in (letter, before.get(number, letter))
+        }
         if len(facts) > 1 and number not in others:
             yield from why_it_waits(letter)
 
@@ -128,17 +130,17 @@ def why(letter: LetterCase, elector: str = "") -> str:
     """Why a letter waits, or what became of it; and who has voted since, or whether an elector
     has.
     """
-    said = letter.outcome.value if letter.reason is None else for_secretary(letter.reason)
+    why = letter.outcome.value if letter.reason is None else for_secretary(letter.reason)
     if letter.outcome is LetterOutcome.GOES_IN:
         # nobody has agreed to it yet
-        said = "it goes in with the next add of letters"
-    since = [one for one in letter.voted_since if elector in ("", one)]
+        why = "it goes in with the next add of letters"
+    since = [name for name in letter.voted_since if elector in ("", name)]
     if not (letter.is_pending and since):
-        return said
+        return why
     who = f"{ENGLISH.joined(since)} " if len(letter.electors) > 1 else ""
-    is_sure = all(letter.voted_since[one] for one in since)
+    is_sure = all(letter.voted_since[name] for name in since)
     have = "may have" if not is_sure else "has" if len(since) == 1 else "have"
-    return f"{said}; {who}{have} voted since"
+    return f"{why}; {who}{have} voted since"
 
 
 def near_words(letter: LetterCase) -> Iterator[str]:

@@ -221,10 +221,9 @@ class Names:
         are entered; None if it has not this form.
         """
         if self.labels:
-            written = written_answers(line, self.labels, self.longest_line)
-            return (written[0], answers_text(written[1])) if written else None
-        found = NAMED.fullmatch(unicodedata.normalize("NFC", line))
-        return (found[1], found[2]) if found else None
+            return written_answers(line, self.labels, self.longest_line)
+        match = NAMED.fullmatch(unicodedata.normalize("NFC", line))
+        return (match[1], match[2]) if match else None
 
     def with_ranks(self, line: str) -> str:
         """A line with ranks in place of words: of the one at its end, or of several questions of
@@ -253,7 +252,7 @@ class Names:
         if len(name) > MAX_NAME or len(unicodedata.normalize("NFKC", name)) > MAX_NAME:
             return set()
         plain = (without_accents(name, language).lower() for language in (self.language, ""))
-        folds = {NO_NAME.sub("-", one).strip("-") for one in plain}
+        folds = {NO_NAME.sub("-", text).strip("-") for text in plain}
         return {fold for fold in folds if LATIN.search(fold)}
 
 
@@ -312,15 +311,13 @@ def repaired_but_for_name(line: bytes, longest: int) -> bytes:
     return spaced(without_typography(text).encode("utf-8"))
 
 
-def written_answers(
-    text: str, labels: Iterable[str], longest: int
-) -> tuple[str, dict[str, str]] | None:
-    """What is written before the answers to several questions, such as a name or nothing, and their
-    ranks by label, in the order of the labels. None if a line has no such answers, and no other
-    words between them or behind, or has two to one question.
+def written_answers(text: str, labels: Iterable[str], longest: int) -> tuple[str, str] | None:
+    """What is written before the answers to several questions, such as a name or nothing, and the
+    answers as they are entered. None if a line has no such answers, and no other words between them
+    or behind, or has two to one question.
     """
     before, *parts = LABEL.split(bare_text(text))
-    answers = dict[str, str]()
+    answers = {}
     for label, rest in zip(parts[::2], parts[1::2]):
         line = f"{label.lower()} {rest.strip()}".encode("utf-8", "replace")
         ranks = repaired_but_for_name(line, longest).decode()[2:]
@@ -330,7 +327,8 @@ def written_answers(
     in_order = {label: answers[label] for label in labels if label in answers}
     if not parts or len(in_order) < len(answers):
         return None
-    return unicodedata.normalize("NFC", before).strip().removesuffix(":").rstrip(), in_order
+    name = unicodedata.normalize("NFC", before).strip().removesuffix(":").rstrip()
+    return name, answers_text(in_order)
 
 
 def spaced(line: bytes) -> bytes:

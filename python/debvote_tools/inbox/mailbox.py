@@ -297,6 +297,6 @@ def has_others(letter: bytes) -> bool:
     """Whether other letters may be in a letter: a line may begin one, and separates none."""
     # the expression takes long, and few letters have such a line
     below = b"\n" + letter.lower()
-    may_have = any(begin in below for begin in (b"\nfrom ", b"\n>from "))
+    may_have = b"\nfrom " in below or b"\n>from " in below
     lines = FROM_LINE.finditer(letter) if may_have else ()
     return any(DATED.match(line[0]) or FIELD.match(letter, line.end()) for line in lines)

@@ -58,9 +58,12 @@ NOT_READ = re.compile(
     r"(?:application|audio|font|image|model|video)/[\w.+-]+[ \t]*(?:;.*)?", re.IGNORECASE
 )
 CONTAINERS = [f"multipart/{kind}" for kind in "alternative mixed related signed report".split()]
-PACKED = ["multipart/encrypted"] + [
-    f"application/{kind}" for kind in "pgp-encrypted pkcs7-mime x-pkcs7-mime".split()
-]
+PACKED = (
+    "multipart/encrypted",
+    "application/pgp-encrypted",
+    "application/pkcs7-mime",
+    "application/x-pkcs7-mime",
+)
 # at most 70 of these characters, the last no blank (RFC 2046, 5.1.1)
 BOUNDARY = re.compile(r"[\w'()+,./:=? -]{0,69}[\w'()+,./:=?-]", re.ASCII)
 

@@ -218,8 +218,7 @@ class LetterCase:
     def marks(self) -> set[str]:
         """The marks of polls in its subject, and in a text that must be signed."""
         signed = self.read.body.lines if self.circumstances.is_signed else ()
-        in_text = itertools.chain.from_iterable(map(marks_in, signed))
-        return {mark for mark, _ in (*self.read.marks, *in_text)}
+        return {mark for mark, _ in itertools.chain(self.read.marks, *map(marks_in, signed))}
 
     @property
     def other_vote(self) -> str:

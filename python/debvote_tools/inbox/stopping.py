@@ -97,19 +97,19 @@ def pending_letters(election: Election, history: History) -> Pending:
     from debvote_tools.inbox.vote import Vote
 
     letters = judged(Vote(election), history, kept)
-    found = [letter for letter in letters if letter.is_pending]
-    arrived_in_time = sorted(letter.number for letter in found if letter.arrived_in_time)
+    pending = [letter for letter in letters if letter.is_pending]
+    arrived_in_time = sorted(letter.number for letter in pending if letter.arrived_in_time)
     # what a close or a publication left so stops nothing again
     left = left_by(history.since_call("close", "publish"))
     told = left_by(history.closes[-1:])
-    after_end = sum(letter.arrived_after_end for letter in found)
+    after_end = sum(letter.arrived_after_end for letter in pending)
     return Pending(
         arrived_in_time,
         [number for number in arrived_in_time if number not in left],
         [number for number in arrived_in_time if number not in told],
         after_end,
-        len(found) - len(arrived_in_time) - after_end,
-        [one.other_vote for one in letters if one.outcome is LetterOutcome.OTHER_VOTE],
+        len(pending) - len(arrived_in_time) - after_end,
+        [case.other_vote for case in letters if case.outcome is LetterOutcome.OTHER_VOTE],
     )
 
 
@@ -119,7 +119,7 @@ def left_by(acts: Iterable[DoneAct]) -> set[int]:
 
 def taken_out_words(election: Election, history: History) -> str:
     """How many lines count no more that were told as entered, by whatever command they went."""
-    lost = [one.number for one in queries.lost(election.book)]
+    lost = [envelope.number for envelope in queries.lost(election.book)]
     which = f" (envelopes {in_runs(lost)})" if lost and not election.questions.is_secret else ""
     strikes = len(history.since_call("strike"))
     return (
@@ -130,5 +130,5 @@ def taken_out_words(election: Election, history: History) -> str:
 def other_votes_words(marks: Iterable[str]) -> Iterator[str]:
     """How many letters are of which other votes."""
     counts = collections.Counter(marks).items()
-    if said := ", ".join(f"{count} with [{mark}]" for mark, count in counts):
-        yield f"Letters of other votes, which are passed over here: {said}."
+    if listed := ", ".join(f"{count} with [{mark}]" for mark, count in counts):
+        yield f"Letters of other votes, which are passed over here: {listed}."

@@ -40,8 +40,8 @@ def take_letters(
     """Keeps new letters, and enters the ballots that go in; or tells what would become of them.
     Those `of_box` are its records: the others that wait stay as they are.
     """
-    files = [opened(vote.book, raw) if raw.is_fetched else raw for raw in given]
-    brought = asked_box(vote) if of_box else Brought(files)
+    files = (opened(vote.book, raw) if raw.is_fetched else raw for raw in given)
+    brought = asked_box(vote) if of_box else Brought([*files])
     raws = [raw for raw in brought.letters if raw.why_not_read is None]
     new = new_of(vote, raws)
     read = read_letters(vote, new)
@@ -124,8 +124,8 @@ def envelope_of(letter: LetterCase, ballot: str) -> NewEnvelope:
     return NewEnvelope(ballot.encode(), "", letter.kept.source, letter.number, letter.time)
 
 
-def going_in(found: Iterable[LetterCase]) -> list[LetterCase]:
-    return [letter for letter in found if letter.outcome is LetterOutcome.GOES_IN]
+def with_outcome(found: Iterable[LetterCase], outcome: LetterOutcome) -> list[LetterCase]:
+    return [letter for letter in found if letter.outcome is outcome]
 
 
 @dataclasses.dataclass(frozen=True, kw_only=True)
@@ -158,7 +158,7 @@ def what_goes_in(
 ) -> GoingIn:
     every = judged(vote, vote.history(), queries.kept_letters(vote.book), previewed)
     found = [letter for letter in every if letter.read.link or not of_box]
-    new = going_in(found)
+    new = with_outcome(found, LetterOutcome.GOES_IN)
     return GoingIn(
         "add",
         {"letters": len(new), "lines": len(new)},
@@ -179,7 +179,7 @@ def what_goes_in(
 def tell_next(change: GoingIn) -> None:
     election = change.vote.election
     following = election.command("status")
-    if any(letter.outcome is LetterOutcome.WAITS for letter in change.found):
+    if with_outcome(change.found, LetterOutcome.WAITS):
         following = f"{election.command('held')}, which lists the letters that wait"
     if offered := [str(letter.number) for letter in change.found if letter.is_offered]:
         enter = election.command("held", *offered, "--enter")
@@ -190,10 +190,10 @@ def tell_next(change: GoingIn) -> None:
 
 
 def tell_letters(vote: Vote, found: Sequence[LetterCase]) -> None:
-    tell(*letter_words.going_in_words(going_in(found), vote))
-    tell(*letter_words.table([one for one in found if one.outcome is LetterOutcome.WAITS]))
-    if older := [letter_words.name_of(one) for one in found if one.outcome is LetterOutcome.OLDER]:
-        numbers = listed(older, MOST_NAMED)
+    tell(*letter_words.going_in_words(with_outcome(found, LetterOutcome.GOES_IN), vote))
+    tell(*letter_words.table(with_outcome(found, LetterOutcome.WAITS)))
+    if older := with_outcome(found, LetterOutcome.OLDER):
+        numbers = listed([*map(letter_words.name_of, older)], MOST_NAMED)
         tell(f"Passed over, since a later letter of its elector went in: {numbers}")
-    of_others = (one.other_vote for one in found if one.outcome is LetterOutcome.OTHER_VOTE)
-    tell(*other_votes_words(of_others))
+    of_others = with_outcome(found, LetterOutcome.OTHER_VOTE)
+    tell(*other_votes_words(letter.other_vote for letter in of_others))
