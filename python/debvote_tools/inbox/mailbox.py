@@ -41,8 +41,8 @@ START = re.compile(
 # how a record in the file of a box begins, and all that are whole
 BEGIN = b"From box@page.invalid "
 WHOLE = re.compile(rb"(?s).*\n-- \r?\n\r?\n")
-# lines that may begin a letter; in an mbox such a line does if it has the name of a day and after
-# it a time, or is bare as Thunderbird writes it
+# lines that may begin a letter: "From " sender time (RFC 4155, appendix A). In an mbox such a line
+# does if it has the name of a day and after it a time, or is bare as Thunderbird writes it
 FROM_LINE = re.compile(rb"(?im)^>?From [^\r\n]*(?:\r?\n|\Z)")
 DATED = re.compile(
     rb"From (?>[^\r\n]*?\b(?:Mon|Tue|Wed|Thu|Fri|Sat|Sun),* )(?:[^\r\n]* )?\d\d?:\d\d(?::\d\d)?\s"
