@@ -187,7 +187,8 @@ def parse(raw: RawLetter) -> ParsedLetter:
 
 def says_automatic(letter: Part) -> bool:
     """Whether its head says that a program wrote it."""
-    return any(AUTOMATIC.match(f"{name}:{value[:MAX_FIELD]}") for name, value in letter.fields)
+    fields = (f"{name}:{value[:MAX_FIELD]}" for name, value in letter.fields)
+    return any(map(AUTOMATIC.match, fields))
 
 
 def is_server(address: str) -> bool:

@@ -100,7 +100,9 @@ class LetterText:
     def __init__(self, lines: Sequence[str], names: Names, is_signed: bool) -> None:
         # with accents in one form; a very long line as it is, since that takes quadratic time
         self.lines = [
-            unicodedata.normalize("NFC", line) if len(line) <= MAX_COMPOSED else line
+            line
+            if line.isascii() or len(line) > MAX_COMPOSED
+            else unicodedata.normalize("NFC", line)
             for line in lines
         ]
         self.names = names
