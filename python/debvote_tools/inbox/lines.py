@@ -285,8 +285,8 @@ def lines_in(data: bytes, name: str, longest: int, first: int = 1) -> list[Line]
 
 def name_in(line: bytes) -> bytes:
     """The name with which a line begins; empty if it begins with none."""
-    found = NAME.match(line)
-    return found[0] if found else b""
+    match = NAME.match(line)
+    return match[0] if match else b""
 
 
 @functools.lru_cache(MOST_QUOTED)

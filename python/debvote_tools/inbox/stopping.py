@@ -60,16 +60,16 @@ def what_stops(
     says.
     """
     unasked = unasked_fault(election, history, step)
-    found = {BOX: unasked} if unasked else {}
+    faults = {BOX: unasked} if unasked else {}
     # after the first close nobody can vote again
     if step in CLOSES and not history.closes and (lost := with_lost_records(election, history)):
         words = f"ballots came by the links of these electors that nobody can open, and no later ones: {', '.join(lost)}"
         cure = f"ask them to vote again ({election.command('letters', 'reminders')} says it); {CLOSE_ANYWAY}"
-        found[LOST] = Fault(None, words, cure)
+        faults[LOST] = Fault(None, words, cure)
     if pending.stopping:
         cure = letters_cure(election, step, is_closed=history.is_closed)
-        found[LETTERS] = Fault(None, pending.why_they_stop, cure)
-    return found
+        faults[LETTERS] = Fault(None, pending.why_they_stop, cure)
+    return faults
 
 
 def letters_cure(election: Election, step: str, *, is_closed: bool) -> str:

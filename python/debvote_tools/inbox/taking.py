@@ -56,7 +56,7 @@ def take_letters(
     plan = functools.partial(what_goes_in, vote, of_box=of_box, is_agreed=is_agreed)
     if is_look:
         would = plan(read)
-        tell_letters(vote, would.found)
+        tell_letters(vote, would.cases)
         tell(came_before, would.end.replace("went in", "would go in"), "Nothing was changed.")
         return
     tell(came_before)
@@ -124,18 +124,18 @@ def envelope_of(letter: LetterCase, ballot: str) -> NewEnvelope:
     return NewEnvelope(ballot.encode(), "", letter.kept.source, letter.number, letter.time)
 
 
-def with_outcome(found: Iterable[LetterCase], outcome: LetterOutcome) -> list[LetterCase]:
-    return [letter for letter in found if letter.outcome is outcome]
+def with_outcome(cases: Iterable[LetterCase], outcome: LetterOutcome) -> list[LetterCase]:
+    return [letter for letter in cases if letter.outcome is outcome]
 
 
 @dataclasses.dataclass(frozen=True, kw_only=True)
 class GoingIn(LetterEntry):
     """Letters go in by themselves, once that is agreed to."""
 
-    found: list[LetterCase] = dataclasses.field(compare=False)
+    cases: list[LetterCase] = dataclasses.field(compare=False)
 
     def show(self) -> None:
-        tell_letters(self.vote, self.found)
+        tell_letters(self.vote, self.cases)
         if self.is_nothing:
             tell(self.end)
         elif self.question and not is_terminal():
@@ -145,7 +145,7 @@ class GoingIn(LetterEntry):
             raise Fault(None, f"{ballots} would go in", cure, done=done)
 
     def declined(self, _: bool | None) -> None:
-        waits = letter_words.wait_words(sum(letter.is_pending for letter in self.found))
+        waits = letter_words.wait_words(sum(letter.is_pending for letter in self.cases))
         keeps_out = self.vote.election.command("held", "NUMBER", "--wait")
         tell(
             f"Nothing was entered. The letters are kept, and wait: {waits}.",
@@ -157,8 +157,8 @@ def what_goes_in(
     vote: Vote, previewed: Sequence[ReadLetter] = (), *, of_box: bool, is_agreed: bool
 ) -> GoingIn:
     every = judged(vote, vote.history(), queries.kept_letters(vote.book), previewed)
-    found = [letter for letter in every if letter.read.link or not of_box]
-    new = with_outcome(found, LetterOutcome.GOES_IN)
+    cases = [letter for letter in every if letter.read.link or not of_box]
+    new = with_outcome(cases, LetterOutcome.GOES_IN)
     return GoingIn(
         "add",
         {"letters": len(new), "lines": len(new)},
@@ -172,16 +172,16 @@ def what_goes_in(
         # what is late breaks a rule, and does not go in
         is_late=False,
         end=letter_words.went_in_words(every, len(new)),
-        found=found,
+        cases=cases,
     )
 
 
 def tell_next(change: GoingIn) -> None:
     election = change.vote.election
     following = election.command("status")
-    if with_outcome(change.found, LetterOutcome.WAITS):
+    if with_outcome(change.cases, LetterOutcome.WAITS):
         following = f"{election.command('held')}, which lists the letters that wait"
-    if offered := [str(letter.number) for letter in change.found if letter.is_offered]:
+    if offered := [str(letter.number) for letter in change.cases if letter.is_offered]:
         enter = election.command("held", *offered, "--enter")
         following = f"{enter}, which shows these ballots and asks; {following}"
     if not election.history().is_closed and queries.last_entering_act(election.book):
@@ -189,11 +189,11 @@ def tell_next(change: GoingIn) -> None:
     tell(f"Next: {following}")
 
 
-def tell_letters(vote: Vote, found: Sequence[LetterCase]) -> None:
-    tell(*letter_words.going_in_words(with_outcome(found, LetterOutcome.GOES_IN), vote))
-    tell(*letter_words.table(with_outcome(found, LetterOutcome.WAITS)))
-    if older := with_outcome(found, LetterOutcome.OLDER):
+def tell_letters(vote: Vote, cases: Sequence[LetterCase]) -> None:
+    tell(*letter_words.going_in_words(with_outcome(cases, LetterOutcome.GOES_IN), vote))
+    tell(*letter_words.table(with_outcome(cases, LetterOutcome.WAITS)))
+    if older := with_outcome(cases, LetterOutcome.OLDER):
         numbers = listed([*map(letter_words.name_of, older)], MOST_NAMED)
         tell(f"Passed over, since a later letter of its elector went in: {numbers}")
-    of_others = with_outcome(found, LetterOutcome.OTHER_VOTE)
+    of_others = with_outcome(cases, LetterOutcome.OTHER_VOTE)
     tell(*other_votes_words(letter.other_vote for letter in of_others))
