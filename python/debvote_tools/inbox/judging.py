@@ -180,8 +180,11 @@ def read_kept(vote: Vote, kept: Sequence[KeptLetter]) -> list[ReadLetter]:
     unsettled = [letter for letter in kept if letter.is_unsettled]
     read |= checked_again(vote, unsettled, read)
     if any(read[letter.number].signature for letter in unsettled):
-        settled = (letter for letter in kept if not letter.is_unsettled)
-        unsigned = [letter for letter in settled if read[letter.number].signature is None]
+        unsigned = (
+            letter
+            for letter in kept
+            if not letter.is_unsettled and read[letter.number].signature is None
+        )
         read |= checked_again(vote, unsigned, read)
     return [*read.values()]
 
@@ -303,8 +306,12 @@ def judge_originals(
         for elector, owns in of_letters.items()
     }
     # copies of these are not known as such, while gpgv does not answer
-    unchecked = [case for case in cases if case.is_decided and case.read.is_slow]
-    unchecked_ballots = {line.as_entered for case in unchecked for line in case.ballots}
+    unchecked = {
+        ballot.as_entered
+        for case in cases
+        if case.is_decided and case.read.is_slow
+        for ballot in case.ballots
+    }
     for case, own in in_order.items():
         ballots = by_elector[case.elector]
         case.outcome, case.reason = outcome_of_original(
@@ -312,7 +319,7 @@ def judge_originals(
             own,
             ballots,
             has_other_at_once=every[case.elector].has_other_at_once(own),
-            is_unchecked=own.line in unchecked_ballots,
+            is_unchecked=own.line in unchecked,
         )
         if case.outcome is not LetterOutcome.WAITS:
             ballots.add(own)

@@ -67,8 +67,7 @@ def read_letters(vote: Vote, raws: Sequence[RawLetter]) -> list[ReadLetter]:
     """What letters say, with their signatures if they need one, and what their lines may be."""
     parsed = list(map(parse, raws))
     if parsed and vote.is_signed:
-        keyring = queries.sealed(vote.book, KEYRING)
-        parsed = verified(raws, parsed, keyring, find_gpgv())
+        parsed = verified(raws, parsed, queries.sealed(vote.book, KEYRING), find_gpgv())
     return with_texts(parsed, vote.names, vote.why_each_refused)
 
 

@@ -40,8 +40,8 @@ def take_letters(
     """Keeps new letters, and enters the ballots that go in; or tells what would become of them.
     Those `of_box` are its records: the others that wait stay as they are.
     """
-    files = (opened(vote.book, raw) if raw.is_fetched else raw for raw in given)
-    brought = asked_box(vote) if of_box else Brought([*files])
+    files = [opened(vote.book, raw) if raw.is_fetched else raw for raw in given]
+    brought = asked_box(vote) if of_box else Brought(files)
     raws = [raw for raw in brought.letters if raw.why_not_read is None]
     new = new_of(vote, raws)
     read = read_letters(vote, new)

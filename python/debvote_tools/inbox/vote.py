@@ -120,8 +120,7 @@ class Vote:
         """The acts until now. Stops after another call: lines were read by the poll of this one."""
         history = self.election.history()
         if history.call != self.call:
-            cure = "run the command again"
-            raise Fault(None, "the call for votes was made anew meanwhile", cure)
+            raise Fault(None, "the call for votes was made anew meanwhile", "run the command again")
         return history
 
     @functools.cached_property
