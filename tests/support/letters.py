@@ -14,7 +14,7 @@ from typing import TypeVar
 from debvote_tools.book import queries
 from debvote_tools.book.queries import Elector, EnteredBallot, OwnMark
 from debvote_tools.debvote import findings_in
-from debvote_tools.inbox.judging import Ballot, BallotsByElector, Beside, judge_all
+from debvote_tools.inbox.judging import Ballot, BallotsByElector, ElectorBallots, judge_all
 from debvote_tools.inbox.letter import ParsedLetter, parse
 from debvote_tools.inbox.letter_lines import Names, ReadLetter, from_json, to_json, with_texts
 from debvote_tools.inbox.lines import repaired_but_for_name, with_small_name
@@ -178,18 +178,20 @@ def judged(
 
 def in_order(ballots: Mapping[str, Sequence[Ballot]]) -> BallotsByElector:
     """The ballots of electors, as the book gives them."""
-    return BallotsByElector(Beside, {name: Beside(sorted(its, key=queries.by_time)) for name, its in ballots.items()})
+    return BallotsByElector(ElectorBallots, {name: ElectorBallots(sorted(its, key=queries.by_time)) for name, its in ballots.items()})
 
 
 def case_of(one: ReadLetter, now: Circumstances, state: str | None) -> LetterCase:
     """A letter that the book has, by what the last act decided of it, and with the ballot that was entered."""
-    case = LetterCase(one, now, NOT_KEPT._replace(state=state or queries.NEVER_DECIDED))
-    if state in (queries.ENTERED, queries.STRUCK, queries.TAKEN_BACK):
-        is_taken_back = state == queries.TAKEN_BACK
-        is_struck = state != queries.ENTERED
-        is_typed = not case.ballots
-        case.entered = [EnteredBallot(1, BALLOT, is_late=False, is_struck=is_struck, is_taken_back=is_taken_back, is_typed=is_typed)]
-    return case
+    kept = NOT_KEPT._replace(state=state or queries.NEVER_DECIDED)
+    case = LetterCase(one, now, kept)
+    if state not in (queries.ENTERED, queries.STRUCK, queries.TAKEN_BACK):
+        return case
+    is_taken_back = state == queries.TAKEN_BACK
+    is_struck = state != queries.ENTERED
+    is_typed = not case.ballots
+    ballot = EnteredBallot(1, BALLOT, is_late=False, is_struck=is_struck, is_taken_back=is_taken_back, is_typed=is_typed)
+    return LetterCase(one, now, kept, [ballot])
 
 
 def judged_alone(one: ReadLetter, now: Circumstances) -> LetterCase:

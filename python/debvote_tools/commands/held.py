@@ -15,7 +15,13 @@ from debvote_tools.cli.faults import Fault, bad_words, kept_in, stop_at
 from debvote_tools.election import Election, History
 from debvote_tools.grouping import grouped
 from debvote_tools.inbox import letter_words
-from debvote_tools.inbox.judging import BallotsByElector, Beside, ballot_in, ballots_in, judged
+from debvote_tools.inbox.judging import (
+    BallotsByElector,
+    ElectorBallots,
+    ballot_in,
+    ballots_in,
+    judged,
+)
 from debvote_tools.inbox.letter_lines import BallotLine
 from debvote_tools.inbox.letter_words import (
     attachment_words,
@@ -432,7 +438,7 @@ def why_not_beside(
             by_elector[line.elector].add(ballot_in(letter, line.as_entered))
 
 
-def why_unsure(letter: LetterCase, beside: Beside, ballot: Ballot) -> str:
+def why_unsure(letter: LetterCase, beside: ElectorBallots, ballot: Ballot) -> str:
     """Why a ballot beside others of its elector is entered by force alone; empty if it is not."""
     has_voted = beside.has_voted_since(ballot)
     if has_voted:
@@ -470,7 +476,7 @@ def why_typed_again(
         typed_last = {ballot.elector: ballot.is_typed for ballot in ballots}
         if any(line.number and typed_last.get(line.elector) for line in lines):
             words = "its ballot was typed"
-            if letter.state == queries.TAKEN_BACK:
+            if letter.kept.state == queries.TAKEN_BACK:
                 words += ", and taken back"
             yield Fault(
                 name_of(letter),

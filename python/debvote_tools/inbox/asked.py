@@ -1,5 +1,6 @@
-"""Whether the box of the web host was asked lately enough: the one answer for all commands that
-need it. What an asking brings is in `box_records.py`.
+"""Whether the box of the web host was asked lately enough, for all commands that need it.
+
+What an asking brings is in `box_records.py`.
 """
 
 import datetime
@@ -87,7 +88,8 @@ def asked_last(election: Election, history: History) -> Detail | None:
 def asked_words(history: History) -> list[str]:
     """What is told of it; nothing of a vote without a box."""
     if box := last_box(history):
-        records, time = count_of(box["records"], "record"), act_time(history.askings[-1].time)
+        records = count_of(box["records"], "record")
+        time = act_time(history.askings[-1].time)
         return [f"Box of the web host: {records} when it was asked last, {time}"]
     return ["Box of the web host: not asked yet"] if history.announced("box") else []
 
@@ -101,7 +103,7 @@ def with_lost_records(election: Election, history: History) -> list[str]:
     return [
         name
         for name, time in sorted(came.items())
-        if all(one.time <= from_text(time) for one in ballots.get(name, ()))
+        if all(ballot.time <= from_text(time) for ballot in ballots.get(name, ()))
     ]
 
 

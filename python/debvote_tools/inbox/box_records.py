@@ -1,4 +1,5 @@
 """Asks the box of a vote, on the web host, for all that it has, and makes letters of its records.
+
 What becomes of them is decided elsewhere.
 
 A record that an elector's page sealed is a letter, with line and link where the seal stood. All
@@ -30,7 +31,7 @@ from debvote_tools.call.box import (
 )
 from debvote_tools.cli.console import count_of, listed, shown_text
 from debvote_tools.cli.faults import Fault, bad_words
-from debvote_tools.election import BOX_KEY, BOX_PAGE, Election
+from debvote_tools.election import BOX_KEY, BOX_PAGE, Election, History
 from debvote_tools.files import sha256_of
 from debvote_tools.inbox.asked import has_list_of_now, has_page_of_now, last_box, with_lost_records
 from debvote_tools.inbox.letter import YEAR, arrival_of
@@ -41,7 +42,8 @@ from debvote_tools.poll.sealed import OWN, OWN_SIGNS
 from debvote_tools.text import times
 
 # in seconds and in bytes: how long an answer may take and be
-PATIENCE, LONGEST_ANSWER = 60, 33_554_432
+PATIENCE = 60
+LONGEST_ANSWER = 33_554_432
 
 # how an answer begins, with the version of the protocol; how each record ends
 HEAD = re.compile(
@@ -49,7 +51,8 @@ HEAD = re.compile(
 )
 END = b"\n-- \n\n"
 # what a request may begin with, and an answer to one with another word
-FIELD, UNKNOWN = b"box=", b"unknown: "
+FIELD = b"box="
+UNKNOWN = b"unknown: "
 # what the firewall of a web host may answer, which takes lines for the name of a field, and lets no
 # such name pass
 REFUSED = (http.HTTPStatus.FORBIDDEN, http.HTTPStatus.NOT_ACCEPTABLE)
@@ -105,8 +108,8 @@ class HostAnswer(NamedTuple):
 
 
 class Asked(NamedTuple):
-    """What the box has. It was asked at this time by its own clock, which is `behind` that of this
-    computer by so many seconds at least; if that is less than 0, it is ahead.
+    """What the box answered. It was asked at this time by its own clock, which is `behind` that of
+    this computer by so many seconds at least; if that is less than 0, it is ahead.
     """
 
     time: datetime.datetime
@@ -117,11 +120,23 @@ class Asked(NamedTuple):
     records: bytes
 
 
+class Brought(NamedTuple):
+    """What is added: letters; and if the box was asked for them what the act keeps of that, what is
+    said, and whether the box has more than before that nobody can open.
+    """
+
+    letters: Sequence[RawLetter]
+    detail: Detail = {}
+    words: Sequence[str] = ()
+    has_unopened: bool = False
+
+
 def ask(at: str | None, mark: str, word: str) -> Asked:
     """Asks the box beside the page at this address. Stops unless it answers whole, and as the box
     of the poll with this mark.
     """
-    address, begin = script_address(at), times.now()
+    address = script_address(at)
+    begin = times.now()
     body = f"ask {word}\n".encode()
     answer = answer_of(address, body)
     if answer.status in REFUSED and not answer.body.startswith(UNKNOWN):
@@ -131,8 +146,8 @@ def ask(at: str | None, mark: str, word: str) -> Asked:
     try:
         if head is None:
             raise ValueError
-        found_mark, digest, said = (part.decode() for part in head.groups())
-        time = datetime.datetime.fromisoformat(said)
+        found_mark, digest, written_time = (part.decode() for part in head.groups())
+        time = datetime.datetime.fromisoformat(written_time)
     except ValueError:
         raise Fault(address, f"it does not answer as a box: {shown(answer)}", UPLOAD) from None
     if found_mark != mark:
@@ -151,31 +166,33 @@ def answer_of(address: str, body: bytes | None = None) -> HostAnswer:
     """
     parts = urllib.parse.urlsplit(address)
     try:
-        connection = http.client.HTTPConnection(parts.netloc)
-        if parts.scheme == "https":
-            context = ssl.create_default_context()
-            connection = http.client.HTTPSConnection(parts.netloc, context=context)
-        with within(PATIENCE), contextlib.closing(connection):
+        with within(PATIENCE), contextlib.closing(connection_to(parts)) as connection:
             connection.request("GET" if body is None else "POST", parts.path, body, FIELDS)
-            response, time = connection.getresponse(), times.now()
+            response = connection.getresponse()
+            time = times.now()
             data = response.read(LONGEST_ANSWER + 1)
-        if len(data) > LONGEST_ANSWER:
-            raise Fault(address, f"it answers more than {LONGEST_ANSWER} bytes", UPLOAD)
-        # without a length nobody sees whether an answer was cut off
-        if response.length or not (response.headers["content-length"] or response.chunked):
-            raise cut_off(address)
-        return HostAnswer(response.status, response.headers["location"] or "", data, time)
     except ssl.SSLCertVerificationError as error:
+        words = f"its certificate is not right: {error.verify_message}"
         cure = "ask who keeps the web host to put it right, or look whether the clock of this computer is right"
-        raise Fault(
-            address, f"its certificate is not right: {error.verify_message}", cure
-        ) from None
+        raise Fault(address, words, cure) from None
     except http.client.IncompleteRead:
         raise cut_off(address) from None
     except (OSError, http.client.HTTPException) as error:
-        said = (isinstance(error, OSError) and error.strerror) or str(error) or type(error).__name__
+        why = (isinstance(error, OSError) and error.strerror) or str(error) or type(error).__name__
         cure = "look whether it opens in a browser; then run the command again"
-        raise Fault(address, f"it does not answer: {shown_text(said)}", cure) from None
+        raise Fault(address, f"it does not answer: {shown_text(why)}", cure) from None
+    if len(data) > LONGEST_ANSWER:
+        raise Fault(address, f"it answers more than {LONGEST_ANSWER} bytes", UPLOAD)
+    # without a length nobody sees whether an answer was cut off
+    if response.length or not (response.headers["content-length"] or response.chunked):
+        raise cut_off(address)
+    return HostAnswer(response.status, response.headers["location"] or "", data, time)
+
+
+def connection_to(parts: urllib.parse.SplitResult) -> http.client.HTTPConnection:
+    if parts.scheme != "https":
+        return http.client.HTTPConnection(parts.netloc)
+    return http.client.HTTPSConnection(parts.netloc, context=ssl.create_default_context())
 
 
 def demand_box(address: str, answer: HostAnswer) -> None:
@@ -203,18 +220,21 @@ def cut_off(address: str) -> Fault:
 
 
 # ---- its records, as letters
-def asked_box(vote: Vote) -> tuple[list[RawLetter], Detail, list[str], bool]:
-    """Asks the box of this vote: what it has, as letters, what the act keeps of it, what is said,
-    and whether it has more than before that nobody can open.
-    """
+def asked_box(vote: Vote) -> Brought:
+    """Asks the box of this vote."""
     election = vote.election
     history = election.history()
     if not history.announced("box"):
         cure = f"add files; see {election.command('status')}"
         raise bad_words("--box", "the call was made without it", cure)
+    word = asking_word(queries.sealed(vote.book, BOX_KEY))
+    asked = ask(history.announced("at"), election.sealed().public.mark, word)
+    return brought_by(vote, history, asked)
+
+
+def brought_by(vote: Vote, history: History, asked: Asked) -> Brought:
+    """What an answer of the box brings, beside what the book has."""
     at = history.announced("at")
-    mark = election.sealed().public.mark
-    asked = ask(at, mark, asking_word(queries.sealed(vote.book, BOX_KEY)))
     # of another host neither the clock nor the records say anything of this one
     before = last_box(history, at)
     kept = queries.records_since(vote.book, vote.call.number)
@@ -224,20 +244,26 @@ def asked_box(vote: Vote) -> tuple[list[RawLetter], Detail, list[str], bool]:
         "at": at,
         "time": asked.time.isoformat(),
         "records": len(letters),
-        "gone": sum(one.at == at and one.digest not in came for one in kept),
+        "gone": sum(record.at == at and record.digest not in came for record in kept),
         "unopened": len(unopened),
-        "lost": last_box(history).get("lost", {}) | whose(vote.book, mark, unopened, asked.time),
+        "lost": last_box(history).get("lost", {}) | whose(vote, unopened, asked.time),
         "behind": asked.behind,
         "list": asked.list_digest,
-        # a publication takes its place
-        "page": None
-        if history.publications
-        else queries.first_act_that_sealed(vote.book, BOX_PAGE, answer_of(at).body),
+        **page_there(vote.election, history),
     }
-    # an extension makes another one
-    box["is_right"] = has_page_of_now(election, box)
-    words = [*box_words(box, before), *upload_words(election, box)]
-    return letters, {"box": box}, words, len(unopened) > before.get("unopened", 0)
+    words = [*box_words(box, before), *upload_words(vote.election, box)]
+    return Brought(letters, {"box": box}, words, len(unopened) > before.get("unopened", 0))
+
+
+def page_there(election: Election, history: History) -> Detail:
+    """Which act sealed the page on the web host, 0 if none did, and whether it is that of now: an
+    extension makes another one. A publication takes its place.
+    """
+    page: Detail = {"page": None}
+    if not history.publications:
+        there = answer_of(history.announced("at")).body
+        page["page"] = queries.first_act_that_sealed(election.book, BOX_PAGE, there)
+    return page | {"is_right": has_page_of_now(election, page)}
 
 
 def box_words(box: Detail, before: Detail) -> Iterator[str]:
@@ -253,7 +279,7 @@ def box_words(box: Detail, before: Detail) -> Iterator[str]:
 
 def upload_words(election: Election, box: Detail) -> Iterator[str]:
     """What is said of a page and a script that are not those of the folder."""
-    if not has_page_of_now(election, box):
+    if not box["is_right"]:
         yield PAGE_OF_BEFORE if box["page"] else OTHER_PAGE
     if not has_list_of_now(election, box["list"]):
         yield f"Note: the web host has another {SCRIPT} than the folder call, as an older one: upload that of the folder, since who has a new link cannot vote there."
@@ -292,11 +318,11 @@ def records_in(
     The host can exchange the times of two, and not what is sealed in them: each has the last time
     by the device of all that came before it.
     """
-    counts = collections.Counter(one.link for one in kept)
-    known = {one.digest for one in kept}
-    latest = {one.elector: from_text(one.sent) for one in kept}
-    letters = list[RawLetter]()
-    unopened = list[RawLetter]()
+    counts = collections.Counter(record.link for record in kept)
+    known = {record.digest for record in kept}
+    latest = {record.elector: from_text(record.sent) for record in kept}
+    letters = []
+    unopened = []
     for raw in in_order(asked.records):
         if raw.digest in known:
             letters.append(raw)
@@ -333,18 +359,18 @@ def opened(book: Book, raw: RawLetter) -> RawLetter:
             if (place, proof) == (true, proof_digest(mark, true)):
                 fields = f"X-Link: {link}\nX-Sealed: {raw.digest}\nX-Sent: {sent}\n"
                 data = f"{head}{fields}{rest}{line}\n-- \n".encode()
-                its = {"link": link, "elector": elector, "sent": from_text(sent)}
-                return dataclasses.replace(raw, data=data, **its)
+                return dataclasses.replace(
+                    raw, data=data, link=link, elector=elector, sent=from_text(sent)
+                )
     return dataclasses.replace(raw, why_not_read=NotRead.SEALED)
 
 
-def whose(
-    book: Book, mark: str, records: Sequence[RawLetter], asked: datetime.datetime
-) -> dict[str, str]:
+def whose(vote: Vote, records: Sequence[RawLetter], asked: datetime.datetime) -> dict[str, str]:
     """The electors by whose proofs these records came, in their order, each with when the last one
     did, at the latest when the box was asked.
     """
-    links = links_of(book).values() if records else ()
+    links = links_of(vote.book).values() if records else ()
+    mark = vote.election.sealed().public.mark
     names = {proof_digest(mark, link): link.partition("/")[0] for link in links}
     return {
         names[proof]: min(arrived(raw), asked).isoformat()

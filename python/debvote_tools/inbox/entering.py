@@ -71,7 +71,8 @@ class Entry(Change):
 def demand_room(book: Book, new: Sequence[NewEnvelope]) -> None:
     """Stops at more lines than debvote takes."""
     count, size = queries.size_to_count(book)
-    count, size = count + len(new), size + sum(len(envelope.line) + 1 for envelope in new)
+    count += len(new)
+    size += sum(len(envelope.line) + 1 for envelope in new)
     if count > LINES_LIMIT or size > BALLOTS_LIMIT:
         words = f"with the new lines there would be {count_of(count, 'line')} and {size} bytes of ballots"
         cure = f"debvote takes at most {LINES_LIMIT} lines and {BALLOTS_LIMIT} bytes: add fewer"
@@ -101,8 +102,7 @@ def came_before_close(history: History, answer: str | None) -> bool | None:
     """
     if not history.is_reopened:
         if answer is not None and not history.is_closed:
-            words = "the vote was never closed"
-            raise bad_words(CAME_BEFORE_CLOSE, words, "leave it out")
+            raise bad_words(CAME_BEFORE_CLOSE, "the vote was never closed", "leave it out")
         return None
     if answer is not None:
         return answer == "yes"
@@ -111,11 +111,11 @@ def came_before_close(history: History, answer: str | None) -> bool | None:
         words = f"the {closed}, and only what came before counts"
         cure = f"say whether this came before that close: {CAME_BEFORE_CLOSE} yes, or {CAME_BEFORE_CLOSE} no, which makes it late"
         raise Fault(CAME_BEFORE_CLOSE, words, cure)
-    said = console.is_yes(f"The {closed}. Did this come before that close?")
-    if said is None:
+    came_before = console.is_yes(f"The {closed}. Did this come before that close?")
+    if came_before is None:
         words = "you did not say whether it came before the close"
         raise Fault(None, words, "run the command again")
-    return said
+    return came_before
 
 
 # ---- late lines that are entered again
@@ -134,7 +134,3 @@ def replaced_in_time(
         for line in lines
         if line.as_entered in others
     }
-
-
-def bad_ballots(where: object, reason: object, cure: str) -> Fault:
-    return Fault(where, reason, cure, Status.BAD_BALLOTS)

@@ -1,6 +1,7 @@
 """What came from each elector, and what became of it, by all lines and letters as they are now."""
 
 import datetime
+from collections.abc import Iterator
 from typing import NamedTuple
 
 from debvote_tools.book import queries
@@ -14,7 +15,9 @@ from debvote_tools.inbox.vote import Vote
 # what belongs to no elector has this in place of a name
 NOBODY = ""
 # of what became of envelopes, in the words of the view `fate`
-COUNTS, REFUSED, TAKEN_BACK = "counts", "refused", "taken back"
+COUNTS = "counts"
+REFUSED = "refused"
+TAKEN_BACK = "taken back"
 
 
 class Fate(NamedTuple):
@@ -43,8 +46,8 @@ class Fate(NamedTuple):
         """The labels of the answers that do not count, if others in the envelope do."""
         if self.envelope is None or self.became != COUNTS:
             return []
-        its = self.envelope.by_question.items()
-        return [label for label, became in its if became != COUNTS]
+        by_question = self.envelope.by_question.items()
+        return [label for label, became in by_question if became != COUNTS]
 
     @property
     def answers(self) -> str:
@@ -66,24 +69,42 @@ def fates_of(
     envelopes.
     """
     book = election.book
-    names = {
-        one.number: one.name for one in (queries.electors(book) if elector is None else [elector])
-    }
-    came = queries.envelopes_of(book, names if elector else None)
-    found = judged(Vote(election), history, queries.kept_letters(book))
-    letters = {letter.number: letter for letter in found}
+    electors = queries.electors(book) if elector is None else [elector]
+    names = {one.number: one.name for one in electors}
+    cases = judged(Vote(election), history, queries.kept_letters(book))
+    letters = {letter.number: letter for letter in cases}
     fates = [
         (
-            names.get(one.elector or 0, NOBODY),
-            Fate(one.time, one.became, one, came_by=letters.get(one.letter or 0)),
+            names.get(envelope.elector or 0, NOBODY),
+            Fate(
+                envelope.time,
+                envelope.became,
+                envelope,
+                came_by=letters.get(envelope.letter or 0),
+            ),
         )
-        for one in came
+        for envelope in queries.envelopes_of(book, names if elector else None)
     ]
-    for letter in found:
-        time = letter.read.arrived or history.act(letter.act).time
-        senders = letter.sharing if elector or len(letter.sharing) == 1 else ()
-        for name in dict.fromkeys((*letter.electors, *senders)) or [NOBODY]:
-            is_own, names_them = name in letter.sharing, name in letter.electors
-            fates.append((name, Fate(time, letter.outcome, None, letter, is_own, names_them)))
-    by_name = grouped(sorted(fates, key=lambda one: one[1].time))
+    for letter in cases:
+        time = letter.read.arrived or history.act(letter.kept.act).time
+        fates += fates_of_letter(letter, time, is_of_all_senders=elector is not None)
+    by_name = grouped(sorted(fates, key=lambda of_name: of_name[1].time))
     return {name: by_name.get(name, []) for name in (*names.values(), NOBODY)}
+
+
+def fates_of_letter(
+    letter: LetterCase, time: datetime.datetime, *, is_of_all_senders: bool
+) -> Iterator[tuple[str, Fate]]:
+    """A letter as it is told of each elector, with their name. One of whom several have the
+    sender's address is of all of these, or of none.
+    """
+    is_of_senders = is_of_all_senders or letter.sending_elector
+    senders = letter.sharing if is_of_senders else ()
+    for name in dict.fromkeys((*letter.electors, *senders)) or [NOBODY]:
+        yield name, Fate(
+            time,
+            letter.outcome,
+            letter=letter,
+            is_own=name in letter.sharing,
+            names_them=name in letter.electors,
+        )

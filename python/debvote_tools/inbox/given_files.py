@@ -1,6 +1,4 @@
-"""What `add` is given: files and standard input, each read once and whole, and folders of
-letters.
-"""
+"""What `add` is given: files and standard input, each read once and whole, and folders."""
 
 import codecs
 import itertools
@@ -12,10 +10,9 @@ from collections.abc import Sequence
 from typing import BinaryIO, NamedTuple
 
 from debvote_tools.cli.console import tell
-from debvote_tools.cli.faults import Fault, bad_words, kept_in, stop_at
+from debvote_tools.cli.faults import Fault, Status, bad_words, kept_in, stop_at
 from debvote_tools.election import Election
 from debvote_tools.files import BALLOTS_LIMIT, PACKED, PDF, kind_of
-from debvote_tools.inbox.entering import bad_ballots
 from debvote_tools.inbox.mailbox import (
     NotRead,
     RawLetter,
@@ -27,7 +24,8 @@ from debvote_tools.inbox.mailbox import (
 from debvote_tools.poll.sealed import REQUIRED
 
 # what names standard input on the command line, and how messages name it
-HYPHEN, STANDARD_INPUT = "-", "standard input"
+HYPHEN = "-"
+STANDARD_INPUT = "standard input"
 
 AS_TEXT = "save it as plain text in UTF-8"
 # what is done with a file that may have letters in it
@@ -80,9 +78,8 @@ def read_files(election: Election, paths: Sequence[str]) -> tuple[list[RawLetter
     stop_at(faults)
     if letters and files:
         names = ", ".join(STANDARD_INPUT if path == HYPHEN else path for path in letters)
-        words = "it has letters, and the other files have none"
         cure = "add letters and other files with separate commands"
-        raise bad_words(names, words, cure)
+        raise bad_words(names, "it has letters, and the other files have none", cure)
     return [*itertools.chain(*letters.values())], [*files.values()]
 
 
@@ -91,8 +88,7 @@ def read_folder(path: str) -> list[RawLetter]:
     try:
         return letters_of_folder(pathlib.Path(path))
     except OSError as error:
-        cure = "name letters that you may read"
-        raise bad_ballots(path, error.strerror, cure) from None
+        raise bad_ballots(path, error.strerror, "name letters that you may read") from None
 
 
 def read_file(election: Election, path: str) -> GivenFile:
@@ -125,8 +121,7 @@ def demand_lines(file: GivenFile) -> None:
     poll.
     """
     if not file.data:
-        words, cure = "it is empty", "write one ballot on each line"
-        raise Fault(file.name, words, cure)
+        raise Fault(file.name, "it is empty", "write one ballot on each line")
     if len(file.data) > BALLOTS_LIMIT:
         words = f"it is longer than {BALLOTS_LIMIT} bytes, the most that debvote takes"
         raise bad_ballots(file.name, words, "add it in parts")
@@ -136,5 +131,9 @@ def demand_lines(file: GivenFile) -> None:
     if what is not None:
         raise bad_ballots(file.name, f"it is {what}", CURES.get(what, AS_TEXT))
     if len({key[1] for key in POLL_KEY.finditer(file.data)}) > 1:
-        words = "it looks like a poll, not like ballots"
-        raise Fault(file.name, words, "name the file of the ballots")
+        cure = "name the file of the ballots"
+        raise Fault(file.name, "it looks like a poll, not like ballots", cure)
+
+
+def bad_ballots(where: object, reason: object, cure: str) -> Fault:
+    return Fault(where, reason, cure, Status.BAD_BALLOTS)

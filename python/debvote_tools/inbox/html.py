@@ -3,10 +3,12 @@
 import html
 import re
 
-# where a line ends; what no program shows; and where a quotation begins, below which nothing is the
-# sender's
+# where a line ends
 BLOCKS = frozenset("br p div tr li table blockquote h1 h2 h3 h4 h5 h6 pre".split())
-HIDDEN, QUOTE = frozenset(["style", "script"]), re.compile("quote|border-left|cite")
+# what no program shows
+HIDDEN = ("style", "script")
+# where a quotation begins, below which nothing is the sender's
+QUOTE = re.compile("quote|border-left|cite")
 # what begins a tag, else it is text; and its name
 TAG = re.compile(r"/?([a-z!?][^\s/>]*)")
 # tags by which a text is crossed out, hidden or turned round, or that show a text of their own
@@ -23,25 +25,28 @@ def read_page(page: str) -> tuple[str, bool]:
     programs may show more or less than that. Takes linear time.
     """
     before, *pieces = page.split("<")
-    parts, inside = [before], ""
+    parts = [before]
+    # the tag whose content is hidden
+    hidden = ""
     is_quoted = False
     # classes of a style are not looked up
     is_odd = "line-through" in page.lower()
     for piece in pieces:
         tag, _, text = piece.partition(">")
         tag = tag.lower()
-        found = TAG.match(tag)
-        if inside and not tag.startswith(f"/{inside}"):
+        name = TAG.match(tag)
+        if hidden and not tag.startswith(f"/{hidden}"):
             continue
-        if found is None:
+        if name is None:
             parts.append(f"<{piece}")
             continue
-        inside = found[1] if found[1] in HIDDEN and not tag.startswith("/") else ""
-        is_odd |= not inside and is_odd_tag(tag)
+        hidden = name[1] if name[1] in HIDDEN and not tag.startswith("/") else ""
+        is_odd |= not hidden and is_odd_tag(tag)
         is_quoted |= QUOTE.search(tag) is not None
-        if found[1] in BLOCKS:
+        if name[1] in BLOCKS:
             parts.append("\n> " if is_quoted else "\n")
-        parts.append("" if inside else re.sub(r"\s+", " ", text))
+        if not hidden:
+            parts.append(re.sub(r"\s+", " ", text))
     return html.unescape(NO_CHARACTER.sub("\ufffd", "".join(parts))), is_odd
 
 

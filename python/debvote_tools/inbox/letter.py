@@ -1,5 +1,6 @@
-"""What the bytes of a letter alone say: who sent it, when it arrived, its text; or why it can't be
-read with certainty.
+"""What the bytes of a letter alone say.
+
+That is who sent it, when it arrived and its text; or why it can't be read with certainty.
 """
 
 import dataclasses
@@ -10,7 +11,7 @@ import hashlib
 import itertools
 import re
 import urllib.parse
-from collections.abc import Sequence
+from collections.abc import Iterable, Sequence
 
 from debvote_tools.inbox import html
 from debvote_tools.inbox.mailbox import OfBox, RawLetter
@@ -19,12 +20,11 @@ from debvote_tools.inbox.reasons import Reason, ReasonWithValues
 from debvote_tools.poll.sealed import OWN_LENGTH, OWN_SIGNS, marks_in
 from debvote_tools.text.addresses import address_key
 
-# in bytes: a text
+# in bytes, and in lines: the longest text
 MAX_TEXT = 262_144
+MAX_LINES = 10_000
 # in characters: what is read of a field of the head
 MAX_FIELD = 2_000
-# lines of a text
-MAX_LINES = 10_000
 
 # as IANA names them, and as programs do
 CHARSETS = re.compile(
@@ -47,8 +47,10 @@ CONTROL = re.compile("[\0-\x08\v-\x1f\x7f\x85\u2028\u2029]")
 # mail servers write this field into the head of each letter
 RECEIVED = re.compile(rb"\nreceived[ \t]*:", re.IGNORECASE)
 
-# the sender: an address in ASCII, perhaps with a name before it, or in a comment after it as old
-# programs wrote it, in any bytes (RFC 5322, 3.2.2 to 3.2.4 and 3.4)
+# the sender: [display-name] "<" addr-spec ">", or an addr-spec, perhaps with a comment behind it as
+# old programs wrote it (RFC 5322, 3.4). An addr-spec is dot-atom "@" dot-atom in ASCII (3.2.3 and
+# 3.4.1), a name is words or quoted strings (3.2.4 and 3.2.5) and a comment in brackets (3.2.2),
+# both in any bytes
 ATOM = r"[\w!#$%&'*+/=?^`{|}~-]+"
 ADDRESS = rf"{ATOM}(?:\.{ATOM})*@[\w-]+(?:\.[\w-]+)*"
 NAME = r"""(?:"(?:[ !#-\[\]-~\udc80-\udcff]|\\[ -~])*"|[\w!#$%&'*+/=?^`{|}~. \udc80-\udcff-])*"""
@@ -57,13 +59,14 @@ SENDER = re.compile(rf"{NAME}<({ADDRESS})>|({ADDRESS})(?:{COMMENT})?", re.ASCII)
 # the years of the times that mail and web servers write: far from them no clock could be set right
 # and no other zone be shown, so with another year it is no time
 YEAR = r"20\d\d"
-# a time as mail servers write it (RFC 5322, 3.3 and 4.3), and its place in a field Received, at the
-# end (3.6.7), perhaps with the name of its zone in brackets
+# date-time = [day-of-week ","] day month year time-of-day zone, as mail servers write it (RFC 5322,
+# 3.3 and 4.3); and its place in a field Received: *received-token ";" date-time (3.6.7), perhaps
+# with the name of its zone in brackets
 TIME = rf"(?:[A-Z][a-z]{{2}}, *)?\d{{1,2}} +[A-Z][a-z]{{2}} +{YEAR} +\d{{1,2}}:\d\d(?::\d\d)? +(?:[+-]\d{{4}}|UTC?|GMT|[ECMP][SD]T)"
 CLOCK = r"(?<![:\d])\d{1,2}:\d\d:\d\d(?![:\d])"
 ARRIVED = re.compile(rf"; *({TIME})(?: *\([^();]*\))? *\Z")
-# fields by which a program says that it answers by itself (RFC 3834, and programs from before it),
-# or that a letter came back: in such parts (RFC 6522), or with no address to answer (RFC 5321,
+# fields by which a program says that it answers by itself (RFC 3834, 5, and programs from before
+# it), or that a letter came back: in such parts (RFC 6522), or with no address to answer (RFC 5321,
 # 4.5.5)
 AUTOMATIC = re.compile(
     r"auto-submitted:(?!\s*(?:no)?\s*(?:;|\Z))|precedence:\s*auto[_-]reply|content-type:\s*multipart/report|return-path:\s*<\s*>"
@@ -71,18 +74,21 @@ AUTOMATIC = re.compile(
     re.IGNORECASE,
 )
 
-# a letter of ours that did not reach its elector comes back in such parts (RFC 3464, 2.3.3), or
-# from such a sender (RFC 5321, 4.5.1); and the own marks in it, in a subject and in a personal
-# link, and what begins a Message-ID of ours
-REPORT, FAILED = "message/delivery-status", re.compile(rb"(?im)^action:[ \t]*failed")
+# a letter of ours that did not reach its elector comes back in parts of this kind with such a line
+# (RFC 3464, 2.1 and 2.3.3), or from such a sender (RFC 5321, 4.5.1)
+REPORT = "message/delivery-status"
+FAILED = re.compile(rb"(?im)^action:[ \t]*failed")
 SERVERS = ("mailer-daemon", "postmaster")
+# the own marks in it, in a subject and in a personal link, and what begins a Message-ID of ours
 OWN = re.compile(
     rf"[0-9a-f]{{16}}-([{OWN_SIGNS}]{{{OWN_LENGTH}}})\]|/([{OWN_SIGNS}]{{{OWN_LENGTH}}})|\b([0-9a-f]{{32}})@"
 )
 # the name of a file in the head of a part, perhaps with its character set before it
 FILE_NAME = re.compile(r"name\*?\d*\*?=(?:[\w-]+'[\w-]*')?(\"[^\"]*\"|[^\s;]+)", re.IGNORECASE)
-# in bytes, how much of it is looked through; its parts; and the most of these that are kept
-MAX_RETURNED, RETURNED_PARTS, MAX_OWN = 131_072, 20, 20
+# how many bytes and parts of it are looked through; and how many own marks are kept
+MAX_RETURNED = 131_072
+RETURNED_PARTS = 20
+MAX_OWN = 20
 
 
 @dataclasses.dataclass(frozen=True)
@@ -153,16 +159,14 @@ def parse(raw: RawLetter) -> ParsedLetter:
     can be read in several ways, is parsed as far as it goes: its body has the `trouble`.
     """
     letter = Part(raw.data)
-    senders, subjects = letter.values("from"), letter.values("subject")
+    subjects = letter.values("subject")
     letter.note_too_long(max(map(len, subjects), default=0), "characters in its subject", MAX_FIELD)
-    sender = sender_of(senders)
-    if sender and not senders[0].isascii():
-        letter.note_trouble(Reason.RAW_NAME())
+    senders = letter.values("from")
+    sender = sender_of(letter, senders)
     parts = parts_of(letter)
     body = body_of(parts)
-    texts = (text for subject in subjects for text in (decoded(subject), subject))
-    fields = (f"{name}:{value[:MAX_FIELD]}" for name, value in letter.fields)
-    is_automatic = any(map(AUTOMATIC.match, fields))
+    is_automatic = says_automatic(letter)
+    may_come_back = is_automatic or is_server(sender)
     return ParsedLetter(
         where=raw.where,
         digest=raw.digest,
@@ -171,21 +175,31 @@ def parse(raw: RawLetter) -> ParsedLetter:
         sender=sender,
         shown_sender=", ".join(map(decoded, senders)),
         subject="; ".join(map(decoded, subjects)),
-        marks=tuple(dict.fromkeys(mark for text in texts for mark in marks_in(text))),
+        marks=marks_of(subjects),
         arrived=arrival_of(letter.value("received")),
         is_automatic=is_automatic,
-        returned=returned_in(raw.data[:MAX_RETURNED], sender)
-        if is_automatic or is_server(sender)
-        else (),
+        returned=returned_in(raw.data[:MAX_RETURNED], sender) if may_come_back else (),
         body=body,
         attachments=attachments_of(parts),
         **{field.name: getattr(raw, field.name) for field in dataclasses.fields(OfBox)},
     )
 
 
+def says_automatic(letter: Part) -> bool:
+    """Whether its head says that a program wrote it."""
+    fields = (f"{name}:{value[:MAX_FIELD]}" for name, value in letter.fields)
+    return any(map(AUTOMATIC.match, fields))
+
+
 def is_server(address: str) -> bool:
     """Whether an address is that of a mail server, unless somebody has it: clubs write so, too."""
     return address.partition("@")[0] in SERVERS
+
+
+def marks_of(subjects: Iterable[str]) -> tuple[tuple[str, str], ...]:
+    """The marks of votes in subjects, each once, as people read these and as they came."""
+    texts = (text for subject in subjects for text in (decoded(subject), subject))
+    return tuple(dict.fromkeys(itertools.chain(*map(marks_in, texts))))
 
 
 def returned_in(data: bytes, sender: str) -> tuple[str, ...]:
@@ -194,17 +208,15 @@ def returned_in(data: bytes, sender: str) -> tuple[str, ...]:
     server itself. An answer of somebody who is away, and a delivery that is only late, are none.
     """
     parts = list(itertools.islice(Part(data).walk(), RETURNED_PARTS))
-    if reports := [part.body_bytes for part in parts if part.kind == REPORT]:
-        if not any(map(FAILED.search, reports)):
-            return ()
-    elif not is_server(sender):
+    reports = [part.body_bytes for part in parts if part.kind == REPORT]
+    if not (any(map(FAILED.search, reports)) if reports else is_server(sender)):
         return ()
     texts = [data.decode("latin-1")]
     for part in parts:
         texts += [*map(decoded, part.values("subject")), part.payload.decode("latin-1")]
     bare = ("".join(text.lower().split()) for text in texts)
-    found = ("".join(mark) for text in bare for mark in OWN.findall(text))
-    return tuple(itertools.islice(dict.fromkeys(found), MAX_OWN))
+    marks = ("".join(mark) for text in bare for mark in OWN.findall(text))
+    return tuple(dict.fromkeys(marks))[:MAX_OWN]
 
 
 # ---- the head
@@ -236,12 +248,18 @@ def decoded_bytes(data: bytes, charset: str) -> str:
     return text if text.isascii() else text.translate(AS_WINDOWS)
 
 
-def sender_of(senders: Sequence[str]) -> str:
-    """The address of a letter that has exactly one, with a name that can be read; else empty."""
+def sender_of(letter: Part, senders: Sequence[str]) -> str:
+    """The address of a letter that has exactly one, with a name that can be read; else empty. A
+    name that is not encoded is a trouble.
+    """
     value = senders[0].replace("\t", " ") if len(senders) == 1 else ""
-    found, shown = SENDER.fullmatch(value[: MAX_FIELD + 1]), words_in(value)
-    is_plain = len(value) <= MAX_FIELD and shown.isprintable() and "=?" not in shown
-    return address_key(found[1] or found[2]) if found is not None and is_plain else ""
+    match = SENDER.fullmatch(value) if len(value) <= MAX_FIELD else None
+    shown = words_in(value)
+    if match is None or not shown.isprintable() or "=?" in shown:
+        return ""
+    if not value.isascii():
+        letter.note_trouble(Reason.RAW_NAME())
+    return address_key(match[1] or match[2])
 
 
 def arrival_of(received: str) -> datetime.datetime | None:
@@ -250,11 +268,11 @@ def arrival_of(received: str) -> datetime.datetime | None:
     blank continues that field.
     """
     value = received.replace("\t", " ")
-    found = ARRIVED.search(value) if len(value) <= MAX_FIELD else None
-    if found is None or len(re.findall(f"{TIME}|{CLOCK}", value)) > 1:
+    match = ARRIVED.search(value) if len(value) <= MAX_FIELD else None
+    if match is None or len(re.findall(f"{TIME}|{CLOCK}", value)) > 1:
         return None
     try:
-        arrived = email.utils.parsedate_to_datetime(found[1])
+        arrived = email.utils.parsedate_to_datetime(match[1])
         # a server that does not know its zone writes -0000
         return arrived.replace(tzinfo=arrived.tzinfo or datetime.UTC).astimezone(datetime.UTC)
     except ValueError:
@@ -297,11 +315,11 @@ def body_of(parts: Sequence[Part]) -> Body:
             first.note_ambiguous("what may be crossed out or hidden in its HTML")
     lines = text.rstrip("\r\n").splitlines()
     first.note_too_long(len(lines), "lines", MAX_LINES)
+    trouble = next(filter(None, (part.trouble for part in parts)), None)
     # that it is HTML is the last trouble, since such a letter can be entered
-    troubles = [part.trouble for part in parts if part.trouble is not None]
-    if not troubles and first.kind == "text/html":
-        troubles.append(Reason.HTML_ALONE())
-    return Body(tuple(lines[:MAX_LINES]), next(iter(troubles), None))
+    if trouble is None and first.kind == "text/html":
+        trouble = Reason.HTML_ALONE()
+    return Body(tuple(lines[:MAX_LINES]), trouble)
 
 
 def the_text(parts: Sequence[Part]) -> Part:

@@ -1,4 +1,4 @@
-"""The text of a letter, by a grammar of its lines:
+"""The grammar by which each line of a letter is known.
 
     text      = greetings ballot farewells [signature] [quotation]
     signature = a line "-- " and all below it
@@ -20,7 +20,8 @@ END = "-- "
 # the head of a quotation: at its start a date with a time, perhaps behind a word; and at its end,
 # on the same line or on the next one, a word for "wrote" with a colon, in Germanic languages before
 # the name
-DATE, CLOCK = r"\d{1,4}[./-]\d{1,2}[./-]\d{2,4}|\b20\d\d\b", r"\d{1,2} ?[:h] ?\d\d"
+DATE = r"\d{1,4}[./-]\d{1,2}[./-]\d{2,4}|\b20\d\d\b"
+CLOCK = r"\d{1,2} ?[:h] ?\d\d"
 BEGIN = re.compile(
     rf"(?:(?:on|am|den|le|el|il|op|em|på|dne) .{{0,40}}?)?(?:{DATE})\D{{0,25}}{CLOCK}",
     re.IGNORECASE,
@@ -40,7 +41,8 @@ FROM, SUBJECT = (
     re.compile(rf"[\s*]*(?:{names})[\s*]*:", re.IGNORECASE)
     for names in ("from|von|de|sent|gesendet|envoyé|enviado", "subject|betreff|objet|asunto")
 )
-MOST_FIELDS, FIELD = 8, re.compile(r"[\s*]*[\w .-]{1,15}[\s*]*:|.*@")
+MOST_FIELDS = 8
+FIELD = re.compile(r"[\s*]*[\w .-]{1,15}[\s*]*:|.*@")
 ORIGINAL = re.compile(
     r"-{5,} *(?:original message|original[ -]?nachricht|ursprüngliche (?:nachricht|mail)|weitergeleitete nachricht|forwarded message"
     r"|message d.origine|mensaje original) *-{5,}",
@@ -74,8 +76,12 @@ FAREWELLS = (
     "envoyé de mon iphone|envoyé de mon ipad|envoyé depuis mon téléphone|envoyé de mon appareil android|envoyé depuis mon appareil galaxy|"
     "enviado desde mi iphone|enviado desde mi ipad|enviado desde mi móvil|enviado desde mi dispositivo android|enviado desde mi galaxy"
 )
-# in characters: a longer line is none of these; in words: a name; and what is compared as alike
-LONGEST_USUAL, MOST_OF_NAME, ALIKE = 120, 4, str.maketrans("-\u2019", " '")
+# in characters: a longer line is none of these
+LONGEST_USUAL = 120
+# in words: a name behind one
+MOST_OF_NAME = 4
+# what is compared as alike
+ALIKE = str.maketrans("-\u2019", " '")
 
 
 class Parts(NamedTuple):
@@ -92,17 +98,18 @@ class Parts(NamedTuple):
 
 def parted(lines: Sequence[str]) -> Parts:
     parts = Parts([], [], [], [], [])
-    its = parts.own
+    # of these the next line is one, if no quotation begins
+    current = parts.own
     head: Sequence[int] = ()
     for index, line in enumerate(lines):
         if not head and is_first_marked(lines, index):
             head = head_of_marked(lines, index)
             parts.heads.extend(head)
-            while head and its and its[-1] >= head[0]:
-                its.pop()
+            while head and current and current[-1] >= head[0]:
+                current.pop()
         if not head and (fields := end_of_outlook(lines, index)):
-            while its and not lines[its[-1]].strip(" _"):
-                its.pop()
+            while current and not lines[current[-1]].strip(" _"):
+                current.pop()
             parts.heads.extend(range(index, fields))
             parts.quoted.extend(range(fields, len(lines)))
             break
@@ -110,10 +117,10 @@ def parted(lines: Sequence[str]) -> Parts:
             continue
         if head:
             (parts.quoted if is_marked(line) else parts.below).append(index)
-        elif line == END and its is parts.own:
-            its = parts.signature
+        elif line == END and current is parts.own:
+            current = parts.signature
         else:
-            its.append(index)
+            current.append(index)
     return parts
 
 

@@ -1,6 +1,8 @@
-"""Letters are read when they come: `read_letters` has their bytes parsed, their signatures checked,
-and the ballots found in their texts (`letter_text.py`); and debvote says which of these are valid.
-`to_json` and `from_json` are how the book keeps a letter that was read.
+"""Letters are read when they come, and debvote says which of their ballots are valid.
+
+`read_letters` has their bytes parsed (`letter.py`), their signatures checked (`signature.py`), and
+the ballots found in their texts (`letter_text.py`). `to_json` and `from_json` are how the book
+keeps a letter that was read.
 
 The addresses on the list and the time decide nothing here. So a letter is judged again from what
 the book keeps, and is read again only if its signature has to be checked anew (`judging.py`).
@@ -17,7 +19,7 @@ from typing import Any
 from debvote_tools.book import queries
 from debvote_tools.election import KEYRING
 from debvote_tools.inbox.letter import ParsedLetter, parse
-from debvote_tools.inbox.letter_text import ReadLine, Reading, reading_of, why_points
+from debvote_tools.inbox.letter_text import Reading, reading_of, why_points
 from debvote_tools.inbox.lines import Names
 from debvote_tools.inbox.mailbox import RawLetter
 from debvote_tools.inbox.reasons import Reason
@@ -63,11 +65,10 @@ class ReadLetter(ParsedLetter):
 # ---- letters
 def read_letters(vote: Vote, raws: Sequence[RawLetter]) -> list[ReadLetter]:
     """What letters say, with their signatures if they need one, and what their lines may be."""
-    found = list(map(parse, raws))
-    if found and vote.is_signed:
-        keyring = queries.sealed(vote.book, KEYRING)
-        found = verified(raws, found, keyring, find_gpgv())
-    return with_texts(found, vote.names, vote.why_each_refused)
+    parsed = list(map(parse, raws))
+    if parsed and vote.is_signed:
+        parsed = verified(raws, parsed, queries.sealed(vote.book, KEYRING), find_gpgv())
+    return with_texts(parsed, vote.names, vote.why_each_refused)
 
 
 def with_texts(letters: Sequence[ParsedLetter], names: Names, ask: Ask) -> list[ReadLetter]:
@@ -75,31 +76,26 @@ def with_texts(letters: Sequence[ParsedLetter], names: Names, ask: Ask) -> list[
     texts = [
         reading_of(letter.body.lines, names, is_signed=letter.needs_signature) for letter in letters
     ]
-    stand_in = min(names.roll)
-
-    # whether ranks are valid is the same for all
-    def line_of(ballot: ReadLine) -> bytes:
-        return f"{stand_in} {ballot.ranks}".encode()
-
-    answers = ask([line_of(ballot) for text in texts for ballot in text.ballots])
-    return [
-        ReadLetter(
-            **vars(letter),
-            text=dataclasses.replace(
-                text,
-                ballots=tuple(
-                    dataclasses.replace(
-                        ballot, answer=answers[line_of(ballot)] or why_points(ballot.ranks)
-                    )
-                    for ballot in text.ballots
-                ),
-            ),
-            code_lines=tuple(
-                number for number, line in enumerate(letter.body.lines, start=1) if has_code(line)
-            ),
+    # whether ranks are valid is the same for all electors
+    before = f"{min(names.roll)} ".encode()
+    answers = ask([before + ballot.ranks.encode() for text in texts for ballot in text.ballots])
+    read = []
+    for letter, text in zip(letters, texts):
+        answered = (
+            dataclasses.replace(
+                ballot, answer=answers[before + ballot.ranks.encode()] or why_points(ballot.ranks)
+            )
+            for ballot in text.ballots
         )
-        for letter, text in zip(letters, texts)
-    ]
+        numbered = enumerate(letter.body.lines, start=1)
+        read.append(
+            ReadLetter(
+                **vars(letter),
+                text=dataclasses.replace(text, ballots=tuple(answered)),
+                code_lines=tuple(number for number, line in numbered if has_code(line)),
+            )
+        )
+    return read
 
 
 # ---- as the book keeps it
@@ -124,19 +120,19 @@ def from_json(text: str) -> ReadLetter:
 def reader_of(kind: Any) -> Callable[[Any], Any]:
     """Makes a value of this type from what JSON has of it."""
     if dataclasses.is_dataclass(kind):
-        of_fields = {name: reader_of(one) for name, one in typing.get_type_hints(kind).items()}
+        fields = {name: reader_of(field) for name, field in typing.get_type_hints(kind).items()}
         # a book of an earlier version may know more of a letter
         return lambda kept: kind(
-            **{name: of_fields[name](kept[name]) for name in of_fields if name in kept}
+            **{name: read(kept[name]) for name, read in fields.items() if name in kept}
         )
-    of = typing.get_args(kind)
-    if of in ((str, ...), (int, ...)):
+    inner = typing.get_args(kind)
+    if inner in ((str, ...), (int, ...)):
         # most of what is kept are lines
         return tuple
-    if Ellipsis in of:
-        return lambda kept: tuple(map(reader_of(of[0]), kept))
-    if type(None) in of:
-        return lambda kept: kept if kept is None else reader_of(of[0])(kept)
+    if Ellipsis in inner:
+        return lambda kept: tuple(map(reader_of(inner[0]), kept))
+    if type(None) in inner:
+        return lambda kept: kept if kept is None else reader_of(inner[0])(kept)
     if isinstance(kind, type) and issubclass(kind, datetime.date):
         return datetime.datetime.fromisoformat
     if kind is Reason:

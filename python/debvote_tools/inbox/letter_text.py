@@ -1,4 +1,5 @@
 """What the text of a letter says: the ballots in it, and whether one is all that its sender wrote.
+
 It is found by the grammar of `letter_grammar.py` and the names of the electors, before debvote is
 asked which ballots are valid.
 """
@@ -26,10 +27,12 @@ from debvote_tools.text.motions import WORDS
 
 # in characters: how much is shown of what else its sender wrote, and of a line that is looked at
 # closely
-MAX_WORDS, MAX_COMPOSED = 300, 2_000
+MAX_WORDS = 300
+MAX_COMPOSED = 2_000
 # of more lines that may be ballots none is read; how many usual lines are passed over below a
 # ballot
-MAX_BALLOTS, MAX_FAREWELLS = 200, 6
+MAX_BALLOTS = 200
+MAX_FAREWELLS = 6
 
 # what may stand behind the last rank of a ballot; and what no signature has: two ranks
 SIGNS = " \t.*\"'`\u00a0\u00ab\u00bb\u2018\u2019\u201c\u201d"
@@ -74,16 +77,14 @@ def reading_of(lines: Sequence[str], names: Names, *, is_signed: bool = False) -
     if (crowd := len(text.answers)) > MAX_BALLOTS:
         return Reading(crowd=crowd, quoted=text.quoted)
     whole = text.whole_ballot()
-    is_alone = whole is not None and not text.below and not text.has_answers_outside
-    found: list[tuple[ReadLine, Sequence[int]]]
-    found = [(whole, text.own)] if whole and is_alone else list(text.ballots())
-    own_names = {name for line, _ in found for name in names_of(line, names)}
-    in_ballots = {place for _, places in found for place in places}
+    ballots = {whole: text.own} if whole else dict(text.ballots())
+    in_ballots = {*itertools.chain(*ballots.values())}
     rest = [place for place in text.written if place not in in_ballots]
+    own_names = {name for ballot in ballots for name in names_of(ballot, names)}
     others = (lines[place].strip() for place in rest if text.says_something(place, own_names))
     return Reading(
-        ballots=tuple(line for line, _ in found),
-        is_alone=is_alone,
+        ballots=tuple(ballots),
+        is_alone=whole is not None,
         has_more_answers=text.has_answers_outside or any(map(text.may_answer, rest)),
         is_below_quotation=any(map(is_marked, lines[: max(in_ballots, default=-1) + 1])),
         words=" ".join(others)[: MAX_WORDS + 1],
@@ -97,8 +98,15 @@ class LetterText:
     """
 
     def __init__(self, lines: Sequence[str], names: Names, is_signed: bool) -> None:
-        self.lines = [line if line.isascii() else composed(line) for line in lines]
-        self.names, self.is_signed = names, is_signed
+        # with accents in one form; a very long line as it is, since that takes quadratic time
+        self.lines = [
+            line
+            if line.isascii() or len(line) > MAX_COMPOSED
+            else unicodedata.normalize("NFC", line)
+            for line in lines
+        ]
+        self.names = names
+        self.is_signed = is_signed
         parts = parted(self.lines)
         self.own, self.signature, self.below = (
             [*filter(self.is_said, places)] for places in parts[:3]
@@ -144,43 +152,48 @@ class LetterText:
         )
 
     def whole_ballot(self) -> ReadLine | None:
-        """The ballot, if the text above a signature is nothing but greetings, it, and farewells."""
+        """The ballot, if what its sender wrote is nothing but greetings, it, farewells and a
+        signature, and nothing else in the text looks like an answer.
+        """
+        if self.below or self.has_answers_outside:
+            return None
         own = [self.lines[place] for place in self.own]
         greetings = [*itertools.takewhile(self.greets, own)]
         begin = len(greetings)
         for end in range(len(own), max(begin, len(own) - MAX_FAREWELLS - 1), -1):
-            line = self.ballot_at(self.own[begin:end])
-            own_names = names_of(line, self.names) if line else ()
+            ballot = self.ballot_at(self.own[begin:end])
+            own_names = names_of(ballot, self.names) if ballot else ()
             # two hyphens with a comma are ranks, not hyphens of a usual line
             has_more = not self.answers.isdisjoint((*self.own[:begin], *self.own[end:]))
-            if line and not has_more and all(is_greeting(one, own_names) for one in greetings):
-                are_usual = all(is_farewell(one, own_names) for one in own[end:])
-                return line if are_usual else None
+            if ballot and not has_more and all(is_greeting(line, own_names) for line in greetings):
+                are_usual = all(is_farewell(line, own_names) for line in own[end:])
+                return ballot if are_usual else None
         return None
 
-    def ballots(self) -> Iterator[tuple[ReadLine, Sequence[int]]]:
-        """The ballots within the text, each the longest run of lines with answers that is one,
-        perhaps below a line with the name.
+    def ballots(self) -> Iterator[tuple[ReadLine, list[int]]]:
+        """The ballots within the text and their lines, each the longest run of lines with answers
+        that is one, perhaps below a line with the name.
         """
-        places, done = {*self.own, *self.below}, 0
-        for place in sorted(places):
-            if place < done or self.answers.isdisjoint((place, place + 1)):
+        last = -1
+        for place in sorted({*self.own, *self.below}):
+            if place <= last or self.answers.isdisjoint((place, place + 1)):
                 continue
-            found = None
+            longest = None
             answers = itertools.takewhile(self.answers.__contains__, itertools.count(place + 1))
             for end in (place, *answers):
-                run = range(place, end + 1)
-                line = self.ballot_at(run)
-                if line is None and (found or end > place):
+                run = [*range(place, end + 1)]
+                ballot = self.ballot_at(run)
+                if ballot is None and (longest or end > place):
                     break
-                found = (line, run) if line else None
-            if found:
-                done = found[1].stop
-                yield found
+                longest = (ballot, run) if ballot else None
+            if longest:
+                last = longest[1][-1]
+                yield longest
 
     def ballot_at(self, places: Sequence[int]) -> ReadLine | None:
         """The ballot that these lines are together, if they have no other words."""
-        names, lines = self.names, [self.lines[place] for place in places]
+        names = self.names
+        lines = [self.lines[place] for place in places]
         last = lines[-1].rstrip(SIGNS)[-1:] if sum(map(len, lines)) <= names.longest_line else ""
         if not (last.isdigit() or last in ("-", *DASHES)) or any(map(is_marked, lines)):
             return None
@@ -197,13 +210,6 @@ class LetterText:
         return ReadLine(places[0] + 1, written, tuple(meant), ranks)
 
 
-def composed(line: str) -> str:
-    """A line with its accents in one form; a very long one as it is, since that takes quadratic
-    time.
-    """
-    return unicodedata.normalize("NFC", line) if len(line) <= MAX_COMPOSED else line
-
-
 def names_of(line: ReadLine, names: Names) -> set[str]:
     """How the electors who may be meant sign: by their whole names or by the first word of them."""
     whole = [names.real_names.get(elector, elector) for elector in line.meant]
@@ -217,11 +223,12 @@ def joined(lines: Sequence[str], names: Names) -> str:
         return " ".join(" ".join(lines).split())
     first, *others = (" ".join(bare_text(line).split()) for line in lines)
     meant = names.meant_by(before_label(first))
-    for again, line in zip(map(before_label, others), others):
+    for line in others:
+        name = before_label(line)
         # with another sign it says something
-        is_name = re.fullmatch(WRITTEN_NAME, again.removesuffix(":")) is not None
-        is_again = is_name and names.meant_by(again) == meant and not names.longer_than(again, line)
-        first += " " + (line.removeprefix(again) if is_again else line)
+        is_name = re.fullmatch(WRITTEN_NAME, name.removesuffix(":")) is not None
+        is_again = is_name and names.meant_by(name) == meant and not names.longer_than(name, line)
+        first += " " + (line.removeprefix(name) if is_again else line)
     return first
 
 
@@ -231,8 +238,9 @@ def before_label(line: str) -> str:
 
 def why_points(ranks: str) -> str | None:
     """Why ranks that debvote takes are none here: points are often above the number of options."""
-    for its in ranks_by_label(ranks).values():
-        for rank in its.split(","):
-            if rank.isdigit() and int(rank) > its.count(",") + 1:
+    for answer in ranks_by_label(ranks).values():
+        cells = answer.split(",")
+        for rank in cells:
+            if rank.isdigit() and int(rank) > len(cells):
                 return f"{rank} is above the number of options, as points are"
     return None

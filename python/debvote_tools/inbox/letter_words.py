@@ -1,6 +1,4 @@
-"""What the secretary reads about letters: what goes in, what waits and why, and a letter line by
-line.
-"""
+"""What the secretary reads about letters: what goes in, what waits and why, and a whole letter."""
 
 import itertools
 from collections.abc import Collection, Iterator, Mapping, Sequence
@@ -21,9 +19,11 @@ from debvote_tools.inbox.reasons import for_secretary
 from debvote_tools.inbox.vote import IS_CODE, Vote
 from debvote_tools.text.language import ENGLISH
 
-# how many attachments are named; in characters, what is listed of what else a sender wrote; and how
-# many lines of a quotation are shown
-MAX_ATTACHMENTS, MAX_LISTED, MAX_QUOTED = 5, 60, 100
+# how many attachments are named, and how many lines of a quotation are shown
+MAX_ATTACHMENTS = 5
+MAX_QUOTED = 100
+# in characters: what is listed of what else a sender wrote
+MAX_LISTED = 60
 
 
 def who_and_when(letter: LetterCase) -> str:
@@ -101,8 +101,10 @@ def judged_anew(
     otherwise or be of somebody else.
     """
     for number, letter in after.items():
-        known = (letter, before.get(number, letter))
-        facts = {(one.outcome, one.reason, one.is_pending and one.electors) for one in known}
+        facts = {
+            (case.outcome, case.reason, case.is_pending and case.electors)
+            for case in (letter, before.get(number, letter))
+        }
         if len(facts) > 1 and number not in others:
             yield from why_it_waits(letter)
 
@@ -128,17 +130,17 @@ def why(letter: LetterCase, elector: str = "") -> str:
     """Why a letter waits, or what became of it; and who has voted since, or whether an elector
     has.
     """
-    said = letter.outcome.value if letter.reason is None else for_secretary(letter.reason)
+    why = letter.outcome.value if letter.reason is None else for_secretary(letter.reason)
     if letter.outcome is LetterOutcome.GOES_IN:
         # nobody has agreed to it yet
-        said = "it goes in with the next add of letters"
-    since = [one for one in letter.voted_since if elector in ("", one)]
+        why = "it goes in with the next add of letters"
+    since = [name for name in letter.voted_since if elector in ("", name)]
     if not (letter.is_pending and since):
-        return said
+        return why
     who = f"{ENGLISH.joined(since)} " if len(letter.electors) > 1 else ""
-    is_sure = all(letter.voted_since[one] for one in since)
+    is_sure = all(letter.voted_since[name] for name in since)
     have = "may have" if not is_sure else "has" if len(since) == 1 else "have"
-    return f"{said}; {who}{have} voted since"
+    return f"{why}; {who}{have} voted since"
 
 
 def near_words(letter: LetterCase) -> Iterator[str]:
@@ -163,7 +165,8 @@ def whole(letter: LetterCase) -> Iterator[str]:
     """What its sender wrote, line by line, and below it what the letter quotes."""
     yield who_and_when(letter)
     yield f"  subject: {subject_of(letter)}"
-    lines, quoted = letter.read.body.lines, sorted(letter.read.text.quoted)
+    lines = letter.read.body.lines
+    quoted = sorted(letter.read.text.quoted)
     yield from numbered(lines, sorted({*range(len(lines))}.difference(quoted)))
     if quoted:
         yield "Quoted:"

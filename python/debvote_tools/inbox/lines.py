@@ -29,7 +29,8 @@ from debvote_tools.text.ballots import answers_text
 from debvote_tools.text.language import Language
 from debvote_tools.text.motions import Words, with_ranks
 
-MARK, BLANKS = codecs.BOM_UTF8, b" \t"
+MARK = codecs.BOM_UTF8
+BLANKS = b" \t"
 
 NOTHING_TO_REPAIR = re.compile(rb"[a-z0-9.-]+(?: [0-9-][0-9,-]*|(?: [A-Z] [0-9-][0-9,-]*)+)")
 
@@ -41,7 +42,8 @@ MAX_NAME = 100
 # of so many lines that letters have it is kept what they are
 MOST_QUOTED = 1_000
 # what parts the words of a name, and what each name on a roll has
-NO_NAME, LATIN = re.compile(r"(?:[^\w.-]|[_\u02b0-\u02ff])+"), re.compile("[a-z0-9]")
+NO_NAME = re.compile(r"(?:[^\w.-]|[_\u02b0-\u02ff])+")
+LATIN = re.compile("[a-z0-9]")
 # the ranks of a ballot; and a name as people write it, with letters of any script, and ranks
 ONE_RANK = "(?:-|[1-9][0-9]?)"
 RANKS = rf"{ONE_RANK}(?:,{ONE_RANK})*"
@@ -137,7 +139,8 @@ class Names:
         """What begins with a label that has a sign, a rank or a word behind it; None if there is
         one question.
         """
-        labels, sign = "".join(self.labels), r"\s*[^\w\s]"
+        labels = "".join(self.labels)
+        sign = r"\s*[^\w\s]"
         capital = rf"[{labels}](?:{sign}|\s+[^\W_])"
         small = rf"[{labels.lower()}](?:{sign}|\s+[\d{DASHES}-])"
         return re.compile(rf"\W*(?:{capital}|{small})") if labels else None
@@ -175,7 +178,8 @@ class Names:
         is entered, or with a colon behind the name.
         """
         before, *rest = LABEL.split(bare_text(line)) if self.labels else [line]
-        name, is_right = before.strip(), RIGHT_ANSWERS.fullmatch(line.strip())
+        name = before.strip()
+        is_right = RIGHT_ANSWERS.fullmatch(line.strip())
         is_apart = name.endswith(":") or (is_right and name in self.roll)
         return rest[0].upper() if name and rest and not is_apart else ""
 
@@ -217,10 +221,9 @@ class Names:
         are entered; None if it has not this form.
         """
         if self.labels:
-            written = written_answers(line, self.labels, self.longest_line)
-            return (written[0], answers_text(written[1])) if written else None
-        found = NAMED.fullmatch(unicodedata.normalize("NFC", line))
-        return (found[1], found[2]) if found else None
+            return written_answers(line, self.labels, self.longest_line)
+        match = NAMED.fullmatch(unicodedata.normalize("NFC", line))
+        return (match[1], match[2]) if match else None
 
     def with_ranks(self, line: str) -> str:
         """A line with ranks in place of words: of the one at its end, or of several questions of
@@ -233,10 +236,12 @@ class Names:
         ranked = WORD.sub(self.with_rank, bare) if self.labels else with_ranks(line, self.words)
         return line if ranked == bare or self.meant_by(bare.rstrip(" .!")) else ranked
 
-    def with_rank(self, found: re.Match[str]) -> str:
-        label, word = found[1] or found[2], unicodedata.normalize("NFC", found[3]).lower()
-        is_answer = label.upper() in self.motions and word in self.words
-        return f"{label} {self.words[word]}" if is_answer else found[0]
+    def with_rank(self, answer: re.Match[str]) -> str:
+        """A word behind a label, with ranks in its place if that is of a motion."""
+        label = answer[1] or answer[2]
+        word = unicodedata.normalize("NFC", answer[3]).lower()
+        is_of_motion = label.upper() in self.motions and word in self.words
+        return f"{label} {self.words[word]}" if is_of_motion else answer[0]
 
     def folds(self, name: str) -> set[str]:
         """A name as `roll` makes one from it, but whole: `roll` cuts a long name, and omits letters
@@ -247,7 +252,7 @@ class Names:
         if len(name) > MAX_NAME or len(unicodedata.normalize("NFKC", name)) > MAX_NAME:
             return set()
         plain = (without_accents(name, language).lower() for language in (self.language, ""))
-        folds = {NO_NAME.sub("-", one).strip("-") for one in plain}
+        folds = {NO_NAME.sub("-", text).strip("-") for text in plain}
         return {fold for fold in folds if LATIN.search(fold)}
 
 
@@ -280,8 +285,8 @@ def lines_in(data: bytes, name: str, longest: int, first: int = 1) -> list[Line]
 
 def name_in(line: bytes) -> bytes:
     """The name with which a line begins; empty if it begins with none."""
-    found = NAME.match(line)
-    return found[0] if found else b""
+    match = NAME.match(line)
+    return match[0] if match else b""
 
 
 @functools.lru_cache(MOST_QUOTED)
@@ -306,15 +311,13 @@ def repaired_but_for_name(line: bytes, longest: int) -> bytes:
     return spaced(without_typography(text).encode("utf-8"))
 
 
-def written_answers(
-    text: str, labels: Iterable[str], longest: int
-) -> tuple[str, dict[str, str]] | None:
-    """What is written before the answers to several questions, such as a name or nothing, and their
-    ranks by label, in the order of the labels. None if a line has no such answers, and no other
-    words between them or behind, or has two to one question.
+def written_answers(text: str, labels: Iterable[str], longest: int) -> tuple[str, str] | None:
+    """What is written before the answers to several questions, such as a name or nothing, and the
+    answers as they are entered. None if a line has no such answers, and no other words between them
+    or behind, or has two to one question.
     """
     before, *parts = LABEL.split(bare_text(text))
-    answers = dict[str, str]()
+    answers = {}
     for label, rest in zip(parts[::2], parts[1::2]):
         line = f"{label.lower()} {rest.strip()}".encode("utf-8", "replace")
         ranks = repaired_but_for_name(line, longest).decode()[2:]
@@ -324,7 +327,8 @@ def written_answers(
     in_order = {label: answers[label] for label in labels if label in answers}
     if not parts or len(in_order) < len(answers):
         return None
-    return unicodedata.normalize("NFC", before).strip().removesuffix(":").rstrip(), in_order
+    name = unicodedata.normalize("NFC", before).strip().removesuffix(":").rstrip()
+    return name, answers_text(in_order)
 
 
 def spaced(line: bytes) -> bytes:

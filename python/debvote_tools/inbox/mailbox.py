@@ -1,5 +1,6 @@
-"""What letters come in: one message, an mbox, a Maildir, or a folder of messages. The bytes say
-what a file is, not its name.
+"""What letters come in: one message, an mbox, a Maildir, or a folder of messages.
+
+The bytes say what a file is, not its name.
 
 No byte is lost: the sections of a file, joined, are the file. A section is the line that begins a
 letter, the letter, and the empty line below. Each letter is kept, or named as not read.
@@ -12,7 +13,8 @@ import functools
 import itertools
 import pathlib
 import re
-from collections.abc import Sequence
+from collections.abc import Iterable, Sequence
+from typing import NamedTuple
 
 from debvote_tools.files import sha256_of
 from debvote_tools.inbox.lines import MARK
@@ -20,7 +22,8 @@ from debvote_tools.inbox.mime import END_OF_HEAD, MAX_HEAD, MAX_LETTER, Part
 
 # where a Maildir has its letters: first those that nobody has looked at, since one that somebody
 # looks at meanwhile moves from the first folder to the second; and where it has unfinished ones
-MAILDIR, UNFINISHED = ("new", "cur"), "tmp"
+MAILDIR = ("new", "cur")
+UNFINISHED = "tmp"
 
 # a field of a head, and fields that most heads have
 FIELD = re.compile(rb"[!-9;-~]+[ \t]*:")
@@ -36,9 +39,10 @@ START = re.compile(
     rb"(?:%b)?(?P<box><\?php exit; \?>\r?\n)?[\r\n]*(?P<mbox>From [^\r\n]*\r?\n[\r\n]*)?" % MARK
 )
 # how a record in the file of a box begins, and all that are whole
-BEGIN, WHOLE = b"From box@page.invalid ", re.compile(rb"(?s).*\n-- \r?\n\r?\n")
-# lines that may begin a letter; in an mbox such a line does if it has the name of a day and after
-# it a time, or is bare as Thunderbird writes it
+BEGIN = b"From box@page.invalid "
+WHOLE = re.compile(rb"(?s).*\n-- \r?\n\r?\n")
+# lines that may begin a letter: "From " sender time (RFC 4155, appendix A). In an mbox such a line
+# does if it has the name of a day and after it a time, or is bare as Thunderbird writes it
 FROM_LINE = re.compile(rb"(?im)^>?From [^\r\n]*(?:\r?\n|\Z)")
 DATED = re.compile(
     rb"From (?>[^\r\n]*?\b(?:Mon|Tue|Wed|Thu|Fri|Sat|Sun),* )(?:[^\r\n]* )?\d\d?:\d\d(?::\d\d)?\s"
@@ -147,66 +151,80 @@ def are_letters(data: bytes) -> bool:
     return FIELD.match(head) is not None and is_usual
 
 
-def letters_of_file(name: str, data: bytes) -> list[RawLetter]:
-    """The letters of a file that was read whole.
+class Section(NamedTuple):
+    """A part of a file: the line that begins a letter, the letter, and the empty line below."""
 
-    A letter waits as `is_parted_off` if it has others in it, or may be text of the letter above it:
-    no empty line is between, it is within the Content-Length of a letter above, or the parts of
-    that letter do not end. Any sender can write a Content-Length, so it counts only if it ends
-    exactly where the file ends, or before a line with a date that separates letters.
+    above: bytes
+    letter: bytes
+    below: bytes
+
+
+def letters_of_file(name: str, data: bytes) -> list[RawLetter]:
+    """The letters of a file that was read whole. One waits as `is_parted_off` if it has others in
+    it, or may be text of a letter above it.
     """
     kind = kind_not_read(data) or (None if are_letters(data) else NotRead.NO_LETTER)
     if kind is not None:
         return [RawLetter(name, why_not_read=kind)]
     if begin := records_begin(data):
         return records_of_file(name, data[begin:])
-    found, sections = list[RawLetter](), sections_of(data)
-    possible_ends = ends_of(sections)
-    place, reach, is_ended = 0, 0, True
-    for number, (above, letter, below) in enumerate(sections, start=1):
-        where = f"{name}, message {number}" if len(sections) > 1 else name
+    sections = sections_of(data)
+    letters = list[RawLetter]()
+    for (_, letter, _), is_of_above in zip(sections, are_of_above(sections)):
+        where = f"{name}, message {len(letters) + 1}" if len(sections) > 1 else name
         if len(letter) > MAX_LETTER:
-            found.append(RawLetter(where, why_not_read=NotRead.TOO_LONG))
+            letters.append(RawLetter(where, why_not_read=NotRead.TOO_LONG))
         else:
-            is_parted_off = place < reach or not is_ended or has_others(letter)
-            found.append(RawLetter(where, letter, is_parted_off))
-        place += len(above + letter)
-        if number < len(sections):
-            message = Part(letter)
-            lengths = map(re.compile(r"\d{1,15}").match, message.values("content-length"))
-            ends = {
-                place - len(message.body_bytes) + int(length[0]) for length in lengths if length
-            }
-            reach = max({reach, *ends & possible_ends})
-            is_ended = bool(below) and not message.is_open
+            letters.append(RawLetter(where, letter, is_of_above or has_others(letter)))
+    return letters
+
+
+def are_of_above(sections: Sequence[Section]) -> list[bool]:
+    """Of each letter, whether it may be text of one above it: no empty line is between, it is
+    within the Content-Length of a letter above, or the parts of that letter do not end. Any sender
+    can write a Content-Length, so it counts only if it ends exactly where the file ends, or before
+    a line with a date that separates letters.
+    """
+    possible_ends = ends_of(sections)
+    are_of_above = [False]
+    place = reach = 0
+    for above, letter, below in sections[:-1]:
+        message = Part(letter)
+        place += len(above) + len(letter)
+        lengths = map(re.compile(r"\d{1,15}").match, message.values("content-length"))
+        ends = {place - len(message.body_bytes) + int(length[0]) for length in lengths if length}
+        reach = max({reach, *ends & possible_ends})
         place += len(below)
-    return found
+        are_of_above.append(place < reach or not below or message.is_open)
+    return are_of_above
 
 
 def records_of_file(name: str, data: bytes) -> list[RawLetter]:
     """The records in the file of a box. Of what is below the last whole one nobody was told that it
     arrived.
     """
-    found = WHOLE.match(data)
-    whole = found[0] if found else b""
-    rest = RawLetter(f"{name}, at its end", why_not_read=NotRead.CUT_OFF)
+    match = WHOLE.match(data)
+    whole = match[0] if match else b""
     letters = letters_of_file(name, whole) if whole else []
-    fetched = [dataclasses.replace(one, is_fetched=True) for one in letters]
-    return [*fetched, *([rest] if whole != data else ())]
+    fetched = [dataclasses.replace(letter, is_fetched=True) for letter in letters]
+    if whole != data:
+        fetched.append(RawLetter(f"{name}, at its end", why_not_read=NotRead.CUT_OFF))
+    return fetched
 
 
-def ends_of(sections: Sequence[tuple[bytes, bytes, bytes]]) -> set[int]:
+def ends_of(sections: Iterable[Section]) -> set[int]:
     """Where the text of a letter may end in a file: before a line with a date, or at the end of the
     file, each with the empty line or without it. The last one may be missing.
     """
-    place, ends = 0, set[int]()
-    for (above, letter, below), begins in zip(
-        sections, [*(above for above, _, _ in sections[1:]), None]
-    ):
-        place += len(above) + len(letter) + len(below)
-        if begins is None or DATED.match(begins):
+    ends = set[int]()
+    place = 0
+    below = b""
+    for section in sections:
+        if DATED.match(section.above):
             ends |= {place, place - len(below)}
-    return ends | {place + missing for missing in range(LONGEST_EMPTY_LINE + 1)}
+        place += sum(map(len, section))
+        below = section.below
+    return ends | {place - len(below), *range(place, place + LONGEST_EMPTY_LINE + 1)}
 
 
 def letters_of_folder(folder: pathlib.Path) -> list[RawLetter]:
@@ -229,15 +247,16 @@ def letter_of_file(file: pathlib.Path) -> list[RawLetter]:
     elif not file.is_file():
         why = NotRead.NO_LETTER
     else:
-        data, why = file.read_bytes(), NotRead.MAILBOX
+        data = file.read_bytes()
         if not are_letters(data) or len(sections_of(data)) == 1:
             return letters_of_file(str(file), data)
+        why = NotRead.MAILBOX
     return [RawLetter(str(file), why_not_read=why)]
 
 
 # ---- the sections of a file
-def sections_of(data: bytes) -> list[tuple[bytes, bytes, bytes]]:
-    """The sections of a file: of each the line that begins it, the letter, and the empty line."""
+def sections_of(data: bytes) -> list[Section]:
+    """The sections of a file, of which only an mbox can have several."""
     start = begin_of(data)
     is_mailbox = begins_mailbox(start)
     begins = [start.span()] + [
@@ -250,7 +269,7 @@ def sections_of(data: bytes) -> list[tuple[bytes, bytes, bytes]]:
         letter = data[letter_begin:end]
         empty = (line for line in (b"\n", b"\r\n") if is_mailbox and letter.endswith(b"\n" + line))
         below = next(empty, b"")
-        sections.append((data[begin:letter_begin], letter.removesuffix(below), below))
+        sections.append(Section(data[begin:letter_begin], letter.removesuffix(below), below))
     return sections
 
 
@@ -278,6 +297,6 @@ def has_others(letter: bytes) -> bool:
     """Whether other letters may be in a letter: a line may begin one, and separates none."""
     # the expression takes long, and few letters have such a line
     below = b"\n" + letter.lower()
-    may_have = any(begin in below for begin in (b"\nfrom ", b"\n>from "))
+    may_have = b"\nfrom " in below or b"\n>from " in below
     lines = FROM_LINE.finditer(letter) if may_have else ()
     return any(DATED.match(line[0]) or FIELD.match(letter, line.end()) for line in lines)

@@ -16,17 +16,22 @@ from collections.abc import Iterator
 from debvote_tools.grouping import grouped
 from debvote_tools.inbox.reasons import Reason, ReasonWithValues
 
-# in bytes: the longest letter and the longest head that are read; then the most parts, their
-# deepest nesting, and the longest field about a part, in characters
-MAX_LETTER, MAX_HEAD = 10_485_760, 262_144
-MAX_PARTS, MAX_DEPTH, MAX_OF_PART = 100, 12, 4_096
+# in bytes: the longest letter and the longest head that are read
+MAX_LETTER = 10_485_760
+MAX_HEAD = 262_144
+# the most parts, and how deep they may be nested
+MAX_PARTS = 100
+MAX_DEPTH = 12
+# in characters: the longest field about a part
+MAX_OF_PART = 4_096
 
 # an empty line ends the head (RFC 5322, 2.1), with the line end of mail or that of a mailbox
 END_OF_HEAD = re.compile(rb"(?:\A|\n)\r?\n")
 # CR stands only before LF (RFC 5322, 2.3); some programs end a line at one
 LONE_RETURN = re.compile(rb"\r(?!\n)")
-# a name of printable characters without the colon, and lines that begin with a blank go on (RFC
-# 5322, 2.2 and 2.2.3); old programs wrote blanks before the colon (4.5)
+# field-name ":" unstructured CRLF, where a name has printable characters but the colon (RFC 5322,
+# 2.2 and 3.6.8), and a line that begins with a blank goes on (2.2.3); old programs wrote blanks
+# before the colon (4.5)
 FIELD = re.compile(rb"(?m)^([!-9;-~]+)[ \t]*:([^\n]*(?:\n[ \t][^\n]*)*)")
 # fields alone, without control characters, perhaps in UTF-8 (RFC 6532); no field is continued by a
 # line of blanks (RFC 5322, 3.2.2), which ends the head in some programs
@@ -34,14 +39,16 @@ PLAIN_HEAD = re.compile(
     rb"(?:[!-9;-~]++:[\t -~\x80-\xff]*+(?:\r?\n[ \t]++[!-~\x80-\xff][\t -~\x80-\xff]*+)*\r?(?:\n|\Z))*"
 )
 
-# a part has each of these fields at most once. A value is a token or is in quotation marks (RFC
-# 2045, 5.1); only that of `name` may be encoded or in pieces (RFC 2231). No text matches in two
-# ways: else a mismatch would take twice as long with each parameter
+# a part has each of these fields at most once
 DESCRIPTION = ("content-type", "content-transfer-encoding", "content-disposition")
+# ";" attribute "=" value, where a value is a token or is in quotation marks (RFC 2045, 5.1); only
+# that of `name` may be encoded or in pieces (RFC 2231). No text matches in two ways: else a
+# mismatch would take twice as long with each parameter
 PARAMETER = re.compile(
     r"""[ \t]*;[ \t]*([\w-]+|name\*\d*\*?)[ \t]*=[ \t]*("[^"\\]*"|[^\s";()<>@,\\]+)"""
 )
-# the kinds that are read; some programs end the parameters with a semicolon
+# type "/" subtype *(parameter) (RFC 2045, 5.1), of the kinds that are read; some programs end the
+# parameters with a semicolon
 READ = re.compile(
     rf"(text/[\w.+-]+|multipart/[\w-]+|message/rfc822)((?:{PARAMETER.pattern})*)[ \t]*;?",
     re.IGNORECASE,
@@ -51,9 +58,12 @@ NOT_READ = re.compile(
     r"(?:application|audio|font|image|model|video)/[\w.+-]+[ \t]*(?:;.*)?", re.IGNORECASE
 )
 CONTAINERS = [f"multipart/{kind}" for kind in "alternative mixed related signed report".split()]
-PACKED = ["multipart/encrypted"] + [
-    f"application/{kind}" for kind in "pgp-encrypted pkcs7-mime x-pkcs7-mime".split()
-]
+PACKED = (
+    "multipart/encrypted",
+    "application/pgp-encrypted",
+    "application/pkcs7-mime",
+    "application/x-pkcs7-mime",
+)
 # at most 70 of these characters, the last no blank (RFC 2046, 5.1.1)
 BOUNDARY = re.compile(r"[\w'()+,./:=? -]{0,69}[\w'()+,./:=?-]", re.ASCII)
 
@@ -82,8 +92,20 @@ class Part:
             (name.decode().lower(), on_one_line(value)) for name, value in FIELD.findall(head)
         ]
         self.by_name = grouped(self.fields)
-        limit = MAX_HEAD if end is None else MAX_LETTER
-        self.note_too_long(len(data), "bytes", limit)
+        self.note_too_long(len(data), "bytes", MAX_HEAD if end is None else MAX_LETTER)
+        self.check_form(data, head)
+        self.coding = self.value("content-transfer-encoding").lower()
+        self.kind, self.parameters = self.described()
+        # whether programs show it as the text, if they show so what it is in
+        self.is_shown = is_shown and self.is_nameless_and_inline()
+        # whether text after it may be in one of its parts
+        self.is_open = any("boundary" in value.lower() for value in self.values("content-type"))
+        # its parts, byte for byte
+        self.inner: list[bytes] = []
+        if self.kind.startswith(("multipart/", "message/")):
+            self.open()
+
+    def check_form(self, data: bytes, head: bytes) -> None:
         if LONE_RETURN.search(data):
             self.note_trouble(Reason.CONTROL(character="U+000D"))
         if not PLAIN_HEAD.fullmatch(head):
@@ -91,21 +113,11 @@ class Part:
         for name in DESCRIPTION:
             if len(self.values(name)) > 1 or len(self.value(name)) > MAX_OF_PART:
                 self.note_ambiguous(name)
-        self.coding = self.value("content-transfer-encoding").lower()
-        self.kind, self.parameters = self.described()
+
+    def is_nameless_and_inline(self) -> bool:
+        """Whether it has no name of a file, and is to be shown at once (RFC 2183, 2.1)."""
         has_name = any(name.startswith("name") for name in self.parameters)
-        is_inline = self.value("content-disposition").lower() in ("", "inline")
-        # whether programs show it as the text, if they show so what it is in
-        self.is_shown = is_shown and is_inline and not has_name
-        # whether text after it may be in one of its parts
-        self.is_open = any("boundary" in value.lower() for value in self.values("content-type"))
-        # its parts, byte for byte, and what is around them
-        self.inner: list[bytes] = []
-        self.around = b""
-        if self.kind.startswith(("multipart/", "message/")):
-            if self.coding not in AS_IT_STANDS:
-                self.note_ambiguous("content-transfer-encoding")
-            self.open()
+        return not has_name and self.value("content-disposition").lower() in ("", "inline")
 
     def note_trouble(self, trouble: ReasonWithValues) -> None:
         """Keeps the first trouble."""
@@ -129,22 +141,25 @@ class Part:
 
     def described(self) -> tuple[str, dict[str, str]]:
         """Its kind, and the parameters of the kind by name, in lower case."""
-        written = self.value("content-type") or "text/plain"
-        kind, read = written.partition(";")[0].strip().lower(), READ.fullmatch(written)
-        pairs = PARAMETER.findall(read[2]) if read else []
+        content_type = self.value("content-type") or "text/plain"
+        kind = content_type.partition(";")[0].strip().lower()
+        match = READ.fullmatch(content_type)
+        pairs = PARAMETER.findall(match[2]) if match else []
         parameters = {name.lower(): value.strip('"') for name, value in pairs}
         if kind in PACKED:
             self.note_trouble(Reason.ENCRYPTED())
-        if len(parameters) < len(pairs) or not (read or NOT_READ.fullmatch(written)):
+        if len(parameters) < len(pairs) or not (match or NOT_READ.fullmatch(content_type)):
             self.note_ambiguous("content-type")
         return kind, parameters
 
     def open(self) -> None:
-        """Splits it into its parts. Each line like a boundary is one, and the last ends them."""
-        boundary = self.parameters.get("boundary", "").rstrip()
+        """Finds its parts. What has parts is not encoded as a whole (RFC 2045, 6.4)."""
+        if self.coding not in AS_IT_STANDS:
+            self.note_ambiguous("content-transfer-encoding")
         if self.kind == "message/rfc822":
             self.inner = [self.body_bytes]
             return
+        boundary = self.parameters.get("boundary", "").rstrip()
         is_plain = (
             self.kind in CONTAINERS
             and BOUNDARY.fullmatch(boundary) is not None
@@ -152,25 +167,29 @@ class Part:
         )
         if not is_plain:
             self.note_ambiguous("content-type")
-        if not boundary:
-            self.around = self.body_bytes
-            return
+        if boundary:
+            self.split(b"--" + boundary.encode("utf-8", "surrogateescape"), is_plain)
+
+    def split(self, delimiter: bytes, is_plain: bool) -> None:
+        """Each line that begins with the delimiter parts it, and the last one, which has two
+        hyphens behind it, ends the parts (RFC 2046, 5.1.1: `delimiter` and `close-delimiter`).
+        """
         # whether it begins a line is asked behind it: asked before, it takes long in a long letter
-        begin = b"--" + re.escape(boundary.encode("utf-8", "surrogateescape"))
-        found_lines = re.finditer(rb"%b(?<![^\n]%b)([^\n]*)\n?" % (begin, begin), self.body_bytes)
-        lines = list(itertools.islice(found_lines, MAX_PARTS))
-        if len(lines) == MAX_PARTS:
+        begin = re.escape(delimiter)
+        lines = re.finditer(rb"%b(?<![^\n]%b)([^\n]*)\n?" % (begin, begin), self.body_bytes)
+        delimiters = list(itertools.islice(lines, MAX_PARTS))
+        if len(delimiters) == MAX_PARTS:
             self.note_trouble(Reason.TOO_MANY_PARTS())
-        ends = [found[1].strip(b" \t\r") for found in lines]
-        self.is_open = not is_plain or len(lines) < 2 or ends[-1] != b"--" or any(ends[:-1])
+        endings = [line[1].strip(b" \t\r") for line in delimiters]
+        is_ended = len(endings) > 1 and endings[-1] == b"--" and not any(endings[:-1])
+        self.is_open = not (is_plain and is_ended)
         if self.is_open:
             self.note_ambiguous("the lines between its parts")
-        starts = [found.start() for found in lines] + [len(self.body_bytes)]
-        below = b"" if self.is_open else self.body_bytes[lines[-1].end() :]
-        self.around = self.body_bytes[: starts[0]] + below
-        for found, end, what in zip(lines, starts[1:], ends):
-            if what != b"--":
-                part = self.body_bytes[found.end() : end]
+        ends = [line.start() for line in delimiters[1:]] + [len(self.body_bytes)]
+        for line, end, ending in zip(delimiters, ends, endings):
+            if ending != b"--":
+                part = self.body_bytes[line.end() : end]
+                # the line end above a delimiter belongs to it
                 self.inner.append(part[:-2] if part.endswith(b"\r\n") else part.removesuffix(b"\n"))
 
     def walk(self, depth: int = 0) -> Iterator["Part"]:

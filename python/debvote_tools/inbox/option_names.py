@@ -24,8 +24,8 @@ class OptionNames:
     def are_in_another_order(self, line: bytes) -> bool:
         """Whether a line has two or more of the names in another order than the poll."""
         names = self.any_name.findall(folded(line.decode("utf-8", "replace")))
-        found = [self.numbers[name] for name in names]
-        return found != sorted(found)
+        numbers = [self.numbers[name] for name in names]
+        return numbers != sorted(numbers)
 
 
 def folded(text: str) -> str:

@@ -1,5 +1,4 @@
-"""Why a letter waits, as data, and the two sentences that say it: one for the secretary and one for
-the elector.
+"""Why a letter waits, as data, and what the secretary and the elector read of it.
 
 A reason is computed whenever a letter is looked at, so a sentence may change. What an elector reads
 names no other elector and no address, and repeats no line: an answer that quotes it must not read

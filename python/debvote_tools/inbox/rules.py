@@ -1,7 +1,8 @@
-"""The rules of a letter. If one does not hold, it waits, with the reason of the first. If all hold,
-it goes in by itself, unless its elector has a later ballot. A copy of another letter, or a letter
-with the mark of another vote, does neither, and what an act decided holds, whatever the rules say
-(`judging.py`).
+"""The rules that decide whether a letter goes in by itself.
+
+If one does not hold, it waits, with the reason of the first in `RULES`. If all hold, it goes in,
+unless its elector has a later ballot. A copy of another letter, or a letter with the mark of
+another vote, does neither, and what an act decided holds, whatever the rules say (`judging.py`).
 
 They say what a letter has to be. No list of what may be wrong with a letter can be complete, so
 there is none.
@@ -82,6 +83,10 @@ class Circumstances:
         """What is in time arrived before all of these."""
         return [end for end in (self.end, self.first_close) if end is not None]
 
+    def is_of_book(self, mark: str) -> bool:
+        """Whether a mark is one that polls of this book had, perhaps miscopied."""
+        return any(are_alike(mark, known) for known in self.marks)
+
     def is_mark(self, line: str) -> bool:
         """Whether a line is the mark of the poll, alone or with an own one."""
         mark = MARKS.fullmatch(line.strip())
@@ -105,54 +110,79 @@ class Circumstances:
         is_theirs = elector and letter.link == third_part(self.box_key, elector.name, elector.mark)
         return [letter.elector] if is_theirs else []
 
+    def own_mark_of(self, letter: ReadLetter) -> OwnMark:
+        """Whose own mark its subject has, or had. A subject with several, or with that of nobody,
+        counts as one with the poll's mark alone.
+        """
+        own_marks = {own for mark, own in letter.marks if own and mark == self.mark}
+        own_mark = own_marks.pop() if len(own_marks) == 1 else ""
+        return self.own_marks.get(own_mark, OwnMark(""))
+
 
 # ---- a letter
 class LetterCase:
-    """A letter with all that it is judged by. `judging.py` sets what has a value here already, such
-    as `reason`, why it waits or was set aside.
+    """A letter with all that it is judged by: what was read of it and the circumstances; what the
+    book keeps of it, and its ballots that were entered. What becomes of it `judge_all` finds.
     """
 
     outcome = LetterOutcome.WAITS
+    # why it waits or was set aside
     reason: ReasonWithValues | None = None
     # its electors who have a later ballot, or may have: whether it is sure
     voted_since: Mapping[str, bool] = {}
-    # the ballots of it that were entered
-    entered: Sequence[EnteredBallot] = ()
 
     def __init__(
-        self, letter: ReadLetter, circumstances: Circumstances, kept: KeptLetter = NOT_KEPT
+        self,
+        letter: ReadLetter,
+        circumstances: Circumstances,
+        kept: KeptLetter = NOT_KEPT,
+        entered: Sequence[EnteredBallot] = (),
     ) -> None:
-        self.read, self.circumstances, self.state = letter, circumstances, kept.state
-        # in the book
-        self.number, self.act, self.source = kept.number, kept.act, kept.source
-        # the lines with what looks like a code or an alias, if they are told
-        self.code_lines = letter.code_lines if circumstances.tells_codes else ()
-        # the electors who may have sent it, and the one whose own mark the subject has, or had. A
-        # subject with several, or with that of nobody, counts as one with the poll's mark alone
+        self.read = letter
+        self.circumstances = circumstances
+        self.kept = kept
+        # in the book; 0 if it is only looked at
+        self.number = kept.number
+        self.entered = entered
+        # the electors who may have sent it, and the one whose own mark the subject has, or had
         self.sharing = circumstances.senders_of(letter)
-        owns = {own for mark, own in letter.marks if own and mark == circumstances.mark}
-        own = "".join(owns) if len(owns) == 1 else ""
-        self.marked_elector, self.mark_ended = circumstances.own_marks.get(own, OwnMark(""))
+        self.marked_elector, self.mark_ended = circumstances.own_mark_of(letter)
         self.is_automatic = letter.is_automatic or (is_server(letter.sender) and not self.sharing)
         # that of its ballot: if letters have to be signed, that of the signature
         signature = letter.signature if circumstances.is_signed else None
         self.time = letter.arrived if signature is None else signature.time
-        # the valid ballots in it, of electors who are known; and, if there is none, what reads as
-        # one
-        by_elector = [(line, self.elector_of(line)) for line in letter.text.ballots]
-        valid = dict[str, BallotLine]()
-        for line, name in by_elector:
-            if name and line.answer is None:
-                ballot = f"{name} {line.ranks}"
-                valid.setdefault(ballot, BallotLine(line.number, ballot, line.written))
-        self.ballots = tuple(valid.values())
-        is_told = not self.ballots and not self.is_automatic
-        self.refused = [one for one in letter.text.ballots if is_told and one.answer is not None]
+        self.ballots = self.valid_ballots()
         # the one that may go in, or be entered
         self.ballot = self.ballots[0] if len(self.ballots) == 1 else None
         self.elector = "" if self.ballot is None else self.ballot.elector
-        self.has_more_answers = letter.text.has_more_answers or any(
-            name is None or line.answer is not None for line, name in by_elector
+
+    def valid_ballots(self) -> tuple[BallotLine, ...]:
+        """The valid ballots in it, of electors who are known, each once."""
+        ballots = dict[str, BallotLine]()
+        for line in self.read.text.ballots:
+            elector = self.elector_of(line)
+            if elector and line.answer is None:
+                ballot = f"{elector} {line.ranks}"
+                ballots.setdefault(ballot, BallotLine(line.number, ballot, line.written))
+        return tuple(ballots.values())
+
+    @property
+    def code_lines(self) -> Sequence[int]:
+        """The lines with what looks like a code or an alias, if they are told."""
+        return self.read.code_lines if self.circumstances.tells_codes else ()
+
+    @property
+    def refused(self) -> list[ReadLine]:
+        """What reads as a ballot and is none, if it has no ballot."""
+        is_told = not self.ballots and not self.is_automatic
+        return [line for line in self.read.text.ballots if is_told and line.answer is not None]
+
+    @property
+    def has_more_answers(self) -> bool:
+        """Whether another line of it looks like an answer."""
+        return self.read.text.has_more_answers or any(
+            line.answer is not None or self.elector_of(line) is None
+            for line in self.read.text.ballots
         )
 
     @property
@@ -179,7 +209,8 @@ class LetterCase:
         if self.read.link:
             return True
         if self.circumstances.is_signed:
-            signature, key = self.read.signature, self.circumstances.electors[elector].key
+            signature = self.read.signature
+            key = self.circumstances.electors[elector].key
             return signature is not None and signature.fingerprint == key
         return self.marked_elector == elector and self.mark_ended is None
 
@@ -187,19 +218,18 @@ class LetterCase:
     def marks(self) -> set[str]:
         """The marks of polls in its subject, and in a text that must be signed."""
         signed = self.read.body.lines if self.circumstances.is_signed else ()
-        in_text = itertools.chain.from_iterable(map(marks_in, signed))
-        return {mark for mark, _ in (*self.read.marks, *in_text)}
+        return {mark for mark, _ in itertools.chain(self.read.marks, *map(marks_in, signed))}
 
     @property
     def other_vote(self) -> str:
-        """The mark of the other vote that it is of; empty if it is of this one, or has no mark.
-        With a mark of this book beside it, or an own one, or one that somebody may have miscopied,
-        it is.
+        """The mark of the other vote that it is of; empty if it is of this one, or has no mark. It
+        is of this one if a mark in it is one of this book, also miscopied, or an own one.
         """
-        marks, now = self.read.marks, self.circumstances
+        circumstances = self.circumstances
+        marks = self.read.marks
         is_ours = any(
-            own in now.own_marks or any(are_alike(mark, one) for one in now.marks)
-            for mark, own in marks
+            own_mark in circumstances.own_marks or circumstances.is_of_book(mark)
+            for mark, own_mark in marks
         )
         return "" if is_ours or not marks else marks[0][0]
 
@@ -221,18 +251,18 @@ class LetterCase:
     @property
     def entered_answers(self) -> dict[tuple[str, str], EnteredBallot]:
         """The last ballot of it that was entered and is not struck, by elector and label."""
-        there = (one for one in self.entered if not one.is_struck)
-        return {answer: one for one in there for answer in one.answers}
+        ballots = (ballot for ballot in self.entered if not ballot.is_struck)
+        return {answer: ballot for ballot in ballots for answer in ballot.answers}
 
     @property
     def standing(self) -> list[EnteredBallot]:
         """The ballots of it that were entered, also if they were struck, and not taken back."""
-        return [one for one in self.entered if not one.is_taken_back]
+        return [ballot for ballot in self.entered if not ballot.is_taken_back]
 
     @property
     def is_decided(self) -> bool:
         """Whether an act decided what becomes of it."""
-        return self.state != queries.NEVER_DECIDED
+        return self.kept.state != queries.NEVER_DECIDED
 
     @property
     def is_pending(self) -> bool:
@@ -288,7 +318,8 @@ class LetterCase:
         """When it may have arrived, the earliest time first and the latest last: the clock of a web
         host may be off, and it may date a record anew.
         """
-        arrived, off = self.read.arrived, datetime.timedelta(seconds=self.read.behind)
+        arrived = self.read.arrived
+        off = datetime.timedelta(seconds=self.read.behind)
         return sorted((arrived, arrived + off, *self.other_times)) if arrived else []
 
     def arrived_after(self, *ends: datetime.datetime | None) -> bool:
@@ -334,14 +365,9 @@ class LetterCase:
 # ---- the rules: each says why it does not hold, and None if it holds
 def why_not_readable(case: LetterCase) -> ReasonWithValues | None:
     """A person wrote it, and all programs read it in one way."""
-    letter, body = case.read, case.read.body
-    if letter.is_parted_off:
+    if case.read.is_parted_off:
         return Reason.PARTED_OFF()
-    if case.is_automatic:
-        return Reason.AUTOMATIC()
-    if body.trouble is not None:
-        return body.trouble
-    return None
+    return Reason.AUTOMATIC() if case.is_automatic else case.read.body.trouble
 
 
 def why_not_in_time(case: LetterCase) -> ReasonWithValues | None:
@@ -357,14 +383,11 @@ def why_not_in_time(case: LetterCase) -> ReasonWithValues | None:
         return Reason.OTHER_TIME(sent=sent)
     if case.arrived_before_call:
         return Reason.BEFORE_THE_CALL(called=circumstances.called)
-    first, *_, last = case.arrivals
-    end = circumstances.end
-    close = circumstances.first_close
-    if end is not None and first > end:
+    if (end := circumstances.end) and case.arrived_after(end):
         return Reason.AFTER_THE_END(end=end)
-    if close is not None and first > close:
+    if (close := circumstances.first_close) and case.arrived_after(close):
         return Reason.AFTER_THE_CLOSE(close=close)
-    if any(last > one for one in circumstances.ends):
+    if any(case.arrivals[-1] > last for last in circumstances.ends):
         return Reason.CLOCK_AT_THE_END(seconds=abs(read.behind))
     if read.asked_before is not None and arrived < read.asked_before:
         return Reason.NOT_THERE_BEFORE(asked=read.asked_before)
@@ -378,37 +401,41 @@ def why_not_from_its_elector(case: LetterCase) -> ReasonWithValues | None:
     """It comes by the link of its elector, from the box itself; or from an address of theirs, with
     the own mark unless letters have to be signed.
     """
-    sender, elector, circumstances = case.read.sender, case.elector, case.circumstances
-    if not (sender or case.read.link):
-        return Reason.NO_SENDER(sender=private(case.read.shown_sender))
+    read = case.read
+    elector = case.elector
+    if not (read.sender or read.link):
+        return Reason.NO_SENDER(sender=private(read.shown_sender))
     if case.ballot is None:
         return None
     is_theirs = elector in case.sharing
-    if is_theirs and case.read.is_fetched:
+    if is_theirs and read.is_fetched:
         return Reason.FETCHED()
-    if case.is_tied(elector) or (is_theirs and circumstances.is_signed):
+    if case.is_tied(elector) or (is_theirs and case.circumstances.is_signed):
         return None
-    if case.read.link:
+    if read.link:
         return Reason.OTHER_LINK(elector=elector)
-    if case.marked_elector == elector and case.mark_ended:
+    has_own_mark = case.marked_elector == elector
+    if has_own_mark and case.mark_ended:
         return Reason.OLD_OWN_MARK(elector=elector, until=case.mark_ended)
     if is_theirs:
         return why_not_of_this_vote(case) or Reason.NO_OWN_MARK(elector=elector)
-    if case.marked_elector == elector:
-        return Reason.OWN_MARK_ELSEWHERE(sender=sender, elector=elector)
-    listed = circumstances.electors[elector].addresses if elector in circumstances.electors else ()
-    if not listed:
+    if has_own_mark:
+        return Reason.OWN_MARK_ELSEWHERE(sender=read.sender, elector=elector)
+    listed = case.circumstances.electors.get(elector)
+    if listed is None or not listed.addresses:
         return Reason.NO_ADDRESS(elector=elector)
-    return Reason.OTHER_SENDER(sender=sender, listed=" and ".join(listed), elector=elector)
+    addresses = " and ".join(listed.addresses)
+    return Reason.OTHER_SENDER(sender=read.sender, listed=addresses, elector=elector)
 
 
 def why_not_signed_by_its_elector(case: LetterCase) -> ReasonWithValues | None:
     """It has a good signature, if it must: only what was signed is its text."""
-    letter, signature = case.read, case.read.signature
-    elector, circumstances = case.elector, case.circumstances
+    letter = case.read
+    elector = case.elector
+    circumstances = case.circumstances
     if not circumstances.is_signed or case.ballot is None:
         return None
-    if signature is None:
+    if (signature := letter.signature) is None:
         return letter.why_unsigned or Reason.NOT_SIGNED()
     key = circumstances.electors[elector].key if elector in circumstances.electors else ""
     if not key:
@@ -425,11 +452,11 @@ def why_not_signed_by_its_elector(case: LetterCase) -> ReasonWithValues | None:
 
 def why_not_alone(case: LetterCase) -> ReasonWithValues | None:
     """A ballot is all that its sender wrote in it, but for greetings, farewells and a signature."""
-    if crowd := case.read.text.crowd:
+    text = case.read.text
+    if crowd := text.crowd:
         return Reason.TOO_LONG(length=crowd, what="lines like ballots", limit=MAX_BALLOTS)
     if case.ballot is None:
         return Reason.SEVERAL() if case.ballots else Reason.NO_BALLOT()
-    text = case.read.text
     if text.is_alone:
         return None
     is_below = text.has_more_answers and not text.words
@@ -438,32 +465,39 @@ def why_not_alone(case: LetterCase) -> ReasonWithValues | None:
 
 def why_not_of_this_vote(case: LetterCase) -> ReasonWithValues | None:
     """Its subject has the mark of the poll, and no other; nor has a text that must be signed."""
-    own = case.circumstances.mark
-    has_own_alone = case.read.marks and case.marks == {own}
-    return why_other_mark(case) or (None if has_own_alone else Reason.NO_SUBJECT_MARK(mark=own))
+    mark = case.circumstances.mark
+    has_it_alone = case.read.marks and case.marks == {mark}
+    return why_other_mark(case) or (None if has_it_alone else Reason.NO_SUBJECT_MARK(mark=mark))
 
 
 def why_other_mark(case: LetterCase) -> ReasonWithValues | None:
     """It has no mark of another vote, or of a call that was taken back: the ranks would be those of
     other options.
     """
-    now = case.circumstances
-    others = (mark for mark in sorted(case.marks) if not are_alike(mark, now.mark))
+    circumstances = case.circumstances
+    others = (mark for mark in sorted(case.marks) if not are_alike(mark, circumstances.mark))
     if (mark := next(others, None)) is None:
         return None
-    is_old = any(are_alike(mark, one) for one in now.marks)
-    return Reason.OLD_MARK(mark=mark) if is_old else Reason.OTHER_MARK(mark=mark)
+    return (Reason.OLD_MARK if circumstances.is_of_book(mark) else Reason.OTHER_MARK)(mark=mark)
 
 
 def are_alike(mark: str, other: str) -> bool:
-    return sum(one != its for one, its in zip(mark, other)) <= MISCOPIED
+    """Whether one of two marks may be the other one, miscopied."""
+    return sum(digit != digit_there for digit, digit_there in zip(mark, other)) <= MISCOPIED
 
 
+# a letter waits with the reason of the first that it breaks
 RULES = (
+    # first: of a letter that programs read in several ways nothing else is certain
     why_not_readable,
+    # before what its sender could mend: nobody is asked to send anew what came too late
     why_not_in_time,
+    # before the signature: whose ballot it is says with whose key it has to be signed
     why_not_from_its_elector,
+    # before the lines: of a signed letter only what was signed counts as its text
     why_not_signed_by_its_elector,
+    # before the mark: who wrote no ballot is told that, and not to add a mark to it
     why_not_alone,
+    # last: a letter of another vote is passed over, whatever else it breaks (`other_vote`)
     why_not_of_this_vote,
 )

@@ -1,6 +1,7 @@
-"""What stops a close, and after it a count, a publication and the letters of the result: all of
-them ask `what_stops`. Letters that arrived in time and wait, whenever they were added, and, but for
-the letters of the result, ballots in a box that was not asked may decide the vote.
+"""What stops a close, and after it a count, a publication and the letters of the result.
+
+All of them ask `what_stops`. Letters that arrived in time and wait, whenever they were added, and,
+but for the letters of the result, ballots in a box that was not asked may decide the vote.
 
 What judges letters takes a while to be imported, so it is only if some came.
 """
@@ -17,7 +18,9 @@ from debvote_tools.election import Election, History
 from debvote_tools.inbox.asked import CLOSES, unasked_fault, with_lost_records
 
 # the kinds of what stops, as the page names the doubts about them, but for what nobody can open
-LETTERS, BOX, LOST = "letters left", "box not asked", "records lost"
+LETTERS = "letters left"
+BOX = "box not asked"
+LOST = "records lost"
 CLOSE_ANYWAY = "or close anyway with --force --because TEXT (the result page says so)"
 # how each later step goes on without the letters that stop it; a publication says it in its doubts
 ANYWAY = {
@@ -57,16 +60,16 @@ def what_stops(
     says.
     """
     unasked = unasked_fault(election, history, step)
-    found = {BOX: unasked} if unasked else {}
+    faults = {BOX: unasked} if unasked else {}
     # after the first close nobody can vote again
     if step in CLOSES and not history.closes and (lost := with_lost_records(election, history)):
         words = f"ballots came by the links of these electors that nobody can open, and no later ones: {', '.join(lost)}"
         cure = f"ask them to vote again ({election.command('letters', 'reminders')} says it); {CLOSE_ANYWAY}"
-        found[LOST] = Fault(None, words, cure)
+        faults[LOST] = Fault(None, words, cure)
     if pending.stopping:
         cure = letters_cure(election, step, is_closed=history.is_closed)
-        found[LETTERS] = Fault(None, pending.why_they_stop, cure)
-    return found
+        faults[LETTERS] = Fault(None, pending.why_they_stop, cure)
+    return faults
 
 
 def letters_cure(election: Election, step: str, *, is_closed: bool) -> str:
@@ -85,7 +88,8 @@ def letters_cure(election: Election, step: str, *, is_closed: bool) -> str:
 def pending_letters(election: Election, history: History) -> Pending:
     # where letters have to be signed, what was signed says which are copies, which the book may not
     # have known when they came
-    book, is_signed = election.book, history.announced("signed")
+    is_signed = history.announced("signed")
+    book = election.book
     if not (kept := queries.kept_letters(book) if is_signed else queries.may_wait(book)):
         return Pending()
     from debvote_tools.inbox.judging import judged
@@ -93,18 +97,19 @@ def pending_letters(election: Election, history: History) -> Pending:
     from debvote_tools.inbox.vote import Vote
 
     letters = judged(Vote(election), history, kept)
-    found = [letter for letter in letters if letter.is_pending]
-    arrived_in_time = sorted(letter.number for letter in found if letter.arrived_in_time)
+    pending = [letter for letter in letters if letter.is_pending]
+    arrived_in_time = sorted(letter.number for letter in pending if letter.arrived_in_time)
     # what a close or a publication left so stops nothing again
-    left, told = left_by(history.since_call("close", "publish")), left_by(history.closes[-1:])
-    after_end = sum(letter.arrived_after_end for letter in found)
+    left = left_by(history.since_call("close", "publish"))
+    told = left_by(history.closes[-1:])
+    after_end = sum(letter.arrived_after_end for letter in pending)
     return Pending(
         arrived_in_time,
         [number for number in arrived_in_time if number not in left],
         [number for number in arrived_in_time if number not in told],
         after_end,
-        len(found) - len(arrived_in_time) - after_end,
-        [one.other_vote for one in letters if one.outcome is LetterOutcome.OTHER_VOTE],
+        len(pending) - len(arrived_in_time) - after_end,
+        [case.other_vote for case in letters if case.outcome is LetterOutcome.OTHER_VOTE],
     )
 
 
@@ -114,7 +119,7 @@ def left_by(acts: Iterable[DoneAct]) -> set[int]:
 
 def taken_out_words(election: Election, history: History) -> str:
     """How many lines count no more that were told as entered, by whatever command they went."""
-    lost = [one.number for one in queries.lost(election.book)]
+    lost = [envelope.number for envelope in queries.lost(election.book)]
     which = f" (envelopes {in_runs(lost)})" if lost and not election.questions.is_secret else ""
     strikes = len(history.since_call("strike"))
     return (
@@ -125,5 +130,5 @@ def taken_out_words(election: Election, history: History) -> str:
 def other_votes_words(marks: Iterable[str]) -> Iterator[str]:
     """How many letters are of which other votes."""
     counts = collections.Counter(marks).items()
-    if said := ", ".join(f"{count} with [{mark}]" for mark, count in counts):
-        yield f"Letters of other votes, which are passed over here: {said}."
+    if listed := ", ".join(f"{count} with [{mark}]" for mark, count in counts):
+        yield f"Letters of other votes, which are passed over here: {listed}."

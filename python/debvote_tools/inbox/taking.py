@@ -1,5 +1,7 @@
-"""Letters that `add` is given: it keeps those that are new, has all judged, and enters the ballots
-that go in. `held` enters others by a `LetterEntry`. Lines are taken in `commands/add.py`.
+"""Letters that `add` is given: `take_letters` leads through all that becomes of them.
+
+It keeps those that are new, has all judged, and enters the ballots that go in. `held` enters others
+by a `LetterEntry`. Lines are taken in `commands/add.py`.
 """
 
 import dataclasses
@@ -18,7 +20,7 @@ from debvote_tools.inbox.entering import Entry
 from debvote_tools.inbox.judging import judged
 from debvote_tools.inbox.letter_lines import ReadLetter, read_letters, to_json
 from debvote_tools.inbox.mailbox import RawLetter
-from debvote_tools.inbox.box_records import asked_box, opened, unopened_words
+from debvote_tools.inbox.box_records import Brought, asked_box, opened, unopened_words
 from debvote_tools.inbox.rules import LetterCase, LetterOutcome
 from debvote_tools.inbox.vote import Vote
 from debvote_tools.inbox.stopping import other_votes_words
@@ -39,14 +41,14 @@ def take_letters(
     Those `of_box` are its records: the others that wait stay as they are.
     """
     files = [opened(vote.book, raw) if raw.is_fetched else raw for raw in given]
-    came, detail, words, has_unopened = asked_box(vote) if of_box else (files, {}, [], False)
-    raws = [raw for raw in came if raw.why_not_read is None]
+    brought = asked_box(vote) if of_box else Brought(files)
+    raws = [raw for raw in brought.letters if raw.why_not_read is None]
     new = new_of(vote, raws)
     read = read_letters(vote, new)
-    tell(*words)
+    tell(*brought.words)
     if not is_look:
-        keep(vote, new, read, detail)
-    for raw in came:
+        keep(vote, new, read, brought.detail)
+    for raw in brought.letters:
         if why := raw.why_not_read:
             what, cure = why.value
             tell(f"{shown_text(raw.where)}: {what}, and was passed over; {cure}")
@@ -54,13 +56,12 @@ def take_letters(
     plan = functools.partial(what_goes_in, vote, of_box=of_box, is_agreed=is_agreed)
     if is_look:
         would = plan(read)
-        tell_letters(vote, would.found)
-        said = would.end.replace("went in", "would go in")
-        tell(came_before, said, "Nothing was changed.")
+        tell_letters(vote, would.cases)
+        tell(came_before, would.end.replace("went in", "would go in"), "Nothing was changed.")
         return
     tell(came_before)
     change = carried_out(vote.book, plan)
-    if has_unopened:
+    if brought.has_unopened:
         # now who has a later ballot need not vote again
         tell(unopened_words(vote))
     tell_next(change)
@@ -98,8 +99,9 @@ def keep(vote: Vote, raws: Sequence[RawLetter], read: Sequence[ReadLetter], deta
         for raw, letter in zip(raws, read):
             # another command may have kept it meanwhile
             if is_not_kept(letter.digest, letter.is_parted_off, kept):
-                where, read_json = safe(raw.where), to_json(letter)
-                queries.keep_letter(act, where, raw.data, letter.identity, read_json)
+                queries.keep_letter(
+                    act, safe(raw.where), raw.data, letter.identity, to_json(letter)
+                )
 
 
 # ---- entering
@@ -119,33 +121,31 @@ class LetterEntry(Entry):
 
 
 def envelope_of(letter: LetterCase, ballot: str) -> NewEnvelope:
-    return NewEnvelope(ballot.encode(), "", letter.source, letter.number, letter.time)
+    return NewEnvelope(ballot.encode(), "", letter.kept.source, letter.number, letter.time)
 
 
-def going_in(found: Iterable[LetterCase]) -> list[LetterCase]:
-    return [letter for letter in found if letter.outcome is LetterOutcome.GOES_IN]
+def with_outcome(cases: Iterable[LetterCase], outcome: LetterOutcome) -> list[LetterCase]:
+    return [letter for letter in cases if letter.outcome is outcome]
 
 
 @dataclasses.dataclass(frozen=True, kw_only=True)
 class GoingIn(LetterEntry):
     """Letters go in by themselves, once that is agreed to."""
 
-    found: list[LetterCase] = dataclasses.field(compare=False)
+    cases: list[LetterCase] = dataclasses.field(compare=False)
 
     def show(self) -> None:
-        tell_letters(self.vote, self.found)
+        tell_letters(self.vote, self.cases)
         if self.is_nothing:
             tell(self.end)
         elif self.question and not is_terminal():
             ballots = count_of(len(self.letters), "ballot")
-            cure, done = (
-                "agree with --yes, or run it at a terminal",
-                "nothing was added, and the letters are kept",
-            )
+            cure = "agree with --yes, or run it at a terminal"
+            done = "nothing was added, and the letters are kept"
             raise Fault(None, f"{ballots} would go in", cure, done=done)
 
     def declined(self, _: bool | None) -> None:
-        waits = letter_words.wait_words(sum(letter.is_pending for letter in self.found))
+        waits = letter_words.wait_words(sum(letter.is_pending for letter in self.cases))
         keeps_out = self.vote.election.command("held", "NUMBER", "--wait")
         tell(
             f"Nothing was entered. The letters are kept, and wait: {waits}.",
@@ -157,8 +157,8 @@ def what_goes_in(
     vote: Vote, previewed: Sequence[ReadLetter] = (), *, of_box: bool, is_agreed: bool
 ) -> GoingIn:
     every = judged(vote, vote.history(), queries.kept_letters(vote.book), previewed)
-    found = [letter for letter in every if letter.read.link or not of_box]
-    new = going_in(found)
+    cases = [letter for letter in every if letter.read.link or not of_box]
+    new = with_outcome(cases, LetterOutcome.GOES_IN)
     return GoingIn(
         "add",
         {"letters": len(new), "lines": len(new)},
@@ -172,16 +172,16 @@ def what_goes_in(
         # what is late breaks a rule, and does not go in
         is_late=False,
         end=letter_words.went_in_words(every, len(new)),
-        found=found,
+        cases=cases,
     )
 
 
 def tell_next(change: GoingIn) -> None:
     election = change.vote.election
     following = election.command("status")
-    if any(letter.outcome is LetterOutcome.WAITS for letter in change.found):
+    if with_outcome(change.cases, LetterOutcome.WAITS):
         following = f"{election.command('held')}, which lists the letters that wait"
-    if offered := [str(letter.number) for letter in change.found if letter.is_offered]:
+    if offered := [str(letter.number) for letter in change.cases if letter.is_offered]:
         enter = election.command("held", *offered, "--enter")
         following = f"{enter}, which shows these ballots and asks; {following}"
     if not election.history().is_closed and queries.last_entering_act(election.book):
@@ -189,11 +189,11 @@ def tell_next(change: GoingIn) -> None:
     tell(f"Next: {following}")
 
 
-def tell_letters(vote: Vote, found: Sequence[LetterCase]) -> None:
-    tell(*letter_words.going_in_words(going_in(found), vote))
-    tell(*letter_words.table([one for one in found if one.outcome is LetterOutcome.WAITS]))
-    if older := [letter_words.name_of(one) for one in found if one.outcome is LetterOutcome.OLDER]:
-        numbers = listed(older, MOST_NAMED)
+def tell_letters(vote: Vote, cases: Sequence[LetterCase]) -> None:
+    tell(*letter_words.going_in_words(with_outcome(cases, LetterOutcome.GOES_IN), vote))
+    tell(*letter_words.table(with_outcome(cases, LetterOutcome.WAITS)))
+    if older := with_outcome(cases, LetterOutcome.OLDER):
+        numbers = listed([*map(letter_words.name_of, older)], MOST_NAMED)
         tell(f"Passed over, since a later letter of its elector went in: {numbers}")
-    of_others = (one.other_vote for one in found if one.outcome is LetterOutcome.OTHER_VOTE)
-    tell(*other_votes_words(of_others))
+    of_others = with_outcome(cases, LetterOutcome.OTHER_VOTE)
+    tell(*other_votes_words(letter.other_vote for letter in of_others))

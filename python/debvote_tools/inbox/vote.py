@@ -91,10 +91,14 @@ class CheckedLine(NamedTuple):
 class Vote:
     """An election as it was called, and what debvote says of its lines. Stops before the call.
     Lines have the labels of several questions, or answer the one of the given label without it.
+
+    Once a vote with a box is made, all output leaves out the personal links: a line or a letter may
+    have one, with which somebody could vote.
     """
 
     def __init__(self, election: Election, label: str = "") -> None:
-        self.election, self.book, self.debvote = election, election.book, election.debvote
+        self.election = election
+        self.book = election.book
         history = election.history()
         self.call = election.called(history)
         if history.announced("box"):
@@ -102,7 +106,8 @@ class Vote:
         # as ballots are counted
         self.questions = questions = election.questions
         # the one question that is answered without a label, if there is one
-        self.label, self.poll = label, questions.get(label)
+        self.label = label
+        self.poll = questions.get(label)
         # the roll has codes: none is printed that was not typed
         self.has_codes = history.has_codes_on_roll
         self.is_signed = bool(history.announced("signed"))
@@ -115,8 +120,7 @@ class Vote:
         """The acts until now. Stops after another call: lines were read by the poll of this one."""
         history = self.election.history()
         if history.call != self.call:
-            words = "the call for votes was made anew meanwhile"
-            raise Fault(None, words, "run the command again")
+            raise Fault(None, "the call for votes was made anew meanwhile", "run the command again")
         return history
 
     @functools.cached_property
@@ -128,7 +132,8 @@ class Vote:
         """A line as it was repaired, with the name on the roll of the elector who is meant by its
         name, and with ranks in place of words; and those who may be meant, if they are several.
         """
-        names, labels = self.names, self.names.labels
+        names = self.names
+        labels = names.labels
         # of several answers each is repaired by itself: the first label may be part of the name
         given = line.unframed if labels else line.named
         text = names.with_ranks(given.decode("utf-8", "surrogateescape"))
@@ -137,10 +142,12 @@ class Vote:
         if is_right and not names.words:
             return line.repaired, []
         is_read = not (is_right or self.has_codes or self.why_too_long(line))
-        found, unclear = names.taken_apart(text) if is_read else None, list[str]()
-        if found and found[0]:
-            name, answers = found
-            meant, longer = names.meant_by(name), names.longer_than(name, text)
+        apart = names.taken_apart(text) if is_read else None
+        unclear = list[str]()
+        if apart and apart[0]:
+            name, answers = apart
+            meant = names.meant_by(name)
+            longer = names.longer_than(name, text)
             unclear = sorted({*meant, *longer}) if longer or len(meant) > 1 else []
             if labels or len(meant) == 1:
                 text = f"{meant[0] if len(meant) == 1 else name.lower()} {answers}"
@@ -182,7 +189,7 @@ class Vote:
         texts = [text for _, text, _ in meant]
         texts += [line.unframed for line, text, _ in meant if line.unframed != text]
         refused = self.refusals(texts)
-        return [one for its in meant for one in self.checked(*its, refused)]
+        return [line for as_meant in meant for line in self.checked(*as_meant, refused)]
 
     def checked(
         self,
@@ -197,18 +204,19 @@ class Vote:
         """
         why = f"it has the name of {ENGLISH.joined(list(unclear))}" if unclear else ""
         # as it came, such a line is no ballot
-        its = (
-            {"": NO_FORM} if why and self.names.labels else refused[line.unframed if why else meant]
-        )
-        if not its:
+        findings = refused[line.unframed if why else meant]
+        if why and self.names.labels:
+            findings = {"": NO_FORM}
+        if not findings:
             yield CheckedLine(line, meant, meant)
-        elif of_meant := its.get(""):
-            found = refused[line.unframed].get("", of_meant)
-            yield CheckedLine(line, meant, line.unframed, found, of_meant, why)
+        elif of_meant := findings.get(""):
+            as_it_came = refused[line.unframed].get("", of_meant)
+            yield CheckedLine(line, meant, line.unframed, as_it_came, of_meant, why)
         else:
             name, _, answers = meant.decode("ascii").partition(" ")
             by_finding = grouped(
-                (its.get(label), (label, one)) for label, one in ranks_by_label(answers).items()
+                (findings.get(label), (label, ranks))
+                for label, ranks in ranks_by_label(answers).items()
             )
             for finding in sorted(by_finding, key=lambda finding: finding is not None):
                 text = line_of(name, dict(by_finding[finding])).encode()
@@ -219,7 +227,10 @@ class Vote:
         What it remarks on other lines is left out.
         """
         refused = self.refusals(lines)
-        return {line: next((one.verdict for one in refused[line].values()), None) for line in lines}
+        return {
+            line: next((finding.verdict for finding in refused[line].values()), None)
+            for line in lines
+        }
 
     def refusals(self, lines: Sequence[bytes]) -> Mapping[bytes, Mapping[str, Finding]]:
         """Why debvote refuses answers in lines, by the labels of their questions; nothing of a
@@ -230,12 +241,12 @@ class Vote:
             new: dict[bytes, dict[str, Finding]] = {
                 line: {} if self.has_form(line) else {"": NO_FORM} for line in part
             }
-            for label, its, found in self.findings_by_question(part):
-                for finding in found.refused:
+            for label, answering, findings in self.findings_by_question(part):
+                for finding in findings.refused:
                     bare = finding._replace(line=0)
                     if self.has_codes:
                         bare = bare._replace(near=(), remark="")
-                    new[its[finding.line - 1]][label] = bare
+                    new[answering[finding.line - 1]][label] = bare
             self.known |= new
         return self.known
 
@@ -243,8 +254,8 @@ class Vote:
         """Whether a line can be a ballot of this vote, written as it is entered."""
         if not self.names.labels:
             return True
-        found = RIGHT_ANSWERS.fullmatch(line.decode("ascii", "replace"))
-        labels = found[2].split(" ")[1::2] if found else []
+        match = RIGHT_ANSWERS.fullmatch(line.decode("ascii", "replace"))
+        labels = match[2].split(" ")[1::2] if match else []
         return labels != [] and labels == [label for label in self.questions if label in labels]
 
     def are_table(self, lines: Sequence[CheckedLine]) -> bool:
@@ -257,7 +268,7 @@ class Vote:
         asked = [self.as_asked(line) for line in lines]
         heads = (place for place, line in enumerate(lines) if self.is_head_of_words(line))
         return any(
-            self.debvote.findings(poll.as_bytes(), ballot_file(part)).are_table
+            self.election.debvote.findings(poll.as_bytes(), ballot_file(part)).are_table
             for first in {0, next(heads, 0)}
             for part in in_parts(asked[first:])
         )
@@ -292,8 +303,8 @@ class Vote:
             parts = [(line, part) for line in right if (part := part_of(line, label)) is not None]
             if parts:
                 ballots = ballot_file(part for _, part in parts)
-                found = self.debvote.findings(poll.as_bytes(), ballots)
-                yield label, [line for line, _ in parts], found
+                findings = self.election.debvote.findings(poll.as_bytes(), ballots)
+                yield label, [line for line, _ in parts], findings
 
     def other_names(self, offered: Sequence[str]) -> list[str]:
         """All names that fit as well as those that debvote offers: `ada-2` beside `ada`."""
@@ -331,8 +342,8 @@ class Vote:
         others = self.other_names(line.finding.near)
         names = f" (or {ENGLISH.joined(others)})" if others else ""
         is_code = has_code(line.as_meant.decode("utf-8", "replace")) and not self.has_codes
-        said = f"{shown_line(line.as_entered)}: {word}{line.finding.hint}{names}"
-        return private(said) + (IS_CODE if is_code else "")
+        refused = f"{shown_line(line.as_entered)}: {word}{line.finding.hint}{names}"
+        return private(refused) + (IS_CODE if is_code else "")
 
     def answers_in_words(self, answers: str) -> str:
         return private(self.in_words_of(answers))
@@ -372,7 +383,8 @@ def turned_rank(number: int, options: int) -> str:
 
 # what is said of an answer that is the first one, or another one, of its elector to its question.
 # Here it has replaced the earlier one; in the view `fate` it is the earlier one that is replaced
-COUNTED, REPLACED = "counted", "replaced"
+COUNTED = "counted"
+REPLACED = "replaced"
 # the same of a ballot of which the answers differ
 IN_PART = f"{REPLACED} in part"
 
@@ -385,17 +397,18 @@ def replies_to(
     counts of electors and the lines above. If that differs by question, it says so: `A replaced, B
     counted`.
     """
-    having = {name: {*ranks_by_label(answers)} for name, answers in counting.items()}
+    answered = {name: {*ranks_by_label(answers)} for name, answers in counting.items()}
     for line, why_refused in lines:
         if refused := LATE_REPLY if is_late else (why_refused or "").partition(":")[0]:
             yield refused
             continue
         name, _, answers = line.decode("ascii").partition(" ")
-        there = having.setdefault(name, set())
-        said = {label: REPLACED if label in there else COUNTED for label in ranks_by_label(answers)}
-        is_same = len({*said.values()}) == 1
-        yield said.popitem()[1] if is_same else ", ".join(map(" ".join, said.items()))
-        there.update(ranks_by_label(answers))
+        before = answered.setdefault(name, set())
+        labels = [*ranks_by_label(answers)]
+        replies = [REPLACED if label in before else COUNTED for label in labels]
+        is_same = len({*replies}) == 1
+        yield replies[0] if is_same else ", ".join(map(" ".join, zip(labels, replies)))
+        before.update(labels)
 
 
 def envelope_words(numbers: Collection[int]) -> str:
@@ -410,7 +423,8 @@ def in_parts(lines: Sequence[bytes]) -> Iterator[list[bytes]]:
     for line in lines:
         if len(part) == LINES_LIMIT or size + len(line) + 1 > BALLOTS_LIMIT:
             yield part
-            part, size = [], 0
+            part = []
+            size = 0
         part.append(line)
         size += len(line) + 1
     if part:
@@ -419,7 +433,8 @@ def in_parts(lines: Sequence[bytes]) -> Iterator[list[bytes]]:
 
 def change_words(line: CheckedLine) -> Iterator[str]:
     """What was changed of a line that is not entered as it came."""
-    came, meant = line.original.unframed, line.as_meant
+    came = line.original.unframed
+    meant = line.as_meant
     if came not in (line.as_entered, meant):
         yield f"{line.original.where}: `{shown_line(came)}` was changed to `{shown_line(meant)}`"
 
@@ -431,8 +446,8 @@ def summary(replies: Sequence[str]) -> str:
     listed = [f"{number} {reply}" for reply, number in whole.items()]
     if parts:
         answers = sorted(collections.Counter(itertools.chain(*parts)).items())
-        said = ", ".join(f"{answer} {number}" for answer, number in answers)
-        listed.append(f"{len(parts)} {IN_PART}: {said}")
+        of_answers = ", ".join(f"{answer} {number}" for answer, number in answers)
+        listed.append(f"{len(parts)} {IN_PART}: {of_answers}")
     return count_of(len(replies), "line") + (f" ({', '.join(listed)})" if listed else "")
 
 
@@ -440,11 +455,13 @@ def standing_words(
     vote: Vote, before: dict[str, str], after: dict[str, str], none: str
 ) -> list[str]:
     """Whose ballot is another one afterwards, or is gone (`none`); with codes only how many."""
-    changed = {name: after.get(name) for name, its in before.items() if after.get(name) != its}
+    changed = {
+        name: after.get(name) for name, answers in before.items() if after.get(name) != answers
+    }
     gone = list(changed.values()).count(None)
     if vote.has_codes:
-        said = f"  {count_of(gone, 'elector')}: {none}; {count_of(len(changed) - gone, 'elector')}: an earlier ballot"
-        return [said] if changed else []
+        counts = f"  {count_of(gone, 'elector')}: {none}; {count_of(len(changed) - gone, 'elector')}: an earlier ballot"
+        return [counts] if changed else []
     return [
         f"  {name}: {f'{vote.answers_in_words(answers)}, as before' if answers else none}"
         for name, answers in changed.items()

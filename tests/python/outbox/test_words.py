@@ -18,7 +18,7 @@ from debvote_tools.book.outgoing import OutgoingLetter
 from debvote_tools.book.queries import Elector, EnteredBallot, Envelope
 from debvote_tools.call.call import CallData, call_page
 from debvote_tools.inbox.fates import REFUSED, Fate
-from debvote_tools.inbox.letter_lines import ReadLine
+from debvote_tools.inbox.letter_text import ReadLine
 from debvote_tools.inbox.reasons import Reason, ReasonWithValues, for_elector
 from debvote_tools.inbox.rules import LetterOutcome
 from debvote_tools.outbox.letter_folder import message, rows_to_print
