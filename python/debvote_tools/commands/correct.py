@@ -83,7 +83,7 @@ def what_is_taken_back(vote: Vote, arguments: UndoArguments) -> TakenBack:
         envelopes = queries.envelopes(book, "act = ? AND struck IS NULL", number)
         electors = {envelope.elector for envelope in envelopes if envelope.elector is not None}
         before = queries.what_counts(book, electors)
-        after = queries.what_counted(book, history.last.number, electors, without=number)
+        after = queries.what_counts(book, electors, without=number)
     act, struck = history.act(number), [envelope.number for envelope in envelopes]
     letters = sorted({one.letter for one in envelopes if one.letter is not None})
     question = terminal_question(f"Take back {what(act, struck)}?", arguments.yes)
@@ -257,7 +257,7 @@ def late_words(vote: Vote, history: History) -> Iterator[str]:
             one.line in others,
             str(one.number) if vote.has_codes else f"{one.number} `{shown_line(one.line)}`",
         )
-        for one in queries.envelopes(vote.book, queries.LATE_BALLOTS)
+        for one in queries.envelopes(vote.book, "envelope IN late AND answer IS NULL")
         if one.letter is None or one.time <= history.closes[0].time
         if one.line in others or one.line not in in_time
     )

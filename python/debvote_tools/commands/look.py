@@ -72,7 +72,7 @@ def state_of(election: Election, history: History) -> tuple[State, list[Envelope
         "stage": history.stage,
         "electors": len(electors),
         **numbers._asdict(),
-        "late": len(queries.lines(book, queries.LATE)),
+        "late": len(queries.lines(book, "envelope IN late")),
         "struck": len(history.since_call("strike")),
         "taken_back": len(queries.lost(book)),
         "waiting": pending.count,
@@ -90,7 +90,7 @@ def state_of(election: Election, history: History) -> tuple[State, list[Envelope
     if history.call is not None and election.questions.is_several:
         state["questions"] = questions_in(election, history, has_late=bool(state["late"]))
     answered = {one.number: ranks_by_label(counting.get(one.name, "")) for one in electors}
-    refused = queries.envelopes(book, queries.REFUSED)
+    refused = queries.envelopes(book, "envelope IN refused")
     return state, [
         one for one in refused if one.by_question.keys() - answered.get(one.elector or 0, {})
     ]
@@ -104,7 +104,7 @@ def questions_in(election: Election, history: History, *, has_late: bool) -> Sta
             "title": titles[label].name,
             "stage": history.stage,
             **queries.numbers(book)._asdict(),
-            "late": len(queries.lines(book, queries.LATE)) if has_late else 0,
+            "late": len(queries.lines(book, "envelope IN late")) if has_late else 0,
         }
         for label in queries.each_question_alone(book)
     }
@@ -339,7 +339,7 @@ def exported(book: Book, questions: Questions) -> dict[str, bytes]:
             files[place_of(label, "poll.toml")] = questions[label].as_bytes()
             files[place_of(label, "ballots.txt")] = ballot_file(queries.lines_to_count(book))
         files["ballots.txt"] = ballot_file(queries.lines_to_count(book))
-        files["late.txt"] = ballot_file(queries.lines(book, queries.LATE))
+        files["late.txt"] = ballot_file(queries.lines(book, "envelope IN late"))
         # what came has its number before its name, which is no path and has no characters that a
         # shell reads
         for number, name, data in queries.sources(book):
