@@ -1,6 +1,4 @@
-"""An election in its folder: the book, what its acts say of the election as a whole, and
-debvote.
-"""
+"""An election in its folder: the book, what its acts say of it as a whole, and debvote."""
 
 import datetime
 import functools
@@ -20,8 +18,13 @@ from debvote_tools.files import real_place
 from debvote_tools.poll.questions import Questions, read_questions
 from debvote_tools.text.language import Language, language_of
 
-MEMBERS_FILE, POLLS, TEXTS = "members.csv", "polls", "texts"
-CALL, LETTERS, RESULT, PRIVATE = "call", "letters", "result", "private"
+MEMBERS_FILE = "members.csv"
+POLLS = "polls"
+TEXTS = "texts"
+CALL = "call"
+LETTERS = "letters"
+RESULT = "result"
+PRIVATE = "private"
 MADE = (CALL, LETTERS, RESULT, PRIVATE, POLLS, TEXTS)
 
 # the letter of the result for all, in the folder of letters
@@ -32,9 +35,15 @@ RESULT_LETTER = "result.txt"
 # title of several questions; the keys of those whose letters have to be signed; what the secretary
 # writes at the head of letters, in the file of the same name; the key of the box, which never
 # leaves the book, its script, and its page
-POLL, POLL_WITH_NAMES, KEYRING, LETTER_TEXT = "poll", "poll with names", "keyring", "letter.txt"
-MOTION, TITLE = "motion", "title"
-BOX_KEY, BOX_SCRIPT, BOX_PAGE = "box key", f"{CALL}/vote.php", f"{CALL}/index.html"
+POLL = "poll"
+POLL_WITH_NAMES = "poll with names"
+MOTION = "motion"
+TITLE = "title"
+KEYRING = "keyring"
+LETTER_TEXT = "letter.txt"
+BOX_KEY = "box key"
+BOX_SCRIPT = f"{CALL}/vote.php"
+BOX_PAGE = f"{CALL}/index.html"
 
 
 # how far the election is; after `reopen` it is called again
@@ -196,7 +205,8 @@ class Election:
     def __init__(
         self, folder: str | pathlib.Path | None, program_folder: pathlib.Path | None
     ) -> None:
-        self.folder, self.program_folder = pathlib.Path(folder or ""), program_folder
+        self.folder = pathlib.Path(folder or "")
+        self.program_folder = program_folder
         self.is_named = folder is not None
 
     def path(self, name: str) -> pathlib.Path:
@@ -331,7 +341,8 @@ def no_book(folder: pathlib.Path) -> Fault:
     cure = "go to the folder of the election, or name it with --folder; new makes one"
     place = folder.absolute()
     if not folder.is_dir():
-        words, cure = "there is no such folder", "name the folder of the election with --folder"
+        words = "there is no such folder"
+        cure = "name the folder of the election with --folder"
     elif (place.parent / NAME).is_file() and place.name in MADE:
         words = "the election is one folder up"
         cure = "go there with cd .., then run the command again"

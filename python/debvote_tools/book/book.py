@@ -35,13 +35,16 @@ RESTORED = "it was restored, as the secretary says"
 
 # "dbvt"; the version of the schema, and of what is kept of letters as JSON; and the program that
 # wrote the books of an earlier version
-APPLICATION_ID, VERSION = 0x64627674, 6
+APPLICATION_ID = 0x64627674
+VERSION = 6
 PROGRAMS = {3: "debvote-election 2.0.0", 4: "debvote-election 2.1.0"}
 
 # how a database of SQLite begins, how many bytes say what it is, and where these have the version
 # and the application id
-SQLITE, HEAD = b"SQLite format 3\0", 72
-VERSION_AT, ID_AT = slice(60, 64), slice(68, 72)
+SQLITE = b"SQLite format 3\0"
+HEAD = 72
+VERSION_AT = slice(60, 64)
+ID_AT = slice(68, 72)
 
 SETTINGS = "foreign_keys=ON recursive_triggers=ON journal_mode=DELETE synchronous=EXTRA".split()
 
@@ -56,7 +59,8 @@ ONE_QUESTION = """CREATE TEMP VIEW {view} AS SELECT * FROM (
 VIEWS_OF_LINES = ("entered", "ballot")
 
 # the byte of the file that SQLite locks for an act, and how many seconds an act waits for others
-RESERVED_BYTE, PATIENCE = 0x40000001, 120
+RESERVED_BYTE = 0x40000001
+PATIENCE = 120
 
 # after so many steps of SQLite, some milliseconds, a query looks for signals
 STEPS = 100_000
@@ -115,8 +119,8 @@ class DoneAct(NamedTuple):
 
     @property
     def detail(self) -> Detail:
-        found: Detail = json.loads(self.detail_as_json)
-        return found
+        detail: Detail = json.loads(self.detail_as_json)
+        return detail
 
     def went_back(self, before: "DoneAct") -> bool:
         """Whether the clock went back since the act before."""
@@ -135,8 +139,8 @@ class NewAct(NamedTuple):
     def insert_all(self, table: str, columns: str, rows: Iterable[Sequence[object]]) -> None:
         """Adds rows of this act, each with its values in these columns."""
         places = ", ?" * (columns.count(",") + 1)
-        words = f"INSERT INTO {table} (act, {columns}) VALUES ({self.number}{places})"
-        self.connection.executemany(words, rows)
+        statement = f"INSERT INTO {table} (act, {columns}) VALUES ({self.number}{places})"
+        self.connection.executemany(statement, rows)
 
     def insert(self, table: str, **values: object) -> int:
         """Adds a row of this act, and returns its number."""
@@ -151,8 +155,11 @@ class Book:
     def __init__(
         self, path: pathlib.Path, connection: sqlite3.Connection, *, is_read_only: bool = False
     ) -> None:
-        self.path, self.connection, self.is_read_only = path, connection, is_read_only
-        self.file, self.read_acts = file_at(path), list[DoneAct]()
+        self.path = path
+        self.connection = connection
+        self.is_read_only = is_read_only
+        self.file = file_at(path)
+        self.read_acts = list[DoneAct]()
         # how many acts of each name were read
         self.names = collections.Counter[str]()
         # what `queries.all_electors` has read, and when; the acts of this process, as `act 7 (add)`
@@ -162,19 +169,19 @@ class Book:
         self.label = ""
 
     # ---- reading
-    def rows(self, words: str, *values: object) -> list[Any]:
+    def rows(self, query: str, *values: object) -> list[Any]:
         with sqlite_faults(self.path):
-            return self.connection.execute(words, values).fetchall()
+            return self.connection.execute(query, values).fetchall()
 
-    def value(self, words: str, *values: object) -> Any:
+    def value(self, query: str, *values: object) -> Any:
         """The one value that a query finds."""
-        return self.rows(words, *values)[0][0]
+        return self.rows(query, *values)[0][0]
 
     def acts(self) -> Sequence[DoneAct]:
         """All acts, in their order. They never change, so only new ones are read."""
-        words = "SELECT act, time, name, machine, detail, digest FROM act WHERE act > ? ORDER BY 1"
+        query = "SELECT act, time, name, machine, detail, digest FROM act WHERE act > ? ORDER BY 1"
         last = self.read_acts[-1].number if self.read_acts else 0
-        for number, time, *others in self.rows(words, last):
+        for number, time, *others in self.rows(query, last):
             try:
                 self.read_acts.append(DoneAct(number, from_text(time), *others))
             except (ValueError, TypeError):
@@ -220,7 +227,8 @@ class Book:
         """Queries within see one question alone: of each line the part that answers it, if one
         does. Within one only the empty label is seen alone, and nothing is written.
         """
-        views, before = VIEWS_OF_LINES if label else (), self.label
+        views = VIEWS_OF_LINES if label else ()
+        before = self.label
         with sqlite_faults(self.path):
             try:
                 for view in views:
@@ -243,8 +251,8 @@ class Book:
             before = self.last_act()
             if file_at(self.path) != self.file:
                 # what is written into the open file, nobody finds again
-                words = "another file took its place while this command was running"
-                raise Fault(self.path, words, f"find out which of both is right, then {AGAIN}")
+                reason = "another file took its place while this command was running"
+                raise Fault(self.path, reason, f"find out which of both is right, then {AGAIN}")
             if name != MOVED:
                 self.demand_noted()
             if (broken := chain.break_in(self.connection, before.number)) is not None:
@@ -257,7 +265,8 @@ class Book:
 
     def finish(self, act: NewAct, digest_before: str) -> str:
         """Adds the row of the act, with its digest, and commits."""
-        salt, detail = os.urandom(16), json.dumps(act.detail, ensure_ascii=False)
+        salt = os.urandom(16)
+        detail = json.dumps(act.detail, ensure_ascii=False)
         machine = machine_of(salt) if act.number == 1 else self.machine
         row = (act.number, as_text(act.time), act.name, machine, detail, salt)
         digest = chain.digest_of(self.connection, digest_before, row)
@@ -267,10 +276,10 @@ class Book:
         except sqlite3.Error as error:
             if not self.is_there(act.number):
                 raise
-            words = f"the commit failed ({error})"
+            reason = f"the commit failed ({error})"
             cure = "see debvote-election status, which tells the last act"
             done = f"nobody knows whether act {act.number} was done"
-            raise Fault(self.path, words, cure, Status.BAD_OUTPUT, done) from None
+            raise Fault(self.path, reason, cure, Status.BAD_OUTPUT, done) from None
         self.own_acts.append(f"act {act.number} ({act.name})")
         return digest
 
@@ -305,41 +314,40 @@ class Book:
 
     def strangeness(self) -> str | None:
         """Why this is not the book that this machine knows; None if it is."""
-        noted, last = self.note().read(), self.last_act()
+        noted = self.note().read()
+        last = self.last_act()
         digest = noted and self.digest_at(noted.act)
         if noted is None:
             return "this computer has never seen this election in this folder"
         if digest is None:
-            ends = f"it ends with act {last.number}, and this computer has seen act {noted.act}"
-            lacks = collections.Counter(noted.names) - self.names
-            said = ", ".join(f"{name} ({count})" for name, count in lacks.items())
-            return f"{ends}: it is an older copy, which lacks {said}"
+            lacking = collections.Counter(noted.names) - self.names
+            acts = ", ".join(f"{name} ({count})" for name, count in lacking.items())
+            return f"it ends with act {last.number}, and this computer has seen act {noted.act}: it is an older copy, which lacks {acts}"
         if digest != noted.digest:
-            how = "somebody went on from a copy, or made the book anew"
-            return f"its act {noted.act} is not the one that this computer saw: {how}"
+            return f"its act {noted.act} is not the one that this computer saw: somebody went on from a copy, or made the book anew"
         if last.machine != self.machine:
             return f"its act {last.number} was done on another computer"
         return None
 
     def demand_noted(self) -> None:
-        why = self.strangeness()
-        if why is not None:
-            right = "if it is the right book, as after a move to this computer or folder"
-            repeat = "repeat the command with --moved --because TEXT (the result page says so)"
-            raise Fault(self.path, why, f"find out how that came about; {right}, {repeat}")
+        reason = self.strangeness()
+        if reason is not None:
+            cure = "find out how that came about; if it is the right book, as after a move to this computer or folder, repeat the command with --moved --because TEXT (the result page says so)"
+            raise Fault(self.path, reason, cure)
 
     def accept(self, because: str) -> None:
         """The act `moved`: this machine takes this book for the right one. If the whole disk was
         put back, with the note, only who did it knows.
         """
-        noted, last, why = self.note().read(), self.last_act(), self.strangeness() or RESTORED
-        self.demand_locks()
+        noted = self.note().read()
+        last = self.last_act()
         detail: Detail = {
-            "why": why,
+            "why": self.strangeness() or RESTORED,
             "noted": noted and noted._asdict(),
             "there": {"act": last.number, "digest": last.digest},
             "because": because,
         }
+        self.demand_locks()
         with self.act(MOVED, detail):
             pass
 
@@ -348,20 +356,20 @@ class Book:
         """Why this may not be the book to work on: a copy lies beside it, or this machine knows
         another one, and this one is not accepted now.
         """
-        words = f"it is another book of this election, with acts that {NAME} lacks; a sync tool may have left it"
+        reason = f"it is another book of this election, with acts that {NAME} lacks; a sync tool may have left it"
         cure = "find out which book is right, and move the other out of the folder"
-        found = [Fault(file, words, cure) for file in self.other_books()]
+        faults = [Fault(file, reason, cure) for file in self.other_books()]
         if not is_accepted:
-            with kept_in(found):
+            with kept_in(faults):
                 self.demand_noted()
-        return found
+        return faults
 
     def demand_locks(self) -> None:
         """Stops if a second process gets the lock that this one holds."""
         with self.transaction("BEGIN IMMEDIATE"):
             if not is_locked_for_others(self.path):
-                words = "locks do not work on this file system, as on some network shares"
-                raise Fault(self.path, words, "move the folder to a disk of this computer")
+                reason = "locks do not work on this file system, as on some network shares"
+                raise Fault(self.path, reason, "move the folder to a disk of this computer")
 
     def other_books(self) -> Iterator[pathlib.Path]:
         """The books in the folder with acts that this book lacks."""
@@ -376,8 +384,8 @@ class Book:
         """Whether this book has all acts of another one; False if that can't be read."""
         try:
             with contextlib.closing(connected(file, "ro")) as other:
-                words = "SELECT act, digest FROM act ORDER BY act DESC LIMIT 1"
-                [(number, digest)] = other.execute(words)
+                query = "SELECT act, digest FROM act ORDER BY act DESC LIMIT 1"
+                [(number, digest)] = other.execute(query)
         except (sqlite3.Error, ValueError):
             return False
         return bool(self.digest_at(number) == digest)
@@ -436,10 +444,9 @@ def open_book(path: pathlib.Path) -> Book:
             raise damaged(path, "its schema is no text") from None
         except sqlite3.Error as error:
             if is_read_only and "unable to open" in str(error) or "readonly" in str(error):
-                words = "a command was cut off in its act, and the act can be taken back only in a folder that is writable"
-                both = f"{NAME} and {NAME}-journal together"
-                cure = f"copy {both} into a folder of your own, and work there"
-                raise Fault(path, words, cure, done=None) from None
+                reason = "a command was cut off in its act, and the act can be taken back only in a folder that is writable"
+                cure = f"copy {NAME} and {NAME}-journal together into a folder of your own, and work there"
+                raise Fault(path, reason, cure, done=None) from None
             raise
         if differing is not None:
             raise damaged(path, f"{differing} is not as new makes it")
@@ -462,9 +469,10 @@ def demand_version(path: pathlib.Path) -> None:
     version = int.from_bytes(head[VERSION_AT], "big")
     if version != VERSION:
         whose = f" of {PROGRAMS[version]}" if version in PROGRAMS else ""
-        this = f"this program writes version {VERSION}"
-        words = f"it is a book{whose} (version {version}), and {this}"
-        raise bad_words(path, words, "use the debvote-election that began this election")
+        reason = (
+            f"it is a book{whose} (version {version}), and this program writes version {VERSION}"
+        )
+        raise bad_words(path, reason, "use the debvote-election that began this election")
 
 
 def address_of(mail: str) -> str:
@@ -486,14 +494,16 @@ def connected(path: pathlib.Path, mode: str) -> sqlite3.Connection:
     return connection
 
 
-# what SQLite says if not the book is at fault, but its place: the words, and the cure
-WRITE, DISK = "it can't be written", "check that the disk is in order"
-BUSY, OPEN = "other commands have worked on it for two minutes", "make the file and its folder"
+# what SQLite says if not the book is at fault, but its place: the reason, and the cure
+BUSY = "other commands have worked on it for two minutes"
+UNWRITABLE = "it can't be written"
+CHECK_DISK = "check that the disk is in order"
+OPEN_FOLDER = "make the file and its folder writable for you"
 PLACES = {
     ("BUSY", "LOCKED"): (BUSY, "wait until they are done"),
-    ("IOERR_READ", "IOERR_SHORT_READ"): ("it can't be read", DISK),
-    ("FULL", "IOERR"): (WRITE, f"make room on the disk, or {DISK}"),
-    ("READONLY", "CANTOPEN", "PERM", "AUTH"): (WRITE, f"{OPEN} writable for you"),
+    ("IOERR_READ", "IOERR_SHORT_READ"): ("it can't be read", CHECK_DISK),
+    ("FULL", "IOERR"): (UNWRITABLE, f"make room on the disk, or {CHECK_DISK}"),
+    ("READONLY", "CANTOPEN", "PERM", "AUTH"): (UNWRITABLE, OPEN_FOLDER),
     ("NOMEM",): ("SQLite gave up", "make room in memory"),
 }
 
@@ -507,10 +517,10 @@ def sqlite_faults(path: pathlib.Path) -> Iterator[None]:
         kind = getattr(error, "sqlite_errorname", "").removeprefix("SQLITE_")
         if kind == "INTERRUPT":
             raise (ENDED or [KeyboardInterrupt()])[-1] from None
-        for kinds, (words, cure) in PLACES.items():
+        for kinds, (reason, cure) in PLACES.items():
             if kind.startswith(kinds):
                 cure += f", then {AGAIN}"
-                raise Fault(path, f"{words} ({error})", cure, Status.BAD_OUTPUT) from None
+                raise Fault(path, f"{reason} ({error})", cure, Status.BAD_OUTPUT) from None
         raise damaged(path, str(error)) from None
 
 
@@ -522,10 +532,10 @@ def damaged(path: pathlib.Path, how: str) -> Fault:
 def file_at(path: pathlib.Path) -> tuple[int, int] | None:
     """What tells the file at a path from others; None if there is none."""
     try:
-        found = path.stat()
+        file = path.stat()
     except OSError:
         return None
-    return found.st_dev, found.st_ino
+    return file.st_dev, file.st_ino
 
 
 def has_our_id(head: bytes) -> bool:

@@ -30,7 +30,8 @@ REFUSE = "CREATE TRIGGER {table}_{verb} BEFORE {verb} ON {table} BEGIN SELECT RA
 BEGINNING = ""
 
 
-ACT_OF, LAST = operator.itemgetter(0), operator.itemgetter(-1)
+ACT_OF = operator.itemgetter(0)
+LAST = operator.itemgetter(-1)
 
 
 # ---- the schema
@@ -89,7 +90,7 @@ def prepare(connection: sqlite3.Connection) -> None:
 
 def digest_of(connection: sqlite3.Connection, before: str, act: Sequence[object]) -> str:
     """The digest of an act (its row without the digest), with the rows that the book has of it."""
-    row = [sha256_of(one) if isinstance(one, bytes) else one for one in act]
+    row = [sha256_of(value) if isinstance(value, bytes) else value for value in act]
     line = json.dumps(row, ensure_ascii=False, separators=(",", ":"))
     by_table = (
         (table, connection.execute(query_of(table, "act = :act"), {"act": act[0]}))
@@ -116,7 +117,7 @@ def digest_over(
 
 def damage(connection: sqlite3.Connection) -> list[str]:
     """What is not as the acts of a book wrote it."""
-    order = "".join(words for words, in connection.execute("PRAGMA integrity_check(1)"))
+    order = "".join(line for line, in connection.execute("PRAGMA integrity_check(1)"))
     if order != "ok":
         # in the rows of such a file there may be anything
         return [f"SQLite says: {' '.join(order.split())}"]
@@ -133,15 +134,15 @@ def break_in(connection: sqlite3.Connection, since: int | None = None) -> str | 
     as its digest and the act before say, or there are rows of an act that there is not. None if it
     is whole.
     """
-    words = f"SELECT coalesce(max(digest), '{BEGINNING}') FROM {ACT} WHERE act = ? - 1"
-    [(before,)] = connection.execute(words, (since,))
+    query = f"SELECT coalesce(max(digest), '{BEGINNING}') FROM {ACT} WHERE act = ? - 1"
+    [(before,)] = connection.execute(query, (since,))
     found = heapq.merge(*(acts_in(connection, table, since) for table in line_of()), key=ACT_OF)
     for act, by_table in itertools.groupby(found, key=ACT_OF):
         _, table, rows = next(by_table)
         if table != ACT:
             return f"it has rows of act {act}, and no such act"
         [(line, digest, _)] = rows
-        before = digest_over(before, line, ((its, rows) for _, its, rows in by_table))
+        before = digest_over(before, line, ((of_it, rows) for _, of_it, rows in by_table))
         if before != digest:
             return f"act {act} does not match its digest"
     return None
@@ -153,8 +154,8 @@ def acts_in(
     """The acts that have rows in a table, each with the table and the rows: line, the digest if the
     row is that of the act, and act.
     """
-    words = query_of(table, "" if since is None else "act >= :act")
-    for act, rows in itertools.groupby(connection.execute(words, {"act": since}), key=LAST):
+    query = query_of(table, "" if since is None else "act >= :act")
+    for act, rows in itertools.groupby(connection.execute(query, {"act": since}), key=LAST):
         yield act, table, rows
 
 
@@ -162,7 +163,8 @@ def query_of(table: str, acts: str = "") -> str:
     """The rows of all acts, or of these. It reads the table, and no index in place of it: of some
     acts the index says which rows they are, and the table has to say the same.
     """
-    line, digest = line_of()[table], "digest" if table == ACT else "NULL"
+    line = line_of()[table]
+    digest = "digest" if table == ACT else "NULL"
     rows = f"{table} NOT INDEXED ORDER BY act, rowid"
     if acts:
         found = f"(SELECT act AS its, rowid AS at FROM {table} WHERE {acts})"

@@ -89,7 +89,8 @@ def carried_out(book: Book, plan: Callable[[], Planned]) -> Planned:
     """
     shown: Planned | None = None
     while True:
-        seen, change = book.last_number(), plan()
+        seen = book.last_number()
+        change = plan()
         if change != shown:
             if shown is not None and is_terminal():
                 tell(MEANWHILE)

@@ -1,10 +1,10 @@
-"""What this machine noted of a book: the number and the digest of the last act that it made or saw,
-and how many acts of each name there were, so that an older copy can be told what it lacks.
+"""What this machine noted of a book: the last act that it made or saw, by number and digest.
 
-It lies outside of the election's folder. So a copy of yesterday that is put back, a book that
-another machine went on with, and a book that somebody wrote anew are noticed. It gets its room on
-the disk before an act and its content after the commit, and goes only forward: a kill leaves it at
-an earlier act of the same book, never at one that the book lacks.
+How many acts of each name there were is in it, too, so that an older copy can be told what it
+lacks. It lies outside of the election's folder. So a copy of yesterday that is put back, a book
+that another machine went on with, and a book that somebody wrote anew are noticed. It gets its room
+on the disk before an act and its content after the commit, and goes only forward: a kill leaves it
+at an earlier act of the same book, never at one that the book lacks.
 """
 
 import contextlib
@@ -48,7 +48,8 @@ class MachineNote:
     def __init__(self, machine: str, path: pathlib.Path) -> None:
         base = os.environ.get("XDG_STATE_HOME", "")
         state = pathlib.Path(base) if os.path.isabs(base) else pathlib.Path.home() / ".local/state"
-        self.folder, self.path = state / "debvote", str(path)
+        self.folder = state / "debvote"
+        self.path = str(path)
         self.file = self.folder / sha256_of(f"{machine}\n".encode() + os.fsencode(path))[:40]
         # takes the place of the note
         self.next = self.file.with_suffix(".next")
@@ -61,9 +62,9 @@ class MachineNote:
         except FileNotFoundError:
             return None
         except (OSError, ValueError, LookupError, TypeError) as error:
-            words = f"this computer's note of the election can't be read ({error})"
+            reason = f"this computer's note of the election can't be read ({error})"
             cure = "remove it, then repeat the command with --moved --because TEXT"
-            raise Fault(self.file, words, cure, done=None) from None
+            raise Fault(self.file, reason, cure, done=None) from None
 
     def make_ready(self) -> None:
         """Makes room on the disk for the next note."""
@@ -98,6 +99,6 @@ class MachineNote:
             with locked(self.folder / "lock"):
                 yield
         except OSError as error:
-            words = f"this computer must note there what it did last, but can't ({error.strerror})"
+            reason = f"this computer must note there what it did last, but can't ({error.strerror})"
             cure = "make room there and the folder writable for you, or set XDG_STATE_HOME"
-            raise Fault(self.folder, words, cure, Status.BAD_OUTPUT) from None
+            raise Fault(self.folder, reason, cure, Status.BAD_OUTPUT) from None

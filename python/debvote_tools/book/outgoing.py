@@ -1,5 +1,6 @@
-"""The letters that go out, as the book has them. Each row is a state of a letter; the last one
-holds.
+"""The letters that go out, as the book has them.
+
+Each row is a state of a letter; the last one holds.
 """
 
 import datetime
@@ -12,7 +13,9 @@ from debvote_tools.grouping import grouped
 
 # a letter is written before a server gets it. A server takes it, or refuses it, perhaps only for
 # now; what a run that was cut off has sent is still only written
-WRITTEN, TAKEN, REFUSED = "written", "taken", "refused"
+WRITTEN = "written"
+TAKEN = "taken"
+REFUSED = "refused"
 
 # the subject of a receipt: an envelope or a letter, its number, and whether it says that the
 # envelope was struck
@@ -43,6 +46,9 @@ class OutgoingLetter(NamedTuple):
         """Whether the server said that it never takes it, and not that it does not take it now."""
         return self.state == REFUSED and not self.reply.startswith("4")
 
+
+# what the column `detail` has of a letter
+DETAIL = "message_id address for_act time about by_server reply".split()
 
 # the letters of a kind and to an elector, each as it was written last, with its last state; the
 # rows of a letter have its Message-ID, and one to be printed is alone
@@ -76,15 +82,7 @@ def note(act: NewAct, letters: Iterable[OutgoingLetter]) -> None:
 
 
 def detail_of(letter: OutgoingLetter) -> str:
-    detail = {
-        "message_id": letter.message_id,
-        "address": letter.address,
-        "for_act": letter.for_act,
-        "time": letter.time.isoformat(),
-        "about": letter.about,
-        "by_server": letter.by_server,
-        "reply": letter.reply,
-    }
+    detail = {key: getattr(letter, key) for key in DETAIL} | {"time": letter.time.isoformat()}
     return json.dumps(detail, ensure_ascii=False)
 
 
@@ -144,11 +142,11 @@ def call_addresses(book: Book, call: int) -> dict[str, list[str]]:
     """The addresses to which letters of the call went, by the names of electors, but for those that
     a server refused and never took.
     """
-    words = (
+    query = (
         "SELECT name, detail ->> 'address' AS address FROM sent JOIN elector USING (elector) "
         "WHERE kind = 'call' AND sent.act > ? AND address <> '' GROUP BY 1, 2 HAVING max(state = 'taken') OR NOT max(state = 'refused')"
     )
-    return grouped(book.rows(words, call))
+    return grouped(book.rows(query, call))
 
 
 def right_since(book: Book, page: int) -> dict[int, int]:

@@ -1,12 +1,13 @@
-"""What is asked of the book, and the rows that acts add: electors, what is sealed, envelopes and
-their lines, sources, and letters that came.
+"""What is asked of the book, and the rows that acts add.
+
+Electors, what is sealed, envelopes and their lines, sources, and letters that came.
 """
 
 import collections
 import datetime
 import json
 import sys
-from collections.abc import Callable, Collection, Iterable, Iterator, Mapping, Sequence, Set
+from collections.abc import Collection, Iterable, Iterator, Mapping, Sequence, Set
 from typing import Final, NamedTuple
 
 from debvote_tools.book.book import Book, NewAct, as_text, from_text
@@ -61,12 +62,9 @@ def put_electors(act: NewAct, electors: Iterable[Elector]) -> None:
             position,
             who,
             json.dumps(addresses, ensure_ascii=False),
-            key,
-            code,
-            alias,
-            mark,
+            *others,
         )
-        for number, name, position, who, addresses, key, code, alias, mark in electors
+        for number, name, position, who, addresses, *others in electors
     ]
     act.insert_all("elector_state", "elector, position, who, mail, key, code, alias, mark", rows)
 
@@ -74,28 +72,37 @@ def put_electors(act: NewAct, electors: Iterable[Elector]) -> None:
 # ---- what is sealed
 def sealed(book: Book, name: str, act: int | None = None) -> bytes:
     """What was sealed under a name by the last act that did so; nothing if none did."""
-    words = "SELECT data FROM sealed WHERE name = ?1 AND act = coalesce(?2, act) ORDER BY act DESC LIMIT 1"
-    return bytes(book.value(f"SELECT coalesce(({words}), x'')", name, act))
+    query = """
+      SELECT coalesce((
+        SELECT data FROM sealed WHERE name = ?1 AND act = coalesce(?2, act) ORDER BY act DESC LIMIT 1
+      ), x'')
+    """
+    return bytes(book.value(query, name, act))
 
 
 def first_act_that_sealed(book: Book, name: str, data: bytes) -> int:
     """The first act that sealed this under a name; 0 if none did."""
-    words = "SELECT coalesce(min(act), 0) FROM sealed WHERE name = ? AND data = ?"
-    return int(book.value(words, name, data))
+    query = "SELECT coalesce(min(act), 0) FROM sealed WHERE name = ? AND data = ?"
+    return int(book.value(query, name, data))
 
 
 def sealed_polls(book: Book, name: str, act: int) -> dict[str, bytes]:
     """The polls that an act sealed under a name, by their labels, which are behind it."""
-    words = "SELECT ltrim(substr(name, length(?1) + 1)), data FROM sealed WHERE act = ?2 AND (name = ?1 OR name GLOB ?1 || ' ?') ORDER BY name"
-    return dict(book.rows(words, name, act))
+    query = """
+      SELECT ltrim(substr(name, length(?1) + 1)), data FROM sealed
+      WHERE act = ?2 AND (name = ?1 OR name GLOB ?1 || ' ?') ORDER BY name
+    """
+    return dict(book.rows(query, name, act))
 
 
 def labels_of(book: Book) -> list[str]:
     """The labels of the questions, as lines have them: of one alone, which has none, or is the only
     one that is seen, it is empty.
     """
-    words = "SELECT ltrim(substr(name, 5)) FROM sealed WHERE {0} AND act = (SELECT max(act) FROM sealed WHERE {0}) ORDER BY name"
-    rows = book.rows(words.format("(name = 'poll' OR name GLOB 'poll ?')"))
+    polls = "(name = 'poll' OR name GLOB 'poll ?')"
+    rows = book.rows(
+        f"SELECT ltrim(substr(name, 5)) FROM sealed WHERE {polls} AND act = (SELECT max(act) FROM sealed WHERE {polls}) ORDER BY name"
+    )
     return [""] if book.label or not rows else [label for label, in rows]
 
 
@@ -108,8 +115,10 @@ def each_question_alone(book: Book) -> Iterator[str]:
 
 def files_sealed(book: Book, folder: str) -> dict[str, int]:
     """The files of a folder that were ever sealed, by name, each with the last act that did so."""
-    words = "SELECT substr(name, length(?1) + 2), max(act) FROM sealed WHERE name GLOB ?1 || '/*' GROUP BY name"
-    return dict(book.rows(words, folder))
+    query = """
+      SELECT substr(name, length(?1) + 2), max(act) FROM sealed WHERE name GLOB ?1 || '/*' GROUP BY name
+    """
+    return dict(book.rows(query, folder))
 
 
 class OwnMark(NamedTuple):
@@ -121,10 +130,14 @@ class OwnMark(NamedTuple):
 
 def own_marks(book: Book) -> dict[str, OwnMark]:
     """The own marks that electors have, or had."""
-    until = "SELECT min(time) FROM elector_state AS later JOIN act USING (act) WHERE later.elector = its.elector AND later.act > its.act AND later.mark <> its.mark"
-    words = f"SELECT mark, name, ({until}) FROM elector_state AS its JOIN elector USING (elector) WHERE mark <> ''"
+    query = """
+      SELECT mark, name, (
+        SELECT min(time) FROM elector_state AS later JOIN act USING (act)
+        WHERE later.elector = state.elector AND later.act > state.act AND later.mark <> state.mark
+      ) FROM elector_state AS state JOIN elector USING (elector) WHERE mark <> ''
+    """
     return {
-        mark: OwnMark(name, from_text(end) if end else None) for mark, name, end in book.rows(words)
+        mark: OwnMark(name, from_text(end) if end else None) for mark, name, end in book.rows(query)
     }
 
 
@@ -161,11 +174,6 @@ class Envelope(NamedTuple):
     @property
     def is_struck(self) -> bool:
         return self.struck is not None
-
-    def with_questions(self, became: Mapping[str, str]) -> "Envelope":
-        """The same, if it has several answers, of which this became."""
-        said = "counts" if "counts" in became.values() else self.became
-        return self._replace(became=said, by_question=became)
 
 
 # ---- which of two ballots of an elector is the later one
@@ -207,7 +215,7 @@ def by_time(ballot: Ballot) -> tuple[datetime.datetime, int]:
     their envelopes. A letter has the time at which it arrived, or was signed; a line, and a letter
     of which that is not known, has that of the act that entered it.
 
-    Which ballot counts the envelopes alone decide (`counting` in `views.sql`). So what is entered
+    Which ballot counts the envelopes alone decide (`fate` in `views.sql`). So what is entered
     may not replace a later ballot unless the secretary says so: all who look for one compare by
     this. Of lines that came in one file, the one above is the older one.
     """
@@ -215,41 +223,25 @@ def by_time(ballot: Ballot) -> tuple[datetime.datetime, int]:
 
 
 # ---- envelopes by conditions
-# conditions on envelopes, where `answer` is why debvote refuses a line
-TO_COUNT, LATE = "NOT late AND struck IS NULL", "late AND struck IS NULL"
-LATE_BALLOTS = f"{LATE} AND answer IS NULL"
-REFUSED = f"{TO_COUNT} AND answer IS NOT NULL"
-
-# those of letters that arrived after a time (?1), also if the clock of their web host was ahead
-ARRIVED_AFTER = """letter IN (
-  SELECT letter FROM letter
-  WHERE unixepoch(known ->> 'arrived') + min(0, known ->> 'behind') > unixepoch(?1)
+# what was entered in time, and came after a time (?1): of a letter when it arrived, also if the
+# clock of its web host was ahead, of a line when it was entered, before an act (?2)
+CAME_AFTER = """envelope IN (
+  SELECT envelope FROM ballot WHERE letter IS NULL AND time > ?1 AND act < ?2 OR letter IN (
+    SELECT letter FROM letter
+    WHERE unixepoch(known ->> 'arrived') + min(0, known ->> 'behind') > unixepoch(?1)
+  )
 )"""
 
-# the whole lines of the late ballots whose electors have another ballot in time, each with its
-# envelope
-BESIDE_OTHERS = """SELECT envelope.line, other.envelope
-FROM entered AS one JOIN envelope USING (envelope)
-JOIN entered AS other ON other.envelope = (SELECT envelope FROM counting WHERE elector = one.elector)
-WHERE one.late AND one.struck IS NULL AND one.answer IS NULL AND one.line <> other.line"""
+# what came in files of lines. If what comes now is not late (?1), a late line did not come: it is
+# entered again
+IN_FILES = "source IS NOT NULL AND letter IS NULL AND envelope NOT IN taken_back AND (?1 OR envelope NOT IN late)"
 
-# the ballots since the last close that came by no letter, were late before, and replaced another
-# one
-OVER_OTHERS = """SELECT envelope FROM valid AS again
-WHERE letter IS NULL AND act > (SELECT max(act) FROM act WHERE name = 'close') AND EXISTS (
-  SELECT 1 FROM entered AS before WHERE elector = again.elector AND line = again.line
-  AND envelope < again.envelope AND late AND struck IS NULL
-) AND line <> (
-  SELECT line FROM valid WHERE elector = again.elector AND envelope < again.envelope
-  ORDER BY envelope DESC LIMIT 1
-)"""
-
-# those that came in files of lines. If what comes now is not late (?1), a late one did not come: it
-# is entered again
-IN_FILES = (
-    "source IS NOT NULL AND letter IS NULL AND envelope NOT IN undone"
-    " AND (?1 OR NOT late OR struck IS NOT NULL)"
-)
+# number and line of the ballot that counted of each elector when an act (?1) was done, as if there
+# were no lines of another one (?2)
+COUNTED = """SELECT elector, max(envelope), line FROM came_valid
+WHERE act <= ?1 AND act <> ?2 AND (struck IS NULL OR struck > ?1) AND {} GROUP BY elector"""
+# in place of an act: what counts now
+NOW: Final = sys.maxsize
 
 COLUMNS = "envelope, act, elector, line, source, letter, place, time, late, struck, answer, became"
 
@@ -263,12 +255,18 @@ def envelopes(book: Book, condition: str = "1", *values: object) -> list[Envelop
     ]
     if labels_of(book) == [""]:
         return found
-    became: dict[int, dict[str, str]] = collections.defaultdict(dict)
+    by_number = collections.defaultdict[int, dict[str, str]](dict)
     for label in each_question_alone(book):
-        words = f"SELECT envelope, became FROM fate WHERE {condition}"
-        for number, its in book.rows(words, *values):
-            became[number][label] = its
-    return [one.with_questions(became[one.number]) for one in found]
+        query = f"SELECT envelope, became FROM fate WHERE {condition}"
+        for number, became in book.rows(query, *values):
+            by_number[number][label] = became
+    return [with_answers(envelope, by_number[envelope.number]) for envelope in found]
+
+
+def with_answers(envelope: Envelope, became: Mapping[str, str]) -> Envelope:
+    """An envelope with several answers, of which this became: it counts if one does."""
+    whole = "counts" if "counts" in became.values() else envelope.became
+    return envelope._replace(became=whole, by_question=became)
 
 
 def lost(book: Book) -> list[Envelope]:
@@ -278,20 +276,20 @@ def lost(book: Book) -> list[Envelope]:
 
 def undone_acts(book: Book) -> set[int]:
     """The acts whose lines an `undo` took back."""
-    return {act for act, in book.rows("SELECT act FROM envelope WHERE envelope IN undone")}
+    return {act for act, in book.rows("SELECT act FROM envelope WHERE envelope IN taken_back")}
 
 
 def lines(book: Book, condition: str, *values: object) -> list[bytes]:
     """The line of each envelope that meets a condition, in their order."""
-    words = f"SELECT line FROM fate WHERE {condition} ORDER BY envelope"
-    return [line for line, in book.rows(words, *values)]
+    query = f"SELECT line FROM fate WHERE {condition} ORDER BY envelope"
+    return [line for line, in book.rows(query, *values)]
 
 
 def lines_to_count(book: Book) -> list[bytes]:
     """What debvote counts from: the line of each envelope that is in time and not struck, in their
     order; also those that it refuses, or that a later one replaces.
     """
-    return lines(book, TO_COUNT)
+    return [line for line, _ in answered_lines(book)]
 
 
 def answered_lines(book: Book) -> list[tuple[bytes, str | None]]:
@@ -300,8 +298,8 @@ def answered_lines(book: Book) -> list[tuple[bytes, str | None]]:
 
 
 def has_come(book: Book, since: int) -> bool:
-    words = "SELECT act FROM envelope UNION ALL SELECT act FROM letter"
-    return bool(book.rows(f"SELECT 1 FROM ({words}) WHERE act > ? LIMIT 1", since))
+    query = "SELECT 1 FROM (SELECT act FROM envelope UNION ALL SELECT act FROM letter) WHERE act > ? LIMIT 1"
+    return bool(book.rows(query, since))
 
 
 def strike_envelopes(act: NewAct, numbers: Iterable[int]) -> None:
@@ -335,8 +333,8 @@ def entered_by(book: Book, act: int) -> tuple[int, set[int], list[tuple[bytes, s
     """What an act entered: the number of its first envelope, the electors, and the lines, each with
     why debvote refuses it.
     """
-    words = "SELECT envelope, elector, line, answer FROM envelope WHERE act = ? ORDER BY 1"
-    rows = book.rows(words, act)
+    query = "SELECT envelope, elector, line, answer FROM envelope WHERE act = ? ORDER BY 1"
+    rows = book.rows(query, act)
     electors = {elector for _, elector, *_ in rows if elector is not None}
     return rows[0][0] if rows else 0, electors, [(line, why) for _, _, line, why in rows]
 
@@ -347,8 +345,8 @@ def last_envelope(book: Book) -> int:
 
 
 def elector_numbers(book: Book, names: Collection[str]) -> dict[str, int]:
-    words = "SELECT name, elector FROM elector WHERE name IN (SELECT value FROM json_each(?))"
-    return dict(book.rows(words, json.dumps(list(names))))
+    query = "SELECT name, elector FROM elector WHERE name IN (SELECT value FROM json_each(?))"
+    return dict(book.rows(query, json.dumps(list(names))))
 
 
 class EnteredBallot(NamedTuple):
@@ -378,12 +376,12 @@ def entered_ballots(book: Book, letters: Sequence[int]) -> dict[int, list[Entere
     """The ballots of some letters that were entered, in the order of their envelopes, by the
     letters.
     """
-    columns = "envelope, CAST(line AS TEXT), late, struck IS NOT NULL, envelope IN undone, envelope IN typed"
-    condition = "letter IN (SELECT value FROM json_each(?))"
-    words = f"SELECT letter, {columns} FROM entered WHERE {condition} ORDER BY envelope"
-    return grouped(
-        (letter, EnteredBallot(*its)) for letter, *its in book.rows(words, json.dumps(letters))
-    )
+    query = """
+      SELECT letter, envelope, CAST(line AS TEXT), late, struck IS NOT NULL, envelope IN taken_back, envelope IN typed
+      FROM entered WHERE letter IN (SELECT value FROM json_each(?)) ORDER BY envelope
+    """
+    rows = book.rows(query, json.dumps(letters))
+    return grouped((letter, EnteredBallot(*ballot)) for letter, *ballot in rows)
 
 
 # ---- lines by act, and those that came in files
@@ -410,14 +408,16 @@ def of_electors(electors: Collection[int] | None) -> tuple[str, Sequence[str]]:
 
 def names_and_lines(book: Book) -> list[tuple[int, str | None, bytes]]:
     """The number of each envelope, the name of the elector for whom it is kept, and its line."""
-    words = "SELECT envelope, name, line FROM envelope LEFT JOIN elector USING (elector)"
-    return book.rows(f"{words} ORDER BY envelope")
+    return book.rows(
+        "SELECT envelope, name, line FROM envelope LEFT JOIN elector USING (elector) ORDER BY envelope"
+    )
 
 
 def envelope_states(book: Book, elector: int | None) -> list[tuple[int, int | None]]:
     """The numbers of an elector's envelopes, each with the act that struck it."""
-    words = "SELECT envelope, struck FROM entered WHERE elector = ? ORDER BY envelope"
-    return book.rows(words, elector)
+    return book.rows(
+        "SELECT envelope, struck FROM entered WHERE elector = ? ORDER BY envelope", elector
+    )
 
 
 def envelopes_of(
@@ -432,47 +432,32 @@ def ballots_of(book: Book, names: Collection[str]) -> dict[str, list[Ballot]]:
     """The ballots of some electors by name, in the order `by_time`: those that were entered in time
     and are not struck. What is late is later than nothing.
     """
-    # nothing is known of the clock of what came by no letter, or at a time that is not known
-    clocks = "SELECT letter, known ->> 'behind' AS behind FROM letter WHERE known ->> 'arrived' IS NOT NULL"
-    joined = f"valid JOIN elector USING (elector) LEFT JOIN ({clocks}) USING (letter)"
-    columns = "name, time, CAST(line AS TEXT), behind IS NOT NULL, coalesce(behind, 0), envelope"
     some, values = of_electors(elector_numbers(book, names).values())
-    words = f"SELECT {columns} FROM {joined} WHERE {some} ORDER BY time, envelope"
-    rows = book.rows(words, *values)
-    return grouped((name, Ballot(from_text(time), *its)) for name, time, *its in rows)
-
-
-def what_counts(book: Book, electors: Collection[int] | None = None) -> dict[str, str]:
-    """What counts now of each elector who has a valid ballot, or of some: by name the answers, as
-    `ranks_by_label` reads them.
+    # nothing is known of the clock of what came by no letter, or at a time that is not known
+    query = f"""
+      SELECT name, time, CAST(line AS TEXT), behind IS NOT NULL, coalesce(behind, 0), envelope
+      FROM valid JOIN elector USING (elector) LEFT JOIN (
+        SELECT letter, known ->> 'behind' AS behind FROM letter WHERE known ->> 'arrived' IS NOT NULL
+      ) USING (letter) WHERE {some} ORDER BY time, envelope
     """
-    some, values = of_electors(electors)
-    words = f"SELECT line FROM counting WHERE {some}"
-    return of_all_questions(book, lambda: (line for line, in book.rows(words, *values)))
+    rows = book.rows(query, *values)
+    return grouped((name, Ballot(from_text(time), *ballot)) for name, time, *ballot in rows)
 
 
-def what_counted(
-    book: Book, act: int, electors: Collection[int] | None = None, *, without: int = 0
+def what_counts(
+    book: Book, electors: Collection[int] | None = None, *, at: int = NOW, without: int = 0
 ) -> dict[str, str]:
-    """The same when an act was done, as if there were no lines of another act: of each elector the
-    last ballot.
+    """What counts now of each elector who has a valid ballot, or of some, or counted when an act
+    was done, as if there were no lines of another one: by name the answers, as `ranks_by_label`
+    reads them.
     """
-    condition = "answer IS NULL AND act <> ?2 AND late = 0 AND (struck IS NULL OR struck > ?1) AND act <= ?1"
     some, values = of_electors(electors)
-    there = f"{condition} AND {some}"
-    return of_all_questions(book, lambda: lines(book, there, act, without, *values))
-
-
-def of_all_questions(book: Book, ballots: Callable[[], Iterable[bytes]]) -> dict[str, str]:
-    """By name the answers to all questions, of the ballots of one that is seen alone."""
-    found: dict[str, dict[str, str]] = collections.defaultdict(dict)
+    by_name = collections.defaultdict[str, dict[str, str]](dict)
     for label in each_question_alone(book):
-        its = dict(line.decode("ascii").split(" ", 1) for line in ballots())
-        if not label:
-            return its
-        for name, ranks in its.items():
-            found[name][label] = ranks
-    return {name: answers_text(answers) for name, answers in found.items()}
+        for _, _, line in book.rows(COUNTED.format(some), at, without, *values):
+            name, _, ranks = line.decode("ascii").partition(" ")
+            by_name[name][label] = ranks
+    return {name: answers_text(answers) for name, answers in by_name.items()}
 
 
 class Numbers(NamedTuple):
@@ -488,21 +473,22 @@ class Numbers(NamedTuple):
 def numbers(book: Book) -> Numbers:
     """The numbers by the verdicts that the book keeps."""
     voters = "count(DISTINCT CASE WHEN answer IS NULL THEN elector END)"
-    words = f"SELECT count(*), count(*) - count(answer), count(answer), {voters} FROM ballot"
-    return Numbers(*book.rows(words)[0])
+    query = f"SELECT count(*), count(*) - count(answer), count(answer), {voters} FROM ballot"
+    return Numbers(*book.rows(query)[0])
 
 
 def lines_that_came(book: Book, is_late: bool) -> collections.Counter[bytes]:
     """How often each line came in a file of lines that no `undo` took back, for lines that are late
     now, or in time.
     """
-    words = f"SELECT line, count(*) FROM entered WHERE {IN_FILES} GROUP BY line"
-    return collections.Counter(dict(book.rows(words, is_late)))
+    query = f"SELECT line, count(*) FROM entered WHERE {IN_FILES} GROUP BY line"
+    return collections.Counter(dict(book.rows(query, is_late)))
 
 
 def came_in_files(book: Book, is_late: bool) -> dict[bytes, list[Envelope]]:
     """The same as envelopes, by their line; those that are struck or late come last."""
-    found = sorted(envelopes(book, IN_FILES, is_late), key=lambda one: one.is_late or one.is_struck)
+    found = envelopes(book, IN_FILES, is_late)
+    found.sort(key=lambda envelope: envelope.is_late or envelope.is_struck)
     return grouped((envelope.line, envelope) for envelope in found)
 
 
@@ -510,23 +496,27 @@ def late_beside_others(book: Book) -> dict[bytes, int]:
     """The lines of the late ballots whose electors have a ballot in time with another answer, each
     with the envelope of this.
     """
-    return dict(row for _ in each_question_alone(book) for row in book.rows(BESIDE_OTHERS))
+    return dict(
+        row
+        for _ in each_question_alone(book)
+        for row in book.rows("SELECT * FROM late_beside_other")
+    )
 
 
 def late_lines_over_others(book: Book) -> int:
     """How many late lines were entered again since the last close in place of other ballots in
     time.
     """
-    return len({row for _ in each_question_alone(book) for row in book.rows(OVER_OTHERS)})
+    query = "SELECT * FROM again_over_other"
+    return len({row for _ in each_question_alone(book) for row in book.rows(query)})
 
 
 def counting_envelopes(book: Book) -> dict[tuple[int, str], tuple[int, bytes]]:
     """Number and line of the envelope that counts, of each elector who has one, by question."""
-    words = "SELECT elector, envelope, line FROM counting"
     return {
         (elector, label): (number, line)
         for label in each_question_alone(book)
-        for elector, number, line in book.rows(words)
+        for elector, number, line in book.rows(COUNTED.format("1"), NOW, 0)
     }
 
 
@@ -547,7 +537,10 @@ def sources(book: Book) -> list[tuple[int, str, bytes]]:
 
 
 # ---- letters that came
-NEVER_DECIDED, ENTERED, TAKEN_BACK, STRUCK = "waits", "entered", "taken back", "struck"
+NEVER_DECIDED = "waits"
+ENTERED = "entered"
+TAKEN_BACK = "taken back"
+STRUCK = "struck"
 # acts have these names, too
 SET_ASIDE: Final = "set aside"
 PUT_BACK: Final = "put back"
@@ -580,17 +573,14 @@ class KeptLetter(NamedTuple):
 
 def kept_letters(book: Book, condition: str = "1", *values: object) -> list[KeptLetter]:
     """The letters that meet a condition, in the order in which they came."""
-    columns = "letter, act, source, identity, known, state"
-    words = f"SELECT {columns} FROM letter_now WHERE {condition} ORDER BY letter"
-    return [KeptLetter(*row) for row in book.rows(words, *values)]
+    query = f"SELECT letter, act, source, identity, known, state FROM letter_now WHERE {condition} ORDER BY letter"
+    return [KeptLetter(*row) for row in book.rows(query, *values)]
 
 
 def kept_digests(book: Book) -> set[tuple[str, bool]]:
     """The digests of the letters that came, each with whether it may be text of another letter."""
-    words = (
-        "SELECT json_extract(known, '$.digest'), json_extract(known, '$.is_parted_off') FROM letter"
-    )
-    return {(str(digest), bool(is_parted_off)) for digest, is_parted_off in book.rows(words)}
+    query = "SELECT known ->> 'digest', known ->> 'is_parted_off' FROM letter"
+    return {(str(digest), bool(is_parted_off)) for digest, is_parted_off in book.rows(query)}
 
 
 class KeptRecord(NamedTuple):
@@ -607,9 +597,11 @@ class KeptRecord(NamedTuple):
 
 def records_since(book: Book, act: int) -> list[KeptRecord]:
     """The records of the box that came since an act."""
-    columns = "detail ->> '$.box.at' AS at, known ->> 'digest', known ->> 'link', known ->> 'elector', known ->> 'sent' AS sent"
-    words = f"SELECT {columns} FROM letter JOIN act USING (act) WHERE act > ? AND at IS NOT NULL ORDER BY sent"
-    return [KeptRecord(*row) for row in book.rows(words, act)]
+    query = """
+      SELECT detail ->> '$.box.at' AS at, known ->> 'digest', known ->> 'link', known ->> 'elector', known ->> 'sent' AS sent
+      FROM letter JOIN act USING (act) WHERE act > ? AND at IS NOT NULL ORDER BY sent
+    """
+    return [KeptRecord(*row) for row in book.rows(query, act)]
 
 
 def source_of(book: Book, source: int) -> bytes:
@@ -618,8 +610,8 @@ def source_of(book: Book, source: int) -> bytes:
 
 def may_wait(book: Book) -> list[KeptLetter]:
     """The letters that are unsettled, or of which something may be left; and their copies."""
-    words = f"SELECT identity FROM letter_now WHERE state IN {UNSETTLED}"
-    return kept_letters(book, f"identity IN ({words})")
+    condition = f"identity IN (SELECT identity FROM letter_now WHERE state IN {UNSETTLED})"
+    return kept_letters(book, condition)
 
 
 def keep_letter(act: NewAct, where: str, data: bytes, identity: str, read_json: str) -> int:

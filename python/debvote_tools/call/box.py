@@ -1,9 +1,9 @@
-"""The box of a vote: `vote.php`, beside the page of the call, keeps the ballots that electors send
-by a click, and `add --box` asks it for them.
+"""The box of a vote, in which `vote.php` keeps the ballots that electors send by a click.
 
-The key of the box never leaves the book: whoever has it makes the link of each elector from name
-and own mark, and opens each ballot (`sealed_ballots.py`). The host gets digests alone; the word
-that asks makes no link.
+The script lies beside the page of the call, and `add --box` asks it for the ballots. The key of the
+box never leaves the book: whoever has it makes the link of each elector from name and own mark, and
+opens each ballot (`sealed_ballots.py`). The host gets digests alone; the word that asks makes no
+link.
 """
 
 import contextlib
@@ -24,9 +24,11 @@ from debvote_tools.text.language import marked
 from debvote_tools.text.rendering import resources
 
 # the script; what of it belongs to one vote follows this line
-SCRIPT, END_OF_CODE = "vote.php", b"\n__halt_compiler();\n"
+SCRIPT = "vote.php"
+END_OF_CODE = b"\n__halt_compiler();\n"
 
-KEY_BYTES, LINK_LENGTH = 32, 16
+KEY_BYTES = 32
+LINK_LENGTH = 16
 PAGE_DIGITS = 16
 
 # what is behind an own mark in a personal link, and what may be its third part alone

@@ -63,28 +63,28 @@ class CallData:
     # how many electors have to prefer an option to the default option, by question
     quorum_votes: Mapping[str, int]
     # the end as it is now
-    until: datetime.datetime | None = None
+    until: datetime.datetime | None
     # the mail address for ballots, and the web address of this page, where the result will be
-    to: str | None = None
-    at: str | None = None
+    to: str | None
+    at: str | None
     # the real names by the names on the roll; None if they will not be published
-    real_names: Mapping[str, str] | None = None
-    is_signed: bool = False
+    real_names: Mapping[str, str] | None
+    is_signed: bool
     # beside the page a script keeps the ballots that it sends, if there is a key, which makes the
     # links to it
-    box_key: bytes = b""
-    # it takes none now, as letters say
-    is_without_box: bool = False
+    box_key: bytes
     # in a secret vote with such a page: electors get their codes on slips
-    has_slips: bool = True
+    has_slips: bool
     # what the secretary writes at the head of letters to electors; empty without it
-    letter_text: str = ""
+    letter_text: str
     # in a secret vote with names on the roll: ballots are published under aliases
-    has_aliases: bool = False
+    has_aliases: bool
     # the roll has codes in place of names, so the poll is published with the result alone
-    has_codes_on_roll: bool = False
+    has_codes_on_roll: bool
     # codes were given out with a call that was taken back
-    has_lapsed_codes: bool = False
+    has_lapsed_codes: bool
+    # the script beside the page takes no ballots now, as letters say
+    is_without_box: bool = False
 
     @property
     def is_by_name(self) -> bool:
@@ -133,8 +133,9 @@ class CallData:
         is_linked = self.is_by_name or self.has_box
         if elector is None or not (elector.mark and self.at and is_linked):
             return self.at
-        name, own = elector.name, elector.mark
-        link = box.personal_link(self.box_key, name, own) if self.has_box else f"{name}/{own}"
+        link = f"{elector.name}/{elector.mark}"
+        if self.has_box:
+            link = box.personal_link(self.box_key, elector.name, elector.mark)
         return f"{self.at}#{link}"
 
     @property
@@ -235,14 +236,16 @@ def call_letter(call: CallData, *, is_extension: bool = False) -> str:
 
 
 def call_page(call: CallData) -> bytes:
-    styles, scripts, words = ["ballot.css"], ["ballot.js"], dict(SENTENCES)
+    styles = ["ballot.css"]
+    scripts = ["ballot.js"]
+    sentences = dict(SENTENCES)
     if call.questions.is_several:
         styles += ["questions.css"]
-        words |= OF_SEVERAL
+        sentences |= OF_SEVERAL
     if call.has_box:
         styles += ["box.css"]
         scripts += ["box.js"]
-        words |= box.SENTENCES | (box.SECRET_SENTENCES if call.is_by_click else {})
+        sentences |= box.SENTENCES | (box.SECRET_SENTENCES if call.is_by_click else {})
     return render_page(
         PACKAGE,
         "page.html",
@@ -251,7 +254,7 @@ def call_page(call: CallData) -> bytes:
         script=resources(PACKAGE, "names.js", "fold.js", *scripts),
         sends=call.has_box,
         call=call,
-        script_words=call.language.words(words),
+        script_words=call.language.words(sentences),
     )
 
 

@@ -22,7 +22,8 @@ from debvote_tools.text.motions import ABSTAIN, NO, YES, first_word, words_of
 NEW_POLL = pathlib.Path(__file__).with_name("new_poll.toml")
 
 # in bytes: of all texts together, and of what begins letters to electors
-TEXTS_LIMIT, LETTER_LIMIT = 524_288, 4_096
+TEXTS_LIMIT = 524_288
+LETTER_LIMIT = 4_096
 
 # in characters; of what begins letters no line is broken anew
 LONGEST_LINE = 78
@@ -32,7 +33,8 @@ TEXT_NAME = re.compile(r"([1-9][0-9]?)\.txt")
 OF_EDITORS = re.compile(r"\..*|.*~|#.*#")
 
 # a cure, and what follows each cure
-BY_EDITOR, THEN = "put it right with an editor", ", then run debvote-election check"
+BY_EDITOR = "put it right with an editor"
+THEN = ", then run debvote-election check"
 
 # how a key of a sealed poll is set that is not the secretary's; all others are
 SET_ELSEWHERE = {
@@ -154,7 +156,8 @@ def has_plain_form(value: object) -> bool:
 
 def texts_in(folder: pathlib.Path, option_count: int, faults: list[Fault]) -> dict[int, str]:
     """The texts by the numbers of their options; what is wrong with them is added to the faults."""
-    texts, files = dict[int, str](), list[pathlib.Path]()
+    texts = dict[int, str]()
+    files = list[pathlib.Path]()
     with kept_in(faults):
         files = files_in(folder)
     for file in files:
@@ -173,8 +176,8 @@ def texts_in(folder: pathlib.Path, option_count: int, faults: list[Fault]) -> di
 
 
 def text_in(file: pathlib.Path, limit: int) -> str:
-    unread, empty = "put a readable file there, or remove it", "write it, or remove the file"
-    return read_text(file, limit, unread, empty, THEN, refused=LINE_ENDS)
+    unread = "put a readable file there, or remove it"
+    return read_text(file, limit, unread, "write it, or remove the file", THEN, refused=LINE_ENDS)
 
 
 def letter_text_in(folder: pathlib.Path) -> str:
@@ -211,7 +214,22 @@ def faults_of_several(election: Election, drafts: Mapping[str, DraftPoll]) -> It
     """What can't be of the polls of several questions together, or is in their folders beside
     them.
     """
-    place, labels = election.path(POLLS), list(drafts)
+    labels = [*drafts]
+    yield from strange_files(election, labels)
+    secret = [label for label, draft in drafts.items() if draft.says("secret")]
+    if 0 < len(secret) < len(labels):
+        cure = "make all secret, or none, or hold an election for those that are secret"
+        reason = f"only some questions are secret: {', '.join(secret)}"
+        yield bad_poll(election.path(POLLS), reason, cure)
+    if election.history().has_codes_on_roll:
+        reason = "codes are on the roll, and all votes under one code in a row would be a mark"
+        cure = "begin anew in another folder, with names on the roll or with one question"
+        yield Fault(election.path(POLLS), reason, cure, done=None)
+
+
+def strange_files(election: Election, labels: Sequence[str]) -> Iterator[Fault]:
+    """Files that are missing, and that belong to no question."""
+    place = election.path(POLLS)
     if (file := election.path(POLL_FILE)).exists():
         reason = f"it is beside the folder {POLLS}, which has the polls of several questions"
         yield bad_poll(file, reason, "remove one of the two")
@@ -232,14 +250,6 @@ def faults_of_several(election: Election, drafts: Mapping[str, DraftPoll]) -> It
         if file.name not in labels:
             reason = f"no question has this label: texts are in {TEXTS}/A/1.txt and so on"
             yield bad_words(file, reason, "move it out of there", None)
-    secret = [label for label, draft in drafts.items() if draft.says("secret")]
-    if 0 < len(secret) < len(labels):
-        cure = "make all secret, or none, or hold an election for those that are secret"
-        yield bad_poll(place, f"only some questions are secret: {', '.join(secret)}", cure)
-    if election.history().has_codes_on_roll:
-        reason = "codes are on the roll, and all votes under one code in a row would be a mark"
-        cure = "begin anew in another folder, with names on the roll or with one question"
-        yield Fault(place, reason, cure, done=None)
 
 
 # ---- the sealed form
@@ -247,18 +257,9 @@ def sealed_form(draft: DraftPoll, roll: Sequence[str], language: str, **announce
     """The poll as it would be sealed, for debvote to say what is wrong: missing and unknown keys,
     and values of a wrong type, stay. What is announced is end and address.
     """
-    title, plain_names = plain_title(draft.title, language), plain_options(draft.names, language)
-    plain = {"title": title, "default": plain_names[-1]}
-    made = {
-        key: plain.get(key, value) if isinstance(value, str) else value
-        for key, value in draft.values.items()
-        if key not in (*SET_ELSEWHERE, *FLAGS) and has_plain_form(value)
-    }
-    if isinstance(made.get("options"), list):
-        made["options"] = [
-            name if isinstance(value, str) else value
-            for name, value in zip(plain_names, made["options"])
-        ]
+    title = plain_title(draft.title, language)
+    plain_names = plain_options(draft.names, language)
+    values = plain_values(draft, title, plain_names)
     texts = tuple(draft.texts.get(number, "") for number in range(1, len(draft.names)))
     further = {
         "roll": list(roll),
@@ -268,9 +269,25 @@ def sealed_form(draft: DraftPoll, roll: Sequence[str], language: str, **announce
         "explanations": texts if any(texts) else (),
         **announced,
     }
-    made |= {key: value for key, value in further.items() if is_set(value)}
-    others = {json.dumps(key): made[key] for key in made if key not in KEYS}
-    return plain_form({key: made[key] for key in KEYS if key in made} | others)
+    values |= {key: value for key, value in further.items() if is_set(value)}
+    others = {json.dumps(key): values[key] for key in values if key not in KEYS}
+    return plain_form({key: values[key] for key in KEYS if key in values} | others)
+
+
+def plain_values(draft: DraftPoll, title: str, names: Sequence[str]) -> dict[str, Any]:
+    """The values of the keys that are the secretary's, with plain names."""
+    plain = {"title": title, "default": names[-1]}
+    values = {
+        key: plain.get(key, value) if isinstance(value, str) else value
+        for key, value in draft.values.items()
+        if key not in (*SET_ELSEWHERE, *FLAGS) and has_plain_form(value)
+    }
+    if isinstance(values.get("options"), list):
+        values["options"] = [
+            name if isinstance(value, str) else value
+            for name, value in zip(names, values["options"])
+        ]
+    return values
 
 
 # ---- what letters quote

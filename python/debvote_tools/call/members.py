@@ -1,5 +1,6 @@
-"""The list of members, a table as spreadsheets save it, and the roll that it becomes: CSV with a
-comma, semicolon or tab, in UTF-8 or UTF-16.
+"""The list of members, a table as spreadsheets save it, and the roll that it becomes.
+
+The table is CSV with a comma, semicolon or tab, in UTF-8 or UTF-16.
 """
 
 import codecs
@@ -28,7 +29,8 @@ from debvote_tools.text.addresses import ADDRESS, address_key
 DELIMITERS = {",": "comma", ";": "semicolon", "\t": "tab"}
 # longer than a file that is read, so that a cell has no limit of its own
 CELL_LIMIT = 67_108_864
-SAVE_AS, LINE_END = "save it again as CSV in UTF-8", rb"\r\n?|\n"
+SAVE_AS = "save it again as CSV in UTF-8"
+LINE_END = rb"\r\n?|\n"
 
 AGAIN = "then run debvote-election roll again"
 
@@ -40,6 +42,10 @@ HEADS = {
     "key": "key",
 }
 REQUIRED = ("who", "mail")
+WORDS_OF_HEADS = {*re.findall(r"\w+", " ".join(HEADS.values()))}
+
+# what is told of a member that changes
+TOLD = ("name", "who", "address", "key")
 
 # the file that `new` writes
 NEW_MEMBERS = "who,mail\n"
@@ -93,19 +99,21 @@ class Member(NamedTuple):
         """What differs from the book, of an elector on the roll: before, and now."""
         if self.known is None or self.is_new:
             return {}
-        people: tuple[Elector | Member, ...] = (self.known, self)
-        before, now = (
-            {"name": one.name, "who": one.who, "address": ", ".join(one.addresses), "key": one.key}
-            for one in people
-        )
-        # without the case of letters an address is the same
-        if address_key(before["address"]) == address_key(now["address"]):
-            del before["address"]
-        return {what: (was, now[what]) for what, was in before.items() if was != now[what]}
+        return {
+            field: (was, now)
+            for field, was, now in zip(TOLD, told_of(self.known), told_of(self))
+            # without the case of letters an address is the same
+            if was != now and (field != "address" or address_key(was) != address_key(now))
+        }
 
 
-def label_of(one: Member | Elector) -> str:
-    return f"{one.name} ({shown_text(one.who)})" if one.who else one.name
+def told_of(person: Member | Elector) -> tuple[str, ...]:
+    """What a list says of somebody: the values of `TOLD`."""
+    return person.name, person.who, ", ".join(person.addresses), person.key
+
+
+def label_of(person: Member | Elector) -> str:
+    return f"{person.name} ({shown_text(person.who)})" if person.who else person.name
 
 
 # the line if there is one, what is wrong with it, and the cure
@@ -125,20 +133,21 @@ def bad_list(file: object, reason: str, cure: str) -> Fault:
     return Fault(file, reason, f"{cure}, {AGAIN}", done=None)
 
 
-def read_table(data: bytes, file: object) -> tuple[list[Row], str]:
-    """The rows of a table that are not blank, the head line first; and its delimiter, which is the
-    one that finds most heads in that line. A quotation mark after spaces begins a cell, too.
-    """
-    text = table_text(data, file)
+def delimiter_of(text: str) -> str:
+    """The delimiter that finds most heads in the head line; else the one that it has most often."""
     head_line = next((line for line in re.split(r"[\r\n]+", text) if line.strip(' \t,;"')), "")
-    known = re.findall(r"\w+", " ".join(HEADS.values()))
-
-    def fitness(delimiter: str) -> tuple[int, int]:
+    fitness = dict[str, tuple[int, int]]()
+    for delimiter in DELIMITERS:
         cells = csv.reader([head_line], delimiter=delimiter, skipinitialspace=True)
-        found = {head.strip().casefold() for head in next(cells, [])}
-        return len(found.intersection(known)), head_line.count(delimiter)
+        heads = {head.strip().casefold() for head in next(cells, [])}
+        fitness[delimiter] = len(heads & WORDS_OF_HEADS), head_line.count(delimiter)
+    return max(fitness, key=fitness.__getitem__)
 
-    delimiter = max(DELIMITERS, key=fitness)
+
+def rows_of(text: str, delimiter: str, file: object) -> list[Row]:
+    """The rows that are not blank, the head line first. A quotation mark after spaces begins a
+    cell, too.
+    """
     csv.field_size_limit(CELL_LIMIT)
     lines = io.StringIO(text, newline="")
     reader = csv.reader(lines, delimiter=delimiter, strict=True, skipinitialspace=True)
@@ -155,7 +164,7 @@ def read_table(data: bytes, file: object) -> tuple[list[Row], str]:
         raise bad_list(f"{file}:{line}", reason, cure) from None
     if not rows:
         raise bad_list(file, "it is empty", "write the header line, and a line for each row")
-    return rows, delimiter
+    return rows
 
 
 def table_text(data: bytes, file: object) -> str:
@@ -164,19 +173,19 @@ def table_text(data: bytes, file: object) -> str:
         raise bad_list(file, f"it is {kind}, not CSV", f"open it in the spreadsheet and {SAVE_AS}")
     is_utf_16 = data.startswith((codecs.BOM_UTF16_LE, codecs.BOM_UTF16_BE))
     if b"\0" in data and not is_utf_16:
-        words = "it is not text in UTF-8, nor in UTF-16 with a byte-order mark"
-        raise bad_list(file, words, SAVE_AS)
+        reason = "it is not text in UTF-8, nor in UTF-16 with a byte-order mark"
+        raise bad_list(file, reason, SAVE_AS)
     try:
         return data.decode("utf-16" if is_utf_16 else "utf-8-sig")
     except UnicodeDecodeError as error:
         if is_utf_16:
-            words = "it begins as text in UTF-16, but the rest is not"
-            raise bad_list(file, words, SAVE_AS) from None
+            reason = "it begins as text in UTF-16, but the rest is not"
+            raise bad_list(file, reason, SAVE_AS) from None
         number = len(re.split(LINE_END, error.object[: error.start]))
         line = re.split(LINE_END, error.object)[number - 1]
         seen = shown_text(line.decode("cp1252", "replace"))
-        words = f"it is not in UTF-8, but perhaps in Latin-1: {seen}"
-        raise bad_list(f"{file}:{number}", words, SAVE_AS) from None
+        reason = f"it is not in UTF-8, but perhaps in Latin-1: {seen}"
+        raise bad_list(f"{file}:{number}", reason, SAVE_AS) from None
 
 
 # ---- the members
@@ -184,28 +193,16 @@ def members_of(data: bytes, file: object) -> tuple[list[Member], list[Wrong]]:
     """The members as the table has them, and what is wrong with them. Raises `Fault` if it has not
     the right columns.
     """
-    ((first_line, names), *rows), delimiter = read_table(data, file)
-    heads = [re.sub(r"[\W_]", "", alike(name)) for name in names]
-    columns: dict[str, list[str]] = {}
-    for column, choices in HEADS.items():
-        free = {*heads}.difference(*columns.values())
-        for words in map(str.split, choices.split(", ")):
-            if free.issuperset(words):
-                columns.setdefault(column, words)
-    wrong: list[Wrong] = [
-        (first_line, f"the header line has the column `{head}` twice", "rename one of them")
-        for head in itertools.chain(*columns.values())
-        if heads.count(head) > 1
-    ]
-    if missing := [f"`{column}`" for column in REQUIRED if column not in columns]:
-        has = ", ".join(f"`{shown_text(name)}`" for name in names if name.strip())
-        reason = f"the header line has no column {' and no column '.join(missing)}; it has {has or 'none'}"
-        cure = "put the real names under `who` and the addresses under `mail`; a column `name`, with names on the roll, is optional"
-        wrong.append((first_line, reason, cure))
-    stop_at(faults_of(file, wrong))
+    text = table_text(data, file)
+    delimiter = delimiter_of(text)
+    head_row, *rows = rows_of(text, delimiter, file)
+    heads = [re.sub(r"[\W_]", "", alike(name)) for name in head_row[1]]
+    columns = columns_of(heads)
+    stop_at(faults_of(file, wrong_heads(head_row, heads, columns)))
     # up to the last column that has a head
     width = max(index for index, head in enumerate(heads, start=1) if head)
-    members = []
+    members = list[Member]()
+    wrong = list[Wrong]()
     for line, cells in rows:
         members.append(member_of(line, dict(zip(heads, cells)), columns))
         wrong += wrong_row(cells, members[-1], width, delimiter)
@@ -213,6 +210,31 @@ def members_of(data: bytes, file: object) -> tuple[list[Member], list[Wrong]]:
         cure = "write a line for each member below the header line"
         wrong.append((None, "there is nobody on it", cure))
     return members, wrong
+
+
+def columns_of(heads: Sequence[str]) -> dict[str, list[str]]:
+    """The heads of each column, of those that the table has."""
+    columns = dict[str, list[str]]()
+    for column, choices in HEADS.items():
+        free = {*heads}.difference(*columns.values())
+        for choice in map(str.split, choices.split(", ")):
+            if free.issuperset(choice):
+                columns.setdefault(column, choice)
+    return columns
+
+
+def wrong_heads(
+    head_row: Row, heads: Sequence[str], columns: Mapping[str, Sequence[str]]
+) -> Iterator[Wrong]:
+    line, names = head_row
+    for head in itertools.chain(*columns.values()):
+        if heads.count(head) > 1:
+            yield line, f"the header line has the column `{head}` twice", "rename one of them"
+    if missing := [f"`{column}`" for column in REQUIRED if column not in columns]:
+        has = ", ".join(f"`{shown_text(name)}`" for name in names if name.strip())
+        reason = f"the header line has no column {' and no column '.join(missing)}; it has {has or 'none'}"
+        cure = "put the real names under `who` and the addresses under `mail`; a column `name`, with names on the roll, is optional"
+        yield line, reason, cure
 
 
 def faults_of(file: object, wrong: Iterable[Wrong]) -> list[Fault]:
@@ -238,7 +260,8 @@ def member_of(
 
 
 def wrong_row(cells: Sequence[str], member: Member, width: int, delimiter: str) -> Iterator[Wrong]:
-    line, first = member.line, next(filter(None, map(str.strip, cells)))
+    line = member.line
+    first = next(filter(None, map(str.strip, cells)))
     if SUM.fullmatch(first.casefold()) and not any(map(ADDRESS.fullmatch, member.addresses)):
         yield line, f"`{shown_text(first)}` is a sum and no member", "take the line out"
         return
@@ -253,6 +276,11 @@ def wrong_row(cells: Sequence[str], member: Member, width: int, delimiter: str) 
     if beyond := next(filter(None, map(str.strip, cells[width:])), None):
         reason = f"`{shown_text(beyond)}` is after the last column of the header line"
         yield line, reason, "put quotation marks around a cell that contains the delimiter"
+    yield from wrong_member(member)
+
+
+def wrong_member(member: Member) -> Iterator[Wrong]:
+    line = member.line
     if not member.who and not member.name:
         yield line, "it has no `who`", "write who it is, or take the line out"
     if odd := steering(member.who):
@@ -280,13 +308,13 @@ def roll_of(
     members, wrong = members_of(data, file)
     electors = with_proposals(with_known(members, known), known, language)
     found = {elector.known for elector in electors}
-    gone = [one for one in known if one.position is not None and one not in found]
-    wrong += wrong_people(members, electors)
+    gone = [person for person in known if person.position is not None and person not in found]
+    wrong += [*wrong_names(members, electors), *wrong_groups(electors)]
     if electors and is_called:
         wrong += wrong_after_call(electors, gone)
     stop_at(faults_of(file, wrong))
     if is_called:
-        electors.sort(key=lambda one: (one.known and one.known.position) or 0)
+        electors.sort(key=lambda elector: (elector.known and elector.known.position) or 0)
     return Roll(electors, gone)
 
 
@@ -295,13 +323,13 @@ def with_known(rows: Sequence[Member], known: Sequence[Elector]) -> list[Member]
     roll, else among all. Nobody is found if several fit.
     """
     found: dict[int, Elector] = {}
-    last = [elector for elector in known if elector.position is not None]
-    for what, candidates in itertools.product(("name", "who"), (last, known)):
-        left = grouped((getattr(row, what), row) for row in rows if row.line not in found)
+    on_roll = [elector for elector in known if elector.position is not None]
+    for field, candidates in itertools.product(("name", "who"), (on_roll, known)):
+        members = grouped((getattr(row, field), row) for row in rows if row.line not in found)
         taken = {*found.values()}
-        free = grouped((getattr(one, what), one) for one in candidates if one not in taken)
+        free = grouped((getattr(one, field), one) for one in candidates if one not in taken)
         for text, electors in free.items():
-            fitting = left.get(text, [])
+            fitting = members.get(text, [])
             if text and len(fitting) == len(electors) == 1:
                 found[fitting[0].line] = electors[0]
     return [
@@ -317,40 +345,46 @@ def with_proposals(
 ) -> list[Member]:
     """Proposes a name for each who has none, from `who` or an address."""
     proposed = []
-    for one in electors:
-        texts = [one.who, *(address.partition("@")[0] for address in one.addresses)]
-        wholes = (elector_name(text, language) for text in texts if not one.name)
-        proposed.append(one._replace(proposal=next(filter(None, wholes), "")))
-    taken = [*(one.name for one in electors), *(one.name for one in known)]
-    bases = [one.proposal[:ELECTOR_LIMIT].rstrip("-") for one in proposed if one.proposal]
+    for elector in electors:
+        texts = [elector.who, *(address.partition("@")[0] for address in elector.addresses)]
+        wholes = (elector_name(text, language) for text in texts if not elector.name)
+        proposed.append(elector._replace(proposal=next(filter(None, wholes), "")))
+    taken = [*(elector.name for elector in electors), *(elector.name for elector in known)]
+    proposals = filter(None, (elector.proposal for elector in proposed))
+    bases = [proposal[:ELECTOR_LIMIT].rstrip("-") for proposal in proposals]
     names = iter(made_different(bases, taken, ELECTOR_LIMIT, "-"))
-    return [one._replace(name=next(names)) if one.proposal else one for one in proposed]
+    return [
+        elector._replace(name=next(names)) if elector.proposal else elector for elector in proposed
+    ]
 
 
-def wrong_people(rows: Sequence[Member], electors: Sequence[Member]) -> Iterator[Wrong]:
-    """Names that are missing, or not clearly of one person, and keys that several have."""
+def wrong_names(rows: Sequence[Member], electors: Sequence[Member]) -> Iterator[Wrong]:
+    """Names that are missing, or not clearly of one person."""
     nameless = {row.line for row in rows if not row.name}
-    owners = {one.who: one for one in reversed(electors)}
-    for group in several((one.who, one) for one in electors).values():
-        if lines := [one.line for one in group if one.line in nameless]:
+    owners = {elector.who: elector for elector in reversed(electors)}
+    for group in several((elector.who, elector) for elector in electors).values():
+        if lines := [elector.line for elector in group if elector.line in nameless]:
             reason = f"{lines_in_words(group)} have the same `who`: {shown_text(group[0].who)}"
             cure = (
                 "give each a name of their own under `name`, or take a line out if it is one person"
             )
             yield lines[0], reason, cure
-    for one in electors:
-        known = one.known
-        if known is not None and known.name == one.name and known.who not in ("", one.who):
+    for line, name, who, _, _, known, _ in electors:
+        if known is not None and known.name == name and known.who not in ("", who):
             if owner := owners.get(known.who):
                 whose = f"{shown_text(owner.who)} (line {owner.line})"
-                yield one.line, f"`{one.name}` is the name of {whose} already", "write another name"
-        if not one.name and one.who:
-            reason = f"no name can be made from {shown_text(one.who)} or an address"
-            yield one.line, reason, "write one under `name`"
-    for name, group in several((one.name, one) for one in electors).items():
+                yield line, f"`{name}` is the name of {whose} already", "write another name"
+        if who and not name:
+            reason = f"no name can be made from {shown_text(who)} or an address"
+            yield line, reason, "write one under `name`"
+
+
+def wrong_groups(electors: Sequence[Member]) -> Iterator[Wrong]:
+    """Names and keys that several have, and too many members."""
+    for name, group in several((elector.name, elector) for elector in electors).items():
         reason = f"{lines_in_words(group)} have the same name: {shown_text(name)}"
         yield group[1].line, reason, "give each a different name, or take a line out"
-    for group in several((one.key, one) for one in electors).values():
+    for group in several((elector.key, elector) for elector in electors).values():
         reason = f"{lines_in_words(group)} have the same key"
         yield group[1].line, reason, "leave it only on the line of its owner"
     if len(electors) > ROLL_LIMIT:
@@ -364,12 +398,12 @@ def wrong_after_call(electors: Sequence[Member], gone: Sequence[Elector]) -> Ite
         "missing": gone,
         "new": [elector for elector in electors if elector.is_new],
     }
-    for words, people in others.items():
+    for state, people in others.items():
         if people:
-            yield None, f"{words}: {listed(list(map(label_of, people)), NAMED_LIMIT)}", cure
+            yield None, f"{state}: {listed(list(map(label_of, people)), NAMED_LIMIT)}", cure
     for elector in electors:
-        for what, (before, _) in elector.changes.items():
-            if what in ("name", "who"):
+        for field, (before, _) in elector.changes.items():
+            if field in ("name", "who"):
                 yield elector.line, f"{label_of(elector)} was {shown_text(before)}", cure
 
 

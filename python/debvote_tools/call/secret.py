@@ -23,7 +23,8 @@ BY_PYTHON = "python3 -I -c \"import hmac; print(hmac.new(input('Code: ').replace
 BY_OPENSSL = "printf %s NAME | openssl dgst -sha256 -hmac CODE -r | cut -c1-32"
 
 # how many rows of slips fit on a side, by the lines of each, which have at least so many columns
-ROWS, COLUMNS = {4: 20, 3: 27, 2: 40}, 45
+ROWS = {4: 20, 3: 27, 2: 40}
+COLUMNS = 45
 
 # what is on the roll of a published secret poll: an alias, or a code in place of a name
 ON_PUBLIC_ROLL = re.compile(rf"[0-9a-f]{{32}}|[{OWN_SIGNS}]{{{OWN_LENGTH}}}")
@@ -65,8 +66,8 @@ def demand_no_code(name: str, data: bytes, codes: Collection[str]) -> None:
     texts.
     """
     if codes and not codes_in(data.decode("utf-8", "replace")).isdisjoint(codes):
-        words = f"{name} would have the code of an elector in it"
-        raise Fault(None, words, "check the texts that you gave")
+        reason = f"{name} would have the code of an elector in it"
+        raise Fault(None, reason, "check the texts that you gave")
 
 
 def codes_csv(call: CallData, electors: Iterable[Elector]) -> bytes:
@@ -79,9 +80,9 @@ def codes_csv(call: CallData, electors: Iterable[Elector]) -> bytes:
     alias = [] if call.questions.is_several else ["alias"]
     heads = ["name", "who", "mail", "code", *alias, "mark"]
     table.writerow(heads)
-    for one in electors:
-        mark = call.mark_of(one.mark) if one.mark else ""
-        cells = one._asdict() | {"mail": " ".join(one.addresses), "mark": mark}
+    for elector in electors:
+        mark = call.mark_of(elector.mark) if elector.mark else ""
+        cells = elector._asdict() | {"mail": " ".join(elector.addresses), "mark": mark}
         table.writerow(harmless(cells[head]) for head in heads)
     return text.getvalue().encode()
 
@@ -107,8 +108,9 @@ def slips(call: CallData, electors: Sequence[Elector]) -> bytes:
 
 def lines_of_slip(call: CallData, electors: Sequence[Elector]) -> float:
     """About how many lines a slip has, rather more. Two short options stand beside each other."""
-    longest = max((one.who for one in electors), key=len, default="")
-    polls, form = call.questions.values(), call.form_of(f"{'':32}")
+    longest = max((elector.who for elector in electors), key=len, default="")
+    polls = call.questions.values()
+    form = call.form_of(f"{'':32}")
     # the head of each of several questions, and its answer in the form
     heads = [poll.name for poll in polls] if call.questions.is_several else []
     texts = (call.questions.name, longest, call.at or "", call.to or "", *form, *heads)
@@ -138,7 +140,7 @@ def aliased(questions: Questions, electors: Sequence[Elector]) -> Questions:
     """The polls with aliases on their rolls, sorted, so that their order tells no name."""
     polls = {}
     for label, poll in questions.items():
-        aliases = {one.name: alias_in(label, one) for one in electors}
+        aliases = {elector.name: alias_in(label, elector) for elector in electors}
         polls[label] = with_roll(poll, sorted(aliases[name] for name in poll.roll))
     return Questions(polls, questions.title)
 

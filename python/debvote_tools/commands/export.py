@@ -52,7 +52,7 @@ def exported(election: Election) -> dict[str, bytes]:
             files[place_of(label, "poll.toml")] = questions[label].as_bytes()
             files[place_of(label, "ballots.txt")] = ballot_file(queries.lines_to_count(book))
         files["ballots.txt"] = ballot_file(queries.lines_to_count(book))
-        files["late.txt"] = ballot_file(queries.lines(book, queries.LATE))
+        files["late.txt"] = ballot_file(queries.lines(book, "envelope IN late"))
         # what came has its number before its name, which is no path and has no characters that a
         # shell reads
         for number, name, data in queries.sources(book):

@@ -57,7 +57,7 @@ def late_words(vote: Vote, history: History) -> Iterator[str]:
             if vote.has_codes
             else f"{envelope.number} `{shown_line(envelope.line)}`",
         )
-        for envelope in queries.envelopes(vote.book, queries.LATE_BALLOTS)
+        for envelope in queries.envelopes(vote.book, "envelope IN late AND answer IS NULL")
         if envelope.letter is None or envelope.time <= history.closes[0].time
         if envelope.line in others or envelope.line not in in_time
     )

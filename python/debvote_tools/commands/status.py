@@ -61,7 +61,7 @@ def state_of(election: Election, history: History, counting: Mapping[str, str]) 
         "stage": history.stage,
         "electors": len(electors),
         **queries.numbers(book)._asdict(),
-        "late": len(queries.lines(book, queries.LATE)),
+        "late": len(queries.lines(book, "envelope IN late")),
         "struck": len(history.since_call("strike")),
         "taken_back": len(queries.lost(book)),
         "waiting": pending.count,
@@ -88,7 +88,7 @@ def still_refused(book: Book, counting: Mapping[str, str]) -> list[Envelope]:
     }
     return [
         envelope
-        for envelope in queries.envelopes(book, queries.REFUSED)
+        for envelope in queries.envelopes(book, "envelope IN refused")
         if envelope.by_question.keys() - answered.get(envelope.elector or 0, {})
     ]
 
@@ -102,7 +102,7 @@ def questions_in(election: Election, history: History, *, has_late: bool) -> Sta
             "title": polls[label].name,
             "stage": history.stage,
             **queries.numbers(book)._asdict(),
-            "late": len(queries.lines(book, queries.LATE)) if has_late else 0,
+            "late": len(queries.lines(book, "envelope IN late")) if has_late else 0,
         }
         for label in queries.each_question_alone(book)
     }

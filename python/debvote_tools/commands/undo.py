@@ -70,7 +70,7 @@ def what_is_taken_back(vote: Vote, arguments: Arguments) -> TakenBack:
         history = vote.election.history()
         act = last_entering_act(vote, history)
         envelopes = queries.envelopes(book, "act = ? AND struck IS NULL", act.number)
-        before, after = what_counts(book, history, envelopes, act)
+        before, after = what_counts(book, envelopes, act)
     struck = [envelope.number for envelope in envelopes]
     letters = sorted({envelope.letter for envelope in envelopes if envelope.letter is not None})
     question = terminal_question(f"Take back {what(act, struck)}?", arguments.yes)
@@ -92,12 +92,13 @@ def what_is_taken_back(vote: Vote, arguments: Arguments) -> TakenBack:
 
 
 def what_counts(
-    book: Book, history: History, envelopes: Sequence[queries.Envelope], act: DoneAct
+    book: Book, envelopes: Sequence[queries.Envelope], act: DoneAct
 ) -> tuple[dict[str, str], dict[str, str]]:
     """What counts of the electors of these envelopes, with their act and without it."""
     electors = {envelope.elector for envelope in envelopes if envelope.elector is not None}
-    after = queries.what_counted(book, history.last.number, electors, without=act.number)
-    return queries.what_counts(book, electors), after
+    return queries.what_counts(book, electors), queries.what_counts(
+        book, electors, without=act.number
+    )
 
 
 def last_entering_act(vote: Vote, history: History) -> DoneAct:

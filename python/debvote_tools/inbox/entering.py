@@ -57,7 +57,7 @@ class Entry(Change):
     def report(self, act: int) -> None:
         book = self.vote.book
         first, electors, lines = queries.entered_by(book, act)
-        counting = queries.what_counted(book, act - 1, electors)
+        counting = queries.what_counts(book, electors, at=act - 1)
         replies = [*replies_to(lines, counting, is_late=self.is_late)]
         numbers = range(first, first + len(lines))
         try:

@@ -27,7 +27,8 @@ def parse_until(
     """The time that `--until` names, and its zone: its offset, `--zone`, or the zone of the end
     before; None for that of this computer.
     """
-    text, named = text.strip(), earlier_zone if zone is None else zone
+    text = text.strip()
+    named = earlier_zone if zone is None else zone
     try:
         time = datetime.datetime.fromisoformat(text)
         if time.tzinfo is None and zone is None and named is not None and named[0] in "+-":
@@ -63,14 +64,16 @@ def in_zone(plain: datetime.datetime, name: str | None) -> datetime.datetime:
         cure = "write one as Europe/Berlin, or give the offset in the time, as +01:00"
         raise bad_words("--zone", "this computer knows no time zone of this name", cure) from None
     folded = [plain.replace(fold=fold) for fold in (0, 1)]
-    times = [one.replace(tzinfo=zone) if zone else one.astimezone() for one in folded]
-    shown = [one.astimezone(datetime.UTC).astimezone(zone).replace(tzinfo=None) for one in times]
+    times = [time.replace(tzinfo=zone) if zone else time.astimezone() for time in folded]
+    shown = [time.astimezone(datetime.UTC).astimezone(zone).replace(tzinfo=None) for time in times]
     where = "where this computer is" if name is None else f"in {name}"
     if plain not in shown:
-        skipped = "the clocks that are put forward on that day skip it"
-        raise bad_until(f"{where} there is no such time: {skipped}", "write another time")
+        reason = (
+            f"{where} there is no such time: the clocks that are put forward on that day skip it"
+        )
+        raise bad_until(reason, "write another time")
     if times[0].utcoffset() != times[1].utcoffset():
-        both = " or ".join(f'"{one.isoformat(" ", "minutes")}"' for one in times)
+        both = " or ".join(f'"{time.isoformat(" ", "minutes")}"' for time in times)
         reason = f"{where} this time comes twice, since clocks are put back on that day"
         raise bad_until(reason, f"write {both}")
     # with a fixed offset it says the same on each computer
@@ -88,8 +91,10 @@ def named_address(text: str) -> tuple[str, str]:
     name, address = (found["name"], found["address"]) if found else ("", text)
     demand_mail_address(address)
     if len(name) > NAME_LIMIT or odd_sign(name, refused=f'{LINE_ENDS}<>"') is not None:
-        most = f"at most {NAME_LIMIT} characters, without quotation marks, < and >"
-        raise bad_words("--to", f"the name has to be {most}", 'write it as "Name <ADDRESS>"')
+        reason = (
+            f"the name has to be at most {NAME_LIMIT} characters, without quotation marks, < and >"
+        )
+        raise bad_words("--to", reason, 'write it as "Name <ADDRESS>"')
     return name, address
 
 
@@ -107,7 +112,8 @@ def demand_web_address(text: str) -> None:
             return
     except ValueError:
         pass
-    example = "https://example.org/vote/, without a part after #"
-    reason = f"it must be the address of a page, as {example}"
+    reason = (
+        "it must be the address of a page, as https://example.org/vote/, without a part after #"
+    )
     cure = "write it so, with accents as %C3%BC, or in the name of a host as xn--bcher-kva.example"
     raise bad_words("--at", reason, cure)

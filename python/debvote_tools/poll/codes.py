@@ -1,6 +1,4 @@
-"""What looks like a code or an alias of a secret vote, or like a code on the roll, within other
-text.
-"""
+"""What looks, within other text, like a code or alias of a secret vote, or a code on the roll."""
 
 import re
 
@@ -23,4 +21,4 @@ def has_code(text: str) -> bool:
 def codes_in(text: str) -> set[str]:
     """What looks like a code or an alias in a text, in small letters and without gaps."""
     typed = [*TYPED_CODE.findall(text), *TYPED_ON_ROLL.findall(text)]
-    return {re.sub(r"[\s-]", "", one).lower() for one in typed}
+    return {re.sub(r"[\s-]", "", code).lower() for code in typed}

@@ -10,7 +10,9 @@ from debvote_tools.cli.console import LINE_ENDS, number_of, odd_sign, shown_text
 from debvote_tools.poll.sealed import marks_in
 
 # how long a plain name may be, in bytes, and a name as people read it, in characters
-TITLE_LIMIT, OPTION_LIMIT, ELECTOR_LIMIT = 80, 40, 32
+TITLE_LIMIT = 80
+OPTION_LIMIT = 40
+ELECTOR_LIMIT = 32
 SHOWN_LIMIT = 200
 
 PLAIN_NAME = re.compile(r"[!-~](?:[ -~]*[!-~])?")
@@ -95,12 +97,14 @@ def made_different(
     """A name for each base that looks like no other and like none that is taken. Equal bases all
     get a number: the bare name could be meant for any of them.
     """
-    used, counts = set(map(alike, taken)), collections.Counter(map(alike, bases))
+    used = set(map(alike, taken))
+    counts = collections.Counter(map(alike, bases))
     # next to one who has the bare name already comes the second
     numbers = {form: itertools.count(2 if form in used else 1) for form in counts}
     names = []
     for base in bases:
-        name, form = base, alike(base)
+        name = base
+        form = alike(base)
         while alike(name) in used or (name == base and counts[form] > 1):
             end = f"{joint}{next(numbers[form])}"
             name = base[: limit - len(end)].rstrip(" -") + end
@@ -160,7 +164,8 @@ def similar_names(names: Iterable[str]) -> Iterable[tuple[str, str]]:
     bare: dict[str, str] = {}
     for name in names:
         bare.setdefault(re.sub("-?[0-9]+", "", name), name)
-    pairs, first = {}, {**bare}
+    pairs = {}
+    first = {**bare}
     for form, name in bare.items():
         ordered = "-".join(sorted(re.split("[.-]", form)))
         for key in (ordered, *[form[:at] + form[at + 1 :] for at in range(len(form))]):
@@ -216,8 +221,7 @@ def bad_options(names: Sequence[str], plain_names: Sequence[str]) -> Iterator[Ba
 
 def bad_characters(name: str) -> Iterator[str]:
     if odd := odd_sign(name, refused=REFUSED_IN_NAMES):
-        what = "which controls a terminal or turns text around"
-        yield f"it has the character {number_of(odd)}, {what}"
+        yield f"it has the character {number_of(odd)}, which controls a terminal or turns text around"
     if len(name) > SHOWN_LIMIT:
         yield f"it has {len(name)} characters; at most {SHOWN_LIMIT} are allowed"
     if name and not alike(name):

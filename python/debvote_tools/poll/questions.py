@@ -1,6 +1,4 @@
-"""The questions of an election, each a poll with its label, and what is the same for all of
-them.
-"""
+"""The questions of an election, each a poll with its label, and what is the same for all."""
 
 import functools
 import pathlib
@@ -25,7 +23,9 @@ LABELS = "ABCDEFGHJKLMNPQRSTUVWXYZ"
 
 # the file of a poll, and beside the polls of several questions the title of the election and the
 # list of the checksums, as sha256sum writes it
-POLL_FILE, TITLE_FILE, SUMS_FILE = "poll.toml", "title.txt", "polls.sha256"
+POLL_FILE = "poll.toml"
+TITLE_FILE = "title.txt"
+SUMS_FILE = "polls.sha256"
 
 
 class Questions(dict[str, SealedPoll]):
@@ -37,9 +37,11 @@ class Questions(dict[str, SealedPoll]):
     def __init__(self, polls: Mapping[str, SealedPoll], title: str = "") -> None:
         super().__init__(polls)
         first = next(iter(polls.values()))
-        self.title, self.is_several = title, "" not in polls
+        self.title = title
+        self.is_several = "" not in polls
         # what is beside several polls: their title, and the list of the checksums
-        title_file, rows = f"{title}\n".encode(), list[str]()
+        title_file = f"{title}\n".encode()
+        rows = list[str]()
         if self.is_several:
             digests = {place_of(label, POLL_FILE): poll.checksum for label, poll in self.items()}
             digests[TITLE_FILE] = sha256_of(title_file)
@@ -49,10 +51,12 @@ class Questions(dict[str, SealedPoll]):
         # the SHA-256 that covers all that the call announces, which a letter shows below the list
         # of several; and its first digits, which are in square brackets in the subjects of letters
         self.checksum = sha256_of(sums) if rows else first.checksum
-        self.checksums, self.mark = [*rows, self.checksum], self.checksum[:16]
+        self.checksums = [*rows, self.checksum]
+        self.mark = self.checksum[:16]
         # the title of the election that people read
         self.name = title or first.name
-        self.roll, self.is_secret = first.roll, first.secret
+        self.roll = first.roll
+        self.is_secret = first.secret
         self.deadline_time = first.deadline_time
         # in bytes: how long a line may be that is looked at as a ballot
         self.longest_line = LONGEST_LINE * len(self)

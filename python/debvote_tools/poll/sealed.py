@@ -1,6 +1,7 @@
-"""The sealed poll, in plain form: TOML with a line `key = value` for each key, in the order of
-`KEYS`, each value as JSON writes it. `questions.py` has what is the same for all polls of an
-election.
+"""The sealed poll, in plain form.
+
+That is TOML with a line `key = value` for each key, in the order of `KEYS`, each value as JSON
+writes it. `questions.py` has what is the same for all polls of an election.
 """
 
 import dataclasses
@@ -118,7 +119,8 @@ def with_roll(poll: SealedPoll, roll: Sequence[str]) -> SealedPoll:
 
 # ---- marks in subjects
 # an own mark has 10 of these signs, none of which is easily taken for another
-OWN_SIGNS, OWN_LENGTH = "23456789abcdefghjkmnpqrstuvwxyz", 10
+OWN_SIGNS = "23456789abcdefghjkmnpqrstuvwxyz"
+OWN_LENGTH = 10
 OWN = rf"[{OWN_SIGNS}]{{{OWN_LENGTH}}}"
 
 # a mark in a text without blanks, in either case

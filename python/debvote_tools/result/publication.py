@@ -92,7 +92,7 @@ def kept_of_question(book: Book, label: str, poll: SealedPoll) -> Kept:
         lines=len(answered),
         refused={place: why for place, (_, why) in enumerate(answered, start=1) if why is not None},
         counting=counting,
-        late=queries.lines(book, queries.LATE),
+        late=queries.lines(book, "envelope IN late"),
     )
 
 
@@ -207,7 +207,7 @@ def shown_by_comparison(election: Election, history: History, label: str, kept: 
     if not earlier:
         return []
     with election.book.question(label):
-        before = queries.what_counted(election.book, earlier[-1].number)
+        before = queries.what_counts(election.book, at=earlier[-1].number)
     then, now = (
         {name: in_normal_form(ranks) for name, ranks in votes.items()}
         for votes in (before, kept.counting)
@@ -285,11 +285,9 @@ def labels_after_end(book: Book, history: History) -> list[Collection[str]]:
     """
     if history.until is None:
         return []
-    entered = "letter IS NULL AND time > ?1 AND act < ?2"
-    condition = f"{queries.TO_COUNT} AND ({entered} OR {queries.ARRIVED_AFTER})"
     first_close = history.closes[0].number if history.closes else history.last.number + 1
-    values = as_text(history.until), first_close
-    return [envelope.by_question for envelope in queries.envelopes(book, condition, *values)]
+    after_end = queries.envelopes(book, queries.CAME_AFTER, as_text(history.until), first_close)
+    return [envelope.by_question for envelope in after_end]
 
 
 def acts_of_page(act: DoneAct, book: Book, history: History, *, is_secret: bool) -> Iterator[Act]:
@@ -386,7 +384,7 @@ def close_of(act: DoneAct, book: Book, history: History) -> dict[str, Any]:
     }
     places |= {key: act.detail[key] for key in ("early", "waiting", "after_end")}
     earlier = [close.number for close in history.closes if close.number < act.number]
-    between = "late = 0 AND {0} > ? AND {0} < ?"
+    between = "NOT late AND {0} > ? AND {0} < ?"
     for place, column in (("came", "act"), ("struck", "struck")) if earlier else ():
         places[place] = {
             label: len(queries.lines(book, between.format(column), earlier[-1], act.number))

@@ -44,10 +44,10 @@ def test_what_became_of_a_part_is_of_its_question(book: Book) -> None:
         assert [(one.number, one.became) for one in queries.envelopes(book)] == [(1, "replaced"), (3, "counts"), (4, "refused")]
         assert queries.what_counts(book) == {"ada": "1,1,1"}
         assert queries.numbers(book) == (3, 2, 1, 1)
-        [refused] = queries.envelopes(book, queries.REFUSED)
+        [refused] = queries.envelopes(book, "envelope IN refused")
         assert (refused.number, refused.line, refused.why_refused) == (4, b"ben 1,2", "bad rank count: ..")
     with book.question("A"):
-        assert queries.what_counts(book) == queries.what_counted(book, book.last_number()) == {"ada": "1,2", "ben": "2,1"}
+        assert queries.what_counts(book) == queries.what_counts(book, at=book.last_number()) == {"ada": "1,2", "ben": "2,1"}
 
 
 def test_a_fault_within_leaves_no_view(book: Book) -> None:

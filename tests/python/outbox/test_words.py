@@ -16,7 +16,7 @@ from typing import Any
 
 from debvote_tools.book.outgoing import OutgoingLetter
 from debvote_tools.book.queries import Elector, EnteredBallot, Envelope
-from debvote_tools.call.call import CallData, call_page
+from debvote_tools.call.call import call_page
 from debvote_tools.inbox.fates import REFUSED, Fate
 from debvote_tools.inbox.letter_text import ReadLine
 from debvote_tools.inbox.reasons import Reason, ReasonWithValues, for_elector
@@ -31,7 +31,7 @@ from debvote_tools.text.language import LANGUAGES, language_of
 from debvote_tools.text.rendering import one_line as on_one_line, render_page, resources
 
 from tests.support.at_browser import BROWSER
-from tests.support.calls import alone
+from tests.support.calls import CALL, alone
 from tests.support.outgoing import one_line, parsed
 
 TIME = datetime.datetime(2026, 11, 23, 10, tzinfo=datetime.UTC)
@@ -45,7 +45,8 @@ LETTER = OutgoingLetter(1, "call", 1, "ada@club.example", "<1@club.example>", TI
 
 
 def vote(code: str = "en", *, is_over: bool = False, **how: object) -> Composer:
-    data = CallData(language_of(code), alone(POLL), {"": 1}, to="vote@club.example", at="https://club.example/vote/")
+    questions, places = alone(POLL), {"to": "vote@club.example", "at": "https://club.example/vote/"}
+    data = dataclasses.replace(CALL, language=language_of(code), questions=questions, quorum_votes={"": 1}, until=None, **places)
     return Composer(dataclasses.replace(data, **how), is_over)  # type: ignore[arg-type]
 
 

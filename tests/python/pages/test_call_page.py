@@ -14,7 +14,7 @@ import urllib.parse
 from debvote_tools.call.call import CallData, call_files
 from debvote_tools.poll.questions import LABELS, Questions
 from debvote_tools.poll.sealed import SealedPoll, with_roll
-from debvote_tools.text.language import ENGLISH, LANGUAGES, language_of
+from debvote_tools.text.language import LANGUAGES, language_of
 
 from tests.support.at_browser import LONE_NUMBERS, NEEDS_BROWSER, Window
 from tests.support.calls import CALL, KINDS, POLL, SECRET, WITH_CODES, alone
@@ -138,7 +138,8 @@ class Lines(PageTest):
         for size, many in SIZES.items():
             names, choices = names_of(size), choices_of(size, many, chance)
             poll = poll_of(names, many)
-            folder = self.open(CallData(ENGLISH, alone(poll), {"": 1}, to=ADDRESS), f"#e00/{OWN}")
+            call = dataclasses.replace(CALL, questions=alone(poll), quorum_votes={"": 1}, until=None, to=ADDRESS, at=None)
+            folder = self.open(call, f"#e00/{OWN}")
             # no elector's name has a capital letter
             wanted = {"title": f"Vote: {HOSTILE_TITLE}", "head": HOSTILE_TITLE, "wide": 360, "requests": 0, "scripts": 1}
             self.assertEqual(self.window.ask(FACTS), wanted | {"unlabelled": 0, "small": [], "shown": True})

@@ -5,17 +5,18 @@ import json
 import pathlib
 import re
 
-from debvote_tools.call.call import CallData, call_page
+from debvote_tools.call.call import call_page
 from debvote_tools.poll.questions import Questions
 from debvote_tools.poll.sealed import SealedPoll, read_plain
-from debvote_tools.text.language import ENGLISH, LANGUAGES, language_of
+from debvote_tools.text.language import LANGUAGES, language_of
 from debvote_tools.text.motions import RANKS, WORDS
 
 from tests.python.pages.test_call_page import PageTest, text_of
+from tests.support import calls
 from tests.support.publishing import PLAIN_POLL, ResultPageTest, plain_room
 
 POLL = SealedPoll("The fee", ("Raise it",), (1,), "No, as it is", 0, ("ada", "ben"), motion=True)
-CALL = CallData(ENGLISH, Questions({"": POLL}), {"": 0}, to="vote@club.example")
+CALL = dataclasses.replace(calls.CALL, questions=calls.alone(POLL), quorum_votes={"": 0}, until=None, to="vote@club.example", at=None)
 
 # the buttons: their texts, and whether each is seen, as a finger finds it
 BUTTONS = """[...document.querySelectorAll(".rank label")].map((node) => [node.textContent, node.checkVisibility(), node.offsetHeight >= 40])"""
