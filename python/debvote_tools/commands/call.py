@@ -254,12 +254,11 @@ def take_back(election: Election) -> None:
     tell("Took the call back. If anybody has seen it, tell them that it is void.")
     if history.announced("box"):
         tell(f"Remove {SCRIPT} from the web host, until the next call.")
-    first = "call"
     if void_codes:
         tell(
             f"All {void_codes} codes are void, and their slips and table are removed: destroy what is printed."
         )
-        first = "roll" if is_on_roll else "codes"
+    first = "call" if not void_codes else "roll" if is_on_roll else "codes"
     tell(f"Next: put right what was wrong, then run {election.command(first)}")
 
 
