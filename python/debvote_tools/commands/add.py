@@ -307,9 +307,9 @@ def compared(
             new.append(line)
             continue
         envelopes = came.get(line.as_entered, ())
-        # one of which a copy goes in now, too, counts
-        is_changed = len(envelopes) == copies
-        repeated.append((line, change_since(line, envelopes[nth], since) if is_changed else None))
+        # where an earlier file of this command has a copy that goes in now, that one counts
+        came_before = len(envelopes) == copies
+        repeated.append((line, change_since(line, envelopes[nth], since) if came_before else None))
     copies_before.update(map(as_entered, new))
     return ComparedLines(**vars(file), new=new, repeated=repeated)
 

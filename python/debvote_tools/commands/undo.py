@@ -70,7 +70,7 @@ def what_is_taken_back(vote: Vote, arguments: Arguments) -> TakenBack:
         history = vote.election.history()
         act = last_entering_act(vote, history)
         envelopes = queries.envelopes(book, "act = ? AND struck IS NULL", act.number)
-        before, after = what_counts(book, envelopes, act)
+        before, after = with_and_without(book, envelopes, act)
     struck = [envelope.number for envelope in envelopes]
     letters = sorted({envelope.letter for envelope in envelopes if envelope.letter is not None})
     question = terminal_question(f"Take back {what(act, struck)}?", arguments.yes)
@@ -91,7 +91,7 @@ def what_is_taken_back(vote: Vote, arguments: Arguments) -> TakenBack:
     )
 
 
-def what_counts(
+def with_and_without(
     book: Book, envelopes: Sequence[queries.Envelope], act: DoneAct
 ) -> tuple[dict[str, str], dict[str, str]]:
     """What counts of the electors of these envelopes, with their act and without it."""

@@ -303,7 +303,7 @@ def in_order(records: bytes) -> list[RawLetter]:
     """Records as they came, by the times of the host, without the lines above them."""
     parts = [part.partition(b"\n")[2] + END[:-1] for part in records.split(END)[:-1]]
     raws = (
-        RawLetter(f"box, record {number}", part, record=sha256_of(part))
+        RawLetter(f"box, record {number}", part, record_digest=sha256_of(part))
         for number, part in enumerate(parts, start=1)
     )
     return sorted(raws, key=arrived)
@@ -354,13 +354,13 @@ def opened(book: Book, raw: RawLetter) -> RawLetter:
         head, proof, rest, mark, number, sealed = record.groups()
         with contextlib.suppress(ValueError):
             inside = INSIDE.fullmatch(key_pair(key, mark)[1](number, sealed))
-            line, elector, place, own, link, sent = inside.groups() if inside else [""] * 6
+            line, elector, link, own, third, sent = inside.groups() if inside else [""] * 6
             true = personal_link(key, elector, own)
-            if (place, proof) == (true, proof_digest(mark, true)):
-                fields = f"X-Link: {link}\nX-Sealed: {raw.digest}\nX-Sent: {sent}\n"
+            if (link, proof) == (true, proof_digest(mark, true)):
+                fields = f"X-Link: {third}\nX-Sealed: {raw.digest}\nX-Sent: {sent}\n"
                 data = f"{head}{fields}{rest}{line}\n-- \n".encode()
                 return dataclasses.replace(
-                    raw, data=data, link=link, elector=elector, sent=from_text(sent)
+                    raw, data=data, link=third, elector=elector, sent=from_text(sent)
                 )
     return dataclasses.replace(raw, why_not_read=NotRead.SEALED)
 

@@ -52,6 +52,7 @@ class ReadLine:
     written: str
     meant: tuple[str, ...]
     ranks: str
+    # why debvote refuses it, as in the book
     answer: str | None = None
 
 

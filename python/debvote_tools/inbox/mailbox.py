@@ -118,14 +118,14 @@ class RawLetter(OfBox):
     is_parted_off: bool = False
     why_not_read: NotRead | None = None
     # SHA-256 of what an asking brought, by which it is known again
-    record: str = ""
+    record_digest: str = ""
 
     @functools.cached_property
     def digest(self) -> str:
         """That of its bytes, or of the record as it came; one in a file is another letter than
         that.
         """
-        return self.record or sha256_of(self.data)
+        return self.record_digest or sha256_of(self.data)
 
 
 # ---- files

@@ -34,7 +34,7 @@ MISCOPIED = 2
 
 
 class LetterOutcome(enum.Enum):
-    # by itself, once the secretary agrees in `add`; until then it waits with the others
+    # no rule stops it, so it goes in when the secretary agrees in `add`; until then it is pending
     GOES_IN = "goes in"
     WAITS = "waits"
     # it is a duplicate of another letter, and is ignored

@@ -157,7 +157,7 @@ class QuestionFacts(NamedTuple):
     label: str
     # the lines in time; in a secret vote the ballots that stand, under aliases
     ballots: bytes
-    # the lines that were entered after the close: how many; and unless the vote is secret all
+    # the late lines: their number; and, unless the vote is secret, the lines themselves
     late_number: int = 0
     late: Sequence[bytes] | None = None
     # of a secret vote: the random line of the last close, if it made one; and not published the
