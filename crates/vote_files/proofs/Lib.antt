@@ -1,3 +1,3 @@
 pub mod Asking
 pub mod Writing
-mod Walks
+pub mod Walks

@@ -1,4 +1,4 @@
--- A step that the proofs of both functions of `log` take.
+-- A step of the proofs of functions that make a value of ghost fields alone: of counts here, and of logs of readings above.
 use Rattle.std.proofs.Common.{List, [], ◌∷◌, refl}
 use seplogic.Ra.Ura.{Ura}
 use mir.Val.{Val, vstruct, vnil}

@@ -1,2 +1,1 @@
-mod Walks
 pub mod Asked

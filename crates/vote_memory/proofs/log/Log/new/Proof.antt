@@ -23,7 +23,7 @@ use denote.Triple.Entry.{alive}
 use denote.Triple.Spec.{Meets, triple_of}
 use denote.Triple.Table.{entered}
 use denote.Triple.Walked.{says, Stays, walk_of, ends_at, walk_Meets}
-use Rattle.vote_memory.proofs.Walks.{none, none_made}
+use Rattle.vote_files.proofs.Walks.{none, none_made}
 use Rattle.vote_memory.specs.contracts.log.Log as Log
 use Rattle.vote_memory.specs.contracts.log.Log.new as F
 use Rattle.vote_memory.specs.contracts.log.Log.new.Key.{name as #self}

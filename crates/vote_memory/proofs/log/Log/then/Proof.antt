@@ -25,7 +25,7 @@ use denote.Triple.Entry.{alive}
 use denote.Triple.Spec.{Meets, triple_of}
 use denote.Triple.Table.{entered}
 use denote.Triple.Walked.{says, Stays, stay_dropped, walk_of, ends_at, walk_Meets, Goes-dropped}
-use Rattle.vote_memory.proofs.Walks.{none, none_made}
+use Rattle.vote_files.proofs.Walks.{none, none_made}
 use Rattle.vote_memory.specs.contracts.log.Log as Log
 use Rattle.vote_memory.specs.contracts.log.Note as Note
 use Rattle.vote_memory.specs.contracts.log.Log.then as F
