@@ -49,7 +49,7 @@ fn words_given<R: Env + AllocGlobal>(rt: &R) -> Result<Vec<String>, ArgsFault>
 
 /// Answers the arguments on what the system lends, and returns the exit status: as [`answer`] does for these words, where neither the
 /// files nor standard input report anything. It has no more of the system than that: the two outputs are all that it can write, and the
-/// call that takes votes can write nothing.
+/// call that takes votes can write nothing. They have to be the descriptors 1 and 2: `main` has no contract, but it has to prove this.
 fn run_on_system<
     R: Files + Input,
     T: AllocGlobal + Threads + Wait + Sync,
