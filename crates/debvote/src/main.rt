@@ -6,31 +6,33 @@
 //! explain` reports every problem in it and in the ballots. Without arguments the program reads a poll and its ballots from
 //! standard input, joined by a line `%%`, and acts as `steps`.
 //!
-//! The program lends what the system has to one call of `vote_program`: its words, the files and standard input, which can only be
-//! read, standard output and standard error, and threads, which can only take votes. For these alone a run may wait.
+//! The program lends what the system has to one call, for words that are given or for words that are not: the files and standard input,
+//! which can only be read, standard output and standard error, and threads, which can only take votes. For these alone a run may wait.
 #![tactic(auto)]
 
-ghost use Rattle.std.specs.Prelude.{◌≡◌, IfErr, false, length};
+ghost use Rattle.std.specs.Prelude.{◌≡◌, ◌<◌, ◌≤◌, ◌↔◌, IfErr, None, Some, false, length, pos};
 ghost use Rattle.vote_steps.specs.Desks.{AreDesks};
 ghost use Rattle.vote_commands.specs.TakingVotes.{AreTakenAtDesks};
-ghost use Rattle.vote_program.specs.ProgramAnswers.{words_in};
-ghost use Rattle.debvote.specs.Program.{AnswersGiven, AreNotGiven, RefusesWords};
+ghost use Rattle.vote_program.specs.Outputs.{written_by};
+ghost use Rattle.vote_program.specs.ProgramAnswers.{AnswersJoined, AnswersWorded, AnswersWords, words_in};
+ghost use Rattle.debvote.specs.Program.{AreNotGiven, TakesInThreads};
 
+mod lent;
 mod vote_threads;
 
+use crate::lent::Lent;
 use crate::vote_threads::VoteThreads;
 use std::alloc::Global;
-use std::io::{ErrorKind, IsTerminal, Write};
-use std::marker::Brand;
+use std::env;
+use std::io::{ErrorKind, IsTerminal};
+use std::os::fd::AsRawFd;
 use std::process::ExitCode;
 use std::rt::{Env, Files};
 use std::sync::Wait;
-use std::sync::ledger::{Blank, Ledger};
 use std::thread::Threads;
-use std::{env, io};
 use vote_command_line::ArgsFault;
 use vote_desks::{Audited, VoteFault};
-use vote_files::{Meter, ReadableFiles, ReadableInput, WriterSink};
+use vote_files::{ReadableFiles, ReadableInput, Sink, WriterSink};
 use vote_poll::{Lines, Poll};
 use vote_program::{answer, refuse};
 
@@ -45,93 +47,71 @@ fn words_given<R: Env + AllocGlobal>(rt: &R) -> Result<Vec<String>, ArgsFault>
     }
 }
 
-/// Answers the arguments on what the system lends, and returns the exit status: that of [`answer`] for these words. No contract can say
-/// what the system has. It has no more of the system than its parameters: the two outputs are all that it can write, and the call that
-/// takes votes can write nothing. The outputs count with these blanks.
+/// Answers the arguments on what the system lends, and returns the exit status: as [`answer`] does for these words, where neither the
+/// files nor standard input report anything. It has no more of the system than that: the two outputs are all that it can write, and the
+/// call that takes votes can write nothing. They have to be the descriptors 1 and 2: `main` has no contract, but it has to prove this.
 fn run_on_system<
     R: Files + Input,
     T: AllocGlobal + Threads + Wait + Sync,
-    W: Write + Drop,
-    X: Write + Drop,
-    O: Ledger,
-    E: Ledger,
->(
-    alloc: Global,
-    files: ReadableFiles<'_, R>,
-    input: ReadableInput<'_, R>,
-    threads: &VoteThreads<T>,
-    given: &[String],
-    at_terminal: bool,
-    stdout: W,
-    stderr: X,
-    output: Blank,
-    errors: Blank,
-) -> u8
-    requires output_name { output.name ≡ O.name }
-    requires output_parts { (output.parts ≡ O.parts) × (output.parts ≡ 2) }
-    requires errors_name { errors.name ≡ E.name }
-    requires errors_parts { (errors.parts ≡ E.parts) × (errors.parts ≡ 2) }
-    ensures { AnswersGiven at_terminal (length given.now) (words_in given.now) result }
+    W: Sink + AsRawFd,
+    E: Sink + AsRawFd,
+>(alloc: Global, lent: &mut Lent<'_, R, T, W, E>, given: &[String]) -> u8
+    requires standard_output { W.raw_fd lent.old.output ≡ Some (pos 1) }
+    requires standard_error { E.raw_fd lent.old.errors ≡ Some (pos 2) }
+    ensures alone { length given.now ≤ 1
+        → AnswersJoined lent.old.at_terminal None (λ made. Unit {0})
+        (written_by W.contents W.faults W.flushed lent.old.output lent.new.output)
+        (written_by E.contents E.faults E.flushed lent.old.errors lent.new.errors) result }
+    ensures worded { 1 < length given.now
+        → AnswersWorded (λ name. None) (λ made. Unit {0}) TakesInThreads (words_in given.now)
+        (written_by W.contents W.faults W.flushed lent.old.output lent.new.output)
+        (written_by E.contents E.faults E.flushed lent.old.errors lent.new.errors) result }
+    ensures output { (result ≡ 7) ↔ (W.faults lent.old.output < W.faults lent.new.output) }
 {
-    let (mut files, mut input) = (files, input);
-    let mut sink = WriterSink::new(stdout, Meter::<O>::new(output));
-    let mut errors = WriterSink::new(stderr, Meter::<E>::new(errors));
-    answer(
+    let threads = &lent.threads;
+    let status = answer(
         alloc,
-        &mut files,
-        &mut input,
+        &mut lent.files,
+        &mut lent.input,
         given,
-        at_terminal,
+        lent.at_terminal,
         |poll: &Poll, lines: &Lines<'_>, desks: u8| -> Result<Audited, VoteFault>
             requires { AreDesks desks }
             ensures { AreTakenAtDesks (λ desk. false) poll.now lines.now desks result }
         { threads.take(poll, lines, desks) },
-        &mut sink,
-        &mut errors,
-    )
+        &mut lent.output,
+        &mut lent.errors,
+    );
+    status
 }
 
-/// Says why the system gives no arguments, and returns the exit status. The outputs count with these blanks.
-fn refuse_words<W: Write + Drop, X: Write + Drop, O: Ledger, E: Ledger>(
+/// Says why the system gives no arguments, and returns the exit status.
+fn refuse_words<R, T, W: Sink + AsRawFd, E: Sink + AsRawFd>(
     fault: &ArgsFault,
-    stdout: W,
-    stderr: X,
-    output: Blank,
-    errors: Blank,
+    lent: &mut Lent<'_, R, T, W, E>,
 ) -> u8
-    requires output_name { output.name ≡ O.name }
-    requires output_parts { (output.parts ≡ O.parts) × (output.parts ≡ 2) }
-    requires errors_name { errors.name ≡ E.name }
-    requires errors_parts { (errors.parts ≡ E.parts) × (errors.parts ≡ 2) }
-    ensures { RefusesWords fault.now result }
+    requires standard_output { W.raw_fd lent.old.output ≡ Some (pos 1) }
+    requires standard_error { E.raw_fd lent.old.errors ≡ Some (pos 2) }
+    ensures answers { AnswersWords fault.now
+        (written_by W.contents W.faults W.flushed lent.old.output lent.new.output)
+        (written_by E.contents E.faults E.flushed lent.old.errors lent.new.errors) result }
+    ensures output { (result ≡ 7) ↔ (W.faults lent.old.output < W.faults lent.new.output) }
 {
-    let mut sink = WriterSink::new(stdout, Meter::<O>::new(output));
-    let mut errors = WriterSink::new(stderr, Meter::<E>::new(errors));
-    refuse(fault, &mut sink, &mut errors)
+    refuse(fault, &mut lent.output, &mut lent.errors)
 }
 
 fn main(rt: HostRuntime) -> ExitCode {
-    let (stderr, at_terminal) = (rt.stderr(), rt.stdin().is_terminal());
+    let mut lent = Lent {
+        files: ReadableFiles::of(&rt),
+        input: ReadableInput::of(&rt),
+        threads: VoteThreads::of(&rt),
+        at_terminal: rt.stdin().is_terminal(),
+        output: WriterSink::new(rt.stdout()),
+        errors: WriterSink::new(rt.stderr()),
+    };
     let status = match words_given(&rt) {
-        Ok(given) => run_on_system::<_, _, _, _, Brand, Brand>(
-            rt.alloc(),
-            ReadableFiles::of(&rt),
-            ReadableInput::of(&rt),
-            &VoteThreads::of(&rt),
-            given.as_slice(),
-            at_terminal,
-            io::writer(&rt),
-            io::writer(&stderr),
-            Blank::new(2),
-            Blank::new(2),
-        ),
-        Err(fault) => refuse_words::<_, _, Brand, Brand>(
-            &fault,
-            io::writer(&rt),
-            io::writer(&stderr),
-            Blank::new(2),
-            Blank::new(2),
-        ),
+        Ok(given) => run_on_system(rt.alloc(), &mut lent, given.as_slice()),
+        Err(fault) => refuse_words(&fault, &mut lent),
     };
     ExitCode::from(status)
 }

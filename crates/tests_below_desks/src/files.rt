@@ -4,42 +4,34 @@
 //! with `refused` if the call reported that memory was refused. So a run that refuses one growth after another shows whether
 //! there is any other result.
 
-ghost use Rattle.std.specs.Prelude.{◌≡◌};
-
 use crate::same::assert_same;
 use std::alloc::{AllocError, Global};
 use std::io::{self, ErrorKind, Read};
-use std::marker::Brand;
 use std::snapshot::Snapshot;
-use std::sync::ledger::{Blank, Ledger};
 use std::test::Fail;
 use vote_files::{DeviceFault, Meter, ReadFault, Sink, Source, read_all, read_limited, write_text};
 
 /// A sink in memory. It takes at most `at_once` bytes at once, and fails once it holds `limit` bytes.
 #[derive(Drop)]
-struct Paper<L: Ledger> {
+struct Paper {
     written: Vec<u8>,
     at_once: usize,
     limit: usize,
     flushes: bool,
     flushed: Snapshot<bool>,
-    meter: Meter<L>,
+    meter: Meter,
 }
 
-impl<L: Ledger> Paper<L> {
+impl Paper {
     /// A paper on which these bytes are already written.
-    fn new(written: Vec<u8>, at_once: usize, limit: usize, flushes: bool, blank: Blank) -> Paper<L>
-        requires name { blank.name ≡ L.name }
-        requires parts { blank.parts ≡ L.parts }
-        requires two { blank.parts ≡ 2 }
-    {
+    fn new(written: Vec<u8>, at_once: usize, limit: usize, flushes: bool) -> Paper {
         Paper {
             written,
             at_once,
             limit,
             flushes,
             flushed: Snapshot::of(&false),
-            meter: Meter::<L>::new(blank),
+            meter: Meter::new(),
         }
     }
 
@@ -57,7 +49,7 @@ impl<L: Ledger> Paper<L> {
     }
 }
 
-impl<L: Ledger> Sink for Paper<L> {
+impl Sink for Paper {
     ghost use Rattle.std.specs.Prelude.{Some};
 
     ghost calls = { λ s. s.meter.calls };
@@ -95,23 +87,6 @@ impl<L: Ledger> Sink for Paper<L> {
     }
 }
 
-fn write_metered<L: Ledger>(
-    alloc: Global,
-    at_once: usize,
-    limit: usize,
-    flushes: bool,
-    text: &[u8],
-    blank: Blank,
-) -> (Vec<u8>, bool)
-    requires name { blank.name ≡ L.name }
-    requires parts { blank.parts ≡ L.parts }
-    requires two { blank.parts ≡ 2 }
-{
-    let mut paper = Paper::<L>::new(Vec::new(alloc), at_once, limit, flushes, blank);
-    let ended = write_text(&mut paper, text).is_ok();
-    (paper.into_written(), ended)
-}
-
 fn write(
     alloc: Global,
     at_once: usize,
@@ -119,7 +94,9 @@ fn write(
     flushes: bool,
     text: &[u8],
 ) -> (Vec<u8>, bool) {
-    write_metered::<Brand>(alloc, at_once, limit, flushes, text, Blank::new(2))
+    let mut paper = Paper::new(Vec::new(alloc), at_once, limit, flushes);
+    let ended = write_text(&mut paper, text).is_ok();
+    (paper.into_written(), ended)
 }
 
 /// How much a sink takes at once and in all, whether it flushes, how much of a text is then written, and whether the call
@@ -157,14 +134,14 @@ fn a_text_is_written_whole_or_to_the_fault(rt: HostRuntime) {
 
 /// A source over bytes. It gives at most `at_once` bytes at once, but at least one, and fails after `reads` reads.
 #[derive(Drop)]
-struct Tape<'a, L: Ledger> {
+struct Tape<'a> {
     rest: &'a [u8],
     at_once: usize,
     reads: u32,
-    meter: Meter<L>,
+    meter: Meter,
 }
 
-impl<L: Ledger> Source for Tape<'_, L> {
+impl Source for Tape<'_> {
     ghost use Rattle.std.specs.Prelude.{Some};
 
     ghost reads = { λ s. s.meter.calls };
@@ -188,27 +165,6 @@ impl<L: Ledger> Source for Tape<'_, L> {
     }
 }
 
-fn read_metered<L: Ledger>(
-    alloc: Global,
-    bytes: &[u8],
-    at_once: usize,
-    reads: u32,
-    limit: usize,
-    blank: Blank,
-) -> Result<Vec<u8>, ReadFault>
-    requires name { blank.name ≡ L.name }
-    requires parts { blank.parts ≡ L.parts }
-    requires two { blank.parts ≡ 2 }
-{
-    let mut tape = Tape {
-        rest: bytes,
-        at_once,
-        reads,
-        meter: Meter::<L>::new(blank),
-    };
-    read_limited(alloc, &mut tape, limit)
-}
-
 fn read(
     alloc: Global,
     bytes: &[u8],
@@ -216,7 +172,13 @@ fn read(
     reads: u32,
     limit: usize,
 ) -> Result<Vec<u8>, ReadFault> {
-    read_metered::<Brand>(alloc, bytes, at_once, reads, limit, Blank::new(2))
+    let mut tape = Tape {
+        rest: bytes,
+        at_once,
+        reads,
+        meter: Meter::new(),
+    };
+    read_limited(alloc, &mut tape, limit)
 }
 
 /// Whether these bytes are read whole, and the fault if they are not. The source gives `at_once` bytes at once and fails after

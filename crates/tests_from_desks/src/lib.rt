@@ -3,8 +3,8 @@
 //!
 //! The tests of the calls up to the box are in `tests_below_desks`. A module has the tests of one crate and its name, such as
 //! `sheet` for `vote_sheet`. Exceptions: `desks` has the tests of `vote_desks_box` and of the audit, `votes` the other tests of
-//! `vote_desks`, `faults` more tests of `vote_commands`, `reports` the tests of `vote_program`, `memory` those of `vote_memory_count`, and `inputs` what several of them
-//! share. The tests name only public calls.
+//! `vote_desks`, `faults` more tests of `vote_commands`, `reports` the tests of `vote_program`, `memory` those of `vote_memory`,
+//! and `inputs` what several of them share. The tests name only public calls.
 
 #![tactic(auto)]
 

@@ -1,30 +1,18 @@
 //! What `report` prints about a run: the line and the status of each fault, and nothing about a run that came to its end.
 
-ghost use Rattle.std.specs.Prelude.{◌≡◌};
-
 use crate::inputs::assert_same;
 use std::alloc::{AllocError, Global};
-use std::marker::Brand;
-use std::sync::ledger::{Blank, Ledger};
 use std::test::Fail;
 use vote_commands::{Ended, InputFault, InputFile, RunFault};
 use vote_desks::{AuditFault, DeskFault, EnterFault, VoteFault};
-use vote_files::{Meter, WriterSink};
+use vote_files::WriterSink;
 use vote_poll::{PollFault, PollKey};
 use vote_program::report;
 
 /// What is printed about a run on a standard error that keeps it, and the status.
-fn told<L: Ledger>(
-    alloc: Global,
-    outcome: Result<Ended, RunFault>,
-    blank: Blank,
-) -> Result<(Vec<u8>, u8), AllocError>
-    requires name { blank.name ≡ L.name }
-    requires parts { blank.parts ≡ L.parts }
-    requires two { blank.parts ≡ 2 }
-{
+fn told(alloc: Global, outcome: Result<Ended, RunFault>) -> Result<(Vec<u8>, u8), AllocError> {
     let heard = Vec::with_capacity(alloc, 128)?;
-    let mut errors = WriterSink::new(heard, Meter::<L>::new(blank));
+    let mut errors = WriterSink::new(heard);
     let status = report(&mut errors, &outcome);
     Ok((errors.into_writer(), status))
 }
@@ -35,7 +23,7 @@ fn reported(
     outcome: Result<Ended, RunFault>,
     line: Option<&str>,
 ) -> Result<(bool, u8), AllocError> {
-    let (heard, status) = told::<Brand>(alloc, outcome, Blank::new(2))?;
+    let (heard, status) = told(alloc, outcome)?;
     let is_told = match line {
         None => heard.is_empty(),
         Some(line) => heard.as_slice().strip_suffix(b"\n") == Some(line.as_bytes()),

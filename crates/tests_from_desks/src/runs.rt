@@ -6,7 +6,6 @@
 //! written, the test fails with `refused` or `refused a thread`. So whoever runs it with one growth or one start after another
 //! refused sees whether there is any other answer.
 
-ghost use Rattle.std.specs.Prelude.{◌≡◌};
 ghost use Rattle.vote_request.specs.Requests.{DesksFit};
 ghost use Rattle.vote_steps.specs.Desks.{AreDesks};
 ghost use Rattle.vote_commands.specs.TakingVotes.{AreVotesTaken};
@@ -14,10 +13,8 @@ ghost use Rattle.vote_commands.specs.TakingVotes.{AreVotesTaken};
 use crate::inputs::{BALLOTS, CYCLE, SHEET, assert_same, lines_of, poll_of};
 use std::alloc::{AllocError, Global};
 use std::io::{self, ErrorKind, Write};
-use std::marker::Brand;
 use std::process::Abort;
 use std::sync::Wait;
-use std::sync::ledger::{Blank, Ledger};
 use std::test::Fail;
 use std::thread::Threads;
 use vote_commands::{
@@ -25,7 +22,7 @@ use vote_commands::{
     status, steps_joined,
 };
 use vote_desks::{Audited, Gate, NoGate, Slip, VoteFault, take_votes};
-use vote_files::{Meter, WriterSink};
+use vote_files::WriterSink;
 use vote_poll::{Lines, Poll};
 use vote_request::{Listing, Purpose, Request};
 
@@ -169,21 +166,16 @@ const REPLIES: &[u8] =
 
 /// Makes the calls that only callers of the library make, one after another on one paper with room. Returns how the count ends,
 /// whether both listings succeed, and whether all their texts are written.
-fn calls_metered<R: Threads + Wait + Sync, L: Ledger>(
+fn calls_on_one_paper<R: Threads + Wait + Sync>(
     rt: &R,
     alloc: Global,
-    blank: Blank,
-) -> Result<(Result<Ended, RunFault>, bool, bool), AllocError>
-    requires name { blank.name ≡ L.name }
-    requires parts { blank.parts ≡ L.parts }
-    requires two { blank.parts ≡ 2 }
-{
-    let mut sink = WriterSink::new(endless(alloc)?, Meter::<L>::new(blank));
+) -> Result<(Result<Ended, RunFault>, bool, bool), AllocError> {
+    let mut sink = WriterSink::new(endless(alloc)?);
     let take = |poll: &Poll, lines: &Lines<'_>, desks: u8| -> Result<Audited, VoteFault>
         requires { AreDesks desks }
         ensures { AreVotesTaken poll.now lines.now desks result }
     { take_votes(rt, alloc, poll, lines, desks, &NoGate) };
-    let counted = run::<_, WriterSink<Paper, L>>(
+    let counted = run::<_, WriterSink<Paper>>(
         alloc,
         CYCLE.as_bytes(),
         BALLOTS.as_bytes(),
@@ -203,7 +195,7 @@ fn calls_metered<R: Threads + Wait + Sync, L: Ledger>(
 
 #[test]
 fn calls_of_the_library_write_what_jobs_do(rt: HostRuntime) -> Result<(), Fail> {
-    let found = calls_metered::<HostRuntime, Brand>(&rt, rt.alloc(), Blank::new(2))?;
+    let found = calls_on_one_paper::<HostRuntime>(&rt, rt.alloc())?;
     assert_same(&rt, found, (WON, true, true));
     Ok(())
 }

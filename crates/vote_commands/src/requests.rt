@@ -15,10 +15,8 @@ use crate::listing::print_listing;
 use crate::votes::CountInputs;
 use std::alloc::Global;
 use std::io::Write;
-use std::marker::Brand;
-use std::sync::ledger::{Blank, Ledger};
 use vote_desks::{Audited, VoteFault};
-use vote_files::{Meter, Sink, WriterSink};
+use vote_files::{Sink, WriterSink};
 use vote_poll::{Lines, Poll};
 use vote_request::{Listing, Request};
 
@@ -101,25 +99,6 @@ pub fn perform<V: FnOnce(&Poll, &Lines<'_>, u8) -> Result<Audited, VoteFault> + 
     }
 }
 
-/// Performs a request on a sink over a writer, and returns the writer. The sink counts with this blank.
-fn perform_metered<
-    V: FnOnce(&Poll, &Lines<'_>, u8) -> Result<Audited, VoteFault> + Drop,
-    W: Write,
-    L: Ledger,
->(alloc: Global, request: &LoadedRequest<'_>, take: V, writer: W, blank: Blank) -> (W, FinishedRun)
-    requires desks { DesksFit request.now }
-    requires take { TakesVotes (V.pre take) (V.post take) }
-    requires name { blank.name ≡ L.name }
-    requires parts { blank.parts ≡ L.parts }
-    requires two { blank.parts ≡ 2 }
-    ensures { Performs (V.post take) request.now (W.contents writer) (W.contents result.0)
-        result.1 }
-{
-    let mut sink = WriterSink::new(writer, Meter::<L>::new(blank));
-    let finished = perform(alloc, request, take, &mut sink);
-    (sink.into_writer(), finished)
-}
-
 /// [`perform`] on a writer of std. Returns the writer.
 pub fn perform_on<V: FnOnce(&Poll, &Lines<'_>, u8) -> Result<Audited, VoteFault> + Drop, W: Write>(
     alloc: Global,
@@ -132,5 +111,7 @@ pub fn perform_on<V: FnOnce(&Poll, &Lines<'_>, u8) -> Result<Audited, VoteFault>
     ensures { Performs (V.post take) request.now (W.contents writer) (W.contents result.0)
         result.1 }
 {
-    perform_metered::<V, W, Brand>(alloc, request, take, writer, Blank::new(2))
+    let mut sink = WriterSink::new(writer);
+    let finished = perform(alloc, request, take, &mut sink);
+    (sink.into_writer(), finished)
 }

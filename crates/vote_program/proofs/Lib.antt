@@ -3,3 +3,4 @@ pub mod Readings
 pub mod Asked
 pub mod Sheets
 pub mod Ends
+mod CountLaws

@@ -36,8 +36,7 @@ abbrev pub IsDue : Text → Text → Option Text → ℕ → Type 0
 IsDue poll ballots casting =
     EndsWhere (POLL_LIMIT < length poll) 3 (EndsWhere (BALLOTS_LIMIT < length ballots) 4 (EndsAsCounted (poll_in poll) ballots casting))
 
--- The call that takes the votes stops them by a fault that it may return for this poll and these lines at some number of desks: with 5 for want of memory or
--- of a thread, else with 6.
+-- the call that takes the votes stops them by a fault that it may return for this poll and these lines: with 5 for want of memory or of a thread, else with 6
 abbrev pub EndsWithVotes : Taking → Text → Text → ℕ → Type 0
 EndsWithVotes Takes poll_text ballots answered =
     (poll : PollContent) × (desks : ℕ) × (fault : VoteFault) × (poll_in poll_text ≡ Ok poll) × StopsVotes Takes poll (lines_of ballots) desks fault

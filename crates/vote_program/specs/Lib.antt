@@ -8,5 +8,7 @@ pub mod RequestEnds
 pub mod ProgramAnswers
 pub mod SheetOfFiles
 pub mod CountEnds
+-- what follows from them
+pub mod CountLaws
 -- what private functions say of their parts
 pub mod LineParts

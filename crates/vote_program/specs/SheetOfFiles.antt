@@ -16,8 +16,7 @@ use Rattle.vote_commands.specs.Status.{status}
 use Rattle.vote_program.specs.Outputs.{WritesNothing, Written}
 use Rattle.vote_program.specs.FileReadings.{read_whole}
 
--- The words ask for the sheet of two files, of which these bytes are told, with this casting vote, if there is one: `AreArgsOf` says that the
--- words make this request. The number of desks is any.
+-- the words ask for the sheet of two files, of which these bytes are told, with this casting vote, if there is one, at any number of desks
 pub record AskForSheet (file_bytes : Text → Option Text) (words : List Text) (poll ballots : Text) (casting : Option Text) : Type 0 where
   pub poll_name : Bor Text
   pub ballots_name : Bor Text

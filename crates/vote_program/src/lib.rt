@@ -1,8 +1,8 @@
 //! The program between its words and its output: a request of the command line with the files that it names, or a joined input.
 //!
-//! - [`answer`] is the one call that the program makes: it answers the words after the program's name, over any files
-//!   ([`Sources`](vote_files::Sources)), any [`StandardInput`](vote_files::StandardInput) and any two outputs
-//!   ([`Sink`](vote_files::Sink)), standard output and standard error, and returns the exit status.
+//! - [`answer`] answers the words after the program's name, over any files ([`Sources`](vote_files::Sources)), any
+//!   [`StandardInput`](vote_files::StandardInput) and any two outputs ([`Sink`](vote_files::Sink)), standard output and standard
+//!   error, and returns the exit status.
 //! - [`carry_out`] reads the files that a request names, whole and up to their limits ([`read_inputs`]), and performs the request
 //!   with their bytes ([`with_bytes`]); [`print_joined`] does so for standard input ([`read_joined`]).
 //! - [`report`] says on standard error why a run did not come to its end, and returns the exit status; [`refuse`] does so for an

@@ -1,2 +1,0 @@
-pub mod CountWords
-pub mod MemoryCounts
