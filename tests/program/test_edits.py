@@ -72,7 +72,7 @@ def test_edits_of_one_body_are_apart():
         edit("caller", *WRONG_CALLER),
     ]
     batches, alone = edits.batches_of(tried, {"src/lib.rt": SOURCE})
-    assert [names(batch.edits) for batch in batches] == [
+    assert [names(batch.functions) for batch in batches] == [
         ["apart/called", "apart/caller"],
         ["apart/other"],
     ]
@@ -82,7 +82,6 @@ def test_edits_of_one_body_are_apart():
 @pytest.mark.parametrize(
     "why, tried",
     [
-        ("it names no goal", edit("a", "few + 1", "few + 2", "one_more", None)),
         ("it changes a clause", edit("a", "t ≤ 10", "t ≤ 11", "at_most_ten", "returns")),
         ("it changes what is in no function", edit("a", "◌≤◌, ", "", "one_more", "returns")),
         (
@@ -163,6 +162,17 @@ def test_refused_by_an_answer():
     assert found == ["apart/caller"]
 
 
+def test_an_edit_without_goals_is_refused_at_any_of_its_function():
+    batch = batch_of(edit("called", *WRONG_CALLED), edit("caller", *WRONG_CALLER[:3], None))
+    caller = list(batch.functions)[1]
+
+    def found(*lines):
+        return edits.refused_in(batch, SEED, 1, "\n".join([*lines, "logic=not-proved", ""]))
+
+    assert found(CALLED, CALLER)[caller] == {"one_more": {"returns"}}
+    assert caller not in found(CALLED, f"fn apart::one_more: no proof: {BY_CALL}")
+
+
 def test_an_answer_that_names_what_is_gone_refuses_nothing():
     error = "./proofs/one_more/Answers.antt:8:23: error: `returns`: it has no field `few`"
     assert refused(CALLED, error, "fn apart::one_more: not proved") == ["apart/called"]
@@ -236,6 +246,6 @@ def test_a_wrong_and_a_right_body_change_nothing_of_each_other(tmp_path):
     proved = prover.check(trial.crate, {}, trial.seed)
     assert proved.returncode == 0, proved.stdout
     batches, alone = edits.batches_of(tried, {"src/lib.rt": SOURCE})
-    assert ([len(batch.edits) for batch in batches], alone) == ([2, 2, 2], [])
+    assert ([len(batch.functions) for batch in batches], alone) == ([2, 2, 2], [])
     left = [names(trial.try_batch(proved.stdout, batch)) for batch in batches]
     assert left == [["apart/1-right-caller"], ["apart/2-right-called"], []]

@@ -24,8 +24,6 @@ GOAL = re.compile(r"`([^`]+)`")
 # an error, of which those in proofs name their goal, and what it says of a name that is gone
 ERROR = re.compile(r"(?:note: )?(?:\./)?(\S+?):\d+:\d+: error: (?:`([^`]+)`: )?(.*)")
 ONLY_A_NAME = re.compile(r"has no field|is not in scope|has no `|was not admitted")
-# stands for the goal of such an error, which says little of a contract: no edit names it
-A_NAME_IS_GONE = "a name is gone"
 # what it says of an answer that cites one with an error
 UNCHECKED = re.compile(r"\d+ declarations? that depends? on `.*`, which was rejected, .*")
 # these functions come and go with the uses of their type
@@ -33,6 +31,10 @@ DROPS = re.compile(r".*\+Destruct::drop")
 
 # the goals that are open, by their function
 Goals = dict[str, frozenset[str]]
+
+
+class Void(Exception):
+    """Why the output of a check says nothing of the edits in it."""
 
 
 @dataclasses.dataclass(frozen=True)
@@ -81,6 +83,13 @@ def lines_of(goals: Goals) -> list[str]:
 
 def words_of(goals: Goals) -> str:
     return ", ".join(line.removeprefix("# refused at ") for line in lines_of(goals))
+
+
+def record(edit: Edit, goals: Goals) -> None:
+    """Writes into the edit at which goals it is refused."""
+    lines = edit.file.read_text().splitlines()
+    kept = [line for line in lines if not REFUSED_AT.fullmatch(line)]
+    edit.file.write_text("\n".join([*kept, *lines_of(goals), ""]))
 
 
 # ---------------------------------------------------------------- which edits fit one check
@@ -153,7 +162,7 @@ def changed_by(
             return None
         functions.add(around[0].name)
         found[path] = text.replace(old, new)
-    if not all(any(name.fullmatch(goal) for name in functions) for goal in edit.goals):
+    if not all(does_match(functions, function) for function in edit.goals):
         return None
     return found, functions
 
@@ -163,20 +172,29 @@ class Batch:
 
     def __init__(self, texts: dict[str, str]) -> None:
         self.texts = texts
-        self.edits: list[Edit] = []
-        self.functions: set[re.Pattern[str]] = set()
-        self.goals: Goals = {}
+        # how the prover names the functions that each edit changes
+        self.functions: dict[Edit, set[re.Pattern[str]]] = {}
 
     def take(self, edit: Edit) -> bool:
         """Takes the edit if it fits beside those that are there."""
         changed = changed_by(edit, self.texts)
-        if changed is None or changed[1] & self.functions or edit.goals.keys() & self.goals.keys():
+        if changed is None or any(changed[1] & names for names in self.functions.values()):
             return False
-        self.texts = changed[0]
-        self.functions |= changed[1]
-        self.goals |= edit.goals
-        self.edits.append(edit)
+        self.texts, self.functions[edit] = changed
         return True
+
+    def owner(self, function: str) -> Edit:
+        """The edit that changes this function."""
+        owners = [edit for edit, names in self.functions.items() if does_match(names, function)]
+        if len(owners) > 1:
+            owners = [edit for edit in owners if function in edit.goals]
+        if len(owners) != 1:
+            raise Void(f"goals of {function} are open, which {len(owners)} edits change")
+        return owners[0]
+
+
+def does_match(names: Iterable[re.Pattern[str]], function: str) -> bool:
+    return any(name.fullmatch(function) for name in names)
 
 
 def batches_of(edits: Iterable[Edit], texts: dict[str, str]) -> tuple[list[Batch], list[Edit]]:
@@ -184,7 +202,7 @@ def batches_of(edits: Iterable[Edit], texts: dict[str, str]) -> tuple[list[Batch
     batches: list[Batch] = []
     alone = []
     for edit in edits:
-        if not edit.goals or changed_by(edit, texts) is None:
+        if changed_by(edit, texts) is None:
             alone.append(edit)
         elif not any(batch.take(edit) for batch in batches):
             batches.append(Batch(texts))
@@ -193,10 +211,6 @@ def batches_of(edits: Iterable[Edit], texts: dict[str, str]) -> tuple[list[Batch
 
 
 # ---------------------------------------------------------------- what the prover says
-class Void(Exception):
-    """Why the output of a check says nothing of the edits in it."""
-
-
 def functions_in(output: str) -> set[str]:
     """The functions that have a line in the output, but those that drop a value."""
     found = (FUNCTION.fullmatch(line) for line in output.splitlines())
@@ -212,13 +226,15 @@ def open_goals(status: int, output: str) -> Goals:
     if status != 1 or lines[-1] != "logic=not-proved":
         raise Void(f"the check ended with status {status} and the line {lines[-1]!r}")
     goals = goals_of_errors(lines)
+    explained = set(goals)
     refused = set()
     for line in lines:
         found = FUNCTION.fullmatch(line)
         if found and found[2] != "proved":
-            refused.add(found[1])
-            goals[found[1]].update(goals_of_reasons(found[2]))
-            if not goals[found[1]] and not CALLS.search(found[2]):
+            function = found[1]
+            refused.add(function)
+            goals[function].update(goals_of_reasons(found[2]))
+            if not goals[function] and function not in explained and not CALLS.search(line):
                 raise Void(f"nothing says why: {line}")
     if strays := goals.keys() - refused:
         raise Void(f"an error is in the proof of {min(strays)}, but no line says so of it")
@@ -226,7 +242,10 @@ def open_goals(status: int, output: str) -> Goals:
 
 
 def goals_of_errors(lines: list[str]) -> dict[str, set[str]]:
-    """The goals whose proofs by hand have errors, by the function."""
+    """The goals whose proofs by hand have errors, by the function.
+
+    An error that names what is gone says little of the contract, and opens no goal.
+    """
     goals: dict[str, set[str]] = collections.defaultdict(set)
     for line in lines:
         error = ERROR.match(line)
@@ -238,9 +257,9 @@ def goals_of_errors(lines: list[str]) -> dict[str, set[str]]:
         is_unchecked = UNCHECKED.fullmatch(error[3])
         if folder != "proofs" or not error[2] and not is_unchecked:
             raise Void(line)
-        if not is_unchecked:
-            is_name = ONLY_A_NAME.search(error[3])
-            goals["::".join(function)].add(A_NAME_IS_GONE if is_name else error[2])
+        of_function = goals["::".join(function)]
+        if not is_unchecked and not ONLY_A_NAME.search(error[3]):
+            of_function.add(error[2])
     return goals
 
 
@@ -254,18 +273,18 @@ def goals_of_reasons(reasons: str) -> Iterator[str]:
             raise Void(f"it says of a function: {reason}")
 
 
-def refused_in(batch: Batch, seed: str, status: int, output: str) -> list[Edit]:
-    """The edits of the batch that a check refused at their goals.
+def refused_in(batch: Batch, seed: str, status: int, output: str) -> dict[Edit, Goals]:
+    """The edits of the batch that a check refused, and at which goals.
 
+    These are the goals that the edit names; if it names none, any of the functions that it changes.
     `seed` is what a check of the crate as it is has said.
     """
-    goals = open_goals(status, output)
+    open_in = open_goals(status, output)
     if lost := functions_in(seed) - functions_in(output):
         raise Void(f"the function {min(lost)} has no line")
-    if strange := goals.keys() - batch.goals.keys():
-        raise Void(f"goals of the function {min(strange)} are open, and no edit says so")
-    return [
-        edit
-        for edit in batch.edits
-        if all(goals.get(function) == names for function, names in edit.goals.items())
-    ]
+    found: dict[Edit, Goals] = {edit: {} for edit in batch.functions}
+    for function, goals in open_in.items():
+        found[batch.owner(function)][function] = goals
+    return {
+        edit: goals for edit, goals in found.items() if goals and goals == (edit.goals or goals)
+    }
