@@ -10,6 +10,9 @@ import re
 import typing
 from collections.abc import Iterable, Iterator
 
+# what `tests/edits` prints once `rt ci` has ended
+EDITS_LEFT = "== the edits that are left"
+
 REFUSED_AT = re.compile(r"# refused at (\S+) of (\S+)")
 # how `rt fmt` lays out the head of a function, but a `const fn`, which constants may call, and of
 # an impl, with its type
