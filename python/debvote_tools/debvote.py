@@ -48,8 +48,8 @@ class Finding(NamedTuple):
 
 
 class Findings(NamedTuple):
-    """What `explain` says of each refused line, how many electors have a ballot, and whether the lines
-    look like a table. To debvote a line is late after the poll's `last_envelope`, which no
+    """What `explain` says of each refused line, how many electors have a ballot, and whether the
+    lines look like a table. To debvote a line is late after the poll's `last_envelope`, which no
     poll of an election has.
     """
 

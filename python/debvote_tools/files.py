@@ -1,5 +1,5 @@
-"""Files that are read up to a limit, and written whole or not at all; what is no plain text; and the
-lock of a folder.
+"""Files that are read up to a limit, and written whole or not at all; what is no plain text; and
+the lock of a folder.
 """
 
 import contextlib
@@ -119,8 +119,8 @@ def sync_folder(folder: pathlib.Path) -> None:
 
 @contextlib.contextmanager
 def naming(place: pathlib.Path) -> Iterator[None]:
-    """Whatever is written within has this name in an error: what is made beside its place has one that
-    nobody knows, and a full disk names no file.
+    """Whatever is written within has this name in an error: what is made beside its place has one
+    that nobody knows, and a full disk names no file.
     """
     try:
         yield
@@ -163,8 +163,8 @@ def real_place(place: pathlib.Path) -> pathlib.Path:
 
 @contextlib.contextmanager
 def folder_beside(place: pathlib.Path, prefix: str) -> Iterator[pathlib.Path]:
-    """A new folder beside a place. A run holds the lock of its own, so what is not locked is of a run
-    that was killed.
+    """A new folder beside a place. A run holds the lock of its own, so what is not locked is of a
+    run that was killed.
     """
     with naming(place):
         made = temporary_folder(real_place(place).parent, prefix)
@@ -194,8 +194,8 @@ def remove_left(place: pathlib.Path, prefix: str) -> None:
 
 @contextlib.contextmanager
 def whole_folder(place: pathlib.Path, file: str = "") -> Iterator[pathlib.Path]:
-    """A new folder, which takes its place when all is in it, or of which one file does. Nothing else is
-    left, nor what killed runs have left beside it.
+    """A new folder, which takes its place when all is in it, or of which one file does. Nothing
+    else is left, nor what killed runs have left beside it.
     """
     with naming(place), folder_beside(place, NEW) as made:
         try:
@@ -271,8 +271,8 @@ PUBLIC, OWN = (0o755, 0o644), (0o700, 0o600)
 
 
 def remove_left_in(folder: pathlib.Path) -> None:
-    """Removes what killed runs have left in a folder, files and folders. The caller has a lock, so that
-    no other run makes some there now.
+    """Removes what killed runs have left in a folder, files and folders. The caller has a lock, so
+    that no other run makes some there now.
     """
     for left in folder.glob(f"{TEMPORARY}*"):
         if left.is_dir():
@@ -287,8 +287,8 @@ def write_made(
     modes: tuple[int, int],
     outdated: Collection[str] = (),
 ) -> list[pathlib.Path]:
-    """Writes the files that are missing or differ, and returns them. Outdated files are removed, and
-    what killed runs left, such as half of the slips.
+    """Writes the files that are missing or differ, and returns them. Outdated files are removed,
+    and what killed runs left, such as half of the slips.
     """
     folder_mode, file_mode = modes
     places = list(dict.fromkeys([folder, *((folder / name).parent for name in files)]))

@@ -42,8 +42,8 @@ def options_in(text):
 
 
 def statuses_of_formats():
-    """The exit statuses of docs/FORMATS.md, with the words where each comes, and those of the help."""
-    return re.findall(r"^\| (\d+) \| (.*) \| (.*) \|$", FORMATS.read_text().partition("\n| status | where |")[2].partition("\n\n")[0], re.MULTILINE)
+    """The exit statuses of docs/FORMATS.md and what each means; the help says the same, but for the words in parentheses."""
+    return re.findall(r"^\| (\d+) \| (.*) \|$", FORMATS.read_text().partition("\n| status | meaning |")[2].partition("\n\n")[0], re.MULTILINE)
 
 
 @functools.cache
@@ -116,7 +116,7 @@ class HelpTest(expecting.Expecting):
         said = output_of(PROGRAM, "--help")
         about = re.search(r"the line above its usage is `(.*?)`", FORMATS.read_text())
         self.expect("--help: the line above the usage", said.partition("\n\nUsage: ")[0], about[1] if about else None)
-        wanted = [f"{number} {words}" for number, _, words in statuses_of_formats()]
+        wanted = [f"{number} {re.sub(r' [(].*[)]$', '', words)}" for number, words in statuses_of_formats()]
         found = [" ".join(line.split()) for line in said.partition("\nExit statuses:\n")[2].splitlines()]
         self.expect("--help: the exit statuses", (found, len(wanted)), (wanted, 11))
 
@@ -156,7 +156,7 @@ class PagesTest(expecting.Expecting):
             line = re.search(rf"^debvote {command}\n(.*?)(?=^\.br|\Z)", synopsis, re.MULTILINE | re.DOTALL)
             self.expect(f"debvote.1: synopsis of {command}", sorted(re.findall(OPTION, line[1] if line else "")), wanted)
         statuses = re.findall(r"^\.TP\n(\d+)\n((?:(?!\.TP\n).*\n)*)", part_of(page, "EXIT STATUS"), re.MULTILINE)
-        wanted = [(number, sentence(words.replace("`", ""))) for number, words, _ in statuses_of_formats()]
+        wanted = [(number, sentence(words.replace("`", ""))) for number, words in statuses_of_formats()]
         self.expect("debvote.1: exit statuses", [(number, sentence(as_words(text))) for number, text in statuses], wanted)
 
     def test_made_pages_and_completions(self):

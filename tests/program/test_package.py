@@ -23,7 +23,7 @@ TOOLS = ["dpkg-deb", "objdump", "strip", "msgfmt"]
 PACKED = ["packaging", "bin", "python", "man", "completions", "docs", "examples", "CHANGELOG.md", "SECURITY.md", "HANDLES"]
 
 # the files that a user looks for, each in its folder
-DOCS = "SECRETARY SECRET-VOTES SPECIAL-CASES READING-A-SHEET FORMATS DEFINITIONS"
+DOCS = "SECRETARY SECRET-VOTES SPECIAL-CASES READING-A-SHEET FORMATS INSIDE DEFINITIONS"
 WANTED = {
     "bin": "debvote debvote-publish debvote-election",
     "share/man/man1": "debvote.1.gz debvote-publish.1.gz debvote-election.1.gz",
@@ -31,7 +31,7 @@ WANTED = {
     "share/zsh/vendor-completions": "_debvote _debvote-election",
     "share/fish/vendor_completions.d": "debvote.fish debvote-election.fish",
     "share/debvote": "recount.py READING-A-SHEET.md",
-    "share/debvote/debvote_tools": "debvote.py result/command_line.py cli/command_line.py locale/de.mo",
+    "share/debvote/debvote_tools": "debvote.py result/command_line.py commands/command_line.py locale/de.mo",
     "share/doc/debvote": "copyright SECURITY.md reference.py recount.js changelog.gz examples/plain_win/poll.toml",
     "share/doc/debvote/docs": " ".join([*(f"{name}.md" for name in DOCS.split()), "claim.html claim-other.html claim-faults.html"]),
 }

@@ -34,10 +34,10 @@ CHOOSE = """((name, ranks) => {
     for (const button of rank.querySelectorAll("input")) button.checked = button.value === ranks[place];
     tell(rank, ranks[place]);
   });
-  const words = [...document.querySelectorAll("#Ballot li")];
+  const words = [...document.querySelectorAll("#Ballot li:has(> bdi)")].filter((part) => !part.closest("#Lines"));
   const text = (id) => document.getElementById(id)?.textContent ?? "", node = (id) => document.getElementById(id);
   const seen = (id) => Boolean(node(id)?.checkVisibility());
-  return { line: text("Line").replaceAll("\\n", " "), said: text("Name-said"), missing: text("Missing"),
+  return { line: text("Line").replaceAll("\\n", " "), said: text("Name-said"), missing: text("Missing"), answered: text("Answered"),
     words: words.map((part) => `${part.querySelector("b").textContent} {${part.querySelector("bdi").dataset.option}}`).join(", "),
     names: Object.fromEntries(words.map((part) => part.querySelector("bdi")).map((part) => [part.dataset.option, part.textContent])),
     suggested: [...document.querySelectorAll("#Name-said button")].map((button) => button.textContent),

@@ -8,7 +8,7 @@ import pathlib
 import re
 import shutil
 
-from debvote_tools.poll.box import personal_link
+from debvote_tools.call.box import personal_link
 
 from tests.support import elections, sealing
 from tests.support.web_host import HOST_OFF, Answer, Host, clock_of_php, request_of

@@ -13,7 +13,7 @@ from unittest import mock
 
 from debvote_tools.book import queries
 from debvote_tools.book.book import Book, open_book
-from debvote_tools.cli import command_line
+from debvote_tools.commands import command_line
 
 from tests.support import elections
 from tests.support.letters import OTHER_RANKS as OTHER_RANKS, RANKS as RANKS, mailbox

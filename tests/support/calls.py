@@ -3,7 +3,7 @@
 import dataclasses
 import datetime
 
-from debvote_tools.poll.call import CallData
+from debvote_tools.call.call import CallData
 from debvote_tools.poll.questions import Questions
 from debvote_tools.poll.sealed import SealedPoll, with_roll
 from debvote_tools.text.language import language_of

@@ -35,7 +35,7 @@ from tests.support.program import ROOT
 
 # the modules that the launchers call
 LAUNCHERS = {
-    str(ROOT / "bin" / "debvote-election"): "debvote_tools.cli.command_line",
+    str(ROOT / "bin" / "debvote-election"): "debvote_tools.commands.command_line",
     str(ROOT / "bin" / "debvote-publish"): "debvote_tools.result.command_line",
 }
 

@@ -71,7 +71,7 @@ def marked_german() -> Iterator[None]:
 
 def forget_german() -> None:
     """Forgets what this process has said in German: languages and templates keep some of it. No template is read again, which takes a while."""
-    for package, is_page in itertools.product(("poll", "result", "outbox"), (True, False)):
+    for package, is_page in itertools.product(("call", "result", "outbox"), (True, False)):
         templates = templates_of(f"debvote_tools.{package}", language_of("de"), is_page=is_page)
         vars(templates.globals["say"].__self__).pop("and_last", None)
         for template in templates.cache.values():

@@ -1,6 +1,5 @@
 """What the tests of debvote-publish share: a folder for each test, and the programs, which run as a user runs them."""
 
-import dataclasses
 import os
 import pathlib
 import sys
@@ -93,9 +92,11 @@ class ResultPageTest(PublishTest):
         """A room with the result of the files of another one, with what an election adds to them."""
         programs = PROGRAM.parent
         files = {"poll": str(room / "poll.toml"), "ballots": str(room / "ballots")}
-        two = command_line.facts_of(command_line.Arguments(**files, casting=None, desks=1, language="en", target="result"), programs)
+        facts = command_line.facts_of(command_line.Arguments(**files, casting=None, desks=1, language="en", target="result"), programs)
+        of_vote = {key: changes.pop(key) for key in [*changes] if key in facts.vote._fields}
+        vote = facts.vote._replace(**of_vote)
         made_room = plain_room(self.scratch / name)
         with folder.beside(made_room / "result") as new:
-            folder.filled(new.folder, {"": dataclasses.replace(two, **changes)}, programs, is_forced=True)
+            folder.filled(new.folder, vote, [facts._replace(vote=vote, **changes)], programs, is_forced=True)
             new.take_place(made_room / "result")
         return made_room

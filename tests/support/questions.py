@@ -8,7 +8,7 @@ import tomllib
 from collections.abc import Iterable, Mapping, Sequence
 from typing import NamedTuple
 
-from debvote_tools.book.election import Election
+from debvote_tools.election import Election
 from debvote_tools.text.language import language_of
 
 from tests.support.called import LettersTest

@@ -16,9 +16,9 @@ from cryptography.hazmat.primitives.asymmetric import ec
 from cryptography.hazmat.primitives.ciphers.aead import AESGCM
 from cryptography.hazmat.primitives.kdf.hkdf import HKDF
 
+from debvote_tools.call.box import proof_digest
+from debvote_tools.call.sealed_ballots import ORDER, key_pair
 from debvote_tools.files import sha256_of
-from debvote_tools.poll.box import proof_digest
-from debvote_tools.poll.sealed_ballots import ORDER, key_pair
 
 CURVE = ec.SECP256R1()
 # of a ballot on four options
@@ -61,7 +61,7 @@ def inside(line: str, link: str, sent: str) -> str:
 
 
 def record(mark: str, link: str, number: int, time_: str, text: str) -> str:
-    """The record of what was sealed, as the host keeps it if it arrived at this time, as FORMATS has it."""
+    """The record of what was sealed, as the host keeps it if it arrived at this time, as INSIDE has it."""
     when = datetime.datetime.fromisoformat(time_)
     return (
         f"From box@page.invalid {when:%a %b %d %H:%M:%S %Y}\n"

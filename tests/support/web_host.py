@@ -20,7 +20,7 @@ import unittest.mock
 from collections.abc import Callable, Iterable, Mapping, Sequence
 from typing import NamedTuple
 
-from debvote_tools.poll.box import asking_word, page_of, third_part, records_file, script_of
+from debvote_tools.call.box import asking_word, page_of, records_file, script_of, third_part
 
 from tests.support import sealing
 

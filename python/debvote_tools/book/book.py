@@ -21,8 +21,8 @@ from debvote_tools.book.machine_note import MachineNote, Note, machine_of
 from debvote_tools.cli.console import ENDED
 from debvote_tools.cli.faults import Fault, Status, bad_words, kept_in
 from debvote_tools.files import read_at_most, uninterrupted, whole_folder
-from debvote_tools.poll.announced import address_in
 from debvote_tools.text import times
+from debvote_tools.text.addresses import address_in
 from debvote_tools.text.ballots import part_of
 
 NAME = "election.db"
@@ -38,8 +38,8 @@ RESTORED = "it was restored, as the secretary says"
 APPLICATION_ID, VERSION = 0x64627674, 6
 PROGRAMS = {3: "debvote-election 2.0.0", 4: "debvote-election 2.1.0"}
 
-# how a database of SQLite begins, how many bytes say what it is, and where these have the version and
-# the application id
+# how a database of SQLite begins, how many bytes say what it is, and where these have the version
+# and the application id
 SQLITE, HEAD = b"SQLite format 3\0", 72
 VERSION_AT, ID_AT = slice(60, 64), slice(68, 72)
 
@@ -48,8 +48,8 @@ SETTINGS = "foreign_keys=ON recursive_triggers=ON journal_mode=DELETE synchronou
 # what became of each envelope, which every connection says for itself
 VIEWS = pathlib.Path(__file__).with_name("views.sql")
 
-# the views of the book that hold lines, as they are for one question: `views.sql` reads them then. Their
-# `answer` is debvote's, why it refuses the line; `ballot` has refused lines, too
+# the views of the book that hold lines, as they are for one question: `views.sql` reads them then.
+# Their `answer` is debvote's, why it refuses the line; `ballot` has refused lines, too
 ONE_QUESTION = """CREATE TEMP VIEW {view} AS SELECT * FROM (
   SELECT envelope, act, elector, part_of(line, '{label}') AS line, source, letter, place, time, late, answer, struck FROM main.{view}
 ) WHERE line IS NOT NULL"""
@@ -79,18 +79,19 @@ ActName = (
 # given. `letters` and `lines` are how many came; of set aside, put back and enter their numbers
 #   new: language
 #   roll, addresses: electors, how many; codes: codes, how many, and on_roll
-#   call, extend, announce: to, to_name, at, as the command line names them; box, names,
-#     signed, keyring, codes_on_roll, quorum_votes; call, extend: until, zone
+#   call, extend, announce: to, to_name, at, as the command line names them; box, names, signed,
+#     keyring, codes_on_roll, quorum_votes; call, extend: until, zone
 #   call, announce, publish: agreed, the checksums of texts that a secret vote may make public
 #   take back: call, its act; codes, how many have lapsed
-#   letters: letters, and box, what the box of the web host had; add: files, lines, letters, unsigned, and passed_over, how many came before;
-#     desk: lines
+#   letters: letters, and box, what the box of the web host had; add: files, lines, letters,
+#     unsigned, and passed_over, how many came before; desk: lines
 #   add, desk: came_before_close, after reopen
 #   set aside, put back: letters; enter: letters, and lines, empty if the ballot was typed
 #   undo: act, that it takes back; strike: envelope
-#   close: questions, by label what it fixes of each (`Fixed`); early; left, the letters that had arrived in time and wait, and
-#     waiting, how many these are; after_end and before_call, how many others wait; replaced_in_time, how many late lines were
-#     entered again since the close before in place of other ballots in time
+#   close: questions, by label what it fixes of each (`Fixed`); early; left, the letters that had
+#     arrived in time and wait, and waiting, how many these are; after_end and before_call, how many
+#     others wait; replaced_in_time, how many late lines were entered again since the close before
+#     in place of other ballots in time
 #   publish: words, casting, ended, how each question did by its label, checksums, doubts, left
 #   letters out: kind, letters, because; letter sent: kind, server, user
 #   moved: why; noted, the act that was noted, and there, the one that is there
@@ -216,8 +217,8 @@ class Book:
 
     @contextlib.contextmanager
     def question(self, label: str) -> Iterator[None]:
-        """Queries within see one question alone: of each line the part that answers it, if one does.
-        Within one only the empty label is seen alone, and nothing is written.
+        """Queries within see one question alone: of each line the part that answers it, if one
+        does. Within one only the empty label is seen alone, and nothing is written.
         """
         views, before = VIEWS_OF_LINES if label else (), self.label
         with sqlite_faults(self.path):
@@ -299,8 +300,8 @@ class Book:
         return MachineNote(self.machine, self.path.resolve())
 
     def note_seen(self, *, is_moved: bool = False) -> None:
-        """Notes the last act of the book that this machine knows: nobody can remove it unnoticed. A note
-        that can't be written stays at an earlier act, as after a kill.
+        """Notes the last act of the book that this machine knows: nobody can remove it unnoticed. A
+        note that can't be written stays at an earlier act, as after a kill.
         """
         with contextlib.suppress(Fault, OSError):
             if is_moved or self.strangeness() is None:

@@ -102,8 +102,8 @@ def digest_of(connection: sqlite3.Connection, before: str, act: Sequence[object]
 def digest_over(
     before: str, line: bytes, by_table: Iterable[tuple[str, Iterable[tuple[Any, ...]]]]
 ) -> str:
-    """The digest over the one before, the line of an act, and by table its rows, each of which begins
-    with its line.
+    """The digest over the one before, the line of an act, and by table its rows, each of which
+    begins with its line.
     """
     digest = hashlib.sha256(before.encode() + b"\n" + line)
     for table, rows in by_table:
@@ -129,8 +129,9 @@ def damage(connection: sqlite3.Connection) -> list[str]:
 
 
 def break_in(connection: sqlite3.Connection, since: int | None = None) -> str | None:
-    """The first act, from one on if it is given, at which the chain is broken, and how: it is not as its
-    digest and the act before say, or there are rows of an act that there is not. None if it is whole.
+    """The first act, from one on if it is given, at which the chain is broken, and how: it is not
+    as its digest and the act before say, or there are rows of an act that there is not. None if it
+    is whole.
     """
     words = f"SELECT coalesce(max(digest), '{BEGINNING}') FROM {ACT} WHERE act = ? - 1"
     [(before,)] = connection.execute(words, (since,))
@@ -149,8 +150,8 @@ def break_in(connection: sqlite3.Connection, since: int | None = None) -> str | 
 def acts_in(
     connection: sqlite3.Connection, table: str, since: int | None
 ) -> Iterator[tuple[int, str, Iterator[tuple[Any, ...]]]]:
-    """The acts that have rows in a table, each with the table and the rows: line, the digest if the row
-    is that of the act, and act.
+    """The acts that have rows in a table, each with the table and the rows: line, the digest if the
+    row is that of the act, and act.
     """
     words = query_of(table, "" if since is None else "act >= :act")
     for act, rows in itertools.groupby(connection.execute(words, {"act": since}), key=LAST):
@@ -158,8 +159,8 @@ def acts_in(
 
 
 def query_of(table: str, acts: str = "") -> str:
-    """The rows of all acts, or of these. It reads the table, and no index in place of it: of some acts
-    the index says which rows they are, and the table has to say the same.
+    """The rows of all acts, or of these. It reads the table, and no index in place of it: of some
+    acts the index says which rows they are, and the table has to say the same.
     """
     line, digest = line_of()[table], "digest" if table == ACT else "NULL"
     rows = f"{table} NOT INDEXED ORDER BY act, rowid"

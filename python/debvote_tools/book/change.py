@@ -40,8 +40,8 @@ class Change:
         raise Fault(None, "you did not say yes", "run the command again when you agree")
 
     def is_same_now(self) -> bool:
-        """Within the act, if others came since it was planned: whether it would be planned so again.
-        A plan that asks somebody, or runs a program, is not made there.
+        """Within the act, if others came since it was planned: whether it would be planned so
+        again. A plan that asks somebody, or runs a program, is not made there.
         """
         return False
 
@@ -74,8 +74,8 @@ Planned = TypeVar("Planned", bound=Change)
 
 
 def carried_out(book: Book, plan: Callable[[], Planned]) -> Planned:
-    """Shows what is planned, asks, and does it. If other acts came meanwhile it is planned anew, and
-    shown again if it differs: what was agreed to is done. Returns the last plan.
+    """Shows what is planned, asks, and does it. If other acts came meanwhile it is planned anew,
+    and shown again if it differs: what was agreed to is done. Returns the last plan.
     """
     shown: Planned | None = None
     while True:

@@ -1,10 +1,10 @@
 """What this machine noted of a book: the number and the digest of the last act that it made or saw,
 and how many acts of each name there were, so that an older copy can be told what it lacks.
 
-It lies outside of the election's folder. So a copy of yesterday that is put back, a book that another
-machine went on with, and a book that somebody wrote anew are noticed. It gets its room on the disk
-before an act and its content after the commit, and goes only forward: a kill leaves it at an
-earlier act of the same book, never at one that the book lacks.
+It lies outside of the election's folder. So a copy of yesterday that is put back, a book that
+another machine went on with, and a book that somebody wrote anew are noticed. It gets its room on
+the disk before an act and its content after the commit, and goes only forward: a kill leaves it at
+an earlier act of the same book, never at one that the book lacks.
 """
 
 import contextlib
@@ -20,8 +20,8 @@ from debvote_tools.files import locked, sha256_of, sync_folder
 MACHINE_ID = pathlib.Path("/etc/machine-id")
 MACHINE_DIGITS = 16
 
-# how much longer a note may be than one of act 0 without a digest: a number, a digest, and for each of
-# some twenty names of acts a number
+# how much longer a note may be than one of act 0 without a digest: a number, a digest, and for each
+# of some twenty names of acts a number
 ROOM = 20 + 64 + 20 * 40
 
 

@@ -44,8 +44,8 @@ class OutgoingLetter(NamedTuple):
         return self.state == REFUSED and not self.reply.startswith("4")
 
 
-# the letters of a kind and to an elector, each as it was written last, with its last state; the rows of
-# a letter have its Message-ID, and one to be printed is alone
+# the letters of a kind and to an elector, each as it was written last, with its last state; the
+# rows of a letter have its Message-ID, and one to be printed is alone
 LETTERS = """
 WITH named AS (
   SELECT *, min(sent) OVER (PARTITION BY id) AS first FROM (
@@ -88,20 +88,20 @@ def detail_of(letter: OutgoingLetter) -> str:
     return json.dumps(detail, ensure_ascii=False)
 
 
-# since which act letters to each elector have their own mark of now, and the page of now, as all have
-# since ?1; and of each address of each elector what a server answered last to a letter, with its
-# act, and whether the call went there since then, without the letters of one act. A letter that is only written went out on paper, or by a mail program unless it was for a server
+# since which act letters to each elector have their own mark of now, and the page of now, as all
+# have since ?1; and of each address of each elector what a server answered last to a letter, with
+# its act, and whether the call went there since then, without the letters of one act. A letter that
+# is only written went out on paper, or by a mail program unless it was for a server
 MARKED = """
 WITH marked AS MATERIALIZED (
   SELECT elector, max(min(act), ?1) AS since FROM elector_state AS state WHERE mark = (
     SELECT mark FROM elector_state AS last WHERE last.elector = state.elector ORDER BY act DESC LIMIT 1
   ) GROUP BY elector
 )"""
-# the letters with which mail servers sent letters of ours back, each with the act that kept its first
-# copy: by a Message-ID of ours in it with the address, by an own mark of now without one; but for those
-# from an address of their elector, and those after which a ballot of this elector came by letter, and is not
-# struck. The order
-# of the tables is that of the join
+# the letters with which mail servers sent letters of ours back, each with the act that kept its
+# first copy: by a Message-ID of ours in it with the address, by an own mark of now without one; but
+# for those from an address of their elector, and those after which a ballot of this elector came by
+# letter, and is not struck. The order of the tables is that of the join
 UNREACHED = f"""
 {MARKED}, ours AS (
   SELECT elector, kind, act, state, since, detail ->> 'address' AS address, detail ->> 'for_act' AS for_act,
@@ -141,8 +141,8 @@ def unreached(book: Book, page: int, call: int, without: int) -> list[tuple[int,
 
 
 def call_addresses(book: Book, call: int) -> dict[str, list[str]]:
-    """The addresses to which letters of the call went, by the names of electors, but for those that a
-    server refused and never took.
+    """The addresses to which letters of the call went, by the names of electors, but for those that
+    a server refused and never took.
     """
     words = (
         "SELECT name, detail ->> 'address' AS address FROM sent JOIN elector USING (elector) "
@@ -156,7 +156,8 @@ def right_since(book: Book, page: int) -> dict[int, int]:
     return dict(book.rows(f"{MARKED} SELECT * FROM marked", page))
 
 
-# a state of an elector, and the next one, which has other addresses, since the call and the last receipt
+# a state of an elector, and the next one, which has other addresses, since the call and the last
+# receipt
 OLD_ADDRESSES = """
 WITH receipt AS (SELECT elector, max(detail ->> 'for_act') AS act FROM sent WHERE kind = 'receipts' GROUP BY elector)
 SELECT elector, address_in(before.mail) AS address FROM elector_state AS before JOIN elector_state AS after USING (elector)

@@ -1,5 +1,5 @@
-"""What is asked of the book, and the rows that acts add: electors, what is sealed, envelopes and their lines, sources, and
-letters that came.
+"""What is asked of the book, and the rows that acts add: electors, what is sealed, envelopes and
+their lines, sources, and letters that came.
 """
 
 import collections
@@ -125,8 +125,8 @@ def last_act_that_sealed(book: Book, name: str) -> int:
 
 # ---- envelopes
 class Envelope(NamedTuple):
-    """A line that was entered, valid or not, in its envelope. The number is the envelope's, which it
-    keeps, and decides: of an elector's valid lines in time the one with the greatest counts.
+    """A line that was entered, valid or not, in its envelope. The number is the envelope's, which
+    it keeps, and decides: of an elector's valid lines in time the one with the greatest counts.
     """
 
     number: int
@@ -164,9 +164,9 @@ NEXT: Final = sys.maxsize
 
 
 class Ballot(NamedTuple):
-    """A ballot that was entered in time and is not struck, or that goes in or is passed over: its time, in
-    whole seconds, its line, whether it came by letter, by how many seconds the clock was behind that
-    gave it, and its envelope.
+    """A ballot that was entered in time and is not struck, or that goes in or is passed over: its
+    time, in whole seconds, its line, whether it came by letter, by how many seconds the clock was
+    behind that gave it, and its envelope.
     """
 
     time: datetime.datetime
@@ -176,7 +176,9 @@ class Ballot(NamedTuple):
     number: int = NEXT
 
     def may_turn(self, other: "Ballot") -> bool:
-        """Whether by the clock of this computer it may stand on the other side of another ballot."""
+        """Whether by the clock of this computer it may stand on the other side of another
+        ballot.
+        """
         ours, theirs = (one.time + datetime.timedelta(seconds=one.behind) for one in (self, other))
         return (self.time < other.time) != (ours < theirs) and differ(self.line, other.line)
 
@@ -191,13 +193,13 @@ class Ballot(NamedTuple):
 
 
 def by_time(ballot: Ballot) -> tuple[datetime.datetime, int]:
-    """The order in which one ballot is later than another: by their times; of the same time, by their
-    envelopes. A letter has the time at which it arrived, or was signed; a line, and a letter of which
-    that is not known, has that of the act that entered it.
+    """The order in which one ballot is later than another: by their times; of the same time, by
+    their envelopes. A letter has the time at which it arrived, or was signed; a line, and a letter
+    of which that is not known, has that of the act that entered it.
 
-    Which ballot counts the envelopes alone decide (`counting` in `views.sql`). So what is entered may
-    not replace a later ballot unless the secretary says so: all who look for one compare by this. Of
-    lines that came in one file, the one above is the older one.
+    Which ballot counts the envelopes alone decide (`counting` in `views.sql`). So what is entered
+    may not replace a later ballot unless the secretary says so: all who look for one compare by
+    this. Of lines that came in one file, the one above is the older one.
     """
     return ballot.time, ballot.number
 
@@ -214,13 +216,15 @@ ARRIVED_AFTER = """letter IN (
   WHERE unixepoch(known ->> 'arrived') + min(0, known ->> 'behind') > unixepoch(?1)
 )"""
 
-# the whole lines of the late ballots whose electors have another ballot in time, each with its envelope
+# the whole lines of the late ballots whose electors have another ballot in time, each with its
+# envelope
 BESIDE_OTHERS = """SELECT envelope.line, other.envelope
 FROM entered AS one JOIN envelope USING (envelope)
 JOIN entered AS other ON other.envelope = (SELECT envelope FROM counting WHERE elector = one.elector)
 WHERE one.late AND one.struck IS NULL AND one.answer IS NULL AND one.line <> other.line"""
 
-# the ballots since the last close that came by no letter, were late before, and replaced another one
+# the ballots since the last close that came by no letter, were late before, and replaced another
+# one
 OVER_OTHERS = """SELECT envelope FROM valid AS again
 WHERE letter IS NULL AND act > (SELECT max(act) FROM act WHERE name = 'close') AND EXISTS (
   SELECT 1 FROM entered AS before WHERE elector = again.elector AND line = again.line
@@ -230,8 +234,8 @@ WHERE letter IS NULL AND act > (SELECT max(act) FROM act WHERE name = 'close') A
   ORDER BY envelope DESC LIMIT 1
 )"""
 
-# those that came in files of lines. If what comes now is not late (?1), a late one did not come: it is
-# entered again
+# those that came in files of lines. If what comes now is not late (?1), a late one did not come: it
+# is entered again
 IN_FILES = (
     "source IS NOT NULL AND letter IS NULL AND envelope NOT IN undone"
     " AND (?1 OR NOT late OR struck IS NOT NULL)"
@@ -318,8 +322,8 @@ def add_envelopes(
 
 
 def entered_by(book: Book, act: int) -> tuple[int, set[int], list[tuple[bytes, str | None]]]:
-    """What an act entered: the number of its first envelope, the electors, and the lines, each with why
-    debvote refuses it.
+    """What an act entered: the number of its first envelope, the electors, and the lines, each with
+    why debvote refuses it.
     """
     words = "SELECT envelope, elector, line, answer FROM envelope WHERE act = ? ORDER BY 1"
     rows = book.rows(words, act)
@@ -361,7 +365,9 @@ class EnteredBallot(NamedTuple):
 
 
 def entered_ballots(book: Book, letters: Sequence[int]) -> dict[int, list[EnteredBallot]]:
-    """The ballots of some letters that were entered, in the order of their envelopes, by the letters."""
+    """The ballots of some letters that were entered, in the order of their envelopes, by the
+    letters.
+    """
     columns = "envelope, CAST(line AS TEXT), late, struck IS NOT NULL, envelope IN undone, envelope IN typed"
     condition = "letter IN (SELECT value FROM json_each(?))"
     words = f"SELECT letter, {columns} FROM entered WHERE {condition} ORDER BY envelope"
@@ -381,7 +387,9 @@ def last_entering_act(book: Book) -> int:
 
 
 def of_electors(electors: Collection[int] | None) -> tuple[str, Sequence[str]]:
-    """The condition that an envelope is of one of these electors, or of anybody, with its values."""
+    """The condition that an envelope is of one of these electors, or of anybody, with its
+    values.
+    """
     if electors is None:
         return "1", ()
     # with the sign SQLite uses no index: to look for the lines of each of many takes longer than to
@@ -411,8 +419,8 @@ def envelopes_of(
 
 
 def ballots_of(book: Book, names: Collection[str]) -> dict[str, list[Ballot]]:
-    """The ballots of some electors by name, in the order `by_time`: those that were entered in time and are
-    not struck. What is late is later than nothing.
+    """The ballots of some electors by name, in the order `by_time`: those that were entered in time
+    and are not struck. What is late is later than nothing.
     """
     # nothing is known of the clock of what came by no letter, or at a time that is not known
     clocks = "SELECT letter, known ->> 'behind' AS behind FROM letter WHERE known ->> 'arrived' IS NOT NULL"
@@ -475,8 +483,8 @@ def numbers(book: Book) -> Numbers:
 
 
 def lines_that_came(book: Book, is_late: bool) -> collections.Counter[bytes]:
-    """How often each line came in a file of lines that no `undo` took back, for lines that are late now,
-    or in time.
+    """How often each line came in a file of lines that no `undo` took back, for lines that are late
+    now, or in time.
     """
     words = f"SELECT line, count(*) FROM entered WHERE {IN_FILES} GROUP BY line"
     return collections.Counter(dict(book.rows(words, is_late)))
@@ -489,14 +497,16 @@ def came_in_files(book: Book, is_late: bool) -> dict[bytes, list[Envelope]]:
 
 
 def late_beside_others(book: Book) -> dict[bytes, int]:
-    """The lines of the late ballots whose electors have a ballot in time with another answer, each with
-    the envelope of this.
+    """The lines of the late ballots whose electors have a ballot in time with another answer, each
+    with the envelope of this.
     """
     return dict(row for _ in each_question_alone(book) for row in book.rows(BESIDE_OTHERS))
 
 
 def late_lines_over_others(book: Book) -> int:
-    """How many late lines were entered again since the last close in place of other ballots in time."""
+    """How many late lines were entered again since the last close in place of other ballots in
+    time.
+    """
     return len({row for _ in each_question_alone(book) for row in book.rows(OVER_OTHERS)})
 
 
@@ -551,9 +561,9 @@ class KeptLetter(NamedTuple):
 
     @property
     def is_unsettled(self) -> bool:
-        """Whether no act has settled what becomes of it: by the rules it waits, goes in or is passed
-        over; after a decision that was taken back, or put back, it waits. One of which ballots were
-        entered may wait, too (`may_wait`).
+        """Whether no act has settled what becomes of it: by the rules it waits, goes in or is
+        passed over; after a decision that was taken back, or put back, it waits. One of which
+        ballots were entered may wait, too (`may_wait`).
         """
         return self.state in UNSETTLED
 
@@ -574,8 +584,8 @@ def kept_digests(book: Book) -> set[tuple[str, bool]]:
 
 
 class KeptRecord(NamedTuple):
-    """A record of the box that came: from which address, its digest, its link and its elector, and when it
-    was sent by their device.
+    """A record of the box that came: from which address, its digest, its link and its elector, and
+    when it was sent by their device.
     """
 
     at: str

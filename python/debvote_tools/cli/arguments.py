@@ -25,7 +25,9 @@ LONGEST_REASON = 2_000
 
 
 class Options:
-    """The values of the options, by their fields. On the class a field has what the parser needs."""
+    """The values of the options, by their fields. On the class a field has what the parser
+    needs.
+    """
 
     # what was not done after a fault. What has no annotation is no option
     nothing = "changed"

@@ -28,8 +28,8 @@ LINES_AT_ONCE = 1_000
 ZONE = contextvars.ContextVar[datetime.tzinfo | None]("zone", default=datetime.UTC)
 # leaves out of a text what is never shown, such as the links with which somebody could vote
 LEAVING_OUT = contextvars.ContextVar[Callable[[str], str]]("leaving out", default=str)
-# whether a terminal alone shows what people wrote, once the acts are read: cron sends by mail what a command
-# says, and in a secret vote with a box ballots come by no mail
+# whether a terminal alone shows what people wrote, once the acts are read: cron sends by mail what
+# a command says, and in a secret vote with a box ballots come by no mail
 FOR_TERMINALS = contextvars.ContextVar[bool]("for terminals", default=False)
 
 
@@ -140,7 +140,9 @@ def typed(question: str) -> bytes | None:
 
 
 def is_yes(question: str) -> bool | None:
-    """Whether the answer is yes; None at the end of the input. After another answer it asks again."""
+    """Whether the answer is yes; None at the end of the input. After another answer it asks
+    again.
+    """
     while (answer := typed(f"{question} [y/n] ")) is not None:
         word = answer.strip().lower()
         if word in (b"y", b"yes", b"n", b"no"):
@@ -169,7 +171,9 @@ KNOWN = {"\r": "\\r", "\n": "\\n", "\t": "\\t"}
 
 
 def written(text: str) -> str:
-    """The text as it is shown, with each character that steers a terminal as its number, such as U+202E."""
+    """The text as it is shown, with each character that steers a terminal as its number, such as
+    U+202E.
+    """
     text = LEAVING_OUT.get()(text)
     return text if text.isprintable() else STEERING.sub(lambda found: number_of(found[0]), text)
 

@@ -7,20 +7,20 @@ import operator
 import re
 from collections.abc import Iterable, Iterator, Mapping, Sequence
 
-from debvote_tools.cli.arguments import demand_reason, flag, given, has_reason, positional
 from debvote_tools.book import queries
 from debvote_tools.book.book import Book, Detail, DoneAct, NewAct
 from debvote_tools.book.change import carried_out
-from debvote_tools.book.election import Election, History
 from debvote_tools.book.queries import Envelope, NewEnvelope
+from debvote_tools.cli.arguments import demand_reason, flag, given, has_reason, positional
 from debvote_tools.cli.console import count_of, is_terminal, is_yes, shown_line, tell, tell_many
 from debvote_tools.cli.faults import Fault, bad_words, stop_at
 from debvote_tools.debvote import TABLE
+from debvote_tools.election import Election, History
 from debvote_tools.grouping import grouped
 from debvote_tools.inbox import entering
+from debvote_tools.inbox.entering import Entry
 from debvote_tools.inbox.given_files import GivenFile, read_files
 from debvote_tools.inbox.lines import MARK, Line, lines_in
-from debvote_tools.inbox.entering import Entry
 from debvote_tools.inbox.option_names import OptionNames
 from debvote_tools.inbox.vote import IN_ORDER, CheckedLine, Vote, replies_to, summary
 from debvote_tools.text.ballots import part_of
@@ -93,8 +93,8 @@ class FileLines:
 
 @dataclasses.dataclass(frozen=True)
 class ComparedLines(FileLines):
-    """The same, compared with the book as it is now: the lines that are new, and those that came before,
-    each with what has happened since, if it no longer counts.
+    """The same, compared with the book as it is now: the lines that are new, and those that came
+    before, each with what has happened since, if it no longer counts.
     """
 
     new: Sequence[CheckedLine]
@@ -127,7 +127,9 @@ def new_lines(vote: Vote, files: Sequence[FileLines], came_before_close: bool | 
 
 
 def without_declined(new: NewLines, arguments: Arguments) -> NewLines:
-    """The same without the late lines of which somebody at a terminal says that they replace none."""
+    """The same without the late lines of which somebody at a terminal says that they replace
+    none.
+    """
     asked = () if arguments.force else new.replacing.items()
     declined = [line for line, words in asked if not is_yes(f"{words}. Enter it?")]
     files = [
@@ -242,9 +244,9 @@ def compared_with_book(
     book: Book, files: Sequence[FileLines], is_late: bool
 ) -> list[ComparedLines]:
     """The files, each with its new lines and those that came before. If n copies of a line came in
-    earlier files, its first n copies in this file are duplicates, whether those were counted, refused
-    or struck; or late, if what comes now is late, too. Files that an `undo` took back do not count. A
-    file that goes in now is an earlier one for the next.
+    earlier files, its first n copies in this file are duplicates, whether those were counted,
+    refused or struck; or late, if what comes now is late, too. Files that an `undo` took back do
+    not count. A file that goes in now is an earlier one for the next.
     """
     copies_before = queries.lines_that_came(book, is_late)
     is_known = any(line.as_entered in copies_before for file in files for line in file.lines)
@@ -282,8 +284,8 @@ def compared_with_book(
 def change_since(
     line: CheckedLine, came: Envelope, since: Mapping[tuple[int, str], tuple[int, bytes]]
 ) -> str | None:
-    """Why a line that came in an envelope no longer counts, by what came `since` and counts, by elector
-    and label; None if it does, or the same ballot does.
+    """Why a line that came in an envelope no longer counts, by what came `since` and counts, by
+    elector and label; None if it does, or the same ballot does.
     """
     for label, became in came.by_question.items():
         own = part_of(line.as_entered, label)

@@ -1,4 +1,4 @@
-"""The commands before the call: `new`, `roll`, `check` and `codes`."""
+"""The commands before the call: `new`, `roll` and `codes`."""
 
 import contextlib
 import operator
@@ -10,29 +10,26 @@ from collections.abc import Iterable, Iterator, Mapping, Sequence
 
 from debvote_tools.book import book, outgoing, queries
 from debvote_tools.book.book import Book, Detail
-from debvote_tools.book.election import (
+from debvote_tools.book.queries import Elector
+from debvote_tools.call.box import SCRIPT, box_files
+from debvote_tools.call.call import current_call
+from debvote_tools.call.draft import NEW_POLL
+from debvote_tools.call.members import AGAIN, NEW_MEMBERS, Member, Roll, label_of, roll_of
+from debvote_tools.call.secret import alias_of, codes_csv, codes_for_roll, new_code, slips
+from debvote_tools.cli.arguments import Acting, Options, flag, option, positional
+from debvote_tools.cli.console import count_of, is_terminal, is_yes, listed, shown_text, tell
+from debvote_tools.cli.faults import Fault, bad_words
+from debvote_tools.commands.check import MAX_NAMED, checked, next_call
+from debvote_tools.election import (
     BOX_SCRIPT,
     CALL,
-    Election,
-    History,
     MEMBERS_FILE,
     POLLS,
     PRIVATE,
+    Election,
+    History,
     Sealed,
 )
-from debvote_tools.book.queries import Elector
-from debvote_tools.cli.arguments import Acting, flag, option, Options, positional
-from debvote_tools.cli.console import (
-    count_of,
-    is_terminal,
-    is_yes,
-    listed,
-    quorum_words,
-    shown_text,
-    tell,
-    wrapped,
-)
-from debvote_tools.cli.faults import Fault, bad_words
 from debvote_tools.files import (
     OWN,
     PUBLIC,
@@ -45,18 +42,11 @@ from debvote_tools.files import (
 )
 from debvote_tools.grouping import several
 from debvote_tools.inbox.lines import Names
-from debvote_tools.inbox.mime import address_key
-from debvote_tools.poll.announced import address_in
-from debvote_tools.poll.box import SCRIPT, box_files
-from debvote_tools.poll.call import current_call
-from debvote_tools.poll.draft import checked, NEW_POLL, tell_checked
-from debvote_tools.poll.members import AGAIN, label_of, Member, NEW_MEMBERS, Roll, roll_of
-from debvote_tools.poll.plain_names import alike, ELECTOR_LIMIT, similar_names
+from debvote_tools.poll.plain_names import ELECTOR_LIMIT, alike, similar_names
 from debvote_tools.poll.questions import LABELS, POLL_FILE, TITLE_FILE, Questions
 from debvote_tools.poll.sealed import new_own_mark
-from debvote_tools.poll.secret import alias_of, codes_csv, codes_for_roll, new_code, slips
+from debvote_tools.text.addresses import address_in, address_key
 from debvote_tools.text.language import ENGLISH, LANGUAGES, Language
-from debvote_tools.text.motions import with_ranks
 
 
 # ---- new
@@ -135,9 +125,6 @@ def make(folder: pathlib.Path, language: str, polls: Mapping[str, bytes]) -> Non
 # `Eve & Dan`, `Eve und Dan`, `Eve/Dan`
 SEVERAL_PEOPLE = re.compile(r"\w ?[&+/] ?\w|\w (?:and|und|et) \w", re.IGNORECASE)
 
-# how many electors a note names
-MAX_NAMED = 200
-
 
 class RollArguments(Acting):
     yes: bool = flag("After the call: take the new addresses and keys without a question")
@@ -175,7 +162,9 @@ def roll(election: Election, arguments: RollArguments) -> None:
 
 
 def linked_anew(history: History, roll: Roll, name: str | None) -> list[Member]:
-    """The elector of this name, who gets another link. Stops where nobody has one that could be replaced."""
+    """The elector of this name, who gets another link. Stops where nobody has one that could be
+    replaced.
+    """
     has_links = history.announced("box") and not history.closes
     named = [one for one in roll.electors if has_links and one.name == name]
     if name is not None and not named:
@@ -227,8 +216,8 @@ def keep_electors(book: Book, roll: Roll, seen: int) -> None:
 def change_addresses(
     election: Election, history: History, changed: Mapping[Member, str], new_link: str | None
 ) -> None:
-    """The act after the call. A new address makes a new own mark, and a new link to the box: who reads
-    the old one knows both. An elector may get a new link alone.
+    """The act after the call. A new address makes a new own mark, and a new link to the box: who
+    reads the old one knows both. An elector may get a new link alone.
     """
     if not changed:
         # a run that was killed may not have made them
@@ -273,7 +262,9 @@ def electors_of(changed: Iterable[Member], new_link: str | None) -> Iterator[Ele
 
 
 def make_anew(election: Election, history: History) -> None:
-    """Makes what depends on own marks, and so on addresses: the slips, and the script of the box."""
+    """Makes what depends on own marks, and so on addresses: the slips, and the script of the
+    box.
+    """
     if election.questions.is_secret:
         write_slips(election, election.sealed())
     if history.announced("box") and not history.closes:
@@ -289,7 +280,9 @@ def agreed(member: Member, words: str) -> bool:
 
 
 def changes_in_words(member: Member, went: Mapping[str, Sequence[str]]) -> str:
-    """What changes of an elector. `went` are the addresses to which the call with their code went."""
+    """What changes of an elector. `went` are the addresses to which the call with their code
+    went.
+    """
     words = [
         f"{what} {before or '(none)'} becomes {now or '(none)'}"
         for what, (before, now) in member.changes.items()
@@ -351,59 +344,6 @@ def notes_on(
     words = "Without an address that every mail server takes (letters to them are printed)"
     unsent = [one.name for one in electors if one.addresses and not address_in(one.addresses)]
     yield words, unsent, ""
-
-
-# ---- check
-# a real name that ends in a letter, or is one, which may be read as a label
-LIKE_LABEL = re.compile(r"(?<!\w)[^\W\d_]\W*$")
-
-
-def check(election: Election, arguments: Options) -> None:
-    """Check the poll: list everything that is wrong with it, or show what is voted on."""
-    history = election.history()
-    if history.call is not None:
-        sealed = "poll, and poll.toml is"
-        if election.questions.is_several:
-            sealed = "polls, and polls/ is"
-        tell(f"The call has sealed the {sealed} no longer read. Next: {election.command('status')}")
-        return
-    found = checked(election)
-    questions, roll = found.questions, found.questions.roll
-    counts = f"The polls are in order: {len(questions)} questions"
-    if not questions.is_several:
-        counts = f"The poll is in order: {len(questions[''].names)} options"
-    tell(f"{counts}, {len(roll)} electors.")
-    tell_checked(found, election.language)
-    tell(*names_like_answers(questions, queries.electors(election.book), election.language))
-    for label, poll in questions.items():
-        quorum = quorum_words(poll.quorum, found.quorums[label])
-        tell(f"{label}: {quorum}" if label else quorum)
-    if not history.has_codes_on_roll:
-        tell(f"Electors: {len(roll)}", wrapped(roll))
-    after = next_call(election)
-    if found.lacks_codes:
-        why = "since the vote is secret and electors have no codes yet"
-        after = f"{election.command('codes')}, {why}"
-    tell(f"Next: {after}")
-
-
-def names_like_answers(
-    questions: Questions, electors: Sequence[Elector], language: Language
-) -> Iterator[str]:
-    """Notes on people whose names may be read as a part of an answer."""
-    words = questions.words(language)
-    if named := [one.who for one in electors if with_ranks(one.who, words) != one.who]:
-        note = "Note: these real names end in a word of the motion, and a name is no ballot"
-        yield f"{note}: {listed(named, MAX_NAMED)}"
-    like = [one for one in electors if LIKE_LABEL.search(one.who) or len(one.name) == 1]
-    if like and questions.is_several:
-        note = "Note: these names end in a letter that may be read as the label of a question"
-        yield f"{note}: {listed(list(map(label_of, like)), MAX_NAMED)}"
-
-
-def next_call(election: Election) -> str:
-    call = election.command("call", "--until", "YYYY-MM-DD HH:MM", "--to", "ADDRESS")
-    return f"{call} (the end of the vote, and the address for ballots; both are optional)"
 
 
 # ---- codes

@@ -7,44 +7,39 @@ import shlex
 import shutil
 from collections.abc import Iterator
 
-from debvote_tools.cli.arguments import Acting, flag, given, option
-from debvote_tools.text import times
 from debvote_tools.book import queries
 from debvote_tools.book.book import ActName, Detail
-from debvote_tools.poll.call import call_files, call_letter, CallData, current_call, until_of
+from debvote_tools.call.box import SCRIPT, box_files, records_file, script_address
+from debvote_tools.call.call import CallData, call_files, call_letter, current_call, until_of
+from debvote_tools.call.draft import letter_text_in, texts_of
+from debvote_tools.call.secret import aliased, demand_no_code
+from debvote_tools.cli.arguments import Acting, flag, given, option
 from debvote_tools.cli.console import act_time, is_terminal, is_yes, tell
-from debvote_tools.result.publication import agreed_texts
+from debvote_tools.cli.faults import Fault, bad_words, kept_in, stop_at
 from debvote_tools.commands.begin import CODES, SLIPS, demand_read, write_slips
-from debvote_tools.book.election import (
+from debvote_tools.commands.check import checked, faults_of_ballots, tell_checked
+from debvote_tools.election import (
     CALL,
     KEYRING,
-    LETTER_TEXT,
     LETTERS,
+    LETTER_TEXT,
     PRIVATE,
     Election,
     History,
     Sealed,
 )
 from debvote_tools.files import OWN, PUBLIC, read_whole, write_made
-from debvote_tools.poll.draft import (
-    checked,
-    faults_of_ballots,
-    letter_text_in,
-    tell_checked,
-    texts_of,
-)
+from debvote_tools.inbox.asked import last_box, unasked_fault
+from debvote_tools.inbox.signature import read_keyring
 from debvote_tools.poll.announced import (
     demand_future,
     demand_web_address,
     named_address,
     parse_until,
 )
-from debvote_tools.cli.faults import Fault, bad_words, kept_in, stop_at
-from debvote_tools.inbox.asked import last_box, unasked_fault
-from debvote_tools.inbox.signature import read_keyring
-from debvote_tools.poll.box import SCRIPT, box_files, records_file, script_address
-from debvote_tools.poll.secret import aliased, demand_no_code
 from debvote_tools.poll.sealed import new_own_mark
+from debvote_tools.result.publication import agreed_texts
+from debvote_tools.text import times
 
 EXTENSION = "extension.txt"
 
@@ -220,7 +215,9 @@ def take_back(election: Election) -> None:
 
 
 def remove_void(election: Election, history: History) -> None:
-    """Removes the files of the call that was taken back last, and of its codes, unless there are new ones."""
+    """Removes the files of the call that was taken back last, and of its codes, unless there are
+    new ones.
+    """
     write_made(election.path(CALL), {}, PUBLIC, queries.files_sealed(election.book, CALL))
     (election.path(LETTERS) / EXTENSION).unlink(missing_ok=True)
     # letters that nobody has sent yet have the mark and the codes that are void
@@ -304,7 +301,9 @@ def faults_by_secrecy(arguments: Arguments, is_secret: bool, is_on_roll: bool) -
 
 
 def asked_slips() -> str:
-    """Whether electors get their codes, without which they do not find their ballots in the result."""
+    """Whether electors get their codes, without which they do not find their ballots in the
+    result.
+    """
     question = "Will slips with codes be handed out, with which electors find their ballots?"
     said = is_yes(question) if is_terminal() else None
     if said is None:
@@ -405,8 +404,9 @@ def call_in_words(election: Election, data: CallData) -> Iterator[str]:
 
 
 def box_in_words(election: Election, data: CallData) -> Iterator[str]:
-    """Notes on the page of before, to which letters have links until that of now was asked, and on asking;
-    and last what is done with the folder: what lies at its address is fetched before somebody deletes it.
+    """Notes on the page of before, to which letters have links until that of now was asked, and on
+    asking; and last what is done with the folder: what lies at its address is fetched before
+    somebody deletes it.
     """
     ask, asked_at = election.command("add", "--box"), last_box(election.history()).get("at")
     if asked_at not in (None, data.at):
@@ -418,8 +418,8 @@ def box_in_words(election: Election, data: CallData) -> Iterator[str]:
 
 
 def cron_line(election: Election) -> str:
-    """The line that asks the box each hour. It finds this computer's note, and cron reads a % as the
-    end of a line.
+    """The line that asks the box each hour. It finds this computer's note, and cron reads a % as
+    the end of a line.
     """
     state = os.environ.get("XDG_STATE_HOME")
     noted = [f"XDG_STATE_HOME={shlex.quote(state)}"] if state else []

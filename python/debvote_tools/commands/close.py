@@ -3,13 +3,14 @@
 import dataclasses
 from collections.abc import Mapping
 
-from debvote_tools.cli.arguments import Acting, demand_reason, flag, has_reason
-from debvote_tools.text import times
 from debvote_tools.book import queries
 from debvote_tools.book.book import Detail, DoneAct
 from debvote_tools.book.change import Change, carried_out, terminal_question
+from debvote_tools.call.secret import seal_line, sealed_checksum
+from debvote_tools.cli.arguments import Acting, demand_reason, flag, has_reason
 from debvote_tools.cli.console import act_time, count_of, tell
-from debvote_tools.book.election import LETTERS, Election, Fixed, History, fixed_by
+from debvote_tools.cli.faults import Fault, stop_at
+from debvote_tools.election import LETTERS, Election, Fixed, History, fixed_by
 from debvote_tools.files import OWN, write_made
 from debvote_tools.inbox.stopping import (
     other_votes_words,
@@ -17,14 +18,9 @@ from debvote_tools.inbox.stopping import (
     taken_out_words,
     what_stops,
 )
-from debvote_tools.result.publication import (
-    Kept,
-    closing_letter,
-    kept_of,
-)
-from debvote_tools.cli.faults import Fault, stop_at
 from debvote_tools.result.file_names import CLOSED
-from debvote_tools.poll.secret import seal_line, sealed_checksum
+from debvote_tools.result.publication import Kept, closing_letter, kept_of
+from debvote_tools.text import times
 
 
 # the question before the close
@@ -113,8 +109,8 @@ class Closing(Change):
 
 
 def came_last(election: Election, history: History, lines: str) -> str:
-    """Which lines there are, when the last ones came, the end and what was taken out: who has put back a
-    disk sees what is missing.
+    """Which lines there are, when the last ones came, the end and what was taken out: who has put
+    back a disk sees what is missing.
     """
     undone = queries.undone_acts(election.book)
     # an asking may bring nothing

@@ -8,19 +8,19 @@ from collections.abc import Iterator, Mapping, Sequence
 from debvote_tools.book import outgoing, queries
 from debvote_tools.book.book import Book, DoneAct
 from debvote_tools.book.change import Change, carried_out, terminal_question
-from debvote_tools.book.election import Election, History
 from debvote_tools.book.queries import Envelope
 from debvote_tools.cli.arguments import Acting, demand_reason, flag, positional
 from debvote_tools.cli.console import act_time, count_of, listed, shown_line, tell
 from debvote_tools.cli.faults import Fault
 from debvote_tools.commands import held
+from debvote_tools.election import Election, History
 from debvote_tools.grouping import grouped
 from debvote_tools.inbox import letter_words
 from debvote_tools.inbox.judging import letters_now
 from debvote_tools.inbox.lines import name_in
 from debvote_tools.inbox.rules import LetterCase
 from debvote_tools.inbox.taking import MOST_NAMED
-from debvote_tools.inbox.vote import envelope_words, standing_words, Vote
+from debvote_tools.inbox.vote import Vote, envelope_words, standing_words
 from debvote_tools.text.times import now
 
 
@@ -69,8 +69,8 @@ def what(act: DoneAct, numbers: Sequence[int]) -> str:
 
 
 def what_is_taken_back(vote: Vote, arguments: UndoArguments) -> TakenBack:
-    """The last act that entered lines of which one is not struck, and what changes. Stops if there is
-    none, or at a close.
+    """The last act that entered lines of which one is not struck, and what changes. Stops if there
+    is none, or at a close.
     """
     book, election = vote.book, vote.election
     with book.snapshot():
@@ -117,7 +117,9 @@ def what_else_changes(book: Book, struck: Sequence[int], letters: Sequence[int])
 
 
 def words_to_enter(vote: Vote, found: Mapping[int, LetterCase], change: TakenBack) -> list[str]:
-    """What is typed after `held` to enter again what was taken back; empty if no one command does it."""
+    """What is typed after `held` to enter again what was taken back; empty if no one command does
+    it.
+    """
     numbers = [*change.letters]
     if len(numbers) <= MOST_NAMED:
         ranges = [range(number, number + 1) for number in numbers]
@@ -147,7 +149,9 @@ class StrikeArguments(Acting):
 
 
 def strike(election: Election, arguments: StrikeArguments) -> None:
-    """Strike one envelope before the close, so that its line does not count; the result page says how many, and why."""
+    """Strike one envelope before the close, so that its line does not count; the result page says
+    how many, and why.
+    """
     because = demand_reason(arguments.because, "strike")
     book = election.book_for(arguments)
     vote = Vote(election)
@@ -191,7 +195,9 @@ def in_words(envelope: Envelope, vote: Vote) -> str:
 
 
 def demand_envelope(vote: Vote, number: int) -> Envelope:
-    """The envelope of a number. Stops if there is none, if it is struck, or if the vote is closed."""
+    """The envelope of a number. Stops if there is none, if it is struck, or if the vote is
+    closed.
+    """
     history = vote.election.history()
     demand_open(vote.election, history)
     last = queries.last_envelope(vote.book)
@@ -240,9 +246,9 @@ def what_is_reopened(election: Election, arguments: ReopenArguments, because: st
 
 
 def late_words(vote: Vote, history: History) -> Iterator[str]:
-    """The late ballots that may have come in time, of a desk or a file, or of a letter of before the first
-    close; and apart from them those whose electors have another ballot in time. Others that were entered
-    again are left out.
+    """The late ballots that may have come in time, of a desk or a file, or of a letter of before
+    the first close; and apart from them those whose electors have another ballot in time. Others
+    that were entered again are left out.
     """
     others = queries.late_beside_others(vote.book)
     in_time = {*queries.lines_to_count(vote.book)}

@@ -5,7 +5,7 @@ from collections.abc import Collection, Mapping
 from debvote_tools.cli.arguments import Acting, flag, option
 from debvote_tools.cli.console import tell_as_it_is, tell_aside
 from debvote_tools.cli.faults import bad_words, stop_at
-from debvote_tools.book.election import Election, History
+from debvote_tools.election import Election, History
 from debvote_tools.inbox.asked import asked_words
 from debvote_tools.inbox.stopping import Pending, pending_letters, what_stops
 from debvote_tools.poll.questions import Questions
@@ -18,9 +18,9 @@ from debvote_tools.result.sheet import (
     in_shell,
     named,
     publishing,
-    Sheet,
     unneeded_words,
 )
+from debvote_tools.sheet import Sheet
 
 
 class Arguments(Acting):

@@ -10,13 +10,13 @@ from collections.abc import Iterator, Sequence
 from debvote_tools.book import queries
 from debvote_tools.book.book import Detail, DoneAct
 from debvote_tools.book.change import carried_out
-from debvote_tools.book.election import Election, History
 from debvote_tools.book.queries import Elector, NewEnvelope
-from debvote_tools.cli.console import private, shown_line, shown_text, tell, typed
 from debvote_tools.cli.arguments import flag, option
+from debvote_tools.cli.console import private, shown_line, shown_text, tell, typed
 from debvote_tools.cli.faults import Fault, Status, bad_words
-from debvote_tools.files import BALLOTS_LIMIT
 from debvote_tools.debvote import TABLE
+from debvote_tools.election import Election, History
+from debvote_tools.files import BALLOTS_LIMIT
 from debvote_tools.inbox import entering
 from debvote_tools.inbox.entering import Entry
 from debvote_tools.inbox.lines import Line, Names, lines_in
@@ -78,7 +78,9 @@ class Desk:
         return [(one, f"{alike(one.name)}\n{alike(one.who)}") for one in electors]
 
     def ask_if_reopened(self, history: History) -> None:
-        """If the vote was opened again, asks once whether what is cast came before the first close."""
+        """If the vote was opened again, asks once whether what is cast came before the first
+        close.
+        """
         if self.came_before_close is None:
             self.came_before_close = entering.came_before_close(history, self.answer)
 
@@ -112,7 +114,8 @@ class Desk:
         came = [*self.above, *lines]
         if self.vote.are_table(came):
             raise Fault("desk", TABLE, IN_ORDER, Status.BAD_BALLOTS)
-        # no other ballot is a head, nor a line of a table; and of what was above the first it was asked then
+        # no other ballot is a head, nor a line of a table; and of what was above the first it was
+        # asked then
         first = [line for line in came if line.is_ballot][:1]
         self.above = first + [line for line in came if not line.is_ballot][-MOST_ABOVE:]
 
@@ -134,8 +137,9 @@ class Casting(Entry):
     what: str = "ballots to be reported"
 
     def is_same_now(self) -> bool:
-        """Whether nothing came of the elector of whom it is asked: else eight desks would ask without end.
-        What comes from a pipe after a reopen is planned again: a late line may replace what came.
+        """Whether nothing came of the elector of whom it is asked: else eight desks would ask
+        without end. What comes from a pipe after a reopen is planned again: a late line may replace
+        what came.
         """
         if not self.question and "came_before_close" in self.detail:
             return False
@@ -157,7 +161,9 @@ class Casting(Entry):
 
 
 def what_is_cast(desk: Desk, lines: list[CheckedLine], elector: int | None, asks: bool) -> Casting:
-    """Lines that are cast. If it asks, it is about one, whose refused answers are lines of their own."""
+    """Lines that are cast. If it asks, it is about one, whose refused answers are lines of their
+    own.
+    """
     vote = desk.vote
     history = vote.history()
     desk.ask_if_reopened(history)
@@ -195,8 +201,8 @@ def what_is_cast(desk: Desk, lines: list[CheckedLine], elector: int | None, asks
 
 
 def desk(election: Election, arguments: Arguments) -> None:
-    """Enter ballots by hand, and print the reply to each; several desks can run at once, each in its
-    own terminal.
+    """Enter ballots by hand, and print the reply to each; several desks can run at once, each in
+    its own terminal.
     """
     if sys.stdin is None:
         cure = "run it at a terminal"
@@ -298,8 +304,8 @@ def ask_and_cast(desk: Desk, line: Line) -> None:
 
 def completed(desk: Desk, line: Line) -> Line | None:
     """A line with the name on the roll that was meant, if the typed words are that name or the real
-    one, or else parts of one; of several electors one is chosen by a number, or none. It is none where
-    the first label may be a part of the name. Codes are never looked for.
+    one, or else parts of one; of several electors one is chosen by a number, or none. It is none
+    where the first label may be a part of the name. Codes are never looked for.
     """
     as_meant, meant = desk.vote.as_meant(line)
     name, answers = typed_parts(desk, as_meant)
@@ -322,7 +328,9 @@ def completed(desk: Desk, line: Line) -> Line | None:
 
 
 def why_no_label(desk: Desk, line: Line, name: str, found: Sequence[Elector]) -> str:
-    """Why the first label of a line may be none, if it is a word of the name of one of these electors."""
+    """Why the first label of a line may be none, if it is a word of the name of one of these
+    electors.
+    """
     names, text = desk.vote.names, line.unframed.decode("utf-8", "replace")
     label = names.label_behind_name(names.with_ranks(text))
     words = {label.lower()} - names.words_of(name)
@@ -346,7 +354,9 @@ def chosen_of(found: Sequence[Elector], name: str) -> Elector | None:
 
 
 def typed_parts(desk: Desk, line: bytes) -> tuple[str, str]:
-    """The words that were typed in the place of a name, and what is behind them; empty of no ballot."""
+    """The words that were typed in the place of a name, and what is behind them; empty of no
+    ballot.
+    """
     text, names = line.decode("utf-8", "replace"), desk.vote.names
     if names.labels:
         return names.taken_apart(text) or ("", "")
@@ -357,7 +367,9 @@ def typed_parts(desk: Desk, line: bytes) -> tuple[str, str]:
 def question(
     desk: Desk, lines: Sequence[CheckedLine], is_late: bool, elector: int | None
 ) -> tuple[list[str], str]:
-    """What a ballot would be, or why it or one of its answers would be refused; and what is asked."""
+    """What a ballot would be, or why it or one of its answers would be refused; and what is
+    asked.
+    """
     shown = [*change_words(lines[0])]
     for line in lines:
         if finding := line.lasting:

@@ -5,16 +5,18 @@ import itertools
 from collections.abc import Iterator, Sequence
 from typing import NamedTuple
 
-from debvote_tools.cli.arguments import Acting, flag, given, option, positional
 from debvote_tools.book import queries
 from debvote_tools.book.book import ActName
 from debvote_tools.book.change import Change, carried_out, terminal_question
-from debvote_tools.book.election import Election, History
 from debvote_tools.book.queries import Ballot, EnteredBallot
+from debvote_tools.cli.arguments import Acting, flag, given, option, positional
 from debvote_tools.cli.console import count_of, is_terminal, private, shown_line, tell
 from debvote_tools.cli.faults import Fault, bad_words, kept_in, stop_at
+from debvote_tools.election import Election, History
 from debvote_tools.grouping import grouped
 from debvote_tools.inbox import letter_words
+from debvote_tools.inbox.judging import BallotsByElector, Beside, ballot_in, ballots_in, judged
+from debvote_tools.inbox.letter_lines import BallotLine
 from debvote_tools.inbox.letter_words import (
     attachment_words,
     name_of,
@@ -23,14 +25,12 @@ from debvote_tools.inbox.letter_words import (
     who_and_when,
     why,
 )
-from debvote_tools.inbox.judging import BallotsByElector, Beside, ballot_in, ballots_in, judged
-from debvote_tools.inbox.reasons import for_secretary
-from debvote_tools.inbox.letter_lines import BallotLine
-from debvote_tools.inbox.rules import LetterCase, LetterOutcome, why_other_mark
-from debvote_tools.inbox.taking import LetterEntry, envelope_of
 from debvote_tools.inbox.lines import Line, lines_in
-from debvote_tools.inbox.vote import Vote
+from debvote_tools.inbox.reasons import for_secretary
+from debvote_tools.inbox.rules import LetterCase, LetterOutcome, why_other_mark
 from debvote_tools.inbox.stopping import other_votes_words
+from debvote_tools.inbox.taking import LetterEntry, envelope_of
+from debvote_tools.inbox.vote import Vote
 from debvote_tools.text.ballots import differ, without
 from debvote_tools.text.language import ENGLISH
 
@@ -118,7 +118,9 @@ def demand_words(arguments: Arguments) -> bool:
 
 
 def left_words(vote: Vote, letter: LetterCase) -> Iterator[str]:
-    """Which electors have no ballot of a letter that was entered, if it may have those of several."""
+    """Which electors have no ballot of a letter that was entered, if it may have those of
+    several.
+    """
     electors = {*letter.sharing, *(line.elector for line in letter.ballots)}
     entered = {elector for elector, _ in letter.entered_answers}
     if len(electors) > 1 and letter.outcome is LetterOutcome.ENTERED:
@@ -143,7 +145,9 @@ def chosen_letters(found: Sequence[LetterCase], numbers: Sequence[range]) -> lis
 
 
 def of_rows(found: Sequence[LetterCase], numbers: Sequence[range]) -> list[list[LetterCase]]:
-    """Those that wait among several in a row, by their reasons, in the order of the first of each."""
+    """Those that wait among several in a row, by their reasons, in the order of the first of
+    each.
+    """
     rows = [its for its in numbers if len(its) != 1]
     within = [one for one in found if one.is_pending and any(one.number in its for its in rows)]
     return [*grouped((one.reason and one.reason.reason, one) for one in within).values()]
@@ -193,7 +197,9 @@ class Chosen(NamedTuple):
 def what_is_entered(
     vote: Vote, found: Sequence[LetterCase], arguments: Arguments, typed: Sequence[BallotLine] = ()
 ) -> LetterEntry:
-    """The act that enters ballots of letters. Stops at all that stands against it; `undo` asks that, too."""
+    """The act that enters ballots of letters. Stops at all that stands against it; `undo` asks
+    that, too.
+    """
     history = vote.election.history()
     wanted = chosen_letters(found, arguments.numbers)
     if arguments.force and len(wanted) > 1 and not vote.has_codes:
@@ -224,7 +230,9 @@ def what_is_entered(
 def entry_of(
     vote: Vote, history: History, chosen: Sequence[Chosen], *, is_agreed: bool
 ) -> LetterEntry:
-    """The act that enters these ballots. Those of letters in which their senders wrote more are shown last."""
+    """The act that enters these ballots. Those of letters in which their senders wrote more are
+    shown last.
+    """
     lines = [(one.letter, line) for one in chosen for line in one.lines]
     numbers = [one.letter.number for one in chosen]
     plain, worded = (
@@ -341,7 +349,9 @@ def what_then(
 
 
 def why_not_unforced(chosen: Sequence[Chosen]) -> Iterator[Fault]:
-    """The letter has the mark of another vote or call, or nothing ties it to the elector of a ballot."""
+    """The letter has the mark of another vote or call, or nothing ties it to the elector of a
+    ballot.
+    """
     for one in chosen:
         letter, name = one.letter, name_of(one.letter)
         if why_other := why_other_mark(letter):
@@ -356,8 +366,8 @@ def why_not_unforced(chosen: Sequence[Chosen]) -> Iterator[Fault]:
 def why_not_beside(
     vote: Vote, chosen: Sequence[Chosen], by_elector: BallotsByElector, *, is_forced: bool
 ) -> Iterator[Fault]:
-    """The elector has a later ballot, or may have, or another one of its time, also by a letter that is
-    entered before it; to some of its answers alone, no --force enters it.
+    """The elector has a later ballot, or may have, or another one of its time, also by a letter
+    that is entered before it; to some of its answers alone, no --force enters it.
     """
     for letter, lines in chosen:
         name = name_of(letter)
@@ -397,8 +407,8 @@ def why_not_unseen(chosen: Sequence[Chosen]) -> Iterator[Fault]:
 def why_typed_again(
     vote: Vote, chosen: Sequence[Chosen], found: Sequence[LetterCase]
 ) -> Iterator[Fault]:
-    """What was typed for a letter or a copy of it, though it may be taken back: its own lines may say
-    something else.
+    """What was typed for a letter or a copy of it, though it may be taken back: its own lines may
+    say something else.
     """
     entered = [(letter.read.identity, ballot) for letter in found for ballot in letter.entered]
     of_identity = grouped(sorted(entered, key=lambda one: one[1].number))

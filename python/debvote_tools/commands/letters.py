@@ -7,14 +7,14 @@ import itertools
 import pathlib
 from collections.abc import Iterator, Mapping, Sequence
 
-from debvote_tools.cli.arguments import Acting, flag, given, option, positional
 from debvote_tools.book import outgoing
 from debvote_tools.book.book import Detail
-from debvote_tools.book.election import LETTERS, Election, History
-from debvote_tools.cli.console import act_time, count_of, listed, shown_text, tell
 from debvote_tools.book.outgoing import TAKEN, WRITTEN, OutgoingLetter
 from debvote_tools.cli import console
+from debvote_tools.cli.arguments import Acting, flag, given, option, positional
+from debvote_tools.cli.console import act_time, count_of, listed, shown_text, tell
 from debvote_tools.cli.faults import Fault, Status, bad_words, kept_in, stop_at
+from debvote_tools.election import LETTERS, Election, History
 from debvote_tools.files import locked, uninterrupted
 from debvote_tools.outbox import letter_folder, smtp
 from debvote_tools.outbox.due import LettersDue, demand_due, is_present, letters_due
@@ -122,7 +122,9 @@ def reminds_again(before: datetime.datetime) -> bool:
 
 
 def is_agreed(said: str, how: str) -> bool:
-    """Whether letters are to be written, whatever is said of them. Stops where nobody can be asked."""
+    """Whether letters are to be written, whatever is said of them. Stops where nobody can be
+    asked.
+    """
     if not console.is_terminal():
         raise Fault(None, said, f"if it is right, {how} with --yes")
     return bool(console.is_yes(f"{said}. {how.capitalize()}?"))

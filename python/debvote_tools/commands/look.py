@@ -10,17 +10,8 @@ from typing import Any
 
 from debvote_tools.book import outgoing, queries
 from debvote_tools.book.book import Book, DoneAct
-from debvote_tools.book.election import (
-    CALL,
-    Election,
-    History,
-    LETTERS,
-    PRIVATE,
-    RESULT,
-    RESULT_LETTER,
-)
 from debvote_tools.book.queries import Envelope
-from debvote_tools.cli.arguments import flag, Options, positional
+from debvote_tools.cli.arguments import Options, flag, positional
 from debvote_tools.cli.console import (
     act_time,
     count_of,
@@ -32,25 +23,22 @@ from debvote_tools.cli.console import (
     wrapped,
 )
 from debvote_tools.cli.faults import Fault, bad_words
+from debvote_tools.election import CALL, LETTERS, PRIVATE, RESULT, RESULT_LETTER, Election, History
 from debvote_tools.files import whole_folder, write_whole
 from debvote_tools.inbox import letter_words
-from debvote_tools.inbox.asked import (
-    asked_last,
-    asked_words,
-    unasked_fault,
-    with_lost_records,
-)
+from debvote_tools.inbox.asked import asked_last, asked_words, unasked_fault, with_lost_records
 from debvote_tools.inbox.fates import Fate, fates_of
-from debvote_tools.inbox.lines import has_code
 from debvote_tools.inbox.stopping import Pending, pending_letters, taken_out_words
 from debvote_tools.inbox.vote import IS_CODE, Vote, envelope_words
 from debvote_tools.outbox.reached import unreached_and_printed
+from debvote_tools.poll.codes import has_code
 from debvote_tools.poll.questions import Questions, place_of
 from debvote_tools.text import times
 from debvote_tools.text.ballots import ballot_file, ranks_by_label
 
 # ---- status
-# how an election is, in numbers, as FORMATS has them; in a vote whose roll has codes nobody is named
+# how an election is, in numbers, as FORMATS has them; in a vote whose roll has codes nobody is
+# named
 State = dict[str, Any]
 
 
@@ -215,7 +203,9 @@ class ShowArguments(Options):
 
 
 def show(election: Election, arguments: ShowArguments) -> None:
-    """Show one elector: the ballots and letters that came, the current ballot, and what was sent."""
+    """Show one elector: the ballots and letters that came, the current ballot, and what was
+    sent.
+    """
     history = election.history()
     vote = Vote(election)
     elector = elector_named(election, vote, arguments.name)
@@ -324,7 +314,9 @@ def acts_in_words(acts: Sequence[DoneAct]) -> Iterator[str]:
 
 
 def export(election: Election, arguments: ExportArguments) -> None:
-    """Write the poll, the ballots and everything that came into a new folder that only you can read."""
+    """Write the poll, the ballots and everything that came into a new folder that only you can
+    read.
+    """
     book, target_folder = election.whole_book(), pathlib.Path(arguments.target_folder)
     demand_new(election, target_folder, "folder")
     questions = election.questions

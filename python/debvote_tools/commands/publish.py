@@ -1,19 +1,20 @@
 """The command `publish`."""
 
-import dataclasses
 import datetime
 import functools
 import itertools
 import os
 import pathlib
-from collections.abc import Collection, Mapping
+from collections.abc import Iterable, Mapping
 
-from debvote_tools.cli.arguments import Acting, demand_reason, flag, option, positional
-from debvote_tools.text import times
-from debvote_tools.book.book import Detail, DoneAct, Overtaken
-from debvote_tools.cli.console import act_time, odd_sign, tell, tell_aside
 from debvote_tools.book import queries
-from debvote_tools.book.election import (
+from debvote_tools.book.book import Detail, DoneAct, Overtaken
+from debvote_tools.call.box import SCRIPT, records_file
+from debvote_tools.call.draft import texts_of
+from debvote_tools.cli.arguments import Acting, demand_reason, flag, option, positional
+from debvote_tools.cli.console import act_time, odd_sign, tell, tell_aside
+from debvote_tools.cli.faults import Fault, bad_words, kept_in, stop_at
+from debvote_tools.election import (
     BOX_KEY,
     CALL,
     LETTERS,
@@ -23,9 +24,6 @@ from debvote_tools.book.election import (
     Election,
     History,
 )
-from debvote_tools.poll.draft import texts_of
-from debvote_tools.poll.box import SCRIPT, records_file
-from debvote_tools.poll.questions import Questions
 from debvote_tools.files import (
     OWN,
     left_beside,
@@ -37,9 +35,10 @@ from debvote_tools.files import (
     write_made,
 )
 from debvote_tools.inbox.stopping import Pending, pending_letters
-from debvote_tools.cli.faults import Fault, bad_words, kept_in, stop_at
-from debvote_tools.text.language import LANGUAGES
+from debvote_tools.poll.questions import Questions
 from debvote_tools.result import folder, publication
+from debvote_tools.result.facts import Outcome, PublishedWords, QuestionFacts, VoteFacts
+from debvote_tools.result.file_names import BALLOTS, CHECKSUMS, PAGE, POLL
 from debvote_tools.result.sheet import (
     CASTING,
     Castings,
@@ -49,12 +48,13 @@ from debvote_tools.result.sheet import (
     publishing,
     unneeded_words,
 )
-from debvote_tools.result.facts import Facts, Outcome, PublishedWords
-from debvote_tools.result.file_names import BALLOTS, CHECKSUMS, PAGE, POLL
+from debvote_tools.text import times
+from debvote_tools.text.language import LANGUAGES
 
 
 # of the text for the page in bytes, and of the name of who gave the casting vote in characters
-TEXT_LIMIT, NAME_LIMIT = 65_536, 200
+TEXT_LIMIT = 65_536
+NAME_LIMIT = 200
 
 # the files whose checksums the act keeps, of each question and above several
 NAMED = (POLL, BALLOTS, PAGE, CHECKSUMS)
@@ -64,7 +64,8 @@ REFUSED_IN_NAME = '"\u201c\u201d\u201e\u201f\u2033\uff02\u00ab\u00bb'
 
 
 class Arguments(Acting):
-    checks, nothing = True, "published"
+    checks = True
+    nothing = "published"
 
     casting: list[str] | None = option(*CASTING, action="append")
     cast_by: list[str] | None = option(
@@ -103,15 +104,15 @@ class Arguments(Acting):
 def publish(election: Election, arguments: Arguments) -> int:
     """Make the folder of the result for a web site; without options, make the last one again."""
     election.demand_right_book(arguments)
-    history, questions = election.history(), election.questions
+    history = election.history()
     demand_countable(election, history)
-    target = pathlib.Path(arguments.target) if arguments.target else election.path(RESULT)
-    given = published_words(arguments, questions, election.called(history))
+    target = pathlib.Path(arguments.target or election.path(RESULT))
+    given = published_words(arguments, election.questions, election.called(history))
     demand_place(election, target, history)
     last = history.last_publication
     is_bare = given == PublishedWords(is_forced=arguments.force)
     words = PublishedWords(**last.detail["words"]) if last and is_bare else given
-    again = last if last and dataclasses.asdict(words) == last.detail["words"] else None
+    again = last if last and words._asdict() == last.detail["words"] else None
     make = functools.partial(filled_in_place, election, arguments, target, words, again)
     is_new = again is None
     try:
@@ -123,7 +124,7 @@ def publish(election: Election, arguments: Arguments) -> int:
         is_new = True
         filled = make(is_new=is_new)
     tell_published(election, filled.outcomes, target, is_new=is_new)
-    sheets = {label: one.sheet for label, one in filled.outcomes.items()}
+    sheets = {label: outcome.sheet for label, outcome in filled.outcomes.items()}
     tell_aside(*unneeded_words(words.castings, sheets))
     return max(sheet.status for sheet in sheets.values())
 
@@ -137,29 +138,34 @@ def filled_in_place(
     *,
     is_new: bool,
 ) -> folder.Filled:
-    """The folder in its place: as a publication of its own, which is an act; or as it was published last,
-    with the same words. Raises `WouldDiffer` if it would be another one now.
+    """The folder in its place: as a publication of its own, which is an act; or as it was published
+    last, with the same words. Raises `WouldDiffer` if it would be another one now.
     """
     history = election.history()
     pending = pending_letters(election, history) if history.is_closed else Pending()
-    facts = publication.facts_of(election, words, pending, None if is_new else again)
-    # the folder is whole and counted before the act, and takes its place after the act: so a kill leaves
-    # no folder that the book does not know
+    vote = publication.vote_facts(election, words, pending, None if is_new else again)
+    questions = publication.question_facts(election, vote)
+    # the folder is whole and counted before the act, and takes its place after the act: so a kill
+    # leaves no folder that the book does not know
     with folder.beside(target) as new:
         filled = folder.filled(
             new.folder,
-            facts,
+            vote,
+            questions,
             election.program_folder,
             is_forced=bool(arguments.force and arguments.because),
             known=again.detail["doubts"] if again else (),
         )
         detail = detail_of(words, filled, pending)
         if again and not is_new and dict(detail, agreed=0) != dict(again.detail, agreed=0):
-            raise WouldDiffer(again)
+            differs = f"made again, the result would differ from the one that was published (act {again.number})"
+            why = (
+                "another version of a program makes it, or more was done since that the page tells"
+            )
+            cure = "leave it as it is; or publish it once more, with a letter of its own: --force"
+            raise WouldDiffer(None, f"{differs}: {why}", cure)
         # nobody is asked about a result that cannot be published
-        if agreed := agreed_in_secret(
-            history, election.questions, facts.values(), is_agreed=arguments.yes
-        ):
+        if agreed := agreed_in_secret(history, vote, questions, is_agreed=arguments.yes):
             detail["agreed"] = agreed
         put_in_place(election, history, new, filled.letter, target, detail if is_new else None)
     return filled
@@ -169,17 +175,22 @@ def detail_of(words: PublishedWords, filled: folder.Filled, pending: Pending) ->
     """The detail of the act: how each question ended, with the casting votes that decide, and the
     checksums that letters name.
     """
-    checksums, ended = filled.checksums.items(), filled.outcomes.items()
+    outcomes = filled.outcomes.items()
     detail = {
-        "words": dataclasses.asdict(words),
+        "words": words._asdict(),
         "casting": {
-            label: words.castings[label] for label, one in ended if one.sheet.is_by_casting
+            label: words.castings[label]
+            for label, outcome in outcomes
+            if outcome.sheet.is_by_casting
         },
         "ended": {
-            label: outcome_as_data(one.sheet) | {"sheet": sha256_of(one.sheet.text.encode())}
-            for label, one in ended
+            label: outcome_as_data(outcome.sheet)
+            | {"sheet": sha256_of(outcome.sheet.text.encode())}
+            for label, outcome in outcomes
         },
-        "checksums": {place: its for place, its in checksums if place.endswith(NAMED)},
+        "checksums": {
+            place: checksum for place, checksum in filled.checksums.items() if place.endswith(NAMED)
+        },
         "doubts": [doubt.as_data() for doubt in filled.doubts],
     }
     return detail | ({"left": pending.arrived_in_time} if pending.arrived_in_time else {})
@@ -215,8 +226,8 @@ def tell_published(
 ) -> None:
     """Tells what was published, and what comes next."""
     as_before = "" if is_new else ", as it was published before; nothing was changed in the book"
-    for label, one in outcomes.items():
-        tell(f"{label and f'{label}: '}{one.sheet.last_line}", one.verified)
+    for label, outcome in outcomes.items():
+        tell(f"{label and f'{label}: '}{outcome.sheet.last_line}", outcome.verified)
     tell(f"Made the folder {target}{as_before}.")
     history = election.history()
     if not history.is_closed:
@@ -224,7 +235,7 @@ def tell_published(
         later = election.command("publish", str(other_place(target)))
         tell(f"Next: {election.command('close')}, then {later}")
         return
-    if tied := [label for label, one in outcomes.items() if one.sheet.winner is None]:
+    if tied := [label for label, outcome in outcomes.items() if not outcome.sheet.winner]:
         castings = history.publications[-1].detail["casting"]
         ask = "it is a tie: ask for the casting vote, and then give its option, its holder and its day"
         # the next result has the casting votes of its own command alone
@@ -249,8 +260,8 @@ def demand_place(election: Election, target_folder: pathlib.Path, history: Histo
     if folder.is_free(place):
         return
     sums = [act.detail["checksums"][CHECKSUMS] for act in history.publications][-2:]
-    left = left_beside(place, folder.BESIDE_PLACE)
-    if not any(folder.is_publication(beside, sum) for sum in sums[-1:] for beside in left):
+    killed = left_beside(place, folder.BESIDE_PLACE)
+    if not any(folder.is_publication(beside, sum) for sum in sums[-1:] for beside in killed):
         sums = sums[-1:]
     if any(folder.is_publication(place, sum) for sum in sums):
         return
@@ -262,7 +273,7 @@ def demand_place(election: Election, target_folder: pathlib.Path, history: Histo
 def other_place(target_folder: pathlib.Path) -> pathlib.Path:
     """Where a result can be that may not replace the one in this folder."""
     places = (target_folder, real_place(target_folder), pathlib.Path(RESULT))
-    named = next(one for one in places if one.name not in ("", ".."))
+    named = next(place for place in places if place.name not in ("", ".."))
     others = (named.with_name(f"{named.name}-{number}") for number in itertools.count(2))
     return next(other for other in others if not os.path.lexists(other))
 
@@ -270,28 +281,15 @@ def other_place(target_folder: pathlib.Path) -> pathlib.Path:
 class WouldDiffer(Fault):
     """Made again, a result would be another one than was published."""
 
-    def __init__(self, last: DoneAct) -> None:
-        words = f"made again, the result would differ from the one that was published (act {last.number})"
-        why = "another version of a program makes it, or more was done since that the page tells"
-        cure = "leave it as it is; or publish it once more, with a letter of its own: --force"
-        super().__init__(None, f"{words}: {why}", cure)
-
 
 # ---- words of those who publish
 def published_words(arguments: Arguments, questions: Questions, call: DoneAct) -> PublishedWords:
     """What the command line says, checked. Stops at all that is wrong."""
-    faults, number = list[Fault](), len(arguments.casting or ())
+    faults = list[Fault]()
     castings: Castings = {}
-    reason, about = arguments.because if arguments.force else None, None
-    by, on = arguments.cast_by or [], arguments.cast_on or []
-    if number and not (by and on):
-        words = "the page must say whose casting vote it was, and when it was given"
-        cure = 'say it with --cast-by "NAME" --cast-on 2026-12-05'
-        faults.append(bad_words("--casting", words, cure))
-    with kept_in(faults):
-        by = [*map(holder_in, said_of_each(number, "--cast-by", by))]
-    with kept_in(faults):
-        on = [day_in(day, call) for day in said_of_each(number, "--cast-on", on)]
+    reason = arguments.because if arguments.force else None
+    about = None
+    holders, days = holders_and_days(arguments, call, faults)
     with kept_in(faults):
         if reason is not None:
             reason = demand_reason(reason, "--force", has_paragraphs=True)
@@ -305,8 +303,8 @@ def published_words(arguments: Arguments, questions: Questions, call: DoneAct) -
     stop_at(faults)
     return PublishedWords(
         castings=castings,
-        cast_by=dict(zip(castings, by)),
-        cast_on=dict(zip(castings, on)),
+        cast_by=dict(zip(castings, holders)),
+        cast_on=dict(zip(castings, days)),
         about=about,
         is_forced=arguments.force,
         because=reason,
@@ -314,9 +312,27 @@ def published_words(arguments: Arguments, questions: Questions, call: DoneAct) -
     )
 
 
-def said_of_each(number: int, option: str, given: list[str]) -> list[str]:
-    """What an option says of each of so many casting votes, in their order; given once, it holds for
-    all. Stops if it is given another number of times.
+def holders_and_days(
+    arguments: Arguments, call: DoneAct, faults: list[Fault]
+) -> tuple[list[str], list[str]]:
+    """Whose each casting vote was, and when it was given. Adds what is wrong to the faults."""
+    number = len(arguments.casting or ())
+    holders = arguments.cast_by or []
+    days = arguments.cast_on or []
+    if number and not (holders and days):
+        words = "the page must say whose casting vote it was, and when it was given"
+        cure = 'say it with --cast-by "NAME" --cast-on 2026-12-05'
+        faults.append(bad_words("--casting", words, cure))
+    with kept_in(faults):
+        holders = [*map(holder_in, given_for_each(number, "--cast-by", holders))]
+    with kept_in(faults):
+        days = [day_in(day, call) for day in given_for_each(number, "--cast-on", days)]
+    return holders, days
+
+
+def given_for_each(number: int, option: str, given: list[str]) -> list[str]:
+    """What an option says of each of so many casting votes, in their order; given once, it holds
+    for all. Stops if it is given another number of times.
     """
     if given and not number:
         raise bad_words(option, "it describes the casting vote of --casting", "give --casting too")
@@ -350,23 +366,24 @@ def day_in(on: str, call: DoneAct) -> str:
 
 
 def agreed_in_secret(
-    history: History, questions: Questions, facts: Collection[Facts], *, is_agreed: bool
+    history: History, vote: VoteFacts, questions: Iterable[QuestionFacts], *, is_agreed: bool
 ) -> list[str]:
     """Asks before a secret vote is published, once for all questions: about texts that are new, by
     where they are from, and about what two results would show.
     """
-    if not questions.is_secret:
+    if not vote.questions.is_secret:
         return []
-    # these are the same for each
-    words, acts = next((of_one.words, of_one.acts) for of_one in facts)
-    texts = texts_of(questions)
+    words = vote.words
+    texts = texts_of(vote.questions)
     texts |= {words.about or "": "--about", words.because or "": "--because"}
     texts |= {
         by: f"--cast-by{label and f' of question {label}'}" for label, by in words.cast_by.items()
     }
-    texts |= {act.because or "": f"the reason for the act of {act_time(act.time)}" for act in acts}
+    texts |= {
+        act.because or "": f"the reason for the act of {act_time(act.time)}" for act in vote.acts
+    }
     agreed = publication.agreed_texts(history, texts, is_agreed=is_agreed)
-    compared = dict.fromkeys(name for of_one in facts for name in of_one.compared)
+    compared = dict.fromkeys(name for facts in questions for name in facts.compared)
     if compared and not is_agreed:
         why = f"a comparison with the earlier result shows how these voted: {', '.join(compared)}"
         publication.demand_yes(f"Publish it, although {why}?", why)

@@ -1,15 +1,15 @@
-"""Whether the box of the web host was asked lately enough: the one answer for all commands that need
-it. What an asking brings is in `box_records.py`.
+"""Whether the box of the web host was asked lately enough: the one answer for all commands that
+need it. What an asking brings is in `box_records.py`.
 """
 
 import datetime
 
 from debvote_tools.book import queries
 from debvote_tools.book.book import Detail, DoneAct, from_text
-from debvote_tools.book.election import BOX_PAGE, BOX_SCRIPT, Election, History
+from debvote_tools.call.box import list_digest
 from debvote_tools.cli.console import act_time, count_of
 from debvote_tools.cli.faults import Fault
-from debvote_tools.poll.box import list_digest
+from debvote_tools.election import BOX_PAGE, BOX_SCRIPT, Election, History
 from debvote_tools.text.times import now
 
 # how old an asking may be where ballots still come
@@ -21,8 +21,8 @@ WITH_LINKS = ("call", "reminders")
 AFTER_CLOSE = ("count", "closed", "publish")
 # the steps of a close at the end, and before it
 CLOSES = ("close", "early")
-# what needs an asking, as kinds of letters, a new address (`at`), a close at the end, one that is `early`,
-# and what follows: why it stops, and what can be forced
+# what needs an asking, as kinds of letters, a new address (`at`), a close at the end, one that is
+# `early`, and what follows: why it stops, and what can be forced
 FORCE = "with --force --because TEXT"
 WITHOUT_PAGE = f"write letters that say that the page takes no ballots, {FORCE}"
 CLOSE = f"close {FORCE} (the result page says so)"
@@ -63,8 +63,8 @@ def has_page_of_now(election: Election, box: Detail) -> bool:
 
 
 def other_pages(history: History) -> list[DoneAct]:
-    """The first asking of each day on which one found a page that this book never made, since the first letter
-    of the call was written.
+    """The first asking of each day on which one found a page that this book never made, since the
+    first letter of the call was written.
     """
     is_written = False
     days = dict[datetime.date, DoneAct]()
@@ -93,7 +93,9 @@ def asked_words(history: History) -> list[str]:
 
 
 def with_lost_records(election: Election, history: History) -> list[str]:
-    """The electors by whose links a record came that nobody can open, and who have no later ballot."""
+    """The electors by whose links a record came that nobody can open, and who have no later
+    ballot.
+    """
     came = last_box(history).get("lost", {})
     ballots = queries.ballots_of(election.book, came)
     return [

@@ -1,8 +1,8 @@
-"""Asks the box of a vote, on the web host, for all that it has, and makes letters of its records. What
-becomes of them is decided elsewhere.
+"""Asks the box of a vote, on the web host, for all that it has, and makes letters of its records.
+What becomes of them is decided elsewhere.
 
-A record that an elector's page sealed is a letter, with line and link where the seal stood. All others
-wait for nobody: whoever writes into the files of the web host can make them.
+A record that an elector's page sealed is a letter, with line and link where the seal stood. All
+others wait for nobody: whoever writes into the files of the web host can make them.
 """
 
 import collections
@@ -18,22 +18,8 @@ from typing import NamedTuple
 
 from debvote_tools.book import queries
 from debvote_tools.book.book import Book, Detail, from_text
-from debvote_tools.book.election import BOX_KEY, BOX_PAGE, Election
 from debvote_tools.book.queries import KeptRecord
-from debvote_tools.cli.console import count_of, listed, shown_text
-from debvote_tools.cli.faults import Fault, bad_words
-from debvote_tools.inbox.asked import (
-    has_list_of_now,
-    has_page_of_now,
-    last_box,
-    with_lost_records,
-)
-from debvote_tools.files import sha256_of
-from debvote_tools.inbox.letter import YEAR, arrival_of
-from debvote_tools.inbox.mailbox import BEGIN, NotRead, RawLetter
-from debvote_tools.inbox.vote import Vote
-from debvote_tools.patience import within
-from debvote_tools.poll.box import (
+from debvote_tools.call.box import (
     LINK_LENGTH,
     SCRIPT,
     asking_word,
@@ -42,6 +28,15 @@ from debvote_tools.poll.box import (
     proof_digest,
     script_address,
 )
+from debvote_tools.cli.console import count_of, listed, shown_text
+from debvote_tools.cli.faults import Fault, bad_words
+from debvote_tools.election import BOX_KEY, BOX_PAGE, Election
+from debvote_tools.files import sha256_of
+from debvote_tools.inbox.asked import has_list_of_now, has_page_of_now, last_box, with_lost_records
+from debvote_tools.inbox.letter import YEAR, arrival_of
+from debvote_tools.inbox.mailbox import BEGIN, NotRead, RawLetter
+from debvote_tools.inbox.vote import Vote
+from debvote_tools.patience import within
 from debvote_tools.poll.sealed import OWN, OWN_SIGNS
 from debvote_tools.text import times
 
@@ -69,7 +64,8 @@ FIELDS = {
 
 UPLOAD = f"upload {SCRIPT} of the folder call to where PHP 8.1 or later runs and may write; then run the command again"
 
-# what is said of a page that is not that of the call: one that this book made before, and another one
+# what is said of a page that is not that of the call: one that this book made before, and another
+# one
 PAGE_OF_BEFORE = (
     "Note: the page there is the one of before: upload the folder call, then run this again."
 )
@@ -80,18 +76,20 @@ OTHER_PAGE = (
 
 # in seconds: how far the clock of the box may be from ours unsaid
 MOST_OFF = 60
-# how many records of one link are kept in all, as many as the script takes; how many electors are named
+# how many records of one link are kept in all, as many as the script takes; how many electors are
+# named
 MOST = MOST_NAMED = 20
 
-# a record as the script writes it, without the line above it: when it arrived, the digest of the proof
-# by which it came, all that is below and in it the mark of the poll and its number, and what is sealed
+# a record as the script writes it, without the line above it: when it arrived, the digest of the
+# proof by which it came, all that is below and in it the mark of the poll and its number, and what
+# is sealed
 RECORD = re.compile(
     r"(Received: by box; [^\n]+\n)X-Proof: ([0-9a-f]{64})\n(From: box@page\.invalid\n"
     r"Subject: \[([0-9a-f]{16})\]\nMessage-ID: <([0-9a-f]{32})@page\.invalid>\n\n)([A-Za-z0-9_-]+)\n-- \n"
 )
 PROOF = re.compile(r"X-Proof: (\w+)")
-# what is sealed: a line and the elector on it, their personal link, in it the own mark and the third part, and
-# the time by their device
+# what is sealed: a line and the elector on it, their personal link, in it the own mark and the
+# third part, and the time by their device
 INSIDE = re.compile(
     rf"(([a-z0-9.-]{{1,32}}) [A-Z0-9, -]+)\n(\2/({OWN})/([{OWN_SIGNS}]{{{LINK_LENGTH}}}))\n({YEAR}-\d\d-\d\dT\d\d:\d\d:\d\d\.\d{{3}}Z)"
 )
@@ -120,8 +118,8 @@ class Asked(NamedTuple):
 
 
 def ask(at: str | None, mark: str, word: str) -> Asked:
-    """Asks the box beside the page at this address. Stops unless it answers whole, and as the box of
-    the poll with this mark.
+    """Asks the box beside the page at this address. Stops unless it answers whole, and as the box
+    of the poll with this mark.
     """
     address, begin = script_address(at), times.now()
     body = f"ask {word}\n".encode()
@@ -148,8 +146,8 @@ def ask(at: str | None, mark: str, word: str) -> Asked:
 
 
 def answer_of(address: str, body: bytes | None = None) -> HostAnswer:
-    """What is answered to a request, for a page if it has no body. Stops if it does not come whole. No
-    redirect is followed: the word is for this address alone.
+    """What is answered to a request, for a page if it has no body. Stops if it does not come whole.
+    No redirect is followed: the word is for this address alone.
     """
     parts = urllib.parse.urlsplit(address)
     try:
@@ -206,8 +204,8 @@ def cut_off(address: str) -> Fault:
 
 # ---- its records, as letters
 def asked_box(vote: Vote) -> tuple[list[RawLetter], Detail, list[str], bool]:
-    """Asks the box of this vote: what it has, as letters, what the act keeps of it, what is said, and whether it
-    has more than before that nobody can open.
+    """Asks the box of this vote: what it has, as letters, what the act keeps of it, what is said,
+    and whether it has more than before that nobody can open.
     """
     election = vote.election
     history = election.history()
@@ -288,11 +286,11 @@ def in_order(records: bytes) -> list[RawLetter]:
 def records_in(
     vote: Vote, asked: Asked, before: Detail, kept: Sequence[KeptRecord]
 ) -> tuple[list[RawLetter], list[RawLetter]]:
-    """The records as letters; and those that can't be opened, of no elector, or above the most that are kept of
-    a link, also with those that came before. What was kept is not opened again.
+    """The records as letters; and those that can't be opened, of no elector, or above the most that
+    are kept of a link, also with those that came before. What was kept is not opened again.
 
-    The host can exchange the times of two, and not what is sealed in them: each has the last time by the
-    device of all that came before it.
+    The host can exchange the times of two, and not what is sealed in them: each has the last time
+    by the device of all that came before it.
     """
     counts = collections.Counter(one.link for one in kept)
     known = {one.digest for one in kept}
@@ -318,14 +316,14 @@ def records_in(
 
 
 def opened(book: Book, raw: RawLetter) -> RawLetter:
-    """The letter that a record is, if an elector's page sealed it for its poll, number and proof. The key of the
-    box alone shows that a link is true, also one whose own mark the book lacks.
+    """The letter that a record is, if an elector's page sealed it for its poll, number and proof.
+    The key of the box alone shows that a link is true, also one whose own mark the book lacks.
     """
     record = RECORD.fullmatch(raw.data.decode("latin-1"))
     # a book without a box has none
     key = queries.sealed(book, BOX_KEY)
     if record and key:
-        from debvote_tools.poll.sealed_ballots import key_pair
+        from debvote_tools.call.sealed_ballots import key_pair
 
         head, proof, rest, mark, number, sealed = record.groups()
         with contextlib.suppress(ValueError):
@@ -343,8 +341,8 @@ def opened(book: Book, raw: RawLetter) -> RawLetter:
 def whose(
     book: Book, mark: str, records: Sequence[RawLetter], asked: datetime.datetime
 ) -> dict[str, str]:
-    """The electors by whose proofs these records came, in their order, each with when the last one did, at the
-    latest when the box was asked.
+    """The electors by whose proofs these records came, in their order, each with when the last one
+    did, at the latest when the box was asked.
     """
     links = links_of(book).values() if records else ()
     names = {proof_digest(mark, link): link.partition("/")[0] for link in links}
@@ -359,9 +357,10 @@ def whose(
 def clocked(
     raw: RawLetter, asked: Asked, before: Detail, count: int, last: datetime.datetime | None
 ) -> RawLetter:
-    """A record with what its time is judged by. Between two askings the clock was off by as much as in the
-    one where it was off by more. Of those of a link, of which so many came before it, each has a second of
-    its own, also if they come in one. The last one before it of its elector has this time by the device.
+    """A record with what its time is judged by. Between two askings the clock was off by as much as
+    in the one where it was off by more. Of those of a link, of which so many came before it, each
+    has a second of its own, also if they come in one. The last one before it of its elector has
+    this time by the device.
     """
     behind = max(asked.behind, before.get("behind", 0), key=abs)
     return dataclasses.replace(

@@ -6,12 +6,12 @@ from collections.abc import Iterable, Sequence
 from debvote_tools.book import queries
 from debvote_tools.book.book import Book, NewAct
 from debvote_tools.book.change import Change
-from debvote_tools.book.election import Election, History
 from debvote_tools.book.queries import NewEnvelope
 from debvote_tools.cli import console
 from debvote_tools.cli.arguments import Acting, option
 from debvote_tools.cli.console import act_time, count_of, shown_line
 from debvote_tools.cli.faults import Fault, Status, bad_words
+from debvote_tools.election import Election, History
 from debvote_tools.files import BALLOTS_LIMIT, LINES_LIMIT
 from debvote_tools.inbox.vote import CheckedLine, Vote, envelope_words, replies_to
 from debvote_tools.text.times import now, time_in_words
@@ -81,8 +81,8 @@ def demand_room(book: Book, new: Sequence[NewEnvelope]) -> None:
 # ---- whether it comes in time
 def late_notes(election: Election, history: History, what: str) -> list[str]:
     """What is said of lines that are entered after the end; `what` says what is done with them. Of
-    lines that `add` enters it stands above the replies, after the act. After `reopen` the end decides
-    nothing: only what came before the first close counts.
+    lines that `add` enters it stands above the replies, after the act. After `reopen` the end
+    decides nothing: only what came before the first close counts.
     """
     if history.is_closed:
         closed = act_time(history.closes[-1].time)
@@ -122,8 +122,8 @@ def came_before_close(history: History, answer: str | None) -> bool | None:
 def replaced_in_time(
     vote: Vote, lines: Iterable[CheckedLine], is_late: bool
 ) -> dict[CheckedLine, str]:
-    """Of lines that are entered as in time, those that were late before, and would replace a ballot in time
-    that is another one: each in words. Somebody has to agree to each.
+    """Of lines that are entered as in time, those that were late before, and would replace a ballot
+    in time that is another one: each in words. Somebody has to agree to each.
     """
     if is_late or not vote.history().is_reopened:
         return {}

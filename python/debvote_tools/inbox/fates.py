@@ -4,8 +4,8 @@ import datetime
 from typing import NamedTuple
 
 from debvote_tools.book import queries
-from debvote_tools.book.election import Election, History
 from debvote_tools.book.queries import Elector, Envelope
+from debvote_tools.election import Election, History
 from debvote_tools.grouping import grouped
 from debvote_tools.inbox.judging import judged
 from debvote_tools.inbox.rules import LetterCase, LetterOutcome
@@ -18,9 +18,9 @@ COUNTS, REFUSED, TAKEN_BACK = "counts", "refused", "taken back"
 
 
 class Fate(NamedTuple):
-    """An envelope or a letter that came, and what became of it. A letter is an elector's own if it came
-    from an address of theirs, or by their link; it names them if a ballot in it is theirs, or a line near
-    to one, or if it names nobody and is theirs alone.
+    """An envelope or a letter that came, and what became of it. A letter is an elector's own if it
+    came from an address of theirs, or by their link; it names them if a ballot in it is theirs, or
+    a line near to one, or if it names nobody and is theirs alone.
     """
 
     time: datetime.datetime
@@ -60,9 +60,10 @@ def fates_of(
     """What came from all electors or from one, by their names on the roll, in the order of its
     times; a letter that arrived at no known time has that of its act.
 
-    What became of an envelope the view `fate` says, of a letter `judged`. A letter is of whoever has a
-    ballot in it or a line near to one, and of whoever sent it; if asked about one elector, also
-    each whose sender has an address of theirs. One that was entered comes beside its envelopes.
+    What became of an envelope the view `fate` says, of a letter `judged`. A letter is of whoever
+    has a ballot in it or a line near to one, and of whoever sent it; if asked about one elector,
+    also each whose sender has an address of theirs. One that was entered comes beside its
+    envelopes.
     """
     book = election.book
     names = {

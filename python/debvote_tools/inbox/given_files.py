@@ -1,4 +1,6 @@
-"""What `add` is given: files and standard input, each read once and whole, and folders of letters."""
+"""What `add` is given: files and standard input, each read once and whole, and folders of
+letters.
+"""
 
 import codecs
 import itertools
@@ -9,10 +11,11 @@ import sys
 from collections.abc import Sequence
 from typing import BinaryIO, NamedTuple
 
-from debvote_tools.book.election import Election
 from debvote_tools.cli.console import tell
 from debvote_tools.cli.faults import Fault, bad_words, kept_in, stop_at
+from debvote_tools.election import Election
 from debvote_tools.files import BALLOTS_LIMIT, PACKED, PDF, kind_of
+from debvote_tools.inbox.entering import bad_ballots
 from debvote_tools.inbox.mailbox import (
     NotRead,
     RawLetter,
@@ -21,7 +24,6 @@ from debvote_tools.inbox.mailbox import (
     letters_of_file,
     letters_of_folder,
 )
-from debvote_tools.inbox.entering import bad_ballots
 from debvote_tools.poll.sealed import REQUIRED
 
 # what names standard input on the command line, and how messages name it
@@ -60,8 +62,8 @@ def has_letters(file: GivenFile) -> bool:
 
 
 def read_files(election: Election, paths: Sequence[str]) -> tuple[list[RawLetter], list[GivenFile]]:
-    """The letters that these paths name, and what is passed over; or the files of lines. Stops at a file
-    that has neither ballots nor letters, and at letters beside files of lines.
+    """The letters that these paths name, and what is passed over; or the files of lines. Stops at a
+    file that has neither ballots nor letters, and at letters beside files of lines.
     """
     letters = dict[str, list[RawLetter]]()
     files = dict[str, GivenFile]()
@@ -119,7 +121,9 @@ def bytes_in(file: BinaryIO) -> bytes:
 
 
 def demand_lines(file: GivenFile) -> None:
-    """Stops at a file that can't have ballots: it is empty, too long, of another kind, or a poll."""
+    """Stops at a file that can't have ballots: it is empty, too long, of another kind, or a
+    poll.
+    """
     if not file.data:
         words, cure = "it is empty", "write one ballot on each line"
         raise Fault(file.name, words, cure)

@@ -3,7 +3,8 @@
 import html
 import re
 
-# where a line ends; what no program shows; and where a quotation begins, below which nothing is the sender's
+# where a line ends; what no program shows; and where a quotation begins, below which nothing is the
+# sender's
 BLOCKS = frozenset("br p div tr li table blockquote h1 h2 h3 h4 h5 h6 pre".split())
 HIDDEN, QUOTE = frozenset(["style", "script"]), re.compile("quote|border-left|cite")
 # what begins a tag, else it is text; and its name
@@ -18,8 +19,8 @@ NO_CHARACTER = re.compile(r"&#\d{8,}")
 
 
 def read_page(page: str) -> tuple[str, bool]:
-    """A line for each block, with the mark of a quotation from where one begins; and whether programs may show
-    more or less than that. Takes linear time.
+    """A line for each block, with the mark of a quotation from where one begins; and whether
+    programs may show more or less than that. Takes linear time.
     """
     before, *pieces = page.split("<")
     parts, inside = [before], ""
@@ -45,6 +46,8 @@ def read_page(page: str) -> tuple[str, bool]:
 
 
 def is_odd_tag(tag: str) -> bool:
-    """Whether a tag, of which a value in quotation marks may go on behind it, changes what is seen."""
+    """Whether a tag, of which a value in quotation marks may go on behind it, changes what is
+    seen.
+    """
     is_open = tag.count('"') % 2 or tag.count("'") % 2
     return bool(is_open or ODD.match(tag) or ODD_STYLE.search(tag))

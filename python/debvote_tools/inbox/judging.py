@@ -1,5 +1,5 @@
-"""What becomes of each letter: by the rules, beside the other letters, and by the vote, the electors
-and the book as they are now. Letters are judged anew whenever they are looked at.
+"""What becomes of each letter: by the rules, beside the other letters, and by the vote, the
+electors and the book as they are now. Letters are judged anew whenever they are looked at.
 """
 
 import bisect
@@ -11,8 +11,8 @@ import operator
 from collections.abc import Callable, Collection, Iterable, Mapping, Sequence, Set
 
 from debvote_tools.book import queries
-from debvote_tools.book.election import BOX_KEY, KEYRING, History
 from debvote_tools.book.queries import Ballot, KeptLetter
+from debvote_tools.election import BOX_KEY, KEYRING, History
 from debvote_tools.grouping import grouped
 from debvote_tools.inbox.letter import Body
 from debvote_tools.inbox.letter_lines import ReadLetter, from_json, read_letters
@@ -38,11 +38,13 @@ TIME, IS_BY_LETTER = operator.attrgetter("time"), operator.attrgetter("is_by_let
 
 
 class Beside:
-    """The ballots of an elector, beside which letters are judged. Of thousands each letter looks at few."""
+    """The ballots of an elector, beside which letters are judged. Of thousands each letter looks at
+    few.
+    """
 
     def __init__(self, ballots: Iterable[Ballot] = ()) -> None:
-        # in the order `queries.by_time`: all; by the labels of their answers; and by how far the clock
-        # of each was behind
+        # in the order `queries.by_time`: all; by the labels of their answers; and by how far the
+        # clock of each was behind
         self.every = [*ballots]
         self.by_label = grouped((label, one) for one in self.every for label in one.labels)
         self.by_clock = grouped((one.behind, one) for one in self.every)
@@ -55,7 +57,9 @@ class Beside:
 
     @functools.cached_property
     def next_others(self) -> dict[str, list[int]]:
-        """By label, of each ballot with an answer to this question, the index of the next one with another."""
+        """By label, of each ballot with an answer to this question, the index of the next one with
+        another.
+        """
         found = dict[str, list[int]]()
         for label, its in self.by_label.items():
             ends = found[label] = []
@@ -65,16 +69,16 @@ class Beside:
         return found
 
     def labels_of(self, own: Ballot) -> Set[str]:
-        """Those of the questions that a ballot of a letter answers, or of all if it is not known, to which
-        there are answers.
+        """Those of the questions that a ballot of a letter answers, or of all if it is not known,
+        to which there are answers.
         """
         return self.by_label.keys() & (own.labels or self.by_label.keys())
 
     def later(
         self, own: Ballot, is_asked_for: Callable[[Ballot], object] = bool
     ) -> dict[str, Ballot]:
-        """The last ballots that are later than one in a letter, by whichever clock, by the labels of its
-        questions: nothing where its time is not known.
+        """The last ballots that are later than one in a letter, by whichever clock, by the labels
+        of its questions: nothing where its time is not known.
         """
         found = dict[str, Ballot]()
         for label in self.labels_of(own) if own.is_by_letter else ():
@@ -88,8 +92,9 @@ class Beside:
         return found
 
     def has_voted_since(self, own: Ballot) -> bool | None:
-        """Whether it is sure that the elector has a later ballot than one in a letter, which answers one of
-        the same questions; None if they have none. Where its time is not known, each may be later.
+        """Whether it is sure that the elector has a later ballot than one in a letter, which
+        answers one of the same questions; None if they have none. Where its time is not known, each
+        may be later.
         """
         if self.later(own):
             return True
@@ -103,8 +108,8 @@ class Beside:
         end: datetime.datetime,
         known: Collection[int] = (),
     ) -> Ballot | None:
-        """The first one from a time until before another one, but for these envelopes, that answers a
-        question in another way than a ballot. Of thousands that are alike it looks at one.
+        """The first one from a time until before another one, but for these envelopes, that answers
+        a question in another way than a ballot. Of thousands that are alike it looks at one.
         """
         found = list[Ballot]()
         for label, ranks in answers_of(ballot).items():
@@ -124,8 +129,8 @@ class Beside:
         return self.first_other(own.line, own.time, end) is not None
 
     def turned(self, own: Ballot) -> Ballot | None:
-        """The first one that may stand on the other side of a ballot by the clock of this computer: of each
-        other clock only those may whose times are within the difference.
+        """The first one that may stand on the other side of a ballot by the clock of this computer:
+        of each other clock only those may whose times are within the difference.
         """
         found = list[Ballot]()
         for behind, its in self.by_clock.items():
@@ -225,8 +230,9 @@ def circumstances_now(vote: Vote, history: History) -> Circumstances:
 # ---- one letter beside the others
 def judge_all(cases: Iterable[LetterCase], by_elector: BallotsByElector) -> list[LetterCase]:
     """Judges letters, and returns them by their times; those without a time come last. What an act
-    decided holds; a letter that breaks a rule waits. Of the letters of one identity, mostly one alone,
-    the first that breaks none is the original, whose time is its own; the others may be its copies.
+    decided holds; a letter that breaks a rule waits. Of the letters of one identity, mostly one
+    alone, the first that breaks none is the original, whose time is its own; the others may be its
+    copies.
     """
     cases = sorted(cases, key=lambda case: (case.time is None, case.time or case.circumstances.now))
     for case in cases:
@@ -254,14 +260,16 @@ def decided(case: LetterCase) -> Judgement:
 
 
 def ballot_in(case: LetterCase, ballot: str) -> Ballot:
-    """A ballot of a letter beside others. Where its time is not known it has the one of now, as when it is entered."""
+    """A ballot of a letter beside others. Where its time is not known it has the one of now, as
+    when it is entered.
+    """
     time = case.time or case.circumstances.now
     return Ballot(time, ballot, case.time is not None, case.read.behind)
 
 
 def has_voted_since(case: LetterCase, elector: str, its: Beside) -> bool | None:
-    """Whether it is sure that an elector of a letter has a later ballot; None if they have none. If answers
-    of theirs stand in the letter, it is one that answers one of the same questions.
+    """Whether it is sure that an elector of a letter has a later ballot; None if they have none. If
+    answers of theirs stand in the letter, it is one that answers one of the same questions.
     """
     lines = [line.as_entered for line in case.ballots if line.elector == elector]
     said = {its.has_voted_since(ballot_in(case, line)) for line in lines or [""]}
@@ -269,8 +277,8 @@ def has_voted_since(case: LetterCase, elector: str, its: Beside) -> bool | None:
 
 
 def original_of(group: Sequence[LetterCase]) -> LetterCase | None:
-    """Of the letters of one identity the first that may go in, unless an act decided of one that hides
-    the others.
+    """Of the letters of one identity the first that may go in, unless an act decided of one that
+    hides the others.
     """
     may_go_in = (one for one in group if not one.is_decided and one.first_broken_rule is None)
     original = next(may_go_in, None)
@@ -307,9 +315,9 @@ def judge_originals(
 def outcome_of_original(
     case: LetterCase, own: Ballot, its: Beside, has_other_at_once: bool, is_unchecked: bool
 ) -> Judgement:
-    """What becomes of a letter that breaks no rule, beside the ballots of its elector: they have to be
-    older, but for the same one; none of them, or of another letter, may answer in another way at the same
-    time; and the vote may not be closed.
+    """What becomes of a letter that breaks no rule, beside the ballots of its elector: they have to
+    be older, but for the same one; none of them, or of another letter, may answer in another way at
+    the same time; and the vote may not be closed.
     """
     elector, time = case.elector, own.time
     if turned := its.turned(own):
@@ -359,8 +367,9 @@ def judge_copies(
 def outcome_of_copy(
     case: LetterCase, original: LetterCase, by_elector: BallotsByElector
 ) -> Judgement:
-    """A copy of a letter is ignored, unless another ballot lies between: which of the two copies was
-    read first depends on the order of the mailboxes, and may not decide which ballot is the last.
+    """A copy of a letter is ignored, unless another ballot lies between: which of the two copies
+    was read first depends on the order of the mailboxes, and may not decide which ballot is the
+    last.
     """
     if original.time is None or case.time is None:
         return LetterOutcome.COPY, None

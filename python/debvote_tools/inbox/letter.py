@@ -14,9 +14,10 @@ from collections.abc import Sequence
 
 from debvote_tools.inbox import html
 from debvote_tools.inbox.mailbox import OfBox, RawLetter
-from debvote_tools.inbox.mime import MAX_PARTS, Part, address_key
+from debvote_tools.inbox.mime import MAX_PARTS, Part
 from debvote_tools.inbox.reasons import Reason, ReasonWithValues
 from debvote_tools.poll.sealed import OWN_LENGTH, OWN_SIGNS, marks_in
+from debvote_tools.text.addresses import address_key
 
 # in bytes: a text
 MAX_TEXT = 262_144
@@ -40,8 +41,8 @@ AS_WINDOWS = {
     for number in range(0x80, 0xA0)
     if number != ord("\x85")
 }
-# other control characters but tab and line feed: some programs omit them, or end a line there; a carriage return
-# before a line feed is none
+# other control characters but tab and line feed: some programs omit them, or end a line there; a
+# carriage return before a line feed is none
 CONTROL = re.compile("[\0-\x08\v-\x1f\x7f\x85\u2028\u2029]")
 # mail servers write this field into the head of each letter
 RECEIVED = re.compile(rb"\nreceived[ \t]*:", re.IGNORECASE)
@@ -53,8 +54,8 @@ ADDRESS = rf"{ATOM}(?:\.{ATOM})*@[\w-]+(?:\.[\w-]+)*"
 NAME = r"""(?:"(?:[ !#-\[\]-~\udc80-\udcff]|\\[ -~])*"|[\w!#$%&'*+/=?^`{|}~. \udc80-\udcff-])*"""
 COMMENT = r" *\([ !-'*-\[\]-~\udc80-\udcff]*\)"
 SENDER = re.compile(rf"{NAME}<({ADDRESS})>|({ADDRESS})(?:{COMMENT})?", re.ASCII)
-# the years of the times that mail and web servers write: far from them no clock could be set right and no
-# other zone be shown, so with another year it is no time
+# the years of the times that mail and web servers write: far from them no clock could be set right
+# and no other zone be shown, so with another year it is no time
 YEAR = r"20\d\d"
 # a time as mail servers write it (RFC 5322, 3.3 and 4.3), and its place in a field Received, at the
 # end (3.6.7), perhaps with the name of its zone in brackets
@@ -62,16 +63,17 @@ TIME = rf"(?:[A-Z][a-z]{{2}}, *)?\d{{1,2}} +[A-Z][a-z]{{2}} +{YEAR} +\d{{1,2}}:\
 CLOCK = r"(?<![:\d])\d{1,2}:\d\d:\d\d(?![:\d])"
 ARRIVED = re.compile(rf"; *({TIME})(?: *\([^();]*\))? *\Z")
 # fields by which a program says that it answers by itself (RFC 3834, and programs from before it),
-# or that a letter came back: in such parts (RFC 6522), or with no address to answer (RFC 5321, 4.5.5)
+# or that a letter came back: in such parts (RFC 6522), or with no address to answer (RFC 5321,
+# 4.5.5)
 AUTOMATIC = re.compile(
     r"auto-submitted:(?!\s*(?:no)?\s*(?:;|\Z))|precedence:\s*auto[_-]reply|content-type:\s*multipart/report|return-path:\s*<\s*>"
     r"|x-auto(?:reply|respond|responder):",
     re.IGNORECASE,
 )
 
-# a letter of ours that did not reach its elector comes back in such parts (RFC 3464, 2.3.3), or from
-# such a sender (RFC 5321, 4.5.1); and the own marks in it, in a subject and in a personal link, and
-# what begins a Message-ID of ours
+# a letter of ours that did not reach its elector comes back in such parts (RFC 3464, 2.3.3), or
+# from such a sender (RFC 5321, 4.5.1); and the own marks in it, in a subject and in a personal
+# link, and what begins a Message-ID of ours
 REPORT, FAILED = "message/delivery-status", re.compile(rb"(?im)^action:[ \t]*failed")
 SERVERS = ("mailer-daemon", "postmaster")
 OWN = re.compile(
@@ -303,8 +305,8 @@ def body_of(parts: Sequence[Part]) -> Body:
 
 
 def the_text(parts: Sequence[Part]) -> Part:
-    """The part whose text is shown: the plain one, alone or beside its own HTML, or HTML alone. Of others the
-    first has that there is no such one as its trouble.
+    """The part whose text is shown: the plain one, alone or beside its own HTML, or HTML alone. Of
+    others the first has that there is no such one as its trouble.
     """
     texts = [part for part in parts if part.kind.startswith(("text/", "message/"))]
     plain = [part for part in texts if part.kind == "text/plain" and part.is_shown]
@@ -317,8 +319,8 @@ def the_text(parts: Sequence[Part]) -> Part:
 
 
 def are_alternatives(parts: Sequence[Part], texts: Sequence[Part]) -> bool:
-    """Whether these are the texts of one multipart/alternative: the first is right below it, and the other, too,
-    or within another part of it.
+    """Whether these are the texts of one multipart/alternative: the first is right below it, and
+    the other, too, or within another part of it.
     """
     first, last = map(parts.index, texts)
     return any(

@@ -4,8 +4,9 @@
     signature = a line "-- " and all below it
     quotation = a head and lines that begin with ">", or a head of Outlook and all below it
 
-with empty lines between. A head says who wrote when, as `On Mon, Nov 23, 2026 at 10:00 AM Vote wrote:`. What is none of this its sender
-wrote, and somebody looks at it: a line with ">" below no head, and a line below those with ">", too.
+with empty lines between. A head says who wrote when, as `On Mon, Nov 23, 2026 at 10:00 AM Vote
+wrote:`. What is none of this its sender wrote, and somebody looks at it: a line with ">" below no
+head, and a line below those with ">", too.
 """
 
 import re
@@ -16,8 +17,9 @@ from typing import NamedTuple
 # the line above a signature (RFC 3676, 4.3)
 END = "-- "
 
-# the head of a quotation: at its start a date with a time, perhaps behind a word; and at its end, on the
-# same line or on the next one, a word for "wrote" with a colon, in Germanic languages before the name
+# the head of a quotation: at its start a date with a time, perhaps behind a word; and at its end,
+# on the same line or on the next one, a word for "wrote" with a colon, in Germanic languages before
+# the name
 DATE, CLOCK = r"\d{1,4}[./-]\d{1,2}[./-]\d{2,4}|\b20\d\d\b", r"\d{1,2} ?[:h] ?\d\d"
 BEGIN = re.compile(
     rf"(?:(?:on|am|den|le|el|il|op|em|på|dne) .{{0,40}}?)?(?:{DATE})\D{{0,25}}{CLOCK}",
@@ -31,8 +33,9 @@ WROTE = re.compile(
 # in characters: a longer line is no head
 LONGEST_LINE = 300
 
-# the head of a letter as Outlook quotes it: its fields from the sender or, as GMX writes it, from the time to
-# the subject, with a date and a time, in at most so many lines; or a line, below which they may stand
+# the head of a letter as Outlook quotes it: its fields from the sender or, as GMX writes it, from
+# the time to the subject, with a date and a time, in at most so many lines; or a line, below which
+# they may stand
 FROM, SUBJECT = (
     re.compile(rf"[\s*]*(?:{names})[\s*]*:", re.IGNORECASE)
     for names in ("from|von|de|sent|gesendet|envoyé|enviado", "subject|betreff|objet|asunto")
@@ -44,8 +47,8 @@ ORIGINAL = re.compile(
     re.IGNORECASE,
 )
 
-# whole lines above and below a ballot that say nothing, but for capitals, hyphens and the sign at their
-# end; behind each may stand the elector's name
+# whole lines above and below a ballot that say nothing, but for capitals, hyphens and the sign at
+# their end; behind each may stand the elector's name
 GREETINGS = (
     "hello|hi|hey|hello all|hi all|dear all|hello everyone|hello everybody|hi everyone|dear secretary|good morning|good afternoon|good evening|good day|dear sir or madam|"
     "hallo|hallo liebe wahlleitung|hallo zusammen|hallo alle|guten tag|guten morgen|guten abend|moin|moin moin|servus|grüezi|grüß gott|liebe alle|liebe wahlleitung|"
@@ -76,7 +79,9 @@ LONGEST_USUAL, MOST_OF_NAME, ALIKE = 120, 4, str.maketrans("-\u2019", " '")
 
 
 class Parts(NamedTuple):
-    """The indices of the lines of a letter, by what they are. What its sender wrote is in the first three."""
+    """The indices of the lines of a letter, by what they are. What its sender wrote is in the first
+    three.
+    """
 
     own: list[int]
     signature: list[int]
@@ -121,8 +126,9 @@ def is_first_marked(lines: Sequence[str], index: int) -> bool:
 
 
 def head_of_marked(lines: Sequence[str], marked: int) -> Sequence[int]:
-    """The head of the quotation whose first marked line this is: one line or two above it, but for empty
-    ones; or in it, as programs of Apple write it, and others that of Outlook. Empty if it has none.
+    """The head of the quotation whose first marked line this is: one line or two above it, but for
+    empty ones; or in it, as programs of Apple write it, and others that of Outlook. Empty if it has
+    none.
     """
     above = marked - 1
     while above > 0 and not lines[above].strip():
@@ -153,7 +159,9 @@ def end_of_outlook(lines: Sequence[str], begin: int) -> int:
 
 # ---- lines that say nothing
 def bare(text: str) -> str:
-    """A line without capitals, hyphens and the sign at its end; nothing of one that is too long to be usual."""
+    """A line without capitals, hyphens and the sign at its end; nothing of one that is too long to
+    be usual.
+    """
     if len(text) > LONGEST_USUAL:
         return ""
     words = unicodedata.normalize("NFC", text).translate(ALIKE).casefold().split()

@@ -1,6 +1,6 @@
-"""Letters are read when they come: `read_letters` has their bytes parsed, their signatures checked, and the
-ballots found in their texts (`letter_text.py`); and debvote says which of these are valid. `to_json` and
-`from_json` are how the book keeps a letter that was read.
+"""Letters are read when they come: `read_letters` has their bytes parsed, their signatures checked,
+and the ballots found in their texts (`letter_text.py`); and debvote says which of these are valid.
+`to_json` and `from_json` are how the book keeps a letter that was read.
 
 The addresses on the list and the time decide nothing here. So a letter is judged again from what
 the book keeps, and is read again only if its signature has to be checked anew (`judging.py`).
@@ -15,14 +15,15 @@ from collections.abc import Callable, Mapping, Sequence
 from typing import Any
 
 from debvote_tools.book import queries
-from debvote_tools.book.election import KEYRING
+from debvote_tools.election import KEYRING
 from debvote_tools.inbox.letter import ParsedLetter, parse
-from debvote_tools.inbox.letter_text import Reading, ReadLine, reading_of, why_points
-from debvote_tools.inbox.lines import Names, has_code
+from debvote_tools.inbox.letter_text import ReadLine, Reading, reading_of, why_points
+from debvote_tools.inbox.lines import Names
 from debvote_tools.inbox.mailbox import RawLetter
 from debvote_tools.inbox.reasons import Reason
 from debvote_tools.inbox.signature import find_gpgv, verified
 from debvote_tools.inbox.vote import Vote
+from debvote_tools.poll.codes import has_code
 from debvote_tools.text.ballots import answers_in
 
 # debvote's answer to each line, as `bad rank count: ..`; None for a valid ballot
@@ -31,8 +32,8 @@ Ask = Callable[[Sequence[bytes]], Mapping[bytes, str | None]]
 
 @dataclasses.dataclass(frozen=True)
 class BallotLine:
-    """A ballot: the number of its first line, from 1, or 0 if it was typed; the ballot as it would be entered;
-    and as it is written.
+    """A ballot: the number of its first line, from 1, or 0 if it was typed; the ballot as it would
+    be entered; and as it is written.
     """
 
     number: int
@@ -51,7 +52,9 @@ class BallotLine:
 
 @dataclasses.dataclass(frozen=True)
 class ReadLetter(ParsedLetter):
-    """A letter with what its text says, and the lines with what looks like a code of a secret vote or an alias."""
+    """A letter with what its text says, and the lines with what looks like a code of a secret vote
+    or an alias.
+    """
 
     text: Reading = Reading()
     code_lines: tuple[int, ...] = ()

@@ -1,5 +1,6 @@
-"""What the text of a letter says: the ballots in it, and whether one is all that its sender wrote. It is found by the grammar of
-`letter_grammar.py` and the names of the electors, before debvote is asked which ballots are valid.
+"""What the text of a letter says: the ballots in it, and whether one is all that its sender wrote.
+It is found by the grammar of `letter_grammar.py` and the names of the electors, before debvote is
+asked which ballots are valid.
 """
 
 import dataclasses
@@ -23,9 +24,11 @@ from debvote_tools.text.answers import DASHES, answer_pattern
 from debvote_tools.text.ballots import ranks_by_label
 from debvote_tools.text.motions import WORDS
 
-# in characters: how much is shown of what else its sender wrote, and of a line that is looked at closely
+# in characters: how much is shown of what else its sender wrote, and of a line that is looked at
+# closely
 MAX_WORDS, MAX_COMPOSED = 300, 2_000
-# of more lines that may be ballots none is read; how many usual lines are passed over below a ballot
+# of more lines that may be ballots none is read; how many usual lines are passed over below a
+# ballot
 MAX_BALLOTS, MAX_FAREWELLS = 200, 6
 
 # what may stand behind the last rank of a ballot; and what no signature has: two ranks
@@ -37,8 +40,9 @@ NO_NAMES = frozenset(itertools.chain.from_iterable(WORDS.values()))
 
 @dataclasses.dataclass(frozen=True)
 class ReadLine:
-    """What reads as a ballot in a letter, by the number of its first line, from 1: as it is written, those who
-    may be meant by its name, its ranks, and why they are none; None if they are valid.
+    """What reads as a ballot in a letter, by the number of its first line, from 1: as it is
+    written, those who may be meant by its name, its ranks, and why they are none; None if they are
+    valid.
     """
 
     number: int
@@ -50,10 +54,10 @@ class ReadLine:
 
 @dataclasses.dataclass(frozen=True)
 class Reading:
-    """The ballots in a text, or how many lines may be ballots if they are more than are read; whether one is
-    all of it; whether more of it looks like an answer; and whether a quotation is above a ballot. What its
-    sender wrote besides ballots and usual lines, a little more of it than is shown; and which lines are
-    quoted, by their indices.
+    """The ballots in a text, or how many lines may be ballots if they are more than are read;
+    whether one is all of it; whether more of it looks like an answer; and whether a quotation is
+    above a ballot. What its sender wrote besides ballots and usual lines, a little more of it than
+    is shown; and which lines are quoted, by their indices.
     """
 
     ballots: tuple[ReadLine, ...] = ()
@@ -88,8 +92,8 @@ def reading_of(lines: Sequence[str], names: Names, *, is_signed: bool = False) -
 
 
 class LetterText:
-    """The lines of a text by what they are, as their indices; empty ones are left out, and in a text that
-    must be signed those with a mark alone.
+    """The lines of a text by what they are, as their indices; empty ones are left out, and in a
+    text that must be signed those with a mark alone.
     """
 
     def __init__(self, lines: Sequence[str], names: Names, is_signed: bool) -> None:
@@ -116,18 +120,24 @@ class LetterText:
         return self.names.are_answers(self.lines[place])
 
     def may_answer(self, place: int) -> bool:
-        """Whether a line is an answer, or begins as one: with a label and a sign or a word behind it."""
+        """Whether a line is an answer, or begins as one: with a label and a sign or a word behind
+        it.
+        """
         begins = self.names.label_at_start
         return place in self.answers or (begins and begins.match(self.lines[place])) is not None
 
     def says_something(self, place: int, own_names: Collection[str]) -> bool:
-        """Whether a line is an answer, or neither a greeting nor a farewell of an elector with these names."""
+        """Whether a line is an answer, or neither a greeting nor a farewell of an elector with
+        these names.
+        """
         line = self.lines[place]
         is_usual = is_greeting(line, own_names) or is_farewell(line, own_names)
         return place in self.answers or not is_usual
 
     def greets(self, line: str) -> bool:
-        """Whether a line is a greeting, perhaps with a name behind it, and not itself the name of an elector."""
+        """Whether a line is a greeting, perhaps with a name behind it, and not itself the name of
+        an elector.
+        """
         behind = behind_usual(line, USUAL_ABOVE)
         return behind is not None and not (
             behind and (self.names.answers.search(line) or self.names.meant_by(line.strip()))
@@ -149,8 +159,8 @@ class LetterText:
         return None
 
     def ballots(self) -> Iterator[tuple[ReadLine, Sequence[int]]]:
-        """The ballots within the text, each the longest run of lines with answers that is one, perhaps below
-        a line with the name.
+        """The ballots within the text, each the longest run of lines with answers that is one,
+        perhaps below a line with the name.
         """
         places, done = {*self.own, *self.below}, 0
         for place in sorted(places):
@@ -188,7 +198,9 @@ class LetterText:
 
 
 def composed(line: str) -> str:
-    """A line with its accents in one form; a very long one as it is, since that takes quadratic time."""
+    """A line with its accents in one form; a very long one as it is, since that takes quadratic
+    time.
+    """
     return unicodedata.normalize("NFC", line) if len(line) <= MAX_COMPOSED else line
 
 

@@ -21,8 +21,8 @@ from debvote_tools.inbox.reasons import for_secretary
 from debvote_tools.inbox.vote import IS_CODE, Vote
 from debvote_tools.text.language import ENGLISH
 
-# how many attachments are named; in characters, what is listed of what else a sender wrote; and how many
-# lines of a quotation are shown
+# how many attachments are named; in characters, what is listed of what else a sender wrote; and how
+# many lines of a quotation are shown
 MAX_ATTACHMENTS, MAX_LISTED, MAX_QUOTED = 5, 60, 100
 
 
@@ -97,8 +97,8 @@ def why_it_waits(letter: LetterCase) -> Iterator[str]:
 def judged_anew(
     before: Mapping[int, LetterCase], after: Mapping[int, LetterCase], others: Collection[int] = ()
 ) -> Iterator[str]:
-    """What is told of letters, but for some others, after a change that made them go in, wait otherwise or be
-    of somebody else.
+    """What is told of letters, but for some others, after a change that made them go in, wait
+    otherwise or be of somebody else.
     """
     for number, letter in after.items():
         known = (letter, before.get(number, letter))
@@ -125,7 +125,9 @@ def attachment_words(letter: LetterCase) -> Iterator[str]:
 
 
 def why(letter: LetterCase, elector: str = "") -> str:
-    """Why a letter waits, or what became of it; and who has voted since, or whether an elector has."""
+    """Why a letter waits, or what became of it; and who has voted since, or whether an elector
+    has.
+    """
     said = letter.outcome.value if letter.reason is None else for_secretary(letter.reason)
     if letter.outcome is LetterOutcome.GOES_IN:
         # nobody has agreed to it yet

@@ -4,12 +4,12 @@ A change is made only if the line can mean one thing. These are changed: the byt
 start, carriage returns at line ends, blanks at either end, around commas and between name and
 ranks, capital letters of the name; and what mail programs and word processors write: quotation
 marks around the line, asterisks for bold letters, a full stop at its end, a colon after the name,
-no-break spaces, a dash in place of a hyphen. A name that is that of one elector alone, on the roll or
-really, becomes the one on the roll, and in a motion a word becomes ranks (`Vote.as_meant`); in a
+no-break spaces, a dash in place of a hyphen. A name that is that of one elector alone, on the roll
+or really, becomes the one on the roll, and in a motion a word becomes ranks (`Vote.as_meant`); in a
 letter its sender decides whose real name it is (`LetterCase.elector_of`). Of a ballot of several
 answers each is changed so, and labels become capital letters in their order. No other sign between
-ranks becomes a comma: with semicolons a table of scores was counted. Nothing is guessed: no rank, no
-name, no order.
+ranks becomes a comma: with semicolons a table of scores was counted. Nothing is guessed: no rank,
+no name, no order.
 """
 
 import codecs
@@ -24,7 +24,6 @@ from debvote_tools.book.queries import Elector
 from debvote_tools.grouping import grouped
 from debvote_tools.poll.plain_names import without_accents
 from debvote_tools.poll.questions import Questions
-from debvote_tools.poll.sealed import OWN_LENGTH, OWN_SIGNS
 from debvote_tools.text.answers import DASHES
 from debvote_tools.text.ballots import answers_text
 from debvote_tools.text.language import Language
@@ -51,14 +50,6 @@ WRITTEN_NAME = rf"{LETTER}(?:(?:{LETTER}|[_ .'\u2019-])*{LETTER})?"
 RIGHT_ANSWERS = re.compile(rf"([a-z0-9.-]+)((?: [A-Z] {RANKS})+)")
 NAMED = re.compile(rf"({WRITTEN_NAME})(?:\s*:\s*|\s+)({RANKS})")
 
-# the code or the alias of a secret vote, and a code on the roll, within other text: as people type it, with
-# the gaps of a slip, over lines, and in capitals
-GAP = r"[ \t-]?+(?:\s*\n\s*)?+"
-TYPED_CODE, TYPED_ON_ROLL = (
-    re.compile(rf"(?<!{sign})(?=((?:{sign}{GAP}){{{length}}}{sign})(?!{sign}))", re.IGNORECASE)
-    for sign, length in (("[0-9a-f]", 31), (f"[{OWN_SIGNS}]", OWN_LENGTH - 1))
-)
-
 # no-break spaces as blanks
 NO_BREAK = str.maketrans("\u00a0\u202f", "  ")
 # pairs of quotation marks: the one before a line, and the one after it
@@ -72,14 +63,14 @@ BOLD = re.compile(r"(?:^|(?<=[ ,;:]))(\*{1,3})(?=[^ *])([^*]*)(?<=[^ *])\1(?=[ ,
 COLON = re.compile(r"^([A-Za-z0-9.-]+) *: *(?=[\d%s-])" % DASHES)
 FULL_STOP = re.compile(r"(?<=[\d%s-]) *\.$" % (DASHES + "".join(pair[1] for pair in QUOTES)))
 
-# the label of a question, as people write it before a rank; right before one, it is none if no other
-# rank follows: `a1` may be a name
+# the label of a question, as people write it before a rank; right before one, it is none if no
+# other rank follows: `a1` may be a name
 LABEL = re.compile(
     rf"(?:^|(?<=[\s:]))([A-Za-z])(?:(?:\s*[:).]\s*|\s+)(?=[\d{DASHES}-])|(?=(?:\d{{1,2}}|[{DASHES}-])\s*[,;]))"
 )
 
-# a word behind a label, which is a capital letter or has a sign behind it; one letter is no word, but may
-# be the label behind a name that ends in a letter, as in `Ben B A yes`
+# a word behind a label, which is a capital letter or has a sign behind it; one letter is no word,
+# but may be the label behind a name that ends in a letter, as in `Ben B A yes`
 WORD = re.compile(
     r"(?:^|(?<=[\s:]))(?:([A-Z])\s+|([A-Za-z])\s*[:).]\s*)([^\W\d_][\w\u0300-\u036f]+) ?[.!]?(?=\s|$)"
 )
@@ -94,9 +85,11 @@ class Line(NamedTuple):
     number: int
     # as it came, without its end, and without the byte-order mark of its file
     unframed: bytes
-    # with the changes that are allowed, but for whose name it is, and for words: see `Vote.as_meant`
+    # with the changes that are allowed, but for whose name it is, and for words: see
+    # `Vote.as_meant`
     repaired: bytes
-    # the same with the capital letters of the name: with them it may be the real name of somebody else
+    # the same with the capital letters of the name: with them it may be the real name of somebody
+    # else
     named: bytes
 
     def written(self, text: bytes) -> "Line":
@@ -141,7 +134,9 @@ class Names:
 
     @functools.cached_property
     def label_at_start(self) -> re.Pattern[str] | None:
-        """What begins with a label that has a sign, a rank or a word behind it; None if there is one question."""
+        """What begins with a label that has a sign, a rank or a word behind it; None if there is
+        one question.
+        """
         labels, sign = "".join(self.labels), r"\s*[^\w\s]"
         capital = rf"[{labels}](?:{sign}|\s+[^\W_])"
         small = rf"[{labels.lower()}](?:{sign}|\s+[\d{DASHES}-])"
@@ -165,8 +160,8 @@ class Names:
         return functools.lru_cache(MOST_QUOTED)(self.has_answers)
 
     def has_answers(self, line: str) -> bool:
-        """Whether a line has ranks, or a label with a rank or a word of a motion behind it; or of one question
-        is such a word, alone or behind a name.
+        """Whether a line has ranks, or a label with a rank or a word of a motion behind it; or of
+        one question is such a word, alone or behind a name.
         """
         if self.answers.search(line) is not None:
             return True
@@ -176,8 +171,8 @@ class Names:
         return ranked != answer and (name == "" or self.meant_by(name) != [])
 
     def label_behind_name(self, line: str) -> str:
-        """The first label of a line, if it may belong to the name before it: not so in a line as it is
-        entered, or with a colon behind the name.
+        """The first label of a line, if it may belong to the name before it: not so in a line as it
+        is entered, or with a colon behind the name.
         """
         before, *rest = LABEL.split(bare_text(line)) if self.labels else [line]
         name, is_right = before.strip(), RIGHT_ANSWERS.fullmatch(line.strip())
@@ -185,8 +180,8 @@ class Names:
         return rest[0].upper() if name and rest and not is_apart else ""
 
     def longer_than(self, name: str, line: str) -> list[str]:
-        """The electors whose name this is with the first label of a line behind it: `Ben B 1,2` may be of
-        Ben or of Ben B, who may write a full stop behind the letter.
+        """The electors whose name this is with the first label of a line behind it: `Ben B 1,2` may
+        be of Ben or of Ben B, who may write a full stop behind the letter.
         """
         label = self.label_behind_name(line)
         folds = self.folds(f"{name} {label}") if label else set[str]()
@@ -198,8 +193,8 @@ class Names:
         return {word for fold in folds for word in re.split("[.-]", fold)}
 
     def on_roll(self, name: str) -> str:
-        """The name on the roll that this is, as people write it; nothing if it is none, or is not written so
-        there and is the real name of somebody else, too.
+        """The name on the roll that this is, as people write it; nothing if it is none, or is not
+        written so there and is the real name of somebody else, too.
         """
         if name in self.roll:
             return name
@@ -218,8 +213,8 @@ class Names:
         return sorted({*folds & self.roll, *real})
 
     def taken_apart(self, line: str) -> tuple[str, str] | None:
-        """The name in a line, as people write it, or nothing, and the answers behind it, as they are
-        entered; None if it has not this form.
+        """The name in a line, as people write it, or nothing, and the answers behind it, as they
+        are entered; None if it has not this form.
         """
         if self.labels:
             written = written_answers(line, self.labels, self.longest_line)
@@ -228,8 +223,9 @@ class Names:
         return (found[1], found[2]) if found else None
 
     def with_ranks(self, line: str) -> str:
-        """A line with ranks in place of words: of the one at its end, or of several questions of those
-        behind the labels of motions, as in `ada A no B 1,2,3`. But the name of an elector is no ballot.
+        """A line with ranks in place of words: of the one at its end, or of several questions of
+        those behind the labels of motions, as in `ada A no B 1,2,3`. But the name of an elector is
+        no ballot.
         """
         if not self.words or len(line) > self.longest_line or RIGHT_ANSWERS.fullmatch(line):
             return line
@@ -243,8 +239,9 @@ class Names:
         return f"{label} {self.words[word]}" if is_answer else found[0]
 
     def folds(self, name: str) -> set[str]:
-        """A name as `roll` makes one from it, but whole: `roll` cuts a long name, and omits letters of
-        other scripts, where other words may have been. Signs in place of an apostrophe are no letters.
+        """A name as `roll` makes one from it, but whole: `roll` cuts a long name, and omits letters
+        of other scripts, where other words may have been. Signs in place of an apostrophe are no
+        letters.
         """
         # one sign may have 18 letters, and of 1,300 such lines each takes a while
         if len(name) > MAX_NAME or len(unicodedata.normalize("NFKC", name)) > MAX_NAME:
@@ -270,8 +267,8 @@ def names_of(questions: Questions, electors: Iterable[Elector], language: Langua
 
 
 def lines_in(data: bytes, name: str, longest: int, first: int = 1) -> list[Line]:
-    """The lines of a file, numbered from `first`; a carriage return alone ends one, too. Ballots have
-    at most the `longest` number of bytes.
+    """The lines of a file, numbered from `first`; a carriage return alone ends one, too. Ballots
+    have at most the `longest` number of bytes.
     """
     lines = []
     for number, line in enumerate(data.splitlines(), start=first):
@@ -288,17 +285,6 @@ def name_in(line: bytes) -> bytes:
 
 
 @functools.lru_cache(MOST_QUOTED)
-def has_code(text: str) -> bool:
-    """Whether a text has what looks like a code or an alias."""
-    return TYPED_CODE.search(text) is not None
-
-
-def codes_in(text: str) -> set[str]:
-    """What looks like a code or an alias in a text, in small letters and without gaps."""
-    typed = [*TYPED_CODE.findall(text), *TYPED_ON_ROLL.findall(text)]
-    return {re.sub(r"[\s-]", "", one).lower() for one in typed}
-
-
 def with_small_name(line: bytes) -> bytes:
     """A line without capital letters in its name."""
     name, blank, ranks = line.partition(b" ")
@@ -306,8 +292,8 @@ def with_small_name(line: bytes) -> bytes:
 
 
 def repaired_but_for_name(line: bytes, longest: int) -> bytes:
-    """A line with the repairs that are allowed, but with the capital letters of its name; of one with
-    twice the bytes of the longest ballot only blanks are repaired.
+    """A line with the repairs that are allowed, but with the capital letters of its name; of one
+    with twice the bytes of the longest ballot only blanks are repaired.
     """
     if NOTHING_TO_REPAIR.fullmatch(line):
         return line
@@ -324,8 +310,8 @@ def written_answers(
     text: str, labels: Iterable[str], longest: int
 ) -> tuple[str, dict[str, str]] | None:
     """What is written before the answers to several questions, such as a name or nothing, and their
-    ranks by label, in the order of the labels. None if a line has no such answers, and no other words
-    between them or behind, or has two to one question.
+    ranks by label, in the order of the labels. None if a line has no such answers, and no other
+    words between them or behind, or has two to one question.
     """
     before, *parts = LABEL.split(bare_text(text))
     answers = dict[str, str]()

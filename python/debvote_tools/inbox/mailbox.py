@@ -30,8 +30,8 @@ USUAL = re.compile(
 )
 MIN_USUAL = 2
 
-# what editors put before the first line of a file, the first line of the file of a box, and the line
-# that begins an mbox
+# what editors put before the first line of a file, the first line of the file of a box, and the
+# line that begins an mbox
 START = re.compile(
     rb"(?:%b)?(?P<box><\?php exit; \?>\r?\n)?[\r\n]*(?P<mbox>From [^\r\n]*\r?\n[\r\n]*)?" % MARK
 )
@@ -90,12 +90,13 @@ class OfBox:
     # the third part of the link by which it came, and whose it is
     link: str = ""
     elector: str = ""
-    # when the box was asked before, by its clock, and by how many seconds that clock is behind, if by more than
-    # a minute; and the latest time that it can have, as the box was asked then
+    # when the box was asked before, by its clock, and by how many seconds that clock is behind, if
+    # by more than a minute; and the latest time that it can have, as the box was asked then
     asked_before: datetime.datetime | None = None
     behind: int = 0
     latest: datetime.datetime | None = None
-    # when it was sent by the device of its elector, and the last such time of their records that came before it
+    # when it was sent by the device of its elector, and the last such time of their records that
+    # came before it
     sent: datetime.datetime | None = None
     sent_before: datetime.datetime | None = None
     # whether it was fetched with the file of the box
@@ -117,7 +118,9 @@ class RawLetter(OfBox):
 
     @functools.cached_property
     def digest(self) -> str:
-        """That of its bytes, or of the record as it came; one in a file is another letter than that."""
+        """That of its bytes, or of the record as it came; one in a file is another letter than
+        that.
+        """
         return self.record or sha256_of(self.data)
 
 

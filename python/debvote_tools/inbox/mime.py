@@ -11,7 +11,6 @@ import contextlib
 import functools
 import itertools
 import re
-import string
 from collections.abc import Iterator
 
 from debvote_tools.grouping import grouped
@@ -26,8 +25,8 @@ MAX_PARTS, MAX_DEPTH, MAX_OF_PART = 100, 12, 4_096
 END_OF_HEAD = re.compile(rb"(?:\A|\n)\r?\n")
 # CR stands only before LF (RFC 5322, 2.3); some programs end a line at one
 LONE_RETURN = re.compile(rb"\r(?!\n)")
-# a name of printable characters without the colon, and lines that begin with a blank go on (RFC 5322,
-# 2.2 and 2.2.3); old programs wrote blanks before the colon (4.5)
+# a name of printable characters without the colon, and lines that begin with a blank go on (RFC
+# 5322, 2.2 and 2.2.3); old programs wrote blanks before the colon (4.5)
 FIELD = re.compile(rb"(?m)^([!-9;-~]+)[ \t]*:([^\n]*(?:\n[ \t][^\n]*)*)")
 # fields alone, without control characters, perhaps in UTF-8 (RFC 6532); no field is continued by a
 # line of blanks (RFC 5322, 3.2.2), which ends the head in some programs
@@ -35,9 +34,9 @@ PLAIN_HEAD = re.compile(
     rb"(?:[!-9;-~]++:[\t -~\x80-\xff]*+(?:\r?\n[ \t]++[!-~\x80-\xff][\t -~\x80-\xff]*+)*\r?(?:\n|\Z))*"
 )
 
-# a part has each of these fields at most once. A value is a token or is in quotation marks (RFC 2045,
-# 5.1); only that of `name` may be encoded or in pieces (RFC 2231). No text matches in two ways: else
-# a mismatch would take twice as long with each parameter
+# a part has each of these fields at most once. A value is a token or is in quotation marks (RFC
+# 2045, 5.1); only that of `name` may be encoded or in pieces (RFC 2231). No text matches in two
+# ways: else a mismatch would take twice as long with each parameter
 DESCRIPTION = ("content-type", "content-transfer-encoding", "content-disposition")
 PARAMETER = re.compile(
     r"""[ \t]*;[ \t]*([\w-]+|name\*\d*\*?)[ \t]*=[ \t]*("[^"\\]*"|[^\s";()<>@,\\]+)"""
@@ -58,24 +57,15 @@ PACKED = ["multipart/encrypted"] + [
 # at most 70 of these characters, the last no blank (RFC 2046, 5.1.1)
 BOUNDARY = re.compile(r"[\w'()+,./:=? -]{0,69}[\w'()+,./:=?-]", re.ASCII)
 
-# the codings are those of RFC 2045, 6.2. In quoted-printable (6.7) = codes a character, also in small
-# letters as some programs write it, or the line goes on in the next one
+# the codings are those of RFC 2045, 6.2. In quoted-printable (6.7) = codes a character, also in
+# small letters as some programs write it, or the line goes on in the next one
 AS_IT_STANDS = ("", "7bit", "8bit", "binary")
 QUOTED_PRINTABLE = re.compile(rb"[^=]*+(?:=(?:[0-9A-Fa-f]{2}|\r?(?:\n|\Z))[^=]*+)*")
 SOFT_END = re.compile(rb"=(?:\r?\n)?\Z")
-# groups of four, the last one filled up (6.8); line ends do not count, nor blanks before them, which
-# some servers add
+# groups of four, the last one filled up (6.8); line ends do not count, nor blanks before them,
+# which some servers add
 LINE_END = re.compile(rb"(?<![ \t])[ \t]*+(?:\r?\n|\Z)")
 BASE64 = re.compile(rb"(?:[A-Za-z0-9+/]{4})*(?:[A-Za-z0-9+/]{2}==|[A-Za-z0-9+/]{3}=)?")
-
-# without comments and quotation marks, in any script (RFC 5322, 3.4.1, and RFC 6531)
-ADDRESS = re.compile(r'[^\s<>@,;:"()\[\]\\]+@[^\s<>@,;:"()\[\]\\]+')
-SMALL = str.maketrans(string.ascii_uppercase, string.ascii_lowercase)
-
-
-def address_key(address: str) -> str:
-    """An address as it is compared: without case, in ASCII."""
-    return address.strip().translate(SMALL)
 
 
 class Part:

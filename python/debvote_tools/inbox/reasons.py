@@ -2,8 +2,8 @@
 the elector.
 
 A reason is computed whenever a letter is looked at, so a sentence may change. What an elector reads
-names no other elector and no address, and repeats no line: an answer that quotes it must not read as
-a ballot.
+names no other elector and no address, and repeats no line: an answer that quotes it must not read
+as a ballot.
 """
 
 import dataclasses
@@ -37,8 +37,8 @@ class ReasonWithValues:
 
 
 class Reason(enum.Enum):
-    """Why a letter waits or was set aside: the secretary reads the first text within a sentence, the elector the
-    second. A call gives it its values: `Reason.AFTER_THE_END(end=..)`.
+    """Why a letter waits or was set aside: the secretary reads the first text within a sentence,
+    the elector the second. A call gives it its values: `Reason.AFTER_THE_END(end=..)`.
     """
 
     # the secretary decided. An elector whose ballot was entered from it reads of the ballot instead
@@ -230,5 +230,7 @@ def shown_value(value: Value) -> str:
 
 
 def for_elector(why: ReasonWithValues) -> str:
-    """The reason as the elector reads it: a sentence to be translated; empty if there is none to tell."""
+    """The reason as the elector reads it: a sentence to be translated; empty if there is none to
+    tell.
+    """
     return why.reason.value[1]

@@ -1,10 +1,10 @@
 """The rules of a letter. If one does not hold, it waits, with the reason of the first. If all hold,
-it goes in by itself, unless its elector has a later ballot. A copy of another letter, or a letter with
-the mark of another vote, does neither, and what an act decided holds, whatever the rules say
+it goes in by itself, unless its elector has a later ballot. A copy of another letter, or a letter
+with the mark of another vote, does neither, and what an act decided holds, whatever the rules say
 (`judging.py`).
 
-They say what a letter has to be. No list of what may be wrong with a letter can be complete, so there
-is none.
+They say what a letter has to be. No list of what may be wrong with a letter can be complete, so
+there is none.
 """
 
 import dataclasses
@@ -16,15 +16,15 @@ from collections.abc import Collection, Mapping, Sequence
 
 from debvote_tools.book import queries
 from debvote_tools.book.queries import Elector, EnteredBallot, KeptLetter, OwnMark
+from debvote_tools.call.box import third_part
 from debvote_tools.cli.console import private
 from debvote_tools.grouping import grouped
 from debvote_tools.inbox.letter import is_server
 from debvote_tools.inbox.letter_lines import BallotLine, ReadLetter
 from debvote_tools.inbox.letter_text import MAX_BALLOTS, MAX_WORDS, ReadLine
-from debvote_tools.inbox.mime import address_key
 from debvote_tools.inbox.reasons import Reason, ReasonWithValues
-from debvote_tools.poll.box import third_part
 from debvote_tools.poll.sealed import MARKS, marks_in
+from debvote_tools.text.addresses import address_key
 
 # how far the clock of a mail server may be ahead, and that of an elector be off
 AHEAD = datetime.timedelta(minutes=10)
@@ -73,7 +73,8 @@ class Circumstances:
     now: datetime.datetime
     # the key of the box of the web host
     box_key: bytes = b""
-    # whether lines with what looks like a code or an alias are told: in a secret vote with names on the roll
+    # whether lines with what looks like a code or an alias are told: in a secret vote with names on
+    # the roll
     tells_codes: bool = False
 
     @property
@@ -95,7 +96,9 @@ class Circumstances:
         )
 
     def senders_of(self, letter: ReadLetter) -> list[str]:
-        """The electors who have the sender's address; of a record the one on it, if the link is theirs."""
+        """The electors who have the sender's address; of a record the one on it, if the link is
+        theirs.
+        """
         if not letter.link:
             return self.electors_by_address.get(letter.sender, [])
         elector = self.electors.get(letter.elector)
@@ -105,8 +108,8 @@ class Circumstances:
 
 # ---- a letter
 class LetterCase:
-    """A letter with all that it is judged by. `judging.py` sets what has a value here already, such as
-    `reason`, why it waits or was set aside.
+    """A letter with all that it is judged by. `judging.py` sets what has a value here already, such
+    as `reason`, why it waits or was set aside.
     """
 
     outcome = LetterOutcome.WAITS
@@ -124,8 +127,8 @@ class LetterCase:
         self.number, self.act, self.source = kept.number, kept.act, kept.source
         # the lines with what looks like a code or an alias, if they are told
         self.code_lines = letter.code_lines if circumstances.tells_codes else ()
-        # the electors who may have sent it, and the one whose own mark the subject has, or had. A subject
-        # with several, or with that of nobody, counts as one with the poll's mark alone
+        # the electors who may have sent it, and the one whose own mark the subject has, or had. A
+        # subject with several, or with that of nobody, counts as one with the poll's mark alone
         self.sharing = circumstances.senders_of(letter)
         owns = {own for mark, own in letter.marks if own and mark == circumstances.mark}
         own = "".join(owns) if len(owns) == 1 else ""
@@ -134,7 +137,8 @@ class LetterCase:
         # that of its ballot: if letters have to be signed, that of the signature
         signature = letter.signature if circumstances.is_signed else None
         self.time = letter.arrived if signature is None else signature.time
-        # the valid ballots in it, of electors who are known; and, if there is none, what reads as one
+        # the valid ballots in it, of electors who are known; and, if there is none, what reads as
+        # one
         by_elector = [(line, self.elector_of(line)) for line in letter.text.ballots]
         valid = dict[str, BallotLine]()
         for line, name in by_elector:
@@ -158,15 +162,17 @@ class LetterCase:
         return self.ballot
 
     def elector_of(self, line: ReadLine) -> str | None:
-        """Whose ballot a line is: if several have its name, the only one of them with the sender's address."""
+        """Whose ballot a line is: if several have its name, the only one of them with the sender's
+        address.
+        """
         if len(line.meant) == 1:
             return line.meant[0]
         return self.sending_elector if self.sending_elector in line.meant else None
 
     def is_tied(self, elector: str) -> bool:
-        """Whether an elector sent it: by their link; or from an address of theirs, with their own mark or,
-        where letters have to be signed, with a good signature. With codes on the roll nobody has an
-        address.
+        """Whether an elector sent it: by their link; or from an address of theirs, with their own
+        mark or, where letters have to be signed, with a good signature. With codes on the roll
+        nobody has an address.
         """
         if elector not in self.sharing:
             return False
@@ -186,8 +192,9 @@ class LetterCase:
 
     @property
     def other_vote(self) -> str:
-        """The mark of the other vote that it is of; empty if it is of this one, or has no mark. With
-        a mark of this book beside it, or an own one, or one that somebody may have miscopied, it is.
+        """The mark of the other vote that it is of; empty if it is of this one, or has no mark.
+        With a mark of this book beside it, or an own one, or one that somebody may have miscopied,
+        it is.
         """
         marks, now = self.read.marks, self.circumstances
         is_ours = any(
@@ -204,9 +211,9 @@ class LetterCase:
         return next(filter(None, (rule(self) for rule in RULES)), None)
 
     def can_hide(self, copy: "LetterCase") -> bool:
-        """Whether it can hide a copy, also one that differs from it: it went in once, whatever was decided
-        of it since, or breaks no rule. One that went in by hand, and arrived after the end, hides none
-        that did not.
+        """Whether it can hide a copy, also one that differs from it: it went in once, whatever was
+        decided of it since, or breaks no rule. One that went in by hand, and arrived after the end,
+        hides none that did not.
         """
         is_as_early = copy.arrived_after_end or not self.arrived_after_end
         return is_as_early and (bool(self.entered) or self.first_broken_rule is None)
@@ -229,15 +236,15 @@ class LetterCase:
 
     @property
     def is_pending(self) -> bool:
-        """Whether the secretary still has to look at it, since it waits, or to agree in `add` that it
-        goes in.
+        """Whether the secretary still has to look at it, since it waits, or to agree in `add` that
+        it goes in.
         """
         return self.outcome in (LetterOutcome.GOES_IN, LetterOutcome.WAITS)
 
     @property
     def is_offered(self) -> bool:
-        """Whether `add` names it to be entered: nothing else keeps it from going in than that its sender wrote
-        more, which is shown then, or that it is HTML alone.
+        """Whether `add` names it to be entered: nothing else keeps it from going in than that its
+        sender wrote more, which is shown then, or that it is HTML alone.
         """
         text = self.read.text
         is_shown = len(text.words) <= MAX_WORDS and not text.is_below_quotation
@@ -254,7 +261,9 @@ class LetterCase:
 
     @property
     def can_be_entered(self) -> bool:
-        """Whether it has one ballot, no other line that looks like an answer, and no text that is not shown."""
+        """Whether it has one ballot, no other line that looks like an answer, and no text that is
+        not shown.
+        """
         trouble = self.read.body.trouble
         is_shown = trouble is None or trouble == Reason.HTML_ALONE()
         return self.ballot is not None and not self.has_more_answers and is_shown
@@ -276,8 +285,8 @@ class LetterCase:
 
     @property
     def arrivals(self) -> list[datetime.datetime]:
-        """When it may have arrived, the earliest time first and the latest last: the clock of a web host may
-        be off, and it may date a record anew.
+        """When it may have arrived, the earliest time first and the latest last: the clock of a web
+        host may be off, and it may date a record anew.
         """
         arrived, off = self.read.arrived, datetime.timedelta(seconds=self.read.behind)
         return sorted((arrived, arrived + off, *self.other_times)) if arrived else []
@@ -298,8 +307,8 @@ class LetterCase:
 
     @property
     def arrived_in_time(self) -> bool:
-        """Whether nobody knows that it came too late; nor before the call, unless it has the mark of
-        the poll, which nobody had before: then the clock of its server was wrong.
+        """Whether nobody knows that it came too late; nor before the call, unless it has the mark
+        of the poll, which nobody had before: then the clock of its server was wrong.
         """
         is_of_poll = any(mark == self.circumstances.mark for mark, _ in self.read.marks)
         return not self.arrived_after_end and (is_of_poll or not self.arrived_before_call)
@@ -336,9 +345,9 @@ def why_not_readable(case: LetterCase) -> ReasonWithValues | None:
 
 
 def why_not_in_time(case: LetterCase) -> ReasonWithValues | None:
-    """It arrived after the call, and not after the end or the first close; and if the box had it when
-    it was asked before, that asking brought it. The device of its elector says the same time, and a
-    later one than of all that came before it.
+    """It arrived after the call, and not after the end or the first close; and if the box had it
+    when it was asked before, that asking brought it. The device of its elector says the same time,
+    and a later one than of all that came before it.
     """
     read = case.read
     circumstances = case.circumstances
@@ -366,8 +375,8 @@ def why_not_in_time(case: LetterCase) -> ReasonWithValues | None:
 
 
 def why_not_from_its_elector(case: LetterCase) -> ReasonWithValues | None:
-    """It comes by the link of its elector, from the box itself; or from an address of theirs, with the
-    own mark unless letters have to be signed.
+    """It comes by the link of its elector, from the box itself; or from an address of theirs, with
+    the own mark unless letters have to be signed.
     """
     sender, elector, circumstances = case.read.sender, case.elector, case.circumstances
     if not (sender or case.read.link):
@@ -435,8 +444,8 @@ def why_not_of_this_vote(case: LetterCase) -> ReasonWithValues | None:
 
 
 def why_other_mark(case: LetterCase) -> ReasonWithValues | None:
-    """It has no mark of another vote, or of a call that was taken back: the ranks would be those of other
-    options.
+    """It has no mark of another vote, or of a call that was taken back: the ranks would be those of
+    other options.
     """
     now = case.circumstances
     others = (mark for mark in sorted(case.marks) if not are_alike(mark, now.mark))

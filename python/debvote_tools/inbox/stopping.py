@@ -1,6 +1,6 @@
-"""What stops a close, and after it a count, a publication and the letters of the result: all of them ask
-`what_stops`. Letters that arrived in time and wait, whenever they were added, and, but for the letters of the
-result, ballots in a box that was not asked may decide the vote.
+"""What stops a close, and after it a count, a publication and the letters of the result: all of
+them ask `what_stops`. Letters that arrived in time and wait, whenever they were added, and, but for
+the letters of the result, ballots in a box that was not asked may decide the vote.
 
 What judges letters takes a while to be imported, so it is only if some came.
 """
@@ -11,9 +11,9 @@ from collections.abc import Iterable, Iterator, Sequence
 
 from debvote_tools.book import queries
 from debvote_tools.book.book import DoneAct
-from debvote_tools.book.election import Election, History
 from debvote_tools.cli.console import in_runs
 from debvote_tools.cli.faults import Fault
+from debvote_tools.election import Election, History
 from debvote_tools.inbox.asked import CLOSES, unasked_fault, with_lost_records
 
 # the kinds of what stops, as the page names the doubts about them, but for what nobody can open
@@ -28,9 +28,9 @@ ANYWAY = {
 
 @dataclasses.dataclass(frozen=True)
 class Pending:
-    """The letters that are pending: the numbers of those that arrived in time, or at no known time, of
-    those of them that stop, and of those that the last close has not told, among which those are that
-    stop; and how many others are. Those of other votes are not among them: it has their marks.
+    """The letters that are pending: the numbers of those that arrived in time, or at no known time,
+    of those of them that stop, and of those that the last close has not told, among which those are
+    that stop; and how many others are. Those of other votes are not among them: it has their marks.
     """
 
     arrived_in_time: Sequence[int] = ()
@@ -52,8 +52,9 @@ class Pending:
 def what_stops(
     election: Election, history: History, step: str, pending: Pending
 ) -> dict[str, Fault]:
-    """Why a step has to wait, by the kinds of what stops. Steps are `close` or, before the end, `early`;
-    `count`, `publish`, and the letters of the `result`. What can be forced each command says.
+    """Why a step has to wait, by the kinds of what stops. Steps are `close` or, before the end,
+    `early`; `count`, `publish`, and the letters of the `result`. What can be forced each command
+    says.
     """
     unasked = unasked_fault(election, history, step)
     found = {BOX: unasked} if unasked else {}

@@ -35,8 +35,8 @@ def take_letters(
     is_look: bool,
     is_agreed: bool,
 ) -> None:
-    """Keeps new letters, and enters the ballots that go in; or tells what would become of them. Those
-    `of_box` are its records: the others that wait stay as they are.
+    """Keeps new letters, and enters the ballots that go in; or tells what would become of them.
+    Those `of_box` are its records: the others that wait stay as they are.
     """
     files = [opened(vote.book, raw) if raw.is_fetched else raw for raw in given]
     came, detail, words, has_unopened = asked_box(vote) if of_box else (files, {}, [], False)
@@ -86,8 +86,8 @@ def is_not_kept(digest: str, is_parted_off: bool, kept: Set[tuple[str, bool]]) -
 
 
 def keep(vote: Vote, raws: Sequence[RawLetter], read: Sequence[ReadLetter], detail: Detail) -> None:
-    """The act that keeps new letters, byte for byte, each with what was read of it; and that the box
-    was asked, also if it had nothing new.
+    """The act that keeps new letters, byte for byte, each with what was read of it; and that the
+    box was asked, also if it had nothing new.
     """
     if not (raws or detail):
         return
@@ -166,7 +166,8 @@ def what_goes_in(
         is_nothing=not new,
         letters={letter.number: queries.ENTERED for letter in new},
         vote=vote,
-        # by their times, as they are judged: of an elector's ballots the one that is entered last counts
+        # by their times, as they are judged: of an elector's ballots the one that is entered last
+        # counts
         envelopes=[envelope_of(letter, letter.sole_ballot.as_entered) for letter in new],
         # what is late breaks a rule, and does not go in
         is_late=False,

@@ -8,22 +8,15 @@ from collections.abc import Collection, Iterable, Iterator, Mapping, Sequence
 from typing import NamedTuple
 
 from debvote_tools.book import queries
-from debvote_tools.book.election import Election, History
+from debvote_tools.call.box import without_links
 from debvote_tools.cli.console import LEAVING_OUT, count_of, cut, in_runs, private, shown_line
 from debvote_tools.cli.faults import Fault
 from debvote_tools.debvote import Finding, Findings
+from debvote_tools.election import Election, History
 from debvote_tools.files import BALLOTS_LIMIT, LINES_LIMIT
 from debvote_tools.grouping import grouped
-from debvote_tools.inbox.lines import (
-    RIGHT_ANSWERS,
-    Line,
-    Names,
-    has_code,
-    name_in,
-    names_of,
-    with_small_name,
-)
-from debvote_tools.poll.box import without_links
+from debvote_tools.inbox.lines import RIGHT_ANSWERS, Line, Names, name_in, names_of, with_small_name
+from debvote_tools.poll.codes import has_code
 from debvote_tools.text.ballots import answers_of, ballot_file, line_of, part_of, ranks_by_label
 from debvote_tools.text.language import ENGLISH
 from debvote_tools.text.motions import ABSTAIN, words_in
@@ -53,8 +46,8 @@ NUMBER = re.compile(r"-\d+\Z")
 
 
 class CheckedLine(NamedTuple):
-    """A line that came, how it is entered, and what debvote says of it, whenever it comes. Of a ballot of
-    several answers those that are refused are a line of their own.
+    """A line that came, how it is entered, and what debvote says of it, whenever it comes. Of a
+    ballot of several answers those that are refused are a line of their own.
     """
 
     original: Line
@@ -75,8 +68,8 @@ class CheckedLine(NamedTuple):
 
     @property
     def can_be_entered(self) -> bool:
-        """As a ballot or as refused. Of several answers a line can't that has not their form, or has the
-        name of several electors.
+        """As a ballot or as refused. Of several answers a line can't that has not their form, or
+        has the name of several electors.
         """
         return self.finding is not NO_FORM
 
@@ -96,8 +89,8 @@ class CheckedLine(NamedTuple):
 
 
 class Vote:
-    """An election as it was called, and what debvote says of its lines. Stops before the call. Lines have
-    the labels of several questions, or answer the one of the given label without it.
+    """An election as it was called, and what debvote says of its lines. Stops before the call.
+    Lines have the labels of several questions, or answer the one of the given label without it.
     """
 
     def __init__(self, election: Election, label: str = "") -> None:
@@ -132,8 +125,8 @@ class Vote:
         return names_of(self.questions, electors, self.election.language)
 
     def as_meant(self, line: Line) -> tuple[bytes, list[str]]:
-        """A line as it was repaired, with the name on the roll of the elector who is meant by its name, and
-        with ranks in place of words; and those who may be meant, if they are several.
+        """A line as it was repaired, with the name on the roll of the elector who is meant by its
+        name, and with ranks in place of words; and those who may be meant, if they are several.
         """
         names, labels = self.names, self.names.labels
         # of several answers each is repaired by itself: the first label may be part of the name
@@ -177,8 +170,8 @@ class Vote:
 
     # ---- what debvote says
     def checked_lines(self, lines: Sequence[Line]) -> list[CheckedLine]:
-        """Lines with what debvote says of them, none of them empty. It is started at most once for each
-        question, unless there are more lines than it takes.
+        """Lines with what debvote says of them, none of them empty. It is started at most once for
+        each question, unless there are more lines than it takes.
 
         A name that is that of one elector alone, on the roll or really, counts as the one on the
         roll. If the repaired line is refused, the line goes in as it came, but without a byte-order
@@ -198,9 +191,9 @@ class Vote:
         unclear: Sequence[str],
         refused: Mapping[bytes, Mapping[str, Finding]],
     ) -> Iterator[CheckedLine]:
-        """A line, or of several answers the valid ones, and those that are refused for one reason. Of
-        several answers, one that has not their form, or has the name of several electors, is never
-        entered.
+        """A line, or of several answers the valid ones, and those that are refused for one reason.
+        Of several answers, one that has not their form, or has the name of several electors, is
+        never entered.
         """
         why = f"it has the name of {ENGLISH.joined(list(unclear))}" if unclear else ""
         # as it came, such a line is no ballot
@@ -222,16 +215,16 @@ class Vote:
                 yield CheckedLine(line, meant, text, finding, finding)
 
     def why_each_refused(self, lines: Sequence[bytes]) -> dict[bytes, str | None]:
-        """What debvote says of each line, such as `bad rank count: ..`; None for a valid ballot. What
-        it remarks on other lines is left out.
+        """What debvote says of each line, such as `bad rank count: ..`; None for a valid ballot.
+        What it remarks on other lines is left out.
         """
         refused = self.refusals(lines)
         return {line: next((one.verdict for one in refused[line].values()), None) for line in lines}
 
     def refusals(self, lines: Sequence[bytes]) -> Mapping[bytes, Mapping[str, Finding]]:
-        """Why debvote refuses answers in lines, by the labels of their questions; nothing of a ballot. It
-        gets as many at once as it takes, and none of which it was asked before, since the sealed polls
-        never change. If the roll has codes, none is offered.
+        """Why debvote refuses answers in lines, by the labels of their questions; nothing of a
+        ballot. It gets as many at once as it takes, and none of which it was asked before, since
+        the sealed polls never change. If the roll has codes, none is offered.
         """
         for part in in_parts([line for line in lines if line not in self.known]):
             new: dict[bytes, dict[str, Finding]] = {
@@ -255,8 +248,8 @@ class Vote:
         return labels != [] and labels == [label for label in self.questions if label in labels]
 
     def are_table(self, lines: Sequence[CheckedLine]) -> bool:
-        """Whether lines look like a table to debvote; ballots alone don't, nor do those of several answers.
-        Of a motion a head may also stand below ballots, if it has its words.
+        """Whether lines look like a table to debvote; ballots alone don't, nor do those of several
+        answers. Of a motion a head may also stand below ballots, if it has its words.
         """
         poll = self.questions.get("")
         if poll is None or all(line.is_ballot for line in lines):
@@ -270,8 +263,8 @@ class Vote:
         )
 
     def as_asked(self, line: CheckedLine) -> bytes:
-        """A line as debvote is asked whether it is one of a table: a ballot as it is meant, another line
-        as it came. A word of a motion counts as a rank, but is none of the ranks of a head.
+        """A line as debvote is asked whether it is one of a table: a ballot as it is meant, another
+        line as it came. A word of a motion counts as a rank, but is none of the ranks of a head.
         """
         if line.is_ballot:
             return line.as_meant
@@ -281,7 +274,9 @@ class Vote:
         return asked.encode("utf-8", "surrogateescape")
 
     def is_head_of_words(self, line: CheckedLine) -> bool:
-        """Whether a line, which is no ballot, has the name of no elector and several words of a motion."""
+        """Whether a line, which is no ballot, has the name of no elector and several words of a
+        motion.
+        """
         if line.is_ballot:
             return False
         first, *others = words_in(line.original.text) or [""]
@@ -369,14 +364,14 @@ def numbered(names: Iterable[str]) -> str:
 
 
 def turned_rank(number: int, options: int) -> str:
-    """The rank of an option in a ballot that ranks the last one first: with the numbers as ranks, who
-    takes them for an order of choice sees no fault.
+    """The rank of an option in a ballot that ranks the last one first: with the numbers as ranks,
+    who takes them for an order of choice sees no fault.
     """
     return str(number % options + 1)
 
 
-# what is said of an answer that is the first one, or another one, of its elector to its question. Here
-# it has replaced the earlier one; in the view `fate` it is the earlier one that is replaced
+# what is said of an answer that is the first one, or another one, of its elector to its question.
+# Here it has replaced the earlier one; in the view `fate` it is the earlier one that is replaced
 COUNTED, REPLACED = "counted", "replaced"
 # the same of a ballot of which the answers differ
 IN_PART = f"{REPLACED} in part"
@@ -385,9 +380,10 @@ IN_PART = f"{REPLACED} in part"
 def replies_to(
     lines: Iterable[tuple[bytes, str | None]], counting: Mapping[str, str], *, is_late: bool
 ) -> Iterator[str]:
-    """The reply to each line, given with why debvote refuses it, unless it is late: the word with which it
-    is refused; or whether a ballot is counted, or has replaced one of its elector, by what counts of
-    electors and the lines above. If that differs by question, it says so: `A replaced, B counted`.
+    """The reply to each line, given with why debvote refuses it, unless it is late: the word with
+    which it is refused; or whether a ballot is counted, or has replaced one of its elector, by what
+    counts of electors and the lines above. If that differs by question, it says so: `A replaced, B
+    counted`.
     """
     having = {name: {*ranks_by_label(answers)} for name, answers in counting.items()}
     for line, why_refused in lines:

@@ -3,23 +3,23 @@
 import dataclasses
 import datetime
 import secrets
-from collections.abc import Callable, Collection, Mapping, Sequence
+from collections.abc import Callable, Collection, Iterable, Mapping, Sequence
 
-from debvote_tools.book import queries, outgoing
-from debvote_tools.book.election import LETTERS, RESULT_LETTER, Election, History
-from debvote_tools.book.queries import Elector
+from debvote_tools.book import outgoing, queries
 from debvote_tools.book.outgoing import TAKEN, WRITTEN, About, OutgoingLetter
+from debvote_tools.book.queries import Elector
+from debvote_tools.call.call import CallData, current_call
 from debvote_tools.cli.arguments import demand_reason, has_reason
 from debvote_tools.cli.faults import Fault, bad_words, stop_at
+from debvote_tools.election import LETTERS, RESULT_LETTER, Election, History
 from debvote_tools.inbox.asked import unasked_fault, with_lost_records
 from debvote_tools.inbox.fates import COUNTS, NOBODY, Fate, fates_of
 from debvote_tools.inbox.rules import LetterOutcome
 from debvote_tools.inbox.stopping import pending_letters, what_stops
-from debvote_tools.outbox.reached import NO_LETTER, page_since, unreached_and_printed, unreached
-from debvote_tools.outbox.words import CORRECTED, Composer, Said
-from debvote_tools.poll.announced import address_in
-from debvote_tools.poll.call import CallData, current_call
+from debvote_tools.outbox.reached import NO_LETTER, page_since, unreached, unreached_and_printed
+from debvote_tools.outbox.words import CORRECTED, Composer, OutgoingText
 from debvote_tools.result.publication import closing_letter
+from debvote_tools.text.addresses import address_in
 from debvote_tools.text.language import language_of
 from debvote_tools.text.times import now
 
@@ -27,8 +27,8 @@ from debvote_tools.text.times import now
 LASTING = datetime.timedelta(days=1)
 
 
-# says a letter to an elector
-Says = Callable[[Elector, OutgoingLetter], Said]
+# what a letter to an elector says
+Compose = Callable[[Elector, OutgoingLetter], OutgoingText]
 
 
 @dataclasses.dataclass(frozen=True)
@@ -91,7 +91,7 @@ class LettersDue(Run):
 
     # the act to which they belong
     for_act: int
-    says: Says
+    compose: Compose
     new: Sequence[OutgoingLetter]
     # those that were written before, and go out again with them; and the receipts of earlier runs
     # that have files, or had them
@@ -111,17 +111,15 @@ class LettersDue(Run):
         """When others were reminded, if this run would do so again within a day."""
         if self.kind != "reminders" or self.going_again or not self.new:
             return None
-        times = (one.time for one in self.noted_before if self.time - one.time < LASTING)
-        return max(times, default=None)
+        earlier = (letter.time for letter in self.noted_before if self.time - letter.time < LASTING)
+        return max(earlier, default=None)
 
-    def said(self, letter: OutgoingLetter) -> tuple[Said, str]:
-        """What a letter says, and the mark that ends its subject. An address that its elector no longer
-        has learns no own mark.
-        """
+    def text_of(self, letter: OutgoingLetter) -> OutgoingText:
+        """What a letter says. An address that its elector no longer has learns no own mark."""
         elector = self.electors[letter.elector]
         if not is_present(letter, self.electors):
             elector = elector._replace(mark="")
-        return self.says(elector, letter), self.composer.call_data.mark_of(elector.mark)
+        return self.compose(elector, letter)
 
 
 def is_present(letter: OutgoingLetter, electors: Mapping[int, Elector]) -> bool:
@@ -142,37 +140,58 @@ def letters_due(
     """The letters of a kind that are due. Stops if none may go out now; `because` is the reason for
     which they go out although the box was not asked. Those of a call may have codes beside links.
     """
-    of_kinds = {
-        "call": calls_due,
-        "reminders": reminders_due,
-        "receipts": receipts_due,
-        "closed": letters_of_close_due,
-        "result": results_due,
-    }
-    history, time, book = election.history(), now(), election.book
+    history = election.history()
+    time = now()
     until = history.until
     is_over = bool(history.closes) or (until is not None and time > until)
     demand_due(election, history, kind, is_over=is_over)
     call_data, forced = call_data_of(election, history, kind, because)
     hides_codes = history.is_secret_by_click and not has_codes
     electors = {
-        one.number: one._replace(code="") if hides_codes else one for one in queries.electors(book)
+        elector.number: elector._replace(code="") if hides_codes else elector
+        for elector in queries.electors(election.book)
     }
-    noted_before = outgoing.outgoing_letters(book, kind)
+    noted_before = outgoing.outgoing_letters(election.book, kind)
     composer = Composer(call_data, is_over)
+    tried_again = not_through(election, history, electors, noted_before)
+    run = Run(
+        election,
+        history,
+        time,
+        kind,
+        sender,
+        is_sending,
+        forced,
+        electors,
+        composer,
+        noted_before,
+        tried_again,
+    )
+    return OF_KINDS[kind](run)
+
+
+def not_through(
+    election: Election,
+    history: History,
+    electors: Mapping[int, Elector],
+    letters: Iterable[OutgoingLetter],
+) -> Collection[str]:
+    """The Message-IDs of the last of these letters to each elector whom the call has not reached,
+    since a letter came back or was refused.
+    """
     not_reached, _ = unreached_and_printed(election, history)
     tried = {elector.number for elector, why, _ in not_reached if why != NO_LETTER}
-    tried_again = {
+    return {
         letter.elector: letter.message_id
-        for letter in noted_before
+        for letter in letters
         if letter.elector in tried and is_present(letter, electors)
     }.values()
-    how = (kind, sender, is_sending, forced, electors, composer, noted_before, tried_again)
-    return of_kinds[kind](Run(election, history, time, *how))
 
 
 def demand_due(election: Election, history: History, kind: str, *, is_over: bool = False) -> None:
-    """Stops at a kind of letters for which it is too early or too late, or that nobody can write."""
+    """Stops at a kind of letters for which it is too early or too late, or that nobody can
+    write.
+    """
     if history.has_codes_on_roll:
         words = "codes are on the roll, and nobody knows whose they are, so no letters can be written to electors"
         cure = "with your mail program send call/call.txt, letters/closed.txt and letters/result.txt to all"
@@ -187,9 +206,11 @@ def demand_due(election: Election, history: History, kind: str, *, is_over: bool
         words = "the call has a box, and says no end of the vote"
         cure = f"say it: {election.command('call', '--until', 'TIME')}"
     elif kind in ("closed", "result") and not history.is_closed:
-        words, cure = "the vote is not closed", f"run {election.command('close')} first"
+        words = "the vote is not closed"
+        cure = f"run {election.command('close')} first"
     elif kind == "result" and not history.last_publication:
-        words, cure = "nothing is published", f"run {election.command('publish')} first"
+        words = "nothing is published"
+        cure = f"run {election.command('publish')} first"
     else:
         return
     raise Fault(kind, words, cure)
@@ -198,14 +219,15 @@ def demand_due(election: Election, history: History, kind: str, *, is_over: bool
 def call_data_of(
     election: Election, history: History, kind: str, because: str | None
 ) -> tuple[CallData, dict[str, str]]:
-    """What the letters say of the call, and the reason for which they go out although the box was not
-    asked, if they do: then they say that the page takes no ballots. Stops if it has to be asked.
+    """What the letters say of the call, and the reason for which they go out although the box was
+    not asked, if they do: then they say that the page takes no ballots. Stops if it has to be
+    asked.
     """
     call = current_call(election, history)
     if kind == "result":
         if call.at is None:
-            why, cure = "the letter must say where the result is published", "give it: --at URL"
-            raise bad_words("--at", why, cure)
+            words = "the letter must say where the result is published"
+            raise bad_words("--at", words, "give it: --at URL")
         if (code := history.publications[-1].detail["words"]["language"]) is not None:
             call = dataclasses.replace(call, language=language_of(code))
     fault = unasked_fault(election, history, kind)
@@ -219,7 +241,7 @@ def call_data_of(
 
 
 # ---- each kind
-def to_each(run: Run, for_act: int, says: Says) -> LettersDue:
+def to_each(run: Run, for_act: int, compose: Compose) -> LettersDue:
     """One letter to each elector. One to the same address for the same act stays as it is, if it
     was written since its elector has the own mark and the link of now: each is told by a letter.
     """
@@ -229,11 +251,14 @@ def to_each(run: Run, for_act: int, says: Says) -> LettersDue:
         for letter in run.noted_before
         if letter.for_act == for_act and letter.act >= since[letter.elector]
     }
-    places = {(one.number, address_in(one.addresses)): one for one in run.electors.values()}
+    places = {
+        (elector.number, address_in(elector.addresses)): elector
+        for elector in run.electors.values()
+    }
     return LettersDue(
         **vars(run),
         for_act=for_act,
-        says=says,
+        compose=compose,
         new=[
             run.letter_to(elector, for_act, place[1])
             for place, elector in places.items()
@@ -248,27 +273,33 @@ def calls_due(run: Run) -> LettersDue:
     last = run.history.since_call("call", "extend")[-1].number
     not_reached = unreached(run.election, run.history, without=last)
     had_call = run.electors.keys() - {elector.number for elector, _, _ in not_reached}
-    went = outgoing.call_addresses(run.election.book, run.election.called(run.history).number)
+    call = run.election.called(run.history)
+    called_at = outgoing.call_addresses(run.election.book, call.number)
     return to_each(
         run,
         last,
         lambda elector, letter: run.composer.call_letter(
             elector,
             is_extension=letter.elector in had_call,
-            earlier=[one for one in went.get(elector.name, []) if one not in elector.addresses],
+            earlier=[
+                address
+                for address in called_at.get(elector.name, [])
+                if address not in elector.addresses
+            ],
         ),
     )
 
 
-def letters_pending_in(fates: Mapping[str, Sequence[Fate]]) -> int:
-    letters = (one.letter for items in fates.values() for one in items)
-    return len({one.number for one in letters if one and one.is_pending})
+def letters_pending_in(fates_by_name: Mapping[str, Sequence[Fate]]) -> int:
+    letters = (fate.letter for fates in fates_by_name.values() for fate in fates)
+    return len({letter.number for letter in letters if letter and letter.is_pending})
 
 
 def reminders_due(run: Run) -> LettersDue:
-    """A letter to each elector whose ballot does not count yet, or whose last one nobody can open; a
-    receipt, if only a yes in `add` is lacking. A run of this day goes on if it was cut off, or the server
-    refused some for now: then those are reminded, too, who came to it since. Else each run is a new one.
+    """A letter to each elector whose ballot does not count yet, or whose last one nobody can open;
+    a receipt, if only a yes in `add` is lacking. A run of this day goes on if it was cut off, or
+    the server refused some for now: then those are reminded, too, who came to it since. Else each
+    run is a new one.
     """
     fates = fates_of(run.election, run.history)
     counting = queries.what_counts(run.election.book)
@@ -280,25 +311,29 @@ def reminders_due(run: Run) -> LettersDue:
     }
     # whom a letter did not reach is reminded again, but not in the same run
     run = dataclasses.replace(run, electors=silent, tried_again=())
-
-    def says(elector: Elector, _: OutgoingLetter) -> Said:
-        came = fates[elector.name]
-        told = [one for one in told_of(came).values() if one.became is not LetterOutcome.SET_ASIDE]
-        goes_in = any(one.became is LetterOutcome.GOES_IN for one in came)
-        if goes_in:
-            return run.composer.receipt(elector, told)
-        return run.composer.reminder(elector, told, is_lost=elector.name in lost)
-
+    compose: Compose = lambda elector, _: reminder_or_receipt(
+        run.composer, elector, fates[elector.name], is_lost=elector.name in lost
+    )
     last = max((letter.for_act for letter in run.noted_before), default=0)
-    due = to_each(run, last, says)
+    due = to_each(run, last, compose)
     are_unsent = (
         run.can_be_sent(letter) and not letter.is_refused_for_good
         for letter in due.going_again
         if run.time - letter.time < LASTING
     )
     if not (run.is_sending and any(are_unsent)):
-        due = to_each(run, run.next_act, says)
+        due = to_each(run, run.next_act, compose)
     return dataclasses.replace(due, letters_pending=letters_pending_in(fates))
+
+
+def reminder_or_receipt(
+    composer: Composer, elector: Elector, fates: Sequence[Fate], *, is_lost: bool
+) -> OutgoingText:
+    """A reminder; a receipt, if only a yes in `add` is lacking."""
+    told = [fate for fate in told_of(fates).values() if fate.became is not LetterOutcome.SET_ASIDE]
+    if any(fate.became is LetterOutcome.GOES_IN for fate in fates):
+        return composer.receipt(elector, told)
+    return composer.reminder(elector, told, is_lost=is_lost)
 
 
 def receipts_due(run: Run) -> LettersDue:
@@ -306,60 +341,61 @@ def receipts_due(run: Run) -> LettersDue:
     one, also to an earlier address; and those that no server has taken yet.
     """
     fates = fates_of(run.election, run.history)
-    to_tell = {one.number: told_of(fates[one.name]) for one in run.electors.values()}
+    to_tell = {number: told_of(fates[elector.name]) for number, elector in run.electors.items()}
     # not to people who left the list, nor about a letter that has become a ballot: a new
     # receipt is about that
     earlier = [
-        one
-        for one in run.noted_before
-        if (one.state != TAKEN or one.message_id in run.tried_again)
-        and one.elector in to_tell
-        and about_now(one.about, to_tell[one.elector])
+        letter
+        for letter in run.noted_before
+        if (letter.state != TAKEN or letter.message_id in run.tried_again)
+        and letter.elector in to_tell
+        and about_now(letter.about, to_tell[letter.elector])
     ]
     return LettersDue(
         **vars(run),
         for_act=run.next_act,
-        says=lambda elector, letter: run.composer.receipt(
+        compose=lambda elector, letter: run.composer.receipt(
             elector, beside_what_counts(letter.about, to_tell[elector.number])
         ),
         new=new_receipts(run, to_tell, earlier),
         going_again=list(filter(run.can_be_sent, earlier)) if run.is_sending else [],
         earlier_receipts=earlier,
         in_no_receipt=[
-            one.letter.number
-            for one in fates[NOBODY]
-            if one.letter and one.became is LetterOutcome.WAITS and not one.letter.is_automatic
+            fate.letter.number
+            for fate in fates[NOBODY]
+            if fate.letter and fate.became is LetterOutcome.WAITS and not fate.letter.is_automatic
         ],
         letters_pending=letters_pending_in(fates),
     )
 
 
 def new_receipts(
-    run: Run, to_tell: Mapping[int, Mapping[About, Fate]], earlier: Sequence[OutgoingLetter]
+    run: Run, to_tell: Mapping[int, Mapping[About, Fate]], earlier: Iterable[OutgoingLetter]
 ) -> list[OutgoingLetter]:
     """The receipts about what no earlier one has told; not to an address to which one that is not
     sent yet says it.
     """
-    # at an address that its elector no longer has a server has to have taken it; a file may have gone
-    # out by a mail program, unless the server is to send it now
+    # at an address that its elector no longer has a server has to have taken it; a file may have
+    # gone out by a mail program, unless the server is to send it now
     came_through = (TAKEN,) if run.is_sending else (TAKEN, WRITTEN)
     told_before = {
-        (one.elector, key)
-        for one in run.noted_before
-        if one.state in came_through or is_present(one, run.electors)
-        for key in one.about
+        (letter.elector, about)
+        for letter in run.noted_before
+        if letter.state in came_through or is_present(letter, run.electors)
+        for about in letter.about
     }
-    in_earlier = {(one.elector, one.address): set(one.about) for one in earlier}
-    called, found = run.election.called(run.history).number, list[OutgoingLetter]()
-    old = outgoing.old_addresses(run.election.book, called)
+    in_earlier = {(letter.elector, letter.address): {*letter.about} for letter in earlier}
+    call = run.election.called(run.history)
+    old = outgoing.old_addresses(run.election.book, call.number)
+    receipts = list[OutgoingLetter]()
     for number, elector in run.electors.items():
-        keys = [key for key in to_tell[number] if (number, key) not in told_before]
-        found += [
-            run.letter_to(elector, run.next_act, address, keys)
+        untold = [about for about in to_tell[number] if (number, about) not in told_before]
+        receipts += [
+            run.letter_to(elector, run.next_act, address, untold)
             for address in dict.fromkeys([address_in(elector.addresses), *old.get(number, [])])
-            if keys and not in_earlier.get((number, address), set()).issuperset(keys)
+            if not in_earlier.get((number, address), set()).issuperset(untold)
         ]
-    return found
+    return receipts
 
 
 def letters_of_close_due(run: Run) -> LettersDue:
@@ -368,41 +404,48 @@ def letters_of_close_due(run: Run) -> LettersDue:
     return to_each(
         run,
         run.history.closes[-1].number,
-        lambda elector, _: run.composer.said("closed", elector, letter=text),
+        lambda elector, _: run.composer.letter("closed", elector, letter=text),
     )
 
 
 def results_due(run: Run) -> LettersDue:
     """The letter of the last publication to each elector, with the ballot of theirs that counts."""
     act = run.history.publications[-1].number
-    name = f"{LETTERS}/{RESULT_LETTER}"
-    letter = queries.sealed(run.election.book, name, act).decode()
+    letter = queries.sealed(run.election.book, f"{LETTERS}/{RESULT_LETTER}", act).decode()
     # since the close no other ballot counts than in the publication
     fates = fates_of(run.election, run.history)
     counting = queries.what_counts(run.election.book)
     ended = [act.detail.get("ended") for act in run.history.since_call("publish")]
-    is_corrected = any(one != ended[-1] for one in ended)
-    subject = run.composer.subject(run.kind, CORRECTED if is_corrected else "")
-
+    is_corrected = any(earlier != ended[-1] for earlier in ended)
     return to_each(
         run,
         act,
-        lambda elector, _: run.composer.said(
+        lambda elector, _: run.composer.letter(
             "result",
             elector,
+            CORRECTED if is_corrected else "",
             answers=counting.get(elector.name),
             fates=told_of(fates[elector.name]).values(),
             letter=letter,
-        )._replace(subject=subject),
+        ),
     )
+
+
+OF_KINDS = {
+    "call": calls_due,
+    "reminders": reminders_due,
+    "receipts": receipts_due,
+    "closed": letters_of_close_due,
+    "result": results_due,
+}
 
 
 # ---- what electors are told
 def is_told(fate: Fate) -> bool:
-    """Whether an elector is told of something that came. A copy is the letter that it copies. One from
-    which ballots were entered is told to those whom it names: `told_of` leaves out those who have one of
-    these. A program that answers by itself would answer; and a letter of ours that came back has the name
-    of its elector.
+    """Whether an elector is told of something that came. A copy is the letter that it copies. One
+    from which ballots were entered is told to those whom it names: `told_of` leaves out those who
+    have one of these. A program that answers by itself would answer; and a letter of ours that came
+    back has the name of its elector.
     """
     letter = fate.letter
     if letter is None:
@@ -414,19 +457,19 @@ def is_told(fate: Fate) -> bool:
     return fate.became not in (LetterOutcome.COPY, LetterOutcome.OTHER_VOTE)
 
 
-def told_of(items: Sequence[Fate]) -> dict[About, Fate]:
-    """What an elector is told of, in its order. Of a letter from which ballots of theirs were entered
-    only these are told, also if they were struck or taken back. Of another letter one receipt tells,
-    and none anew if the secretary decides of it later.
+def told_of(fates: Sequence[Fate]) -> dict[About, Fate]:
+    """What an elector is told of, in its order. Of a letter from which ballots of theirs were
+    entered only these are told, also if they were struck or taken back. Of another letter one
+    receipt tells, and none anew if the secretary decides of it later.
     """
-    entered = {one.envelope.letter for one in items if one.envelope}
-    found: dict[About, Fate] = {}
-    for one in filter(is_told, items):
-        if one.envelope is not None:
-            found["envelope", one.envelope.number, one.envelope.is_struck] = one
-        elif one.letter is not None and one.letter.number not in entered:
-            found["letter", one.letter.number, False] = one
-    return found
+    entered = {fate.envelope.letter for fate in fates if fate.envelope}
+    told: dict[About, Fate] = {}
+    for fate in filter(is_told, fates):
+        if fate.envelope is not None:
+            told["envelope", fate.envelope.number, fate.envelope.is_struck] = fate
+        elif fate.letter is not None and fate.letter.number not in entered:
+            told["letter", fate.letter.number, False] = fate
+    return told
 
 
 def about_now(about: Sequence[About], told: Mapping[About, Fate]) -> list[About]:
@@ -439,5 +482,5 @@ def beside_what_counts(about: Sequence[About], told: Mapping[About, Fate]) -> li
     """What a receipt says: what it is about, and the ballot that counts. Who reads that another one
     waits, or does not count, learns that an earlier ballot does.
     """
-    now = about_now(about, told)
-    return [one for key, one in told.items() if key in now or one.became == COUNTS]
+    current = about_now(about, told)
+    return [fate for key, fate in told.items() if key in current or fate.became == COUNTS]

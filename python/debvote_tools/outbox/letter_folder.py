@@ -1,5 +1,6 @@
-"""The bytes of letters, and their folder: a file for each address, and a page to print for electors
-without one. The folder is its owner's alone.
+"""The bytes of letters, and their folder: a file for each address, a page to print for the others.
+
+The folder is its owner's alone.
 
 The head of a letter has only what was checked or made here: nothing of a letter that came gets into
 it.
@@ -29,8 +30,10 @@ TO_PRINT = "to-print.html"
 CHANGED_ON_THE_WAY = re.compile(rb"(?m)^(?:(?=>*From ).|\.$)")
 # in characters; mail servers break lines of a thousand
 LONGEST_LINE = 900
-# of a line with encoded words, and what is between two lines of a field
-LONGEST_ENCODED, GOES_ON = 76, "\n "
+# of a line with encoded words
+LONGEST_ENCODED = 76
+# what is between two lines of a field
+GOES_ON = "\n "
 
 
 # ---- a letter
@@ -38,15 +41,15 @@ def message(due: LettersDue, letter: OutgoingLetter, *, is_draft: bool) -> bytes
     """The bytes of a letter. An answer goes to the address of the call. Mail programs offer to send
     a draft.
     """
-    said, mark = due.said(letter)
-    coding, body = body_of(said.text)
+    words = due.text_of(letter)
+    coding, body = body_of(words.text)
     reply_to = due.composer.call_data.to
     fields = {
         "From": sender_of(due.sender_name, due.sender),
         "Reply-To": reply_to if reply_to != due.sender else None,
         "To": letter.address,
         # on a line of its own it is found in a letter that comes back
-        "Subject": f"{field('Subject', said.subject)}{GOES_ON}{mark}",
+        "Subject": f"{field('Subject', words.subject)}{GOES_ON}{words.mark}",
         "Date": email.utils.format_datetime(letter.time),
         "Message-ID": letter.message_id,
         "X-Unsent": "1" if is_draft else None,
@@ -71,9 +74,9 @@ def field(name: str, text: str) -> str:
 def sender_of(name: str, address: str) -> str:
     if name.isascii():
         return email.utils.formataddr((one_line(name), address))
-    said = field("From", name)
-    is_short = len(f"From: {said} <{address}>") <= LONGEST_ENCODED
-    return f"{said}{' ' if is_short else GOES_ON}<{address}>"
+    encoded = field("From", name)
+    is_short = len(f"From: {encoded} <{address}>") <= LONGEST_ENCODED
+    return f"{encoded}{' ' if is_short else GOES_ON}<{address}>"
 
 
 def body_of(text: str) -> tuple[str, bytes]:
@@ -86,20 +89,22 @@ def body_of(text: str) -> tuple[str, bytes]:
     ):
         return "7bit", data
     return "quoted-printable", CHANGED_ON_THE_WAY.sub(
-        lambda found: b"=%02X" % found[0][0], quopri.encodestring(data)
+        lambda changed: b"=%02X" % changed[0][0], quopri.encodestring(data)
     )
 
 
 # ---- the folder
 def letter_files(due: LettersDue, letters: Sequence[OutgoingLetter]) -> dict[str, bytes]:
-    """The files of letters by name. Letters that are sent, or that a server has taken, have none."""
+    """The files of letters by name. Letters that are sent, or that a server has taken, have
+    none.
+    """
     files: dict[str, bytes] = {}
     printed = []
     for letter in letters:
         elector = due.electors[letter.elector]
         if not letter.address:
-            said, _ = due.said(letter)
-            printed.append((one_line(elector.who) or elector.name, rows_to_print(said.text)))
+            rows = rows_to_print(due.text_of(letter).text)
+            printed.append((one_line(elector.who) or elector.name, rows))
         elif not due.is_sending and due.can_be_sent(letter):
             # no name on a roll has the sign _
             name = (
@@ -107,13 +112,13 @@ def letter_files(due: LettersDue, letters: Sequence[OutgoingLetter]) -> dict[str
             )
             files[f"{name}.eml"] = message(due, letter, is_draft=True)
     if printed:
-        call, style = due.composer.call_data, resources(PACKAGE, "letter.css")
+        call = due.composer.call_data
         sender = ", ".join(filter(None, (due.sender_name, call.to or due.sender)))
         files[TO_PRINT] = render_page(
             PACKAGE,
             "print.html",
             call.language,
-            style=style,
+            style=resources(PACKAGE, "letter.css"),
             title=call.questions.name,
             is_secret=call.questions.is_secret,
             letters=printed,
@@ -125,19 +130,20 @@ def letter_files(due: LettersDue, letters: Sequence[OutgoingLetter]) -> dict[str
 
 def rows_to_print(text: str) -> list[list[tuple[str, str]]]:
     """The rows of a letter, each with its kind: a paragraph, a head, or an option that asks for a
-    rank. A letter that asks for a ballot has three parts: what is read, what is kept, and the ballot.
+    rank. A letter that asks for a ballot has three parts: what is read, what is kept, and the
+    ballot.
     """
     parts = [list(filter(None, part.strip("\n").split("\n\n"))) for part in text.split("\f")]
-    kinds = [kind_of_row] * 2 + [kind_of_ballot_row]
-    return [[(row, kind(row)) for row in part] for part, kind in zip(parts, kinds)]
+    return [
+        [(row, kind_of_row(row, in_ballot=number == 2)) for row in part]
+        for number, part in enumerate(parts)
+    ]
 
 
-def kind_of_row(row: str) -> str:
+def kind_of_row(row: str, *, in_ballot: bool) -> str:
+    if in_ballot:
+        return "option" if row.startswith("  ") else "paragraph"
     return "head" if row.isupper() else "paragraph"
-
-
-def kind_of_ballot_row(row: str) -> str:
-    return "option" if row.startswith("  ") else "paragraph"
 
 
 @contextlib.contextmanager
@@ -150,7 +156,8 @@ def in_place(files: Mapping[str, bytes], place: pathlib.Path) -> Iterator[None]:
         yield
         return
     make_own(place.parent)
-    made, before = temporary_folder(place.parent), temporary_folder(place.parent)
+    made = temporary_folder(place.parent)
+    before = temporary_folder(place.parent)
     try:
         with naming(place):
             for name, data in files.items():
@@ -176,6 +183,6 @@ def in_place(files: Mapping[str, bytes], place: pathlib.Path) -> Iterator[None]:
 
 
 def make_own(folder: pathlib.Path) -> None:
-    for one in (folder.parent, folder):
-        one.mkdir(mode=0o700, exist_ok=True)
-        one.chmod(0o700)
+    for own in (folder.parent, folder):
+        own.mkdir(mode=0o700, exist_ok=True)
+        own.chmod(0o700)

@@ -1,30 +1,33 @@
-"""Whom the call has reached, and who gets it printed: the one answer for `status`, for each kind of
-letters and for what a letter after an extension says. `status` asks it, so nothing is imported here
-that judges letters or makes pages.
+"""Whom the call has reached, and who gets it printed.
+
+It is the one answer for `status`, for each kind of letters and for what a letter after an extension
+says. `status` asks it, so nothing is imported here that judges letters or makes pages.
 """
 
-
-from debvote_tools.book import queries, outgoing
-from debvote_tools.book.election import Election, History
+from debvote_tools.book import outgoing, queries
 from debvote_tools.book.queries import Elector
-from debvote_tools.poll.announced import address_in
+from debvote_tools.election import Election, History
+from debvote_tools.text.addresses import address_in
 
-NO_LETTER, WAS_REFUSED = "no letter", "refused"
+NO_LETTER = "no letter"
+WAS_REFUSED = "refused"
 
 # an elector, why the call has not reached them, by what came last, and what the server said
 Unreached = tuple[Elector, str, str]
 
 
 def page_since(history: History) -> int:
-    """The act that named the address of the page of now, if the page takes ballots, since a click on an
-    older page reaches nobody; else 0. What a letter of the result names is no such page.
+    """The act that named the address of the page of now, if the page takes ballots, since a click
+    on an older page reaches nobody; else 0. What a letter of the result names is no such page.
     """
-    since, at = 0, None
+    since = 0
+    at = None
     for act in history.since_call("call", "extend", "announce", "close"):
         if act.name == "close" or not history.announced("box"):
             break
         if act.detail.get("at", at) != at:
-            since, at = act.number, act.detail["at"]
+            since = act.number
+            at = act.detail["at"]
     return since
 
 
@@ -34,11 +37,10 @@ def unreached(election: Election, history: History, *, without: int = 0) -> list
     refused, and took no letter since; and from whose address a letter came back, unless a ballot of
     theirs came by letter since. `without` is an act whose letters reach nobody yet.
     """
-    electors = {one.number: one for one in queries.electors(election.book)}
-    found = outgoing.unreached(
-        election.book, page_since(history), election.called(history).number, without
-    )
-    return [(electors[number], why, said) for number, why, said in found]
+    electors = {elector.number: elector for elector in queries.electors(election.book)}
+    call = election.called(history)
+    rows = outgoing.unreached(election.book, page_since(history), call.number, without)
+    return [(electors[number], why, reply) for number, why, reply in rows]
 
 
 def unreached_and_printed(
@@ -51,5 +53,6 @@ def unreached_and_printed(
     if not runs:
         return [], []
     electors = queries.electors(election.book)
-    printed = [one.name for one in electors if not address_in(one.addresses)]
-    return [one for one in unreached(election, history) if address_in(one[0].addresses)], printed
+    printed = [elector.name for elector in electors if not address_in(elector.addresses)]
+    by_mail = [row for row in unreached(election, history) if address_in(row[0].addresses)]
+    return by_mail, printed

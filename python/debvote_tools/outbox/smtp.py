@@ -1,5 +1,7 @@
-"""Sends letters by SMTP. What the server answers to each is noted before the next begins, so a run
-that is cut off goes on. The letter that it was cut off in may go twice, with one Message-ID.
+"""Sends letters by SMTP.
+
+What the server answers to each is noted before the next begins, so a run that is cut off goes on.
+The letter that it was cut off in may go twice, with one Message-ID.
 """
 
 import contextlib
@@ -15,17 +17,22 @@ from debvote_tools.cli.faults import Fault, Status
 from debvote_tools.patience import within
 
 # in seconds: for each answer of the server, and for the whole conversation about a letter
-PATIENCE, WHOLE = 60, 300
+PATIENCE = 60
+WHOLE = 300
 
 # the port where servers take letters from mail programs; the one that is encrypted from the first
 # byte; and that of this computer
-SUBMISSION, ENCRYPTED, LOOPBACK = 587, 465, 25
+SUBMISSION = 587
+ENCRYPTED = 465
+LOOPBACK = 25
 
 SERVER = re.compile(r"(?:\[([0-9A-Fa-f:.]+)\]|([A-Za-z0-9._-]+))(?::(\d{1,5}))?", re.ASCII)
 
 # what a server answers to what it has done, to what it does not do, and before it closes the
 # connection
-DONE, NOT_DONE, CLOSING = range(200, 300), range(400, 600), 421
+DONE = range(200, 300)
+NOT_DONE = range(400, 600)
+CLOSING = 421
 
 # the name that this computer gives itself: its own is nobody's business
 OWN_NAME = "[127.0.0.1]"
@@ -63,7 +70,8 @@ class NotNow(Exception):
 
 
 def server_of(text: str) -> Server:
-    bracketed, name, port = found.groups() if (found := SERVER.fullmatch(text)) else ("", "", "0")
+    parts = SERVER.fullmatch(text)
+    bracketed, name, port = parts.groups() if parts else ("", "", "0")
     host = bracketed or name
     if port is not None and not 0 < int(port) < 65536:
         cure = "write it as mail.example.org or mail.example.org:587"
@@ -80,8 +88,8 @@ def send_all(
     sender: str,
     server: Server,
 ) -> Iterator[OutgoingLetter]:
-    """Sends letters in their order, and yields each with what the server said, to be noted before the
-    next one is sent.
+    """Sends letters in their order, and yields each with what the server said, to be noted before
+    the next one is sent.
     """
     mailer = Mailer(server, sender)
     with within(WHOLE):
@@ -103,7 +111,8 @@ class Mailer:
     """The connection to a server. If it was closed between two letters, a new one is made."""
 
     def __init__(self, server: Server, sender: str) -> None:
-        self.server, self.sender = server, sender
+        self.server = server
+        self.sender = sender
         self.smtp: smtplib.SMTP | None = None
 
     def connection(self) -> smtplib.SMTP:

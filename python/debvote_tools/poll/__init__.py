@@ -1,1 +1,1 @@
-"""The poll, its electors and the call for votes."""
+"""A poll as values: sealed, questions, what a call announces, plain names, marks and codes."""

@@ -4,14 +4,11 @@ import datetime
 import re
 import urllib.parse
 import zoneinfo
-from collections.abc import Iterable
 
 from debvote_tools.cli.console import LINE_ENDS, odd_sign
 from debvote_tools.cli.faults import Fault, bad_words
+from debvote_tools.text.addresses import is_mail_address
 from debvote_tools.text.times import minute_in_words, time_in_words
-
-MAIL = re.compile(r"[A-Za-z0-9_][A-Za-z0-9._+=-]*@[A-Za-z0-9-]+(\.[A-Za-z0-9-]+)*")
-MAIL_LIMIT = 254
 
 # `Name <ADDRESS>`, and how many characters such a name may have
 NAMED = re.compile(r"(?P<quote>\"?)(?P<name>.*?)(?P=quote)\s*<(?P<address>[^<>]*)>", re.DOTALL)
@@ -100,16 +97,6 @@ def demand_mail_address(text: str, option: str = "--to") -> None:
     if not is_mail_address(text):
         reason = "it must be one mail address, as secretary@example.org"
         raise bad_words(option, reason, "write it again")
-
-
-def is_mail_address(text: str) -> bool:
-    """Whether a text is one plain mail address, which every mail server takes."""
-    return len(text) <= MAIL_LIMIT and MAIL.fullmatch(text) is not None
-
-
-def address_in(addresses: Iterable[str]) -> str:
-    """The first of some addresses that every mail server takes; empty if there is none."""
-    return next(filter(is_mail_address, addresses), "")
 
 
 def demand_web_address(text: str) -> None:

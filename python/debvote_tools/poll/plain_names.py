@@ -116,8 +116,8 @@ def plain_title(title: str, language: str) -> str:
 
 
 def plain_options(names: Sequence[str], language: str) -> list[str]:
-    """The plain names of all options. An empty one stays empty, so that it is refused. Where nothing
-    with a letter is left, a number may be that of another option.
+    """The plain names of all options. An empty one stays empty, so that it is refused. Where
+    nothing with a letter is left, a number may be that of another option.
     """
     numbered = list(enumerate(names, start=1))
     texts = {
@@ -136,7 +136,9 @@ def plain_options(names: Sequence[str], language: str) -> list[str]:
 
 # ---- electors
 def elector_name(who: str, language: str) -> str:
-    """Proposes a name on the roll, as anna-meier for `Meier, Dr. Anna`, perhaps too long or empty."""
+    """Proposes a name on the roll, as anna-meier for `Meier, Dr. Anna`, perhaps too long or
+    empty.
+    """
     for text in (TITLE.sub(" ", who), who):
         parts = [
             re.sub(r"[^a-z0-9]+", "-", part).strip("-")
@@ -196,7 +198,9 @@ def bad_title(title: str) -> Iterator[BadName]:
 
 
 def bad_options(names: Sequence[str], plain_names: Sequence[str]) -> Iterator[BadName]:
-    """Names of options that people can't read or tell apart. Of equal plain names debvote speaks."""
+    """Names of options that people can't read or tell apart. Of equal plain names debvote
+    speaks.
+    """
     options = list(enumerate(zip(names, plain_names), start=1))
     for number, (name, _) in options:
         for reason in bad_characters(name):

@@ -1,4 +1,6 @@
-"""The questions of an election, each a poll with its label, and what is the same for all of them."""
+"""The questions of an election, each a poll with its label, and what is the same for all of
+them.
+"""
 
 import functools
 import pathlib
@@ -21,15 +23,15 @@ LONGEST_TITLE = 60
 # the labels of several questions: neither `I abstain` nor `O no` begins with one
 LABELS = "ABCDEFGHJKLMNPQRSTUVWXYZ"
 
-# the file of a poll, and beside the polls of several questions the title of the election and the list
-# of the checksums, as sha256sum writes it
+# the file of a poll, and beside the polls of several questions the title of the election and the
+# list of the checksums, as sha256sum writes it
 POLL_FILE, TITLE_FILE, SUMS_FILE = "poll.toml", "title.txt", "polls.sha256"
 
 
 class Questions(dict[str, SealedPoll]):
-    """The polls by the labels of their questions, in the order of these. An election with one question
-    has the label "", and no title but that of its poll. Each poll has roll, end and address of the
-    election, and all are secret or none.
+    """The polls by the labels of their questions, in the order of these. An election with one
+    question has the label "", and no title but that of its poll. Each poll has roll, end and
+    address of the election, and all are secret or none.
     """
 
     def __init__(self, polls: Mapping[str, SealedPoll], title: str = "") -> None:
@@ -44,8 +46,8 @@ class Questions(dict[str, SealedPoll]):
             rows = [f"{digest}  {name}" for name, digest in digests.items()]
         sums = "".join(f"{row}\n" for row in rows).encode()
         self.beside = {TITLE_FILE: title_file, SUMS_FILE: sums} if rows else {}
-        # the SHA-256 that covers all that the call announces, which a letter shows below the list of
-        # several; and its first digits, which are in square brackets in the subjects of letters
+        # the SHA-256 that covers all that the call announces, which a letter shows below the list
+        # of several; and its first digits, which are in square brackets in the subjects of letters
         self.checksum = sha256_of(sums) if rows else first.checksum
         self.checksums, self.mark = [*rows, self.checksum], self.checksum[:16]
         # the title of the election that people read
@@ -64,7 +66,9 @@ class Questions(dict[str, SealedPoll]):
         return polls | self.beside
 
     def line(self, name: str, rank: Callable[[int, int], str]) -> str:
-        """A ballot, or the form of one, with a rank for each option, by its number and how many there are."""
+        """A ballot, or the form of one, with a rank for each option, by its number and how many
+        there are.
+        """
         answers = dict[str, str]()
         for label, poll in self.items():
             count = len(poll.names)
@@ -81,8 +85,8 @@ class Questions(dict[str, SealedPoll]):
         return answer_pattern(fewest, "".join(self), frozenset(self.words(language)))
 
     def in_words(self, language: Language = ENGLISH) -> Callable[[str], str]:
-        """Says ballots in words, from what each has behind the name; of several answers each behind label
-        and title of its question.
+        """Says ballots in words, from what each has behind the name; of several answers each behind
+        label and title of its question.
         """
         # most ballots have one of a few orders
         said = {

@@ -1,5 +1,6 @@
 """The sealed poll, in plain form: TOML with a line `key = value` for each key, in the order of
-`KEYS`, each value as JSON writes it. `questions.py` has what is the same for all polls of an election.
+`KEYS`, each value as JSON writes it. `questions.py` has what is the same for all polls of an
+election.
 """
 
 import dataclasses

@@ -7,23 +7,18 @@ import tomllib
 from collections.abc import Sequence
 from typing import Any
 
+from debvote_tools.call.secret import ON_PUBLIC_ROLL
 from debvote_tools.cli import console
-from debvote_tools.cli.arguments import (
-    Options,
-    add_arguments,
-    add_version,
-    option,
-    positional,
-)
-from debvote_tools.debvote import Debvote
+from debvote_tools.cli.arguments import Options, add_arguments, add_version, option, positional
 from debvote_tools.cli.faults import Fault, Status, other_format
+from debvote_tools.debvote import Debvote
 from debvote_tools.files import BALLOTS_LIMIT, POLL_LIMIT, read_at_most, sha256_of
-from debvote_tools.text.language import ENGLISH, LANGUAGES, language_of
 from debvote_tools.poll.plain_names import bad_options, bad_title
-from debvote_tools.result import folder
-from debvote_tools.result.facts import Facts, PublishedWords
+from debvote_tools.poll.questions import Questions
 from debvote_tools.poll.sealed import KEYS, REQUIRED, SealedPoll, poll_of
-from debvote_tools.poll.secret import ON_PUBLIC_ROLL
+from debvote_tools.result import folder
+from debvote_tools.result.facts import PublishedWords, QuestionFacts, VoteFacts
+from debvote_tools.text.language import ENGLISH, LANGUAGES, language_of
 
 PROGRAM = "debvote-publish"
 
@@ -69,7 +64,7 @@ def main(program_folder: pathlib.Path, given: Sequence[str] | None = None) -> in
         facts = facts_of(arguments, program_folder)
         with folder.beside(target_folder) as new:
             # whoever has two files looks at the doubts on the page
-            filled = folder.filled(new.folder, {"": facts}, program_folder, is_forced=True)
+            filled = folder.filled(new.folder, facts.vote, [facts], program_folder, is_forced=True)
             new.take_place(target_folder)
     except Fault as fault:
         return console.failed(PROGRAM, fault.after("", "published").words, fault.status)
@@ -86,7 +81,7 @@ def main(program_folder: pathlib.Path, given: Sequence[str] | None = None) -> in
 
 
 # ---- the facts of two files
-def facts_of(arguments: Arguments, program_folder: pathlib.Path) -> Facts:
+def facts_of(arguments: Arguments, program_folder: pathlib.Path) -> QuestionFacts:
     """Each file is read once, so that all commands read the same bytes."""
     poll_bytes = input_in(arguments.poll, POLL_LIMIT, "poll", Status.BAD_POLL)
     ballots = input_in(arguments.ballots, BALLOTS_LIMIT, "ballots", Status.BAD_BALLOTS)
@@ -96,14 +91,14 @@ def facts_of(arguments: Arguments, program_folder: pathlib.Path) -> Facts:
         cure = "publish it from its election, with debvote-election publish"
         words = "the vote is secret, and this would publish each name with its vote"
         raise Fault(arguments.poll, words, cure, done=None)
-    return Facts(
-        poll,
-        ballots,
+    vote = VoteFacts(
+        Questions({"": poll}),
         language_of(arguments.language),
-        words=PublishedWords({"": arguments.casting} if arguments.casting else {}),
-        desks=arguments.desks,
-        given_checksum=sha256_of(poll_bytes),
+        PublishedWords({"": arguments.casting} if arguments.casting else {}),
+        arguments.desks,
+        sha256_of(poll_bytes),
     )
+    return QuestionFacts(vote, "", ballots)
 
 
 def input_in(file: str, limit: int, kind: str, status: int) -> bytes:
@@ -135,8 +130,8 @@ def sealed_of(poll_bytes: bytes, file: str) -> SealedPoll:
     try:
         document = tomllib.loads(poll_bytes.decode("utf-8-sig"))
     except (ValueError, RecursionError) as error:
-        words, cure = f"it can't be read ({error})", "write the poll as TOML 1.0"
-        raise Fault(file, words, cure, Status.BAD_POLL) from None
+        words = f"it can't be read ({error})"
+        raise Fault(file, words, "write the poll as TOML 1.0", Status.BAD_POLL) from None
     values = {key: document[key] for key in KEYS if key in document}
     strange = [key for key in values if not is_right(key, values[key], len(document["options"]))]
     cure = "give the poll.toml of a call, or take the key out"
@@ -144,12 +139,15 @@ def sealed_of(poll_bytes: bytes, file: str) -> SealedPoll:
         words = f"a sealed poll cannot have such a value of {', '.join(strange)}"
         raise Fault(file, words, cure, Status.BAD_POLL)
     poll = poll_of(values)
-    found = [*bad_title(poll.name)] if poll.name != poll.title else []
-    for number, name, why in bad_options(poll.names, poll.plain_names):
-        if name != poll.plain_names[number - 1]:
-            found.append((number, name, why))
-    for _, _, why in found[:1]:
-        raise Fault(file, f"a shown name can't be published: {why}", cure, Status.BAD_POLL)
+    reasons = [reason for _, _, reason in bad_title(poll.name) if poll.name != poll.title]
+    reasons += [
+        reason
+        for number, name, reason in bad_options(poll.names, poll.plain_names)
+        if name != poll.plain_names[number - 1]
+    ]
+    if reasons:
+        words = f"a shown name can't be published: {reasons[0]}"
+        raise Fault(file, words, cure, Status.BAD_POLL)
     return poll
 
 

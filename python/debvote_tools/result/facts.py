@@ -1,39 +1,21 @@
-"""What a result is made from, beside the answers of debvote: one value for the page, the letters of
-the result and the data. `told.jinja` says it in words.
+"""The facts of a result, of the whole vote and of each question, for the page, the letter and data.
+
+`told.jinja` says them in words.
 """
 
 import dataclasses
 import datetime
 import functools
 from collections.abc import Callable, Collection, Iterator, Mapping, Sequence
-from typing import Any
+from typing import Any, NamedTuple
 
 from debvote_tools.debvote import Finding, casting_words, standing_in
 from debvote_tools.poll.questions import Questions
 from debvote_tools.poll.sealed import SealedPoll
-from debvote_tools.result.sheet import Castings, Sheet
+from debvote_tools.result.sheet import Castings
 from debvote_tools.result.why import Why
+from debvote_tools.sheet import Sheet
 from debvote_tools.text.language import ENGLISH, Language
-from debvote_tools.text.times import time_in_words
-
-# of each doubt, by its kind, what the secretary reads of it and can do about it
-FOR_SECRETARY = {
-    "no ballot": "no elector has a ballot that counts; check that these are the ballots of this poll",
-    "mostly refused": "more than half of the lines are refused, {refused} of {lines}; debvote explain says why",
-    "not closed": "the vote is not closed; close it first",
-    "closed early": "the vote was closed on {closed}, before its announced end, {until}",
-    "box not asked": "the box of the web host was not asked since the end: run {command}",
-    "other page": "on {time} the page at {address} was not that of the call",
-    "letters left": "these letters arrived in time, and wait: {letters}; {command}",
-    "other casting vote": (
-        "an earlier publication has a casting vote for {option}; only one can be right, so find out which was given; the earlier one again: "
-        "{command}"
-    ),
-}
-
-
-# says a time
-Said = Callable[[datetime.datetime], Any]
 
 
 class Told:
@@ -41,25 +23,24 @@ class Told:
 
     places: Mapping[str, Any]
 
-    def shown(self, said: Said) -> dict[str, Any]:
+    def shown(self, say_time: Callable[[datetime.datetime], str]) -> dict[str, Any]:
         """What fills it, with each time as it is said."""
         return {
-            key: said(value) if isinstance(value, datetime.datetime) else value
+            key: say_time(value) if isinstance(value, datetime.datetime) else value
             for key, value in self.places.items()
         }
 
 
-@dataclasses.dataclass(frozen=True)
-class PublishedWords:
+class PublishedWords(NamedTuple):
     """What the secretary says of a publication. The act keeps it, so that the same folder can be
     made again.
     """
 
-    # the options that casting votes choose; whose each was and on which day, by the same labels, if that
-    # is said. No count can show it
-    castings: Castings = dataclasses.field(default_factory=dict)
-    cast_by: Mapping[str, str] = dataclasses.field(default_factory=dict)
-    cast_on: Mapping[str, str] = dataclasses.field(default_factory=dict)
+    # the options that casting votes choose; whose each was and on which day, by the same labels, if
+    # that is said. No count can show it
+    castings: Castings = {}
+    cast_by: Mapping[str, str] = {}
+    cast_on: Mapping[str, str] = {}
     about: str | None = None
     # whether doubts stop nothing, which needs a reason
     is_forced: bool = False
@@ -74,39 +55,27 @@ class Doubt(Told):
     """
 
     kind: str
+    # what the secretary reads of it, and can do about it; what electors read, `told.jinja` says
+    advice: str
     places: Mapping[str, Any] = dataclasses.field(default_factory=dict)
     # not so where an earlier act was forced although there was this doubt
     stops: bool = True
     # that of the question that it is about; empty if it is about the whole vote
     label: str = ""
-    # a command that puts it right
-    command: str = ""
 
     def as_data(self) -> dict[str, Any]:
         """As the act of a publication keeps it."""
         question = {"question": self.label} if self.label else {}
         return {"kind": self.kind, **self.shown(datetime.datetime.isoformat), **question}
 
-    def for_secretary(self) -> str:
-        return FOR_SECRETARY[self.kind].format(command=self.command, **self.shown(time_in_words))
-
-
-def doubts_about(sheet: Sheet, label: str) -> Iterator[Doubt]:
-    """The doubts about what came of a question, by the sheet of all lines that came."""
-    if not sheet.voters:
-        yield Doubt("no ballot", label=label)
-    if 2 * sheet.refused > sheet.lines:
-        numbers = {"refused": sheet.refused, "lines": sheet.lines}
-        yield Doubt("mostly refused", numbers, label=label)
-
 
 @dataclasses.dataclass(frozen=True)
 class Act(Told):
     """Something that was done in an election, at a time by the clock of the secretary's computer.
 
-    `places` fill its sentence, those that differ by question by the labels of those that have one; all
-    times are in the zone in which the end was announced. `because` is None if no reason was given, or
-    it is not published.
+    `places` fill its sentence, those that differ by question by the labels of those that have one;
+    all times are in the zone in which the end was announced. `because` is None if no reason was
+    given, or it is not published.
     """
 
     time: datetime.datetime
@@ -117,8 +86,8 @@ class Act(Told):
     labels: Collection[str] | None = None
 
     def told_of(self, labels: Collection[str]) -> "Act":
-        """The same, as it is told of some questions: of several each before its label, in front of which
-        it would look like an answer.
+        """The same, as it is told of some questions: of several each before its label, in front of
+        which it would look like an answer.
         """
         places = {
             key: ", ".join(
@@ -133,13 +102,11 @@ class Act(Told):
         return dataclasses.replace(self, places=places, labels=labels)
 
 
-@dataclasses.dataclass(frozen=True)
-class Facts:
-    """The facts of a question. What is about the whole vote each question has."""
+class VoteFacts(NamedTuple):
+    """The facts of the whole vote, which are the same for each of its questions."""
 
-    poll: SealedPoll
-    # the lines in time; in a secret vote the ballots that stand, under aliases
-    ballots: bytes
+    # in a secret vote their rolls have the aliases
+    questions: Questions
     language: Language = ENGLISH
     words: PublishedWords = PublishedWords()
     desks: int = 1
@@ -147,33 +114,23 @@ class Facts:
     given_checksum: str | None = None
     # the day of the call that holds, and that of the first close
     days: Sequence[datetime.date] = ()
-    # what was done, about all questions; and of each line that came after the end, and is in time since the
-    # vote was not closed, the labels of the questions that it answers
+    # what was done; and of each line that came after the end, and is in time since the vote was not
+    # closed, the labels of the questions that it answers
     acts: Sequence[Act] = ()
     labels_after_end: Sequence[Collection[str]] = ()
-    # the lines that were entered after the close: how many; and unless the vote is secret all
-    late_number: int = 0
-    late: Sequence[bytes] | None = None
-    # the letter of the last close, unless the vote was opened again: it has the checksum of other ballots
+    # the letter of the last close, unless the vote was opened again: it has the checksum of other
+    # ballots
     closed: bytes | None = None
     # by the names on the roll, if they are published
-    real_names: Mapping[str, str] = dataclasses.field(default_factory=dict)
-    # those that are known before the count, about all questions
+    real_names: Mapping[str, str] = {}
+    # those that are known before the count, about the whole vote and about each question
     doubts: Sequence[Doubt] = ()
-    # of a secret vote, and not published: the codes of the electors, of which none gets into the folder,
-    # the sheet of the files with names, and the electors whose votes a comparison with the last
-    # publication would show; and the random line of the last close, if it made one
+    # of a secret vote the codes of the electors, of which none gets into the folder
     codes: Collection[str] = ()
-    private: Sheet | None = None
-    compared: Sequence[str] = ()
-    seal: str = ""
     # whether the names on the roll are codes, and nobody has a list of them
     has_codes: bool = False
     # the web address of the result, if it is known
     at: str | None = None
-    # the label of the question, and all questions of the election; of two files none are known
-    label: str = ""
-    questions: Questions | None = None
 
     @property
     def is_of_two_files(self) -> bool:
@@ -182,7 +139,7 @@ class Facts:
 
     @property
     def has_aliases(self) -> bool:
-        return self.poll.secret and not self.has_codes
+        return self.questions.is_secret and not self.has_codes
 
     def acts_about(self, labels: Collection[str]) -> list[Act]:
         """What was done, as it is told of some questions."""
@@ -192,24 +149,41 @@ class Facts:
             if act.labels is None or any(label in act.labels for label in labels)
         ]
 
+
+class QuestionFacts(NamedTuple):
+    """The facts of a question, with those of its vote."""
+
+    vote: VoteFacts
+    label: str
+    # the lines in time; in a secret vote the ballots that stand, under aliases
+    ballots: bytes
+    # the lines that were entered after the close: how many; and unless the vote is secret all
+    late_number: int = 0
+    late: Sequence[bytes] | None = None
+    # of a secret vote: the random line of the last close, if it made one; and not published the
+    # sheet of the files with names, and the electors whose votes a comparison with the last
+    # publication would show
+    seal: str = ""
+    private: Sheet | None = None
+    compared: Sequence[str] = ()
+
+    @property
+    def poll(self) -> SealedPoll:
+        return self.vote.questions[self.label]
+
     @property
     def lines_after_end(self) -> int:
-        return sum(self.label in labels for labels in self.labels_after_end)
+        return sum(self.label in labels for labels in self.vote.labels_after_end)
 
     @property
     def casting(self) -> str | None:
         """The plain name of the option that the casting vote chooses."""
-        return self.words.castings.get(self.label)
-
-    @property
-    def cast_by(self) -> str | None:
-        """Whose the casting vote was; None if that is not said."""
-        return self.words.cast_by.get(self.label)
+        return self.vote.words.castings.get(self.label)
 
     @property
     def cast_day(self) -> datetime.date:
         """The day of a casting vote of which it is said whose it was."""
-        return datetime.date.fromisoformat(self.words.cast_on[self.label])
+        return datetime.date.fromisoformat(self.vote.words.cast_on[self.label])
 
     @property
     def casting_words(self) -> list[str]:
@@ -220,7 +194,7 @@ class Facts:
 class Outcome:
     """How a question ended: its facts, and what debvote answers about poll and ballots."""
 
-    facts: Facts
+    facts: QuestionFacts
     sheet: Sheet
     standing_text: str
     # the lines that are refused, those after a last envelope among them
@@ -237,12 +211,27 @@ class Outcome:
         return standing_in(self.standing_text)
 
     @property
+    def doubts_of_count(self) -> Iterator[Doubt]:
+        """Those about what came of the question, by the sheet of all lines that came."""
+        sheet = self.facts.private or self.sheet
+        label = self.facts.label
+        if not sheet.voters:
+            advice = (
+                "no elector has a ballot that counts; check that these are the ballots of this poll"
+            )
+            yield Doubt("no ballot", advice, label=label)
+        if 2 * sheet.refused > sheet.lines:
+            advice = f"more than half of the lines are refused, {sheet.refused} of {sheet.lines}; debvote explain says why"
+            numbers = {"refused": sheet.refused, "lines": sheet.lines}
+            yield Doubt("mostly refused", advice, numbers, label=label)
+
+    @property
     def doubts(self) -> list[Doubt]:
         """Those about the question and about the whole vote."""
-        label = self.facts.label
-        known = (one for one in self.facts.doubts if one.label in ("", label))
-        return [*doubts_about(self.facts.private or self.sheet, label), *known]
+        labels = ("", self.facts.label)
+        known = (doubt for doubt in self.facts.vote.doubts if doubt.label in labels)
+        return [*self.doubts_of_count, *known]
 
-    def why(self, said: Mapping[int, str]) -> Why:
-        """Why it ended so; `said` has the options as parts of a sentence."""
-        return Why(self.sheet, said)
+    def why(self, options: Mapping[int, str]) -> Why:
+        """Why it ended so; `options` has them by their numbers, as parts of a sentence."""
+        return Why(self.sheet, options)

@@ -1,10 +1,10 @@
-"""The published folder. It is made beside its place, whole, and counted twice; only then it takes
-its place. For each question debvote is started at most six times, in a secret vote four times.
+"""The published folder, which is made whole and counted twice beside its place before it takes it.
+
+For each question debvote is started at most six times, in a secret vote four times.
 """
 
 import contextlib
 import dataclasses
-import functools
 import itertools
 import os
 import pathlib
@@ -14,6 +14,7 @@ import sys
 from collections.abc import Collection, Iterable, Iterator, Mapping, Sequence
 from typing import NamedTuple
 
+from debvote_tools.call.secret import demand_no_code
 from debvote_tools.cli.console import tell_aside, tell_aside_as_it_is
 from debvote_tools.cli.faults import Fault, Status, bad_words, stop_at
 from debvote_tools.debvote import Answer, Debvote, findings_in
@@ -30,19 +31,12 @@ from debvote_tools.files import (
     write_public,
 )
 from debvote_tools.poll.questions import Questions, place_of
-from debvote_tools.poll.secret import demand_no_code
 from debvote_tools.result import file_names
-from debvote_tools.result.facts import Doubt, Facts, Outcome
+from debvote_tools.result.facts import Doubt, Outcome, QuestionFacts, VoteFacts
 from debvote_tools.result.file_names import BALLOTS, CHECKSUMS, PAGE, POLL, RECOUNT, SHEET
 from debvote_tools.result.page import front_page_of, letter_of, page_of, pictures_of
-from debvote_tools.result.sheet import (
-    Sheet,
-    as_json,
-    outcome_as_data,
-    result_json,
-    sheet_in,
-    votes_csv,
-)
+from debvote_tools.result.sheet import as_json, outcome_as_data, result_json, votes_csv
+from debvote_tools.sheet import Sheet, sheet_in
 from debvote_tools.text.ballots import ballot_file
 
 
@@ -61,10 +55,13 @@ BESIDE = {
 # how a folder begins that is beside its place: what a killed run left there tells what it replaced
 BESIDE_PLACE = f"{TEMPORARY}result-"
 
+# how a count may end without a winner
+TIE = (Status.TIE, Status.CASTING_OUTSIDE)
+
 
 class Filled(NamedTuple):
-    """A folder that is whole: how each question ended, all doubts, the checksums of all files, by their
-    places in it, and the letter of the result.
+    """A folder that is whole: how each question ended, all doubts, the checksums of all files, by
+    their places in it, and the letter of the result.
     """
 
     outcomes: Mapping[str, Outcome]
@@ -124,7 +121,7 @@ def is_publication(folder: pathlib.Path, checksum: str) -> bool:
         if sha256_of(data) != checksum:
             return False
         lines = (line.split("  ") for line in data.decode().splitlines())
-        listed = {folder / name: found for found, name in lines}
+        listed = {folder / name: listed_sum for listed_sum, name in lines}
         # what has a file of several questions below it is a folder
         above = {parent for file in listed for parent in file.parents}
         others = (file for file in folder.rglob("*") if file not in (folder / CHECKSUMS, *above))
@@ -154,34 +151,32 @@ def beside(target_folder: pathlib.Path) -> Iterator[NewFolder]:
 # ---- what is in it
 def filled(
     folder: pathlib.Path,
-    given: Mapping[str, Facts],
+    vote: VoteFacts,
+    questions: Iterable[QuestionFacts],
     program_folder: pathlib.Path | None,
     *,
     is_forced: bool,
     known: Collection[object] = (),
 ) -> Filled:
-    """Writes all files of a result into an empty folder, those of each of several questions into one
-    with its label, and has each question counted by debvote and by `recount.py`. Stops at doubts that
-    are not forced, at a code of an elector, and if the counts differ. `program_folder` is that of the
-    program that runs this: debvote may be beside it. `known` are the doubts that the same result had
-    when it was made first: the reason of then is not one for what came since.
+    """Writes all files of a result into an empty folder, those of each of several questions into
+    one with its label, and has each question counted by debvote and by `recount.py`. Stops at
+    doubts that are not forced, at a code of an elector, and if the counts differ. `program_folder`
+    is that of the program that runs this: debvote may be beside it. `known` are the doubts that the
+    same result had when it was made first: the reason of then is not one for what came since.
     """
-    filling = Filling(folder, given)
-    outcomes = {label: filling.counted(label, program_folder) for label in given}
-    doubts = doubts_about_all(outcomes.values())
-    is_forced = is_forced or all(one.as_data() in known for one in doubts if one.stops)
-    demand_publishable(outcomes, doubts, is_forced=is_forced)
-    for (label, one), picture in zip(outcomes.items(), pictures_of(outcomes.values())):
-        filling.write(label, further_files(one, picture))
-        demand_same(folder / label, one)
+    filling = Filling(folder, vote)
+    outcomes = {facts.label: filling.counted(facts, program_folder) for facts in questions}
+    doubts = demand_publishable(vote, outcomes, is_forced=is_forced, known=known)
+    for (label, outcome), picture in zip(outcomes.items(), pictures_of(outcomes.values())):
+        filling.write(label, further_files(outcome, picture))
+        demand_same(folder / label, outcome)
         # it has checksums of the files above
-        filling.write_page(label, page_of(one, picture, filling.sums(label)))
-    facts = one.facts
-    if facts.label and facts.questions is not None:
-        filling.write("", files_above(facts.questions, outcomes, filling.checksums))
-        filling.write_page("", front_page_of(outcomes))
-    letter = letter_of(outcomes, filling.checksums)
-    if facts.is_of_two_files:
+        filling.write_page(label, page_of(outcome, picture, filling.sums(label)))
+    if vote.questions.is_several:
+        filling.write("", files_above(vote.questions, outcomes, filling.checksums))
+        filling.write_page("", front_page_of(vote, outcomes))
+    letter = letter_of(vote, outcomes, filling.checksums)
+    if vote.is_of_two_files:
         # two files have no other folder for it
         filling.write("", {file_names.LETTER: letter})
     filling.end()
@@ -189,18 +184,19 @@ def filled(
 
 
 class Filling:
-    """A folder while it is filled, with the checksum of each file by its place. Files without a label
-    are those of the one question, or those above several.
+    """A folder while it is filled, with the checksum of each file by its place. Files without a
+    label are those of the one question, or those above several.
     """
 
-    def __init__(self, folder: pathlib.Path, given: Mapping[str, Facts]) -> None:
-        self.folder, self.given, self.checksums = folder, given, dict[str, str]()
+    def __init__(self, folder: pathlib.Path, vote: VoteFacts) -> None:
+        self.folder = folder
+        self.vote = vote
+        self.checksums = dict[str, str]()
 
     def write(self, label: str, files: Mapping[str, bytes]) -> None:
-        codes = next(iter(self.given.values())).codes
         for name, data in files.items():
             place = place_of(label, name)
-            demand_no_code(place, data, codes)
+            demand_no_code(place, data, self.vote.codes)
             with naming(self.folder.parent):
                 write_public(self.folder / place, data)
             self.checksums[place] = sha256_of(data)
@@ -208,8 +204,11 @@ class Filling:
     def sums(self, label: str) -> dict[str, str]:
         """The checksums of the files of a question by their names, without a label those of all."""
         above = f"{label}/" if label else ""
-        named = self.checksums.items()
-        return {name.removeprefix(above): its for name, its in named if name.startswith(above)}
+        return {
+            place.removeprefix(above): checksum
+            for place, checksum in self.checksums.items()
+            if place.startswith(above)
+        }
 
     def write_page(self, label: str, page: bytes) -> None:
         """Writes the page, which is the last file, and the checksums of all."""
@@ -217,41 +216,51 @@ class Filling:
         lines = (f"{checksum}  {name}\n" for name, checksum in sorted(self.sums(label).items()))
         self.write(label, {CHECKSUMS: "".join(lines).encode()})
 
-    def counted(self, label: str, program_folder: pathlib.Path | None) -> Outcome:
+    def counted(self, facts: QuestionFacts, program_folder: pathlib.Path | None) -> Outcome:
         """Writes poll, ballots and sheet of a question, and asks debvote about them."""
-        given, folder = self.given[label], self.folder / label
+        label = facts.label
+        folder = self.folder / label
         folder.mkdir(exist_ok=True)
         debvote = Debvote(folder, program_folder)
-        ask = functools.partial(answer_of, debvote)
-        desks, casting = ("--desks", str(given.desks)), given.casting_words
-        tie = (Status.TIE, Status.CASTING_OUTSIDE)
-        self.write(label, {POLL: given.poll.as_bytes(), BALLOTS: given.ballots})
-        sheet = sheet_in(ask("count", *desks, *casting, also=tie).text)
+        self.write(label, {POLL: facts.poll.as_bytes(), BALLOTS: facts.ballots})
+        desks = ["--desks", str(self.vote.desks)]
+        words = [*desks, *facts.casting_words]
+        sheet = sheet_in(answer_of(debvote, "count", *words, also=TIE).text)
         self.write(label, {SHEET: sheet.text.encode()})
-        verified = ask("verify", "--sheet", SHEET, *desks, also=(Status.DOUBT,))
-        if verified.status == Status.DOUBT:
-            raise unlike("debvote verify", verified.text.strip().replace("\n", ", "))
-        refused = ask("explain", also=(Status.DOUBT,)).text if sheet.refused else None
         return Outcome(
-            facts=given,
-            sheet=sheet,
+            facts,
+            sheet,
+            verified=verified_by(debvote, desks),
+            refused=(
+                findings_in(answer_of(debvote, "explain", also=(Status.DOUBT,)).text).refused
+                if sheet.refused
+                else []
+            ),
             # in a secret vote only the ballots that stand are published
-            standing_text=given.ballots.decode() if given.private else ask("standing").text,
-            refused=findings_in(refused).refused if refused else [],
-            graph=ask("picture", *desks, *casting, also=tie).text,
-            verified=verified.text.rstrip("\n"),
+            standing_text=(
+                facts.ballots.decode() if facts.private else answer_of(debvote, "standing").text
+            ),
+            graph=answer_of(debvote, "picture", *words, also=TIE).text,
             version=debvote.version(),
         )
 
     def end(self) -> None:
-        for label in {"", *self.given}:
+        for label in {"", *self.vote.questions}:
             (self.folder / label).chmod(0o755)
             sync_folder(self.folder / label)
 
 
+def verified_by(debvote: Debvote, desks: Iterable[str]) -> str:
+    """What debvote says of the sheet. Stops if it is not that of poll and ballots."""
+    answer = answer_of(debvote, "verify", "--sheet", SHEET, *desks, also=(Status.DOUBT,))
+    if answer.status == Status.DOUBT:
+        raise unlike("debvote verify", answer.text.strip().replace("\n", ", "))
+    return answer.text.rstrip("\n")
+
+
 def answer_of(debvote: Debvote, task: str, *words: str, also: tuple[int, ...] = ()) -> Answer:
-    """What debvote answers in its folder, and its fault lines as they are. Stops unless its exit status
-    is 0, or one of these with a text.
+    """What debvote answers in its folder, and its fault lines as they are. Stops unless its exit
+    status is 0, or one of these with a text.
     """
     answer = debvote.run(task, "--poll", POLL, "--ballots", BALLOTS, *words)
     tell_aside_as_it_is(answer.faults)
@@ -263,64 +272,67 @@ def answer_of(debvote: Debvote, task: str, *words: str, also: tuple[int, ...] = 
 def files_above(
     questions: Questions, outcomes: Mapping[str, Outcome], checksums: Mapping[str, str]
 ) -> dict[str, bytes]:
-    """What is above the folders of several questions: their title and the list of their polls, as the
-    call has them, and how each ended, as data.
+    """What is above the folders of several questions: their title and the list of their polls, as
+    the call has them, and how each ended, as data.
     """
     ended = {
         label: {
-            "label": one.facts.poll.name,
-            "outcome": outcome_as_data(one.sheet),
+            "label": outcome.facts.poll.name,
+            "outcome": outcome_as_data(outcome.sheet),
             "checksum": checksums[place_of(label, CHECKSUMS)],
         }
-        for label, one in outcomes.items()
+        for label, outcome in outcomes.items()
     }
     data = {"format": "debvote results 1", "title": questions.name, "questions": ended}
     return questions.beside | {file_names.DATA: as_json(data).encode()}
 
 
 # ---- doubts
-def doubts_about_all(outcomes: Iterable[Outcome]) -> list[Doubt]:
-    """All doubts: those about the whole vote, which each question has, and those about each question."""
-    first, *others = (one.doubts for one in outcomes)
-    more = (doubt for its in others for doubt in its if doubt.label)
-    return sorted([*first, *more], key=lambda doubt: doubt.label)
-
-
 def demand_publishable(
-    outcomes: Mapping[str, Outcome], doubts: Collection[Doubt], *, is_forced: bool
-) -> None:
-    """Stops at doubts that are not forced, and at what is never published. Tells the others."""
+    vote: VoteFacts,
+    outcomes: Mapping[str, Outcome],
+    *,
+    is_forced: bool,
+    known: Collection[object],
+) -> list[Doubt]:
+    """The doubts about the whole vote, and then those about each of several questions. Stops at
+    those that are not forced, and at what is never published; tells the others.
+    """
+    of_counts = (doubt for outcome in outcomes.values() for doubt in outcome.doubts_of_count)
+    doubts = sorted([*of_counts, *vote.doubts], key=lambda doubt: doubt.label)
+    is_forced = is_forced or all(doubt.as_data() in known for doubt in doubts if doubt.stops)
     cure = (
         'put it right, or publish as it is with --force --because "TEXT" (the result page says so)'
     )
     faults = list[Fault]()
     for label in dict.fromkeys(("", *outcomes)):
-        its = list(never_published(outcomes[label])) if label in outcomes else []
+        never = [*never_published(outcomes[label])] if label in outcomes else []
         stopping = (doubt for doubt in doubts if doubt.stops and doubt.label == label)
-        reasons = "; ".join(doubt.for_secretary() for doubt in stopping)
-        if reasons and not is_forced and not its:
-            its = [Fault(f"question {label}" if label else None, reasons, cure)]
-        faults += its
+        reasons = "; ".join(doubt.advice for doubt in stopping)
+        if reasons and not (is_forced or never):
+            faults.append(Fault(f"question {label}" if label else None, reasons, cure))
+        faults += never
     stop_at(faults)
     for doubt in doubts:
         where = f"question {doubt.label}: " if doubt.label else ""
-        tell_aside(f"Note: {where}{doubt.for_secretary()}; the result page says so")
+        tell_aside(f"Note: {where}{doubt.advice}; the result page says so")
+    return doubts
 
 
 def never_published(outcome: Outcome) -> Iterator[Fault]:
     """What is wrong with a question, whatever is forced."""
-    given, sheet = outcome.facts, outcome.sheet
+    facts = outcome.facts
+    sheet = outcome.sheet
     left = {sheet.names[option]: option for option in sheet.left}
-    if given.casting is not None and given.casting not in left:
+    if facts.casting is not None and facts.casting not in left:
         shown = " and ".join(f"{option} {name}" for name, option in left.items())
-        words = f"no casting vote can choose {given.casting}, which is not left; left {'are' if len(left) > 1 else 'is'} {shown}"
-        cure = "name an option that is left"
-        yield Fault("--casting", words, cure, Status.CASTING_OUTSIDE)
-    if given.poll.secret and not (
+        words = f"no casting vote can choose {facts.casting}, which is not left; left {'are' if len(left) > 1 else 'is'} {shown}"
+        yield Fault("--casting", words, "name an option that is left", Status.CASTING_OUTSIDE)
+    if facts.poll.secret and not (
         sheet.last_envelope is None and sheet.lines == sheet.valid == sheet.voters
     ):
         yield unlike(None, "a line of this secret vote does not count, or counts more than once")
-    if given.private and title_and_votes(given.private) != title_and_votes(sheet):
+    if facts.private and title_and_votes(facts.private) != title_and_votes(sheet):
         yield unlike(
             None, "the sheet under aliases differs from the sheet of the votes as they came"
         )
@@ -338,14 +350,14 @@ def further_files(outcome: Outcome, picture: bytes | None) -> dict[str, bytes]:
     """The files that follow from poll, ballots and sheet, those of the book, and the programs and
     the guide beside them.
     """
-    facts, sheet = outcome.facts, outcome.sheet
+    facts = outcome.facts
     files = {
         file_names.STANDING: outcome.standing_text.encode(),
-        file_names.DATA: result_json(sheet, facts.poll, outcome.version).encode(),
-        file_names.TABLE: votes_csv(sheet).encode(),
+        file_names.DATA: result_json(outcome.sheet, facts.poll, outcome.version).encode(),
+        file_names.TABLE: votes_csv(outcome.sheet).encode(),
         file_names.PICTURE: picture,
         file_names.LATE: None if facts.late is None else ballot_file(facts.late),
-        file_names.CLOSED: facts.closed,
+        file_names.CLOSED: facts.vote.closed,
         file_names.SEAL: f"{facts.seal}\n".encode() if facts.seal else None,
     }
     for name, (what, places) in BESIDE.items():
@@ -375,11 +387,12 @@ def demand_same(folder: pathlib.Path, outcome: Outcome) -> None:
     ):
         try:
             text, _ = program["answer"]([task, *files, *words])
-            said = "" if text == wanted else difference(text, wanted)
+            differs = "" if text == wanted else difference(text, wanted)
         except program["Fault"] as fault:
-            said = f"it says `{fault.args[0]}`"
-        if said:
-            raise unlike(f"{RECOUNT}, the second count, differs from debvote in its `{task}`", said)
+            differs = f"it says `{fault.args[0]}`"
+        if differs:
+            where = f"{RECOUNT}, the second count, differs from debvote in its `{task}`"
+            raise unlike(where, differs)
 
 
 def difference(text: str, wanted: str) -> str:

@@ -9,19 +9,19 @@ import shlex
 import shutil
 import subprocess
 import xml.etree.ElementTree as xml
-from collections.abc import Iterable, Mapping, Sequence
-from typing import Any
+from collections.abc import Collection, Iterable, Mapping
+from typing import Any, NamedTuple
 
 from markupsafe import Markup
 
+from debvote_tools.call.call import explanations_of, numbered_options, paragraphs_of
+from debvote_tools.call.secret import BY_OPENSSL, BY_PYTHON, sealed_checksum
 from debvote_tools.cli.console import seen, tell_aside
 from debvote_tools.debvote import Finding
 from debvote_tools.poll.plain_names import PLAIN_LETTERS, PUNCTUATION, SPELLINGS
-from debvote_tools.poll.secret import BY_OPENSSL, BY_PYTHON, sealed_checksum
 from debvote_tools.poll.sealed import SealedPoll
-from debvote_tools.poll.call import explanations_of, numbered_options, paragraphs_of
 from debvote_tools.result import file_names
-from debvote_tools.result.facts import Facts, Outcome
+from debvote_tools.result.facts import Outcome, VoteFacts
 from debvote_tools.text.ballots import (
     EQUALLY,
     NOTHING,
@@ -58,12 +58,10 @@ NAMED = Markup("<i>{}</i>\u00a0<bdi>{}</bdi>")
 # where no list has the numbers
 NAME_ALONE = Markup("<bdi>{1}</bdi>")
 
-# in characters; where the names in a ballot come to more, paper has their numbers alone
-LONG_BALLOT = 200
-
-# how many characters of a refused line are shown, and how many bytes of such lines in all, or a few
-# more
-SHOWN, TEXTS_LIMIT = 100, 1_000_000
+# how many characters of a refused line are shown
+SHOWN = 100
+# and how many bytes of such lines in all, or a few more
+TEXTS_LIMIT = 1_000_000
 
 # if Graphviz takes longer, there is no picture
 PICTURE_SECONDS = 60
@@ -89,18 +87,19 @@ SPACE = "{http://www.w3.org/2000/svg}"
 SHAPES = {SPACE + name for name in ("svg", "g", "polygon", "polyline", "ellipse", "path", "text")}
 
 
-def letter_of(outcomes: Mapping[str, Outcome], checksums: Mapping[str, str]) -> bytes:
+def letter_of(
+    vote: VoteFacts, outcomes: Mapping[str, Outcome], checksums: Mapping[str, str]
+) -> bytes:
     """The letter of the result: what an elector compares with the web site, sent by a way that does
     not lead over it. `checksums` are those of the published files, by their places.
     """
-    facts = next(iter(outcomes.values())).facts
     return render_letter(
         __package__,
         "result.txt",
-        facts.language,
-        facts=facts,
+        vote.language,
+        vote=vote,
         outcomes=outcomes,
-        named=lambda poll: numbered_options(poll.names, facts.language),
+        named=lambda poll: numbered_options(poll.names, vote.language),
         checksums=checksums,
     ).encode()
 
@@ -111,37 +110,36 @@ def named_in_html(poll: SealedPoll, form: Markup = NAMED) -> dict[int, Markup]:
 
 
 def page_with(
-    template: str, outcomes: Sequence[Outcome], label: str = "", /, **values: Any
+    template: str, vote: VoteFacts, outcomes: Collection[Outcome], label: str = "", /, **values: Any
 ) -> bytes:
     """A page with one outcome or with all, and the script that finds a ballot in them."""
-    facts = outcomes[0].facts
-    language = facts.language
+    language = vote.language
     return render_page(
         __package__,
         template,
         language,
-        days=[date_in_words(day, language) for day in facts.days],
+        days=[date_in_words(day, language) for day in vote.days],
         colon=language.between(COLON),
-        facts=facts,
-        poll=facts.poll,
+        vote=vote,
         label=label,
         # what is said of the whole vote, the page of all questions has
-        about=paragraphs_of("" if label else facts.words.about or ""),
-        example=next((name for one in outcomes for name in one.standing), ""),
-        # with those of a motion, if one is among them
-        find_words=find_words(
-            max((one.facts for one in outcomes), key=lambda facts: facts.poll.motion)
+        about=paragraphs_of("" if label else vote.words.about or ""),
+        example=next((name for outcome in outcomes for name in outcome.standing), ""),
+        find_words=find_words(vote, motion=any(outcome.facts.poll.motion for outcome in outcomes)),
+        # how letters are spelled in the name that the roll makes of a real name
+        find_letters=json.dumps(
+            {**PUNCTUATION, **PLAIN_LETTERS, **SPELLINGS.get(language.code, {})}, ensure_ascii=False
         ),
-        find_letters=find_letters(language),
         **values,
     )
 
 
-def front_page_of(outcomes: Mapping[str, Outcome]) -> bytes:
+def front_page_of(vote: VoteFacts, outcomes: Mapping[str, Outcome]) -> bytes:
     """The page above those of several questions."""
     return page_with(
         "front.html",
-        [*outcomes.values()],
+        vote,
+        outcomes.values(),
         style=resources(__package__, *STYLES, "front.css"),
         script=resources(__package__, *SCRIPTS),
         outcomes=outcomes,
@@ -152,63 +150,90 @@ def front_page_of(outcomes: Mapping[str, Outcome]) -> bytes:
 
 def page_of(outcome: Outcome, drawing: bytes | None, checksums: Mapping[str, str]) -> bytes:
     """The page of a question, whole."""
-    facts, sheet = outcome.facts, outcome.sheet
-    language, poll, options = facts.language, facts.poll, len(sheet.names)
-    style, picture = resources(__package__, *STYLES) + table_on_paper(options, sheet.voters), None
-    if drawing is not None and options <= MOST_IN_PAGE:
-        picture, least_width = picture_in_page(drawing, language)
-        # paper does not scroll, and a page with something wider would be printed smaller
-        style += f"@media screen {{ .picture svg {{ min-width: {least_width}px; }} }}\n"
-    own_letter = [file_names.LETTER] if facts.is_of_two_files else []
+    facts = outcome.facts
+    poll = facts.poll
+    vote = facts.vote
     return page_with(
         "page.html",
+        vote,
         [outcome],
         facts.label,
-        style=style,
         script=resources(
             __package__, file_names.SCRIPT, "names.js", "count_again.js", *SCRIPTS[1:]
         ),
         plain_name=PLAIN_NAME,
-        sheet=sheet,
         outcome=outcome,
         why=outcome.why(named_in_html(poll)),
-        share=share(sheet.voters, sheet.electors, language),
-        because=paragraphs_of(facts.words.because or ""),
+        share=share(outcome.sheet.voters, outcome.sheet.electors, vote.language),
+        because=paragraphs_of(vote.words.because or ""),
         explanations=explanations_of(poll),
-        picture=picture,
-        picture_command=shlex.join(drawing_words(options)),
-        by_python=of_question(BY_PYTHON, facts.label),
-        by_openssl=of_question(BY_OPENSSL, facts.label),
-        checksums=checksums,
-        # in a secret vote that of the close has the line of the seal, too
-        sealed_checksum=facts.seal and sealed_checksum(facts.seal, facts.ballots),
-        files=sorted({*checksums, file_names.CHECKSUMS, *own_letter}),
-        casting="".join(f" {word}" for word in map(shlex.quote, facts.casting_words)),
-        again_words=again_words(language, poll),
-        carried=carried_files(poll.as_bytes(), facts.ballots, sheet.text.encode()),
+        again_words=again_words(poll, vote.language),
+        **picture_on_page(outcome, drawing),
+        **files_on_page(outcome, checksums),
         **ballots_on_page(outcome),
     )
 
 
+def picture_on_page(outcome: Outcome, drawing: bytes | None) -> dict[str, Any]:
+    """The picture, unless it is too large for the page, the command that makes it, and the style
+    in which it is as wide as its words need.
+    """
+    sheet = outcome.sheet
+    options = len(sheet.names)
+    style = resources(__package__, *STYLES) + table_on_paper(options, sheet.voters)
+    picture = None
+    if drawing is not None and options <= MOST_IN_PAGE:
+        picture, least_width = picture_in_page(drawing, outcome.facts.vote.language)
+        # paper does not scroll, and a page with something wider would be printed smaller
+        style += f"@media screen {{ .picture svg {{ min-width: {least_width}px; }} }}\n"
+    return {
+        "style": style,
+        "picture": picture,
+        "picture_command": shlex.join(drawing_command(options)),
+    }
+
+
+def files_on_page(outcome: Outcome, checksums: Mapping[str, str]) -> dict[str, Any]:
+    """The files beside the page and those within it, and what is typed in commands about them."""
+    facts = outcome.facts
+    own_letter = [file_names.LETTER] if facts.vote.is_of_two_files else []
+    return {
+        "checksums": checksums,
+        # in a secret vote that of the close has the line of the seal, too
+        "sealed_checksum": facts.seal and sealed_checksum(facts.seal, facts.ballots),
+        "files": sorted({*checksums, file_names.CHECKSUMS, *own_letter}),
+        "carried": carried_files(outcome),
+        "casting": shlex.join(facts.casting_words),
+        "by_python": of_question(BY_PYTHON, facts.label),
+        "by_openssl": of_question(BY_OPENSSL, facts.label),
+    }
+
+
 def ballots_on_page(outcome: Outcome) -> dict[str, Any]:
     """What the page of a question says of the ballots, and of the lines that do not count."""
-    facts, poll, standing = outcome.facts, outcome.facts.poll, outcome.standing
-    language, named = facts.language, named_in_html(poll)
-    # many ballots are alike
-    have_names = len(standing) * sum(map(len, named.values())) <= NAMES_LIMIT
-    shown = [str(name if have_names else key) for key, name in named.items()]
-    if poll.motion:
-        have_names, shown = True, [html.escape(name) for name in poll.names]
+    facts = outcome.facts
+    poll = facts.poll
+    language = facts.vote.language
+    standing = outcome.standing
+    named = named_in_html(poll)
+    have_names = poll.motion or len(standing) * sum(map(len, named.values())) <= NAMES_LIMIT
+    shown = (
+        [html.escape(name) for name in poll.names]
+        if poll.motion
+        else [*map(str, named.values() if have_names else named)]
+    )
     in_words_of = ballots_in_words(shown, language, poll.motion)
     lines = ballot_lines(facts.ballots)
+    refused = (
+        (finding.line, lines[finding.line - 1], cause_of(finding, language))
+        for finding in outcome.refused
+    )
     # by their places in late.txt
-    late = ((at, line, "") for at, line in enumerate(facts.late or (), start=1))
-    refused = ((one.line, lines[one.line - 1], cause_of(one, language)) for one in outcome.refused)
+    late = ((place, line, "") for place, line in enumerate(facts.late or (), start=1))
     return {
-        "standing": standing,
         "have_names": have_names,
+        # many ballots are alike
         "ballot_words": {ranks: Markup(in_words_of(ranks)) for ranks in set(standing.values())},
-        "are_long": sum(map(len, poll.names)) > LONG_BALLOT,
         "refused": runs_of(refused, language),
         "late": runs_of(late, language),
     }
@@ -235,29 +260,38 @@ def share(voters: int, electors: int, language: Language = ENGLISH) -> str:
 
 
 # ---- lines that do not count
-def runs_of(found: Iterable[tuple[int, bytes, str]], language: Language) -> list[dict[str, Any]]:
-    """Lines with their numbers and causes; those that are alike and follow each other are one
-    entry. If the texts are too many, the last have none.
+class LineRun(NamedTuple):
+    """Lines that are alike and follow each other, with the numbers of the first and the last one.
+    There is no text if those before are too many.
     """
-    runs: list[dict[str, Any]] = []
-    in_html, left = InHtml(language.code, language.catalog), TEXTS_LIMIT
-    for number, line, cause in found:
-        text = line_on_page(line, in_html) if left > 0 else None
-        same = {"last": number - 1, "cause": cause, "text": text}
-        if runs and runs[-1].items() >= same.items():
-            runs[-1]["last"] = number
+
+    first: int
+    last: int
+    text: str | None
+    cause: str
+
+
+def runs_of(lines: Iterable[tuple[int, bytes, str]], language: Language) -> list[LineRun]:
+    """The runs of lines, which have their numbers and causes."""
+    runs = list[LineRun]()
+    in_html = InHtml(language.code, language.catalog)
+    shown = 0
+    for number, line, cause in lines:
+        text = line_on_page(line, in_html) if shown < TEXTS_LIMIT else None
+        if runs and runs[-1][1:] == (number - 1, text, cause):
+            runs[-1] = runs[-1]._replace(last=number)
         else:
-            runs.append({"first": number, **same, "last": number})
-            left -= len(text or "")
+            runs.append(LineRun(number, number, text, cause))
+            shown += len(text or "")
     return runs
 
 
 def cause_of(finding: Finding, language: Language) -> str:
     """Why a line is refused: in English what debvote says, which follows in brackets in others."""
-    said = f"{finding.word}: {finding.hint}"
+    cause = f"{finding.word}: {finding.hint}"
     if language == ENGLISH:
-        return said
-    return " ".join([*faults_of(said, "", language), f"({said})"])
+        return cause
+    return " ".join([*faults_of(cause, "", language), f"({cause})"])
 
 
 def line_on_page(line: bytes, language: InHtml) -> str:
@@ -364,30 +398,25 @@ COUNT_AGAIN = marked(
 )
 
 
-def find_words(facts: Facts) -> str:
+def find_words(vote: VoteFacts, *, motion: bool) -> str:
     """For the script that finds a ballot, as JSON."""
-    own = FIND_BY_CODE if facts.has_codes else FIND_IN_SECRET if facts.poll.secret else FIND_IN_OPEN
-    between = facts.language.between("{entries} and {last}")
-    return facts.language.words(
-        FIND | own, **{"and": between}, **answers(facts.poll, facts.language)
+    is_secret = vote.questions.is_secret
+    own = FIND_BY_CODE if vote.has_codes else FIND_IN_SECRET if is_secret else FIND_IN_OPEN
+    return vote.language.words(
+        FIND | own,
+        **{"and": vote.language.between("{entries} and {last}")},
+        **answer_words(vote.language, motion=motion),
     )
 
 
-def find_letters(language: Language) -> str:
-    """How letters are spelled in the name that the roll makes of a real name, as JSON."""
-    return json.dumps(
-        {**PUNCTUATION, **PLAIN_LETTERS, **SPELLINGS.get(language.code, {})}, ensure_ascii=False
-    )
-
-
-def answers(poll: SealedPoll, language: Language) -> dict[str, str]:
+def answer_words(language: Language, *, motion: bool) -> dict[str, str]:
     """Of a motion the words of its answers, and what parts a word from the name of an option."""
-    if not poll.motion:
+    if not motion:
         return {}
     return {"answers": " ".join(WORDS[language.code]), "colon": language.between(COLON)}
 
 
-def again_words(language: Language, poll: SealedPoll) -> str:
+def again_words(poll: SealedPoll, language: Language) -> str:
     """For the script that counts again, as JSON; it says a ballot as the page does."""
     between = {
         "then": THEN,
@@ -395,22 +424,27 @@ def again_words(language: Language, poll: SealedPoll) -> str:
         "colon": COLON,
         "semicolon": marked("{before}; {after}"),
     }
-    said = {name: language.between(text) for name, text in between.items()}
-    return language.words(COUNT_AGAIN, **said | answers(poll, language))
+    return language.words(
+        COUNT_AGAIN,
+        **{name: language.between(text) for name, text in between.items()}
+        | answer_words(language, motion=poll.motion),
+    )
 
 
 # ---- what the page carries
-def carried_files(poll: bytes, ballots: bytes, sheet: bytes) -> dict[str, tuple[str, bool]]:
+def carried_files(outcome: Outcome) -> dict[str, tuple[str, bool]]:
     """The files at the end of the page that the browser gives back byte for byte, or the sheet
     alone if they are too large.
 
     Each by its place (no elector's name has a capital letter) is text, or base64 if it is not
     plain: a browser changes carriage returns.
     """
-    are_small = len(poll) + len(ballots) <= CARRIED_LIMIT
-    found = {"Poll-file": poll, "Ballots-file": ballots} if are_small else {}
+    files = {"Poll-file": outcome.facts.poll.as_bytes(), "Ballots-file": outcome.facts.ballots}
+    if sum(map(len, files.values())) > CARRIED_LIMIT:
+        files = {}
+    files["Sheet-file"] = outcome.sheet.text.encode()
     carried: dict[str, tuple[str, bool]] = {}
-    for place, data in {**found, "Sheet-file": sheet}.items():
+    for place, data in files.items():
         is_plain = re.fullmatch(rb"[\t\n\x20-\x7e]*", data) is not None
         text = (
             html.escape(data.decode(), quote=False) if is_plain else base64.b64encode(data).decode()
@@ -420,7 +454,7 @@ def carried_files(poll: bytes, ballots: bytes, sheet: bytes) -> dict[str, tuple[
 
 
 # ---- the picture
-def drawing_words(options: int) -> list[str]:
+def drawing_command(options: int) -> list[str]:
     return ["dot", "-Tsvg", *([] if options <= MOST_IN_PAGE else IN_HASTE)]
 
 
@@ -435,14 +469,15 @@ def table_on_paper(options: int, voters: int) -> str:
 
 def pictures_of(outcomes: Iterable[Outcome]) -> list[bytes | None]:
     """The defeats of each question as a picture. Why there is none is said once."""
-    pictures, faults = list[bytes | None](), dict[str, None]()
-    for one in outcomes:
+    pictures = list[bytes | None]()
+    notes = dict[str, None]()
+    for outcome in outcomes:
         try:
-            pictures.append(drawn(one.graph, len(one.sheet.names)))
+            pictures.append(drawn(outcome.graph, len(outcome.sheet.names)))
         except (OSError, subprocess.SubprocessError) as error:
             pictures.append(None)
-            faults[f"Note: no picture: {error}"] = None
-    tell_aside(*faults)
+            notes[f"Note: no picture: {error}"] = None
+    tell_aside(*notes)
     return pictures
 
 
@@ -451,9 +486,9 @@ def drawn(graph: str, options: int) -> bytes:
     dot = shutil.which("dot")
     if dot is None:
         raise FileNotFoundError("Graphviz (its program dot) is not installed")
-    words = [dot, *drawing_words(options)[1:]]
+    command = [dot, *drawing_command(options)[1:]]
     return subprocess.run(
-        words, input=graph.encode(), capture_output=True, timeout=PICTURE_SECONDS, check=True
+        command, input=graph.encode(), capture_output=True, timeout=PICTURE_SECONDS, check=True
     ).stdout
 
 
@@ -461,20 +496,10 @@ def picture_in_page(picture: bytes, language: Language) -> tuple[Markup, int]:
     """The picture within the page, and its least width there.
 
     It has shapes and texts alone, without the names by which Graphviz calls them: as node1, they
-    may be those of electors. The number of an option stands apart from its name, and why it was
-    dropped is said in the language.
+    may be those of electors.
     """
     svg = xml.fromstring(picture)
-    colon = language.between(COLON)
-    dropped = {"quorum": language.say("no quorum"), "majority": language.say("no majority")}
-    for node in svg.iterfind(f".//{SPACE}g[@class='node']"):
-        named, *why = node.iter(f"{SPACE}text")
-        named.text = NUMBERED.sub(rf"\1{colon}", named.text or "")
-        for text in why:
-            text.text = dropped.get(text.text or "", text.text)
-    for text in svg.iterfind(f".//{SPACE}g[@class='edge']/{SPACE}text"):
-        if removed := REMOVED.fullmatch(text.text or ""):
-            text.text = language.say("{votes}, round {round}", **removed.groupdict())
+    translate(svg, language)
     for part in list(svg.iter()):
         part.attrib.pop("id", None)
         for child in [child for child in part if child.tag not in SHAPES]:
@@ -487,6 +512,20 @@ def picture_in_page(picture: bytes, language: Language) -> tuple[Markup, int]:
         "aria-label", language.say("The defeats as a graph. The list above says the same in words.")
     )
     xml.register_namespace("", SPACE[1:-1])
-    return Markup(xml.tostring(svg, encoding="unicode")), round(
-        LEAST_SHARE * float(svg.get("width", "0"))
-    )
+    least_width = round(LEAST_SHARE * float(svg.get("width", "0")))
+    return Markup(xml.tostring(svg, encoding="unicode")), least_width
+
+
+def translate(svg: xml.Element, language: Language) -> None:
+    """The number of an option stands apart from its name, and why it was dropped, and in which
+    round a defeat was removed, is said in the language.
+    """
+    dropped = {"quorum": language.say("no quorum"), "majority": language.say("no majority")}
+    for node in svg.iterfind(f".//{SPACE}g[@class='node']"):
+        option, *causes = node.iter(f"{SPACE}text")
+        option.text = NUMBERED.sub(rf"\1{language.between(COLON)}", option.text or "")
+        for cause in causes:
+            cause.text = dropped.get(cause.text or "", cause.text)
+    for votes in svg.iterfind(f".//{SPACE}g[@class='edge']/{SPACE}text"):
+        if removed := REMOVED.fullmatch(votes.text or ""):
+            votes.text = language.say("{votes}, round {round}", **removed.groupdict())

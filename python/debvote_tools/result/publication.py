@@ -1,6 +1,7 @@
-"""What is published of an election, from its book: the letter of the close, and the facts of a
-result. What the book has of the questions `close`, `count` and `publish` read in one way, and compare
-it with what debvote says of each line (`kept_of`).
+"""What is published of an election, from its book: the letter of a close, the facts of a result.
+
+What the book has of the questions `close`, `count` and `publish` read in one way, and compare it
+with what debvote says of each line (`kept_of`).
 """
 
 import itertools
@@ -8,25 +9,27 @@ from collections.abc import Collection, Iterable, Iterator, Mapping
 from typing import Any, NamedTuple
 
 from debvote_tools.book import queries
-from debvote_tools.book.book import RESTORED, Book, Detail, DoneAct, as_text, from_text
-from debvote_tools.book.election import Election, History, fixed_by
+from debvote_tools.book.book import RESTORED, Book, DoneAct, as_text, from_text
+from debvote_tools.call.call import current_call
+from debvote_tools.call.secret import alias_in, aliased_ballots, sealed_checksum
 from debvote_tools.cli.console import in_runs, is_terminal, is_yes, tell_aside
 from debvote_tools.cli.faults import Fault
 from debvote_tools.debvote import casting_words
+from debvote_tools.election import Election, History, fixed_by
 from debvote_tools.files import sha256_of
 from debvote_tools.grouping import grouped
 from debvote_tools.inbox.asked import is_unasked_since_end, other_pages
 from debvote_tools.inbox.lines import name_in
 from debvote_tools.inbox.stopping import BOX, LETTERS, Pending, letters_cure, what_stops
-from debvote_tools.poll.call import current_call
-from debvote_tools.poll.secret import alias_in, aliased_ballots, sealed_checksum
 from debvote_tools.poll.sealed import SealedPoll
-from debvote_tools.result.facts import Act, Doubt, Facts, PublishedWords
+from debvote_tools.result.facts import Act, Doubt, PublishedWords, QuestionFacts, VoteFacts
 from debvote_tools.result.file_names import CHECKSUMS
-from debvote_tools.result.sheet import Castings, Sheet, publishing, sheet_in
+from debvote_tools.result.sheet import Castings, publishing
+from debvote_tools.sheet import Sheet, sheet_in
 from debvote_tools.text.ballots import ballot_file, in_normal_form
 from debvote_tools.text.language import language_of
 from debvote_tools.text.rendering import render_letter
+from debvote_tools.text.times import time_in_words
 
 
 # ---- what the book has of the questions
@@ -34,12 +37,12 @@ class Kept(NamedTuple):
     """What the book has of a question at one time."""
 
     poll: SealedPoll
-    # all lines in time, as debvote counts them, and as they are published: in a secret vote those that
-    # count, by alias
+    # all lines in time, as debvote counts them, and as they are published: in a secret vote those
+    # that count, by alias
     ballots: bytes
     public: bytes
-    # how many these are; and debvote's verdicts, as the book keeps them: why it refuses lines, by their
-    # places, and what counts of each elector
+    # how many these are; and debvote's verdicts, as the book keeps them: why it refuses lines, by
+    # their places, and what counts of each elector
     lines: int
     refused: dict[int, str]
     counting: dict[str, str]
@@ -47,39 +50,41 @@ class Kept(NamedTuple):
 
 
 def kept_of(election: Election, history: History, labels: Iterable[str]) -> dict[str, Kept]:
-    """What the book has of these questions. Stops if an envelope is not kept for the elector whose name
-    its line begins with, if ballots are not those that the close has fixed, and if debvote, asked anew,
-    says another thing of a line than the book keeps of it.
+    """What the book has of these questions. Stops if an envelope is not kept for the elector whose
+    name its line begins with, if ballots are not those that the close has fixed, and if debvote,
+    asked anew, says another thing of a line than the book keeps of it.
     """
-    book, polls, kept = election.book, election.questions, dict[str, Kept]()
+    book = election.book
+    by_label = dict[str, Kept]()
     with book.snapshot():
-        demand_own_lines(book, polls.roll)
+        demand_own_lines(book, election.questions.roll)
         for label in labels:
             with book.question(label):
-                kept[label] = kept_of_question(book, label, polls[label])
+                by_label[label] = kept_of_question(book, label, election.questions[label])
     if history.is_closed:
-        fixed = fixed_by(history.closes[-1])
-        for label, its in kept.items():
-            checksum, then = sealed_checksum(fixed[label].seal, its.public), fixed[label].checksum
-            if checksum != then:
-                words = f"the ballots have the checksum {checksum}, and the close recorded {then}"
+        for label, kept in by_label.items():
+            fixed = fixed_by(history.closes[-1])[label]
+            checksum = sealed_checksum(fixed.seal, kept.public)
+            if checksum != fixed.checksum:
+                words = f"the ballots have the checksum {checksum}, and the close recorded {fixed.checksum}"
                 raise Fault(None, words, KEEP)
-    for its in kept.values():
-        found = election.debvote.findings(its.poll.as_bytes(), its.ballots)
-        # where the roll has codes, none was offered
-        refused = [
-            one._replace(near=()) if history.has_codes_on_roll else one for one in found.refused
-        ]
-        said = {one.line: one.verdict for one in refused}, found.voters
-        demand_kept(election, said, (its.refused, len(its.counting)))
-    return kept
+    for kept in by_label.values():
+        findings = election.debvote.findings(kept.poll.as_bytes(), kept.ballots)
+        refused = findings.refused
+        if history.has_codes_on_roll:
+            # then none was offered
+            refused = [finding._replace(near=()) for finding in refused]
+        verdicts = {finding.line: finding.verdict for finding in refused}
+        demand_kept(election, (verdicts, findings.voters), (kept.refused, len(kept.counting)))
+    return by_label
 
 
 def kept_of_question(book: Book, label: str, poll: SealedPoll) -> Kept:
     """What the book has of the question that is seen alone."""
-    answered, counting = queries.answered_lines(book), queries.what_counts(book)
+    answered = queries.answered_lines(book)
+    counting = queries.what_counts(book)
     ballots = ballot_file(line for line, _ in answered)
-    aliases = {one.name: alias_in(label, one) for one in queries.electors(book)}
+    aliases = {elector.name: alias_in(label, elector) for elector in queries.electors(book)}
     return Kept(
         poll=poll,
         ballots=ballots,
@@ -104,73 +109,80 @@ def demand_own_lines(book: Book, roll: Collection[str]) -> None:
             raise Fault(book.path, words, KEEP)
 
 
-def demand_kept(election: Election, said: object, kept: object) -> None:
+def demand_kept(election: Election, answer: object, kept: object) -> None:
     """Stops if debvote says another thing of the lines than the book keeps of it."""
-    if said != kept:
+    if answer != kept:
         words = "debvote says of its lines another thing than it keeps: a verdict was changed, or another version of debvote judges"
         raise Fault(election.book.path, words, KEEP)
 
 
 def counted(election: Election, kept: Kept, casting: str | None) -> Sheet:
     """What debvote counts of a question, with the option of the casting vote."""
-    task = "count", kept.poll.as_bytes(), kept.ballots
-    return sheet_in(election.debvote.answer(*task, *casting_words(casting)).text)
+    words = casting_words(casting)
+    return sheet_in(
+        election.debvote.answer("count", kept.poll.as_bytes(), kept.ballots, *words).text
+    )
 
 
 # ---- the facts
-def facts_of(
+def vote_facts(
     election: Election, words: PublishedWords, pending: Pending, again: DoneAct | None
-) -> dict[str, Facts]:
-    """The facts of each question, by its label, of a new publication or of one that is made again. Stops
-    if debvote does not find the ballots as they are kept.
-    """
-    history, book = election.history(), election.book
-    kept, call = kept_of(election, history, election.questions), current_call(election, history)
-    public, days = call.questions, [election.called(history), *history.closes[:1]]
-    shared: dict[str, Any] = {
-        "words": words,
-        "language": election.language if words.language is None else language_of(words.language),
-        "days": [act.time.astimezone(history.zone).date() for act in days],
-        "acts": acts_of(book, history, again, is_secret=public.is_secret),
-        "labels_after_end": labels_after_end(book, history),
-        "closed": closing_letter(election, history) if history.is_closed else None,
-        "real_names": call.real_names or {},
-        "has_codes": call.has_codes_on_roll,
-        "at": call.at,
-        "questions": public,
-        "doubts": [*doubts_of(election, history, words.castings, pending)],
-    }
-    found = {}
-    for label, its in kept.items():
-        standing = election.debvote.standing(its.poll.as_bytes(), its.ballots)
-        demand_kept(election, standing, its.counting)
-        own: dict[str, Any] = {"late": its.late}
-        if public.is_secret:
-            own = {
-                "codes": frozenset(one.code for one in queries.electors(book) if one.code),
-                "seal": fixed_by(history.closes[-1])[label].seal,
-                "private": counted(election, its, words.castings.get(label)),
-                "compared": shown_by_comparison(election, history, label, its),
-            }
-        late = len(its.late)
-        found[label] = Facts(
-            public[label], its.public, label=label, late_number=late, **own, **shared
-        )
-    return found
+) -> VoteFacts:
+    """The facts of the whole vote, of a new publication or of one that is made again."""
+    history = election.history()
+    book = election.book
+    call = current_call(election, history)
+    is_secret = call.questions.is_secret
+    days = [election.called(history), *history.closes[:1]]
+    return VoteFacts(
+        questions=call.questions,
+        language=election.language if words.language is None else language_of(words.language),
+        words=words,
+        days=[act.time.astimezone(history.zone).date() for act in days],
+        acts=acts_of(book, history, again, is_secret=is_secret),
+        labels_after_end=labels_after_end(book, history),
+        closed=closing_letter(election, history) if history.is_closed else None,
+        real_names=call.real_names or {},
+        doubts=[*doubts_of(election, history, words.castings, pending)],
+        codes={elector.code for elector in queries.electors(book) if is_secret and elector.code},
+        has_codes=call.has_codes_on_roll,
+        at=call.at,
+    )
+
+
+def question_facts(election: Election, vote: VoteFacts) -> list[QuestionFacts]:
+    """The facts of each question. Stops if debvote does not find the ballots as they are kept."""
+    history = election.history()
+    questions = list[QuestionFacts]()
+    for label, kept in kept_of(election, history, election.questions).items():
+        standing = election.debvote.standing(kept.poll.as_bytes(), kept.ballots)
+        demand_kept(election, standing, kept.counting)
+        facts = QuestionFacts(vote, label, kept.public, len(kept.late), kept.late)
+        if vote.questions.is_secret:
+            facts = facts._replace(
+                late=None,
+                seal=fixed_by(history.closes[-1])[label].seal,
+                private=counted(election, kept, facts.casting),
+                compared=shown_by_comparison(election, history, label, kept),
+            )
+        questions.append(facts)
+    return questions
 
 
 def early_close(history: History) -> Doubt | None:
     """The doubt about a first close before the announced end; after it nobody could vote."""
-    if not history.was_closed_early:
+    until = history.until
+    if until is None or not history.was_closed_early:
         return None
     closed = history.closes[0].time.astimezone(history.zone)
+    advice = f"the vote was closed on {time_in_words(closed)}, before its announced end, {time_in_words(until)}"
     # `close --early` has agreed to it
-    return Doubt("closed early", {"closed": closed, "until": history.until}, stops=False)
+    return Doubt("closed early", advice, {"closed": closed, "until": until}, stops=False)
 
 
 def closing_letter(election: Election, history: History) -> bytes:
-    """The letter of the last close, with what it says of the one before. In a secret vote the reason for
-    which the vote was opened again stays in the log.
+    """The letter of the last close, with what it says of the one before. In a secret vote the
+    reason for which the vote was opened again stays in the log.
     """
     questions = election.sealed().public
     reasons = [act.detail["because"] for act in history.since_call("reopen")]
@@ -200,44 +212,52 @@ def shown_by_comparison(election: Election, history: History, label: str, kept: 
         {name: in_normal_form(ranks) for name, ranks in votes.items()}
         for votes in (before, kept.counting)
     )
-    roll = election.questions.roll
-    return [name for name in roll if then.get(name) != now.get(name)]
+    return [name for name in election.questions.roll if then.get(name) != now.get(name)]
 
 
 def doubts_of(
-    election: Election,
-    history: History,
-    castings: Castings,
-    pending: Pending,
+    election: Election, history: History, castings: Castings, pending: Pending
 ) -> Iterator[Doubt]:
     """The doubts that the book shows before the count."""
     stopping = what_stops(election, history, "publish", pending)
     if not history.is_closed:
-        yield Doubt("not closed")
+        yield Doubt("not closed", "the vote is not closed; close it first")
     if early := early_close(history):
         yield early
     if is_unasked_since_end(history):
+        ask = election.command("add", "--box")
+        advice = f"the box of the web host was not asked since the end: run {ask}"
         # at the end `close --force` has agreed to it
-        yield Doubt(BOX, stops=BOX in stopping, command=election.command("add", "--box"))
+        yield Doubt(BOX, advice, stops=BOX in stopping)
     for act in other_pages(history):
-        places = {"time": act.time.astimezone(history.zone), "address": act.detail["box"]["at"]}
-        yield Doubt("other page", places, stops=False)
+        time = act.time.astimezone(history.zone)
+        address = act.detail["box"]["at"]
+        advice = f"on {time_in_words(time)} the page at {address} was not that of the call"
+        yield Doubt("other page", advice, {"time": time, "address": address}, stops=False)
+    yield from other_castings(election, history, castings)
+    if pending.untold:
+        letters = ", ".join(map(str, pending.untold))
+        # an earlier publication may have had it
+        cure = letters_cure(election, "publish", is_closed=True)
+        advice = f"these letters arrived in time, and wait: {letters}; {cure}"
+        places = {"number": len(pending.untold), "letters": letters}
+        yield Doubt(LETTERS, advice, places, stops=LETTERS in stopping)
+
+
+def other_castings(election: Election, history: History, castings: Castings) -> Iterator[Doubt]:
+    """The doubts about earlier publications whose casting vote is for another option."""
     last = history.last_publication
     all_castings = {**(last.detail["casting"] if last else {}), **castings}
     for label, poll in election.questions.items():
-        names, casting = dict(zip(poll.plain_names, poll.names)), castings.get(label)
+        casting = castings.get(label)
         # without one: since the last close, after which it was the same tie
         acts = history.publications if casting is None else history.named("publish")
         for option in dict.fromkeys(act.detail["casting"].get(label, casting) for act in acts):
             if option != casting:
-                command = publishing(election, {**all_castings, label: option})
-                places = {"option": names[option]}
-                yield Doubt("other casting vote", places, label=label, command=command)
-    if numbers := pending.untold:
-        waits = {"number": len(numbers), "letters": ", ".join(map(str, numbers))}
-        # an earlier publication may have had it
-        cure = letters_cure(election, "publish", is_closed=True)
-        yield Doubt(LETTERS, waits, stops=LETTERS in stopping, command=cure)
+                name = poll.names[poll.plain_names.index(option)]
+                again = publishing(election, {**all_castings, label: option})
+                advice = f"an earlier publication has a casting vote for {name}; only one can be right, so find out which was given; the earlier one again: {again}"
+                yield Doubt("other casting vote", advice, {"option": name}, label=label)
 
 
 # ---- what was done
@@ -249,18 +269,19 @@ def acts_of(book: Book, history: History, again: DoneAct | None, *, is_secret: b
         for act in history.acts
         if act.name != "publish" or again is None or act.number < again.number
     ]
-    found = list[Act]()
+    told = list[Act]()
     for before, act in itertools.pairwise(acts):
         if act.went_back(before):
-            found.append(Act(act.time, "clock", {"before": before.time}))
-        found += acts_of_page(act, book, history, is_secret=is_secret)
-    return found
+            told.append(Act(act.time, "clock", {"before": before.time}))
+        told += acts_of_page(act, book, history, is_secret=is_secret)
+    return told
 
 
 def labels_after_end(book: Book, history: History) -> list[Collection[str]]:
-    """Of each line that came after the end, and is in time, valid or not, the labels of the questions that
-    it answers. Of a letter it came when that arrived. A line of a file or a desk that was entered after the
-    first close is left out: whoever entered it said that it came before that close.
+    """Of each line that came after the end, and is in time, valid or not, the labels of the
+    questions that it answers. Of a letter it came when that arrived. A line of a file or a desk
+    that was entered after the first close is left out: whoever entered it said that it came before
+    that close.
     """
     if history.until is None:
         return []
@@ -268,27 +289,21 @@ def labels_after_end(book: Book, history: History) -> list[Collection[str]]:
     condition = f"{queries.TO_COUNT} AND ({entered} OR {queries.ARRIVED_AFTER})"
     first_close = history.closes[0].number if history.closes else history.last.number + 1
     values = as_text(history.until), first_close
-    return [one.by_question for one in queries.envelopes(book, condition, *values)]
+    return [envelope.by_question for envelope in queries.envelopes(book, condition, *values)]
 
 
 def acts_of_page(act: DoneAct, book: Book, history: History, *, is_secret: bool) -> Iterator[Act]:
     """What the pages say of an act, which is nothing for most acts. In a secret vote the reasons of
     `strike` and `reopen` stay in the log.
     """
-    time, detail = act.time, act.detail
-    until = dict[str, Any]()
-    if detail.get("until"):
-        until["until"] = from_text(detail["until"]).astimezone(history.zone)
+    time = act.time
+    detail = act.detail
     reason = None if is_secret else detail.get("because")
     match act.name:
-        case "call":
-            yield Act(time, "called until" if until else "called", until)
+        case "call" | "extend":
+            yield from end_announced(act, history)
         case "take back":
             yield Act(time, "taken back")
-        case "extend" if until:
-            earlier = [one for one in history.timing if one.number < act.number]
-            done = "extended" if earlier[-1].detail.get("until") else "end said"
-            yield Act(time, done, until)
         case "addresses":
             yield Act(time, "roll changed", {"number": detail["electors"]})
         case "strike" | "undo":
@@ -298,50 +313,73 @@ def acts_of_page(act: DoneAct, book: Book, history: History, *, is_secret: bool)
         case "reopen":
             yield Act(time, "reopened", because=reason)
         case "publish" if history.call and act.number > history.call.number:
-            ended = [*detail.get("ended", {}).items()]
             checksum = detail["checksums"][CHECKSUMS]
+            ended = [*detail.get("ended", {}).items()]
             yield Act(time, "published", {"checksum": checksum, "ended": ended})
         case "moved":
-            noted, there = detail["noted"] and detail["noted"]["act"], detail["there"]["act"]
-            places = {"noted": noted, "there": there}
-            yield Act(time, how_moved(detail, history), places, detail["because"])
+            yield moved(act, history)
     if detail.get("keyring"):
         yield Act(time, "keyring")
 
 
+def end_announced(act: DoneAct, history: History) -> Iterator[Act]:
+    """A call, with the end that it says, or an act that says another end."""
+    until = act.detail.get("until")
+    places = {"until": from_text(until).astimezone(history.zone)} if until else {}
+    if act.name == "call":
+        yield Act(act.time, "called until" if until else "called", places)
+    elif until:
+        *_, before = (earlier for earlier in history.timing if earlier.number < act.number)
+        yield Act(act.time, "extended" if before.detail.get("until") else "end said", places)
+
+
 def taken_out(act: DoneAct, book: Book, reason: str | None, *, is_secret: bool) -> Iterator[Act]:
-    """The lines that an act took out: each of a `strike`, and of an `undo` those that did not come again."""
+    """The lines that an act took out: each of a `strike`, and of an `undo` those that did not come
+    again.
+    """
     if act.name == "strike":
-        for one in queries.envelopes(book, "struck = ?", act.number):
+        for envelope in queries.envelopes(book, "struck = ?", act.number):
             done = "struck in secret" if is_secret else "struck"
-            yield Act(act.time, done, {"envelope": one.number}, reason, one.by_question)
-    elif lost := [one for one in queries.lost(book) if one.struck == act.number]:
+            places = {"envelope": envelope.number}
+            yield Act(act.time, done, places, reason, envelope.by_question)
+    elif lost := [envelope for envelope in queries.lost(book) if envelope.struck == act.number]:
         done = "taken back in secret" if is_secret else "lines taken back"
-        numbers = grouped((label, one.number) for one in lost for label in one.by_question)
-        places = {
-            "envelopes": {label: in_runs(its) for label, its in numbers.items()},
-            "number": {label: len(its) for label, its in numbers.items()},
+        by_label = grouped(
+            (label, envelope.number) for envelope in lost for label in envelope.by_question
+        )
+        numbers = {
+            "envelopes": {label: in_runs(numbers) for label, numbers in by_label.items()},
+            "number": {label: len(numbers) for label, numbers in by_label.items()},
         }
-        yield Act(act.time, done, places, labels=numbers.keys())
+        yield Act(act.time, done, numbers, labels=by_label.keys())
 
 
-def how_moved(detail: Detail, history: History) -> str:
-    """What the pages say of an act `moved`: they tell as restored only what the secretary says is."""
+def moved(act: DoneAct, history: History) -> Act:
+    """What the pages say of a book with which the secretary went on elsewhere: they tell as
+    restored only what the secretary says is.
+    """
+    detail = act.detail
+    noted = detail["noted"]
+    there = detail["there"]["act"]
     if detail["why"] == RESTORED:
-        return "restored"
-    noted, there = detail["noted"], detail["there"]["act"]
-    if noted is None:
-        return "moved from afar"
-    is_other = noted["act"] <= there and history.act(noted["act"]).digest != noted["digest"]
-    return "moved to others" if is_other else "moved"
+        done = "restored"
+    elif noted is None:
+        done = "moved from afar"
+    elif noted["act"] <= there and history.act(noted["act"]).digest != noted["digest"]:
+        done = "moved to others"
+    else:
+        done = "moved"
+    return Act(act.time, done, {"noted": noted and noted["act"], "there": there}, detail["because"])
 
 
 def close_of(act: DoneAct, book: Book, history: History) -> dict[str, Any]:
-    """What a close says, and how many lines in time came in or were taken out since the one before."""
+    """What a close says, and how many lines in time came in or were taken out since the one
+    before.
+    """
     fixed = fixed_by(act).items()
     places: dict[str, Any] = {
-        "lines": {label: its.lines for label, its in fixed},
-        "checksum": {label: its.checksum for label, its in fixed},
+        "lines": {label: of_question.lines for label, of_question in fixed},
+        "checksum": {label: of_question.checksum for label, of_question in fixed},
         "came": None,
         "struck": None,
         "replaced": act.detail.get("replaced_in_time"),

@@ -1,151 +1,23 @@
-"""A result sheet: parsed into numbers, and as `result.json` for programs and `votes.csv` for
-spreadsheets (docs/FORMATS.md); and what a count needs: the casting vote, and a vote that may be
-counted now.
+"""A result sheet as `result.json` and `votes.csv` (docs/FORMATS.md), and what a count needs.
+
+That is the casting vote, and a vote that may be counted now.
 """
 
 import csv
-import dataclasses
 import io
 import json
-import re
 import shlex
 from collections.abc import Iterable, Iterator, Mapping, Sequence
-from typing import Any
 
-from debvote_tools.book.election import Election, History
-from debvote_tools.cli.faults import Fault, Status, other_format
+from debvote_tools.cli.faults import Fault, Status
 from debvote_tools.debvote import option_words
+from debvote_tools.election import Election, History
 from debvote_tools.poll.questions import Questions
 from debvote_tools.poll.sealed import SealedPoll
+from debvote_tools.sheet import Pair, Sheet
 
-Pair = tuple[int, int]
-
-# a sheet, as FORMATS has it: its facts, the parts below them, its rounds and its last line
-SHEET = re.compile(
-    r"""Poll: (?P<title>.*)
-Electors: (?P<electors>\d+)
-Quorum: (?P<quorum_multiple>\d+)Q, (?P<quorum>\d+) votes
-(?P<majority>Majority: more than
-)?Lines: (?P<lines>\d+)
-(?:Last envelope: (?P<last_envelope>\d+)
-)?Valid: (?P<valid>\d+)
-Refused: (?P<refused>\d+)
-Voters: (?P<voters>\d+)
-Options:
-(?P<options>(?: .*\n)+)Votes:
-(?P<votes>(?: .*\n)+)Dropped:
-(?P<dropped>(?: .*\n)+)Defeats:
-(?P<defeats>(?: .*\n)+)(?P<rounds>(?:Round .*\n(?: .*\n)*)+)(?P<last_line>Winner: (?P<winner>\d+) (?P<name>.*)|Tie: [\d ]+(?:, casting option (?P<casting_outside>\d+) is not among them)?)\n?"""
-)
-NUMBERS = (
-    "electors quorum_multiple quorum lines last_envelope valid refused voters winner casting_outside"
-).split()
-OPTION = re.compile(r"(?m)^ *(\d+) (?:ratio (\d+)|default) (.*)$")
-DROPPED = re.compile(r"(?m)^ *(\d+) (\w+)$")
-DEFEAT = re.compile(r"(?m)^ *(?:drop +)?(\d+) over +(\d+)")
-ROUND = re.compile(r"Round \d+: (.*)\n((?: .*\n)*)")
 # a spreadsheet would run a name that begins so; an apostrophe before it keeps it from that
 STEERING = ("=", "+", "-", "@", "'")
-
-
-@dataclasses.dataclass(frozen=True)
-class Sheet:
-    """Options are numbered from 1, and the last is the default option."""
-
-    text: str
-    title: str
-    electors: int
-    # how many times Q the quorum is, and how many votes that is
-    quorum_multiple: int
-    quorum: int
-    # whether a majority is more than the ratio, where Debian has at least the ratio
-    is_more_than: bool
-    lines: int
-    last_envelope: int | None
-    valid: int
-    refused: int
-    voters: int
-    names: dict[int, str]
-    # of all options but the default option
-    ratios: dict[int, int]
-    # how many electors prefer the first of two options to the second
-    votes: dict[Pair, int]
-    dropped: dict[int, str]
-    defeats: list[Pair]
-    # the options of the set of each round, and the defeats that it removes
-    rounds: list[tuple[list[int], list[Pair]]]
-    last_line: str
-    # None if it is a tie
-    winner: int | None
-    is_by_casting: bool
-    # the option of a casting vote for an option that is not left
-    casting_outside: int | None
-
-    @property
-    def status(self) -> int:
-        """The exit status of its count."""
-        tie = Status.CASTING_OUTSIDE if self.casting_outside else Status.TIE
-        return tie if self.winner is None else Status.DONE
-
-    @property
-    def default(self) -> int:
-        return len(self.names)
-
-    @property
-    def left(self) -> list[int]:
-        return self.rounds[-1][0]
-
-    def ended(self, option: int) -> str:
-        """How it ended for an option, in a word: `won`, `left` in a tie, dropped for its `quorum`
-        or its `majority`, or `lost`.
-        """
-        if option in self.dropped:
-            return self.dropped[option]
-        if option == self.winner:
-            return "won"
-        return "left" if self.winner is None and option in self.left else "lost"
-
-
-def sheet_in(text: str) -> Sheet:
-    """The sheet of a text. That of another version of debvote may have another format."""
-    found = SHEET.fullmatch(text)
-    if found is None:
-        raise other_format("the sheet of this debvote")
-    numbers: dict[str, Any] = {key: found[key] and int(found[key]) for key in NUMBERS}
-    shown = OPTION.findall(found["options"])
-    names = {int(option): name for option, _, name in shown}
-    return Sheet(
-        text=text,
-        title=found["title"],
-        is_more_than=found["majority"] is not None,
-        names=names,
-        ratios={int(option): int(ratio) for option, ratio, _ in shown if ratio},
-        votes=dict(votes_in(found["votes"])),
-        dropped={int(option): cause for option, cause in DROPPED.findall(found["dropped"])},
-        defeats=pairs_in(found["defeats"]),
-        rounds=[
-            ([int(option) for option in left.split()], pairs_in(removed))
-            for left, removed in ROUND.findall(found["rounds"])
-        ],
-        last_line=found["last_line"],
-        # a name may itself end with the words that mark a casting vote
-        is_by_casting=found["name"] != names.get(numbers["winner"]),
-        **numbers,
-    )
-
-
-def votes_in(text: str) -> Iterator[tuple[Pair, int]]:
-    """How many electors prefer each option to each other one, below the numbers of the columns."""
-    for line in text.splitlines()[1:]:
-        option, *cells = line.split()
-        for other, cell in enumerate(cells, start=1):
-            if cell != "-":
-                yield (int(option), other), int(cell)
-
-
-def pairs_in(text: str) -> list[Pair]:
-    """The two options of each line such as `1 over 2 by 4 to 2`."""
-    return [(int(a), int(b)) for a, b in DEFEAT.findall(text)]
 
 
 # ---- as data
@@ -235,39 +107,41 @@ CASTING = (
     "Of several questions each tie has its own, with its label: B=NAME",
 )
 
-# the options that casting votes choose, by their plain names: those of some questions, by the labels
+# the options that casting votes choose, by their plain names: those of some questions, by the
+# labels
 Castings = Mapping[str, str]
 
 
 def demand_countable(election: Election, history: History) -> None:
-    """Stops at a secret vote that is not closed: whoever sees its numbers grow sees who voted what."""
+    """Stops at a secret vote that is not closed: whoever sees its numbers grow sees who voted
+    what.
+    """
     if election.questions.is_secret and not history.is_closed:
         words = "the vote is secret, and can be counted only after the close"
         raise Fault(None, words, f"close it first: {election.command('close')}")
 
 
 def castings_in(given: Sequence[str] | None, questions: Questions) -> Castings:
-    """What the options --casting say. Stops at one without its label, if there are several questions, at
-    a second one for a question, and at a name that is no option, or that of two: each has a plain name,
-    and the one that people read.
+    """What the options --casting say. Stops at one without its label, if there are several
+    questions, at a second one for a question, and at a name that is no option, or that of two: each
+    has a plain name, and the one that people read.
     """
     castings: dict[str, str] = {}
     for text in given or ():
         label, _, name = text.partition("=") if questions.is_several else ("", "", text)
         label = label.upper()
         if label not in questions:
-            words, cure = "no question has this label", f"write it as {min(questions)}=NAME"
-            raise bad_casting(text, words, f"{cure}; the labels are {', '.join(questions)}")
+            cure = f"write it as {min(questions)}=NAME; the labels are {', '.join(questions)}"
+            raise bad_casting(text, "no question has this label", cure)
         if label in castings:
             words = f"{named(label)} has the casting vote {in_shell([castings[label]])} already"
             raise bad_casting(text, words, "give one of them")
         poll = questions[label]
-        meant = [one[0] for one in zip(poll.plain_names, poll.names) if name in one]
+        meant = [names[0] for names in zip(poll.plain_names, poll.names) if name in names]
         if len(meant) != 1:
             words = f"{'two options have' if meant else 'no option has'} this name"
-            names = in_shell(meant or poll.plain_names)
-            cure = f"give one of these names, exactly as written here: {names}"
-            raise bad_casting(text, words, cure)
+            cure = "give one of these names, exactly as written here"
+            raise bad_casting(text, words, f"{cure}: {in_shell(meant or poll.plain_names)}")
         castings[label] = meant[0]
     return castings
 
@@ -285,17 +159,18 @@ def named(label: str) -> str:
 
 
 def publishing(election: Election, castings: Castings) -> str:
-    """The command that publishes a result, with the casting votes if there are any. One that was published
-    before keeps its holder and its day; those of others the secretary writes.
+    """The command that publishes a result, with the casting votes if there are any. One that was
+    published before keeps its holder and its day; those of others the secretary writes.
     """
     details = [act.detail for act in election.history().named("publish")]
     words = list[str]()
     for label, option in castings.items():
-        said = [("WHO", "DATE")]
-        for its in details:
-            if its["casting"].get(label) == option:
-                said.append((its["words"]["cast_by"][label], its["words"]["cast_on"][label]))
-        holder, day = said[-1]
+        holder = "WHO"
+        day = "DATE"
+        for detail in details:
+            if detail["casting"].get(label) == option:
+                holder = detail["words"]["cast_by"][label]
+                day = detail["words"]["cast_on"][label]
         words += option_words("--casting", f"{label and f'{label}='}{option}")
         words += [*option_words("--cast-by", holder), "--cast-on", day]
     return election.command("publish", *words)

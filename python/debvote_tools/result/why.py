@@ -1,21 +1,24 @@
-"""Why each option has won, is left in a tie, was dropped or has lost, in numbers. `why.jinja` has
-their sentences, each of which is filled by a row of places.
+"""Why each option has won, is left in a tie, was dropped or has lost, in numbers.
+
+`why.jinja` has their sentences, each of which is filled by a row of places.
 """
 
 import collections
 from collections.abc import Iterable, Mapping
 from typing import Any
 
-from debvote_tools.result.sheet import Pair, Sheet
+from debvote_tools.sheet import Pair, Sheet
 
 Row = dict[str, Any]
 
 
 class Why:
-    """`said` has the options as parts of a sentence."""
+    """`options` has them by their numbers, as parts of a sentence."""
 
-    def __init__(self, sheet: Sheet, said: Mapping[int, str]) -> None:
-        self.sheet, self.said, self.default = sheet, said, sheet.default
+    def __init__(self, sheet: Sheet, options: Mapping[int, str]) -> None:
+        self.sheet = sheet
+        self.options = options
+        self.default = sheet.default
         # what the whole width of a bar means: all voters, or the quorum if it is greater
         self.whole = max(sheet.voters, sheet.quorum, 1)
         # the defeats that were removed as the weakest, with their rounds
@@ -26,21 +29,27 @@ class Why:
         }
 
     def names(self, options: Iterable[int]) -> list[str]:
-        return [self.said[option] for option in options]
+        return [self.options[option] for option in options]
 
     def rows(self, pairs: Iterable[Pair]) -> list[Row]:
         return [self.row(pair) for pair in pairs]
 
     def row(self, pair: Iterable[int]) -> Row:
-        """Two options, the number of the second, and how many prefer the first, prefer the second, and rank
-        both equally.
+        """Two options, the number of the second, and how many prefer the first, prefer the second,
+        and rank both equally.
         """
         a, b = pair
-        over, under = self.sheet.votes[a, b], self.sheet.votes[b, a]
-        removed = self.removed.get((a, b)) or self.removed.get((b, a))
-        names = {"option": self.said[a], "other": self.said[b], "rival": b}
-        equal = self.sheet.voters - over - under
-        return names | {"over": over, "under": under, "equal": equal, "round": removed}
+        over = self.sheet.votes[a, b]
+        under = self.sheet.votes[b, a]
+        return {
+            "option": self.options[a],
+            "other": self.options[b],
+            "rival": b,
+            "over": over,
+            "under": under,
+            "equal": self.sheet.voters - over - under,
+            "round": self.removed.get((a, b)) or self.removed.get((b, a)),
+        }
 
     @staticmethod
     def few(rows: list[Row]) -> tuple[list[Row], int]:
@@ -51,17 +60,17 @@ class Why:
     # ---- beside the default option
     def majority(self, option: int) -> int:
         """The least number that is a majority against those who prefer the default option."""
-        ratio, under = self.sheet.ratios[option], self.sheet.votes[self.default, option]
-        return ratio * under + 1 if self.sheet.is_more_than else max(ratio * under, under + 1)
+        under = self.sheet.votes[self.default, option]
+        product = self.sheet.ratios[option] * under
+        return product + 1 if self.sheet.is_more_than else max(product, under + 1)
 
     def needs(self, option: int) -> Row:
-        """An option and the default option, and how many it needs: for what it was dropped for, or for
-        quorum and majority.
+        """An option and the default option, and how many it needs: for what it was dropped for, or
+        for quorum and majority.
         """
-        row, majority = self.row((option, self.default)), self.majority(option)
-        by_cause = {"quorum": self.sheet.quorum, "majority": majority}
+        by_cause = {"quorum": self.sheet.quorum, "majority": self.majority(option)}
         dropped = self.sheet.dropped.get(option)
-        return row | {
+        return self.row((option, self.default)) | {
             "ratio": self.sheet.ratios[option],
             "dropped": dropped,
             "needed": by_cause[dropped] if dropped else max(by_cause.values()),
@@ -84,16 +93,18 @@ class Why:
         """The winner, then the options that stay in the set for most rounds, and last those that
         were dropped.
         """
-        rounds = collections.Counter(one for options, _ in self.sheet.rounds for one in options)
-        dropped, winner = self.sheet.dropped, self.sheet.winner
+        sheet = self.sheet
+        rounds = collections.Counter(option for options, _ in sheet.rounds for option in options)
         return sorted(
-            self.sheet.names, key=lambda one: (one != winner, one in dropped, -rounds[one])
+            sheet.names,
+            key=lambda option: (option != sheet.winner, option in sheet.dropped, -rounds[option]),
         )
 
     def beaten(self, option: int) -> list[Row]:
         """The defeats by an option that were not removed, the narrowest first."""
-        left = (pair for pair in self.sheet.defeats if pair not in self.removed)
-        rows = self.rows(pair for pair in left if pair[0] == option)
+        rows = self.rows(
+            pair for pair in self.sheet.defeats if pair[0] == option and pair not in self.removed
+        )
         return sorted(rows, key=lambda row: int(row["over"] - row["under"]))
 
     def set_aside(self, option: int | None = None) -> list[Row]:
@@ -101,7 +112,9 @@ class Why:
         return self.rows(pair for pair in self.removed if option in (None, pair[0]))
 
     def aside(self, option: int) -> list[Row]:
-        """An option, and each other one that it beats or that beats it by a defeat that was removed."""
+        """An option, and each other one that it beats or that beats it by a defeat that was
+        removed.
+        """
         pairs = (pair for pair in self.removed if option in pair)
         return self.rows((option, a if b == option else b) for a, b in pairs)
 

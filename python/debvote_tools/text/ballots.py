@@ -1,5 +1,5 @@
-"""Ballot files; a ballot in words, from its ranks as `standing` and the ballot file spell them, such as
-`1,2,-,3`; why a line is none.
+"""Ballot files; a ballot in words, from its ranks as `standing` and the ballot file spell them,
+such as `1,2,-,3`; why a line is none.
 """
 
 import functools
@@ -86,8 +86,8 @@ def without(ballot: str, labels: Collection[str]) -> str:
 
 
 def part_of(line: bytes, label: str) -> bytes | None:
-    """What answers one question, of a line as it was entered: `ada 2,1,3` of `ada A 1,2 C 2,1,3`; None
-    if nothing does. The one question without a label is answered by the line itself.
+    """What answers one question, of a line as it was entered: `ada 2,1,3` of `ada A 1,2 C 2,1,3`;
+    None if nothing does. The one question without a label is answered by the line itself.
     """
     if not label:
         return line
@@ -98,9 +98,9 @@ def part_of(line: bytes, label: str) -> bytes | None:
 def ballots_in_words(
     names: Sequence[str], language: Language = ENGLISH, motion: bool = False
 ) -> Callable[[str], str]:
-    """Says valid ballots by their ranks, without markup: "At the lake, then Further discussion, then
-    ..", or of a motion "Yes". The names are those of the options, the default option last. `add` prints
-    100,000.
+    """Says valid ballots by their ranks, without markup: "At the lake, then Further discussion,
+    then ..", or of a motion "Yes". The names are those of the options, the default option last.
+    `add` prints 100,000.
     """
     if motion:
         return functools.partial(answer_in_words, in_words(names, language))
@@ -146,8 +146,8 @@ def faults_of(
     *,
     is_of_several: bool = False,
 ) -> Iterator[str]:
-    """What is wrong with a line, which may have answers to several questions, by what debvote says of
-    it; nothing if it is late. It names the elector if the name is known.
+    """What is wrong with a line, which may have answers to several questions, by what debvote says
+    of it; nothing if it is late. It names the elector if the name is known.
     """
     if answer is None:
         yield language.say("It is a ballot.")

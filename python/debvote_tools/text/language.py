@@ -22,16 +22,18 @@ Marked = TypeVar("Marked")
 
 
 def marked(texts: Marked) -> Marked:
-    """Returns a sentence, or a table of some, as it is: it has translations, and is said elsewhere."""
+    """Returns a sentence, or a table of some, as it is: it has translations, and is said
+    elsewhere.
+    """
     return texts
 
 
 class Language:
     """A language. It says sentences in plain text; `rendering.InHtml` says them in HTML."""
 
-    # how a text is written that is not the program's, that a reader has to see or compares character by
-    # character; words of another person, in brackets, where none reads as a ballot, since no repair takes
-    # these away; and a link
+    # how a text is written that is not the program's, that a reader has to see or compares
+    # character by character; words of another person, in brackets, where none reads as a ballot,
+    # since no repair takes these away; and a link
     FORMS = {"given": "{}", "strong": "{}", "exact": "{}", "quoted": "({})", "link": "{1}"}
 
     def __init__(self, code: str, catalog: gettext.NullTranslations) -> None:

@@ -1,5 +1,5 @@
-"""The words of a motion: yes, no and abstain, which may be in place of the ranks of its option and of
-the default option.
+"""The words of a motion: yes, no and abstain, which may be in place of the ranks of its option and
+of the default option.
 """
 
 import re
@@ -20,7 +20,8 @@ YES, NO, ABSTAIN = RANKS = ("1,2", "2,1", "1,1")
 # words with the ranks that they mean
 Words = Mapping[str, str]
 
-# what ends a line: a word, after a colon or a blank, perhaps with a full stop or an exclamation mark
+# what ends a line: a word, after a colon or a blank, perhaps with a full stop or an exclamation
+# mark
 END = re.compile(r"(?:^| ?: ?| )([^\W\d_]+) ?[.!]?$")
 # in characters, what may end with a word: a text with many accents takes long
 MOST_CHARACTERS = 500

@@ -136,8 +136,8 @@ def render_page(
     sends: bool = False,
     **values: object,
 ) -> bytes:
-    """A page. It loads nothing, and runs its own script alone, which its policy names by checksum. One
-    that `sends` does so to its own host alone.
+    """A page. It loads nothing, and runs its own script alone, which its policy names by checksum.
+    One that `sends` does so to its own host alone.
     """
     style = resources("debvote_tools", "page.css") + style
     if language != ENGLISH:

@@ -29,7 +29,9 @@ def now() -> datetime.datetime:
 
 
 def time_in_words(time: datetime.datetime, language: Language = ENGLISH) -> str:
-    """A time as `Friday, 4 December 2026, 18:00 (UTC+01:00)`; seconds are left out if they are 0."""
+    """A time as `Friday, 4 December 2026, 18:00 (UTC+01:00)`; seconds are left out if they are
+    0.
+    """
     return language.say(
         "{weekday}, {date}, {clock} ({offset})",
         weekday=language.say(DAYS[time.weekday()]),

@@ -23,7 +23,7 @@ from debvote_tools.cli.faults import Fault
 
 from tests.support import elections
 
-FORMATS = elections.ROOT / "docs" / "FORMATS.md"
+INSIDE = elections.ROOT / "docs" / "INSIDE.md"
 
 MOVED = ("--moved", "--because", "the disk was exchanged")
 
@@ -262,7 +262,7 @@ class Copies(BookTest):
 
 
 def as_json(*row: object, line: int | None = None) -> str:
-    """A row as FORMATS has it, without the number of the act; `line` is the place of what came."""
+    """A row as INSIDE has it, without the number of the act; `line` is the place of what came."""
     in_text = {value: hashlib.sha256(value).hexdigest() for value in row if isinstance(value, bytes)}
     if line is not None:
         in_text[row[line]] = row[line].decode(errors="surrogateescape")
@@ -276,9 +276,9 @@ class Rewritten(BookTest):
         super().setUp()
         self.add("ada 1,2,3,4", "ben 2,1,3,4")
 
-    def formats(self) -> list[str]:
-        """What the program of FORMATS prints of the book, and the fault with which it ends."""
-        [program] = re.findall(r"^```python\n(.*?)^```$", FORMATS.read_text(), re.MULTILINE | re.DOTALL)
+    def of_document(self) -> list[str]:
+        """What the program of INSIDE prints of the book, and the fault with which it ends."""
+        [program] = re.findall(r"^```python\n(.*?)^```$", INSIDE.read_text(), re.MULTILINE | re.DOTALL)
         fault = []
         with contextlib.chdir(self.folder), contextlib.redirect_stdout(io.StringIO()) as said:
             try:
@@ -314,7 +314,7 @@ class Rewritten(BookTest):
             self.assertEqual([step for *_, step in plan if "INDEX" in step], [])
         self.done("strike", "2", "--because", 'Ben\'s "Ö" \\')
         self.assertIn("The chain is whole: 5 acts", self.done("log", "--check").output)
-        [last] = self.formats()
+        [last] = self.of_document()
         self.assertEqual(last.split()[-1], json.loads(self.done("status", "--json").output)["digest"])
         # the view of the ballots
         self.add("cleo 1,2,3,4")
@@ -328,7 +328,7 @@ class Rewritten(BookTest):
             with contextlib.closing(book.connection), book.act("desk") as act:
                 queries.add_envelopes(act, map(queries.NewEnvelope, odd), [None] * len(odd), is_late=False)
         self.assertIn("The chain is whole: 9 acts", self.done("log", "--check").output)
-        self.assertEqual(len(self.formats()), 1)
+        self.assertEqual(len(self.of_document()), 1)
 
     def fill_each_table(self) -> None:
         self.write("mail", "From: Ada <ada@club.example>\nMessage-ID: <1@x>\nSubject: x\n\nHello\n")
@@ -358,7 +358,7 @@ class Rewritten(BookTest):
             with self.subTest(f"{table}.{column}"):
                 self.assertEqual(ended.status, 9, ended)
                 self.assertIn(said, ended.faults)
-                self.assertGreater(len(self.formats()), 1)
+                self.assertGreater(len(self.of_document()), 1)
             self.book.write_bytes(whole)
             tried += 1
         self.assertEqual((len(tables), tried), (10, 52))
@@ -370,11 +370,11 @@ class Rewritten(BookTest):
         whole = self.read("election.db")
         for statement in (CHANGED, "DELETE FROM envelope WHERE envelope = 2", f"INSERT INTO envelope ({columns}) VALUES {added}"):
             self.sql(statement)
-            # each command on whose words others rely says so; so does the program of FORMATS
+            # each command on whose words others rely says so; so does the program of INSIDE
             for words in RELYING:
                 with self.subTest(statement, words=words):
                     self.assert_fault(self.election(*words), 9, "election.db", "act 4 does not match its digest")
-            self.assertIn("act 4 does not match its digest", self.formats())
+            self.assertIn("act 4 does not match its digest", self.of_document())
             self.book.write_bytes(whole)
 
     def test_rows_of_no_act(self) -> None:
@@ -384,7 +384,7 @@ class Rewritten(BookTest):
             self.sql(f"INSERT INTO struck VALUES (1, {act}), (2, {act})")
             for words in RELYING:
                 self.assert_fault(self.election(*words), 9, f"it has rows of act {act}, and no such act")
-            self.assertGreater(len(self.formats()), 1)
+            self.assertGreater(len(self.of_document()), 1)
             self.book.write_bytes(whole)
 
     def test_an_index_that_answers_in_place_of_the_table(self) -> None:
@@ -409,7 +409,7 @@ class Rewritten(BookTest):
                 for words in RELYING[:5]:
                     ended = self.election(*words)
                     self.assert_fault(ended, 9, "election.db: the book is damaged", "struck")
-                self.assertGreater(len(self.formats()), 1)
+                self.assertGreater(len(self.of_document()), 1)
                 # nothing is built on it, either
                 self.assert_fault(self.election("desk", given="hal 1,2,3,4\n"), 9, "election.db: the book is damaged", "nothing was entered")
         # the last one is of an index alone, and as the guide says

@@ -7,9 +7,9 @@ import os
 import re
 import subprocess
 
-from debvote_tools.book.election import LETTER_TEXT
+from debvote_tools.call.secret import alias_of
+from debvote_tools.election import LETTER_TEXT
 from debvote_tools.poll.sealed import read_plain
-from debvote_tools.poll.secret import alias_of
 
 from tests.support import elections
 

@@ -2,7 +2,7 @@
 
 import os
 
-from debvote_tools.cli.command_line import COMMANDS
+from debvote_tools.commands.command_line import COMMANDS
 
 from tests.support import elections
 from tests.support.letters import letter, mailbox

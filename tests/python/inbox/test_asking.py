@@ -12,13 +12,12 @@ import unittest
 import unittest.mock
 from collections.abc import Callable, Iterable
 
+from debvote_tools.call.box import list_digest, proof_digest, script_of
 from debvote_tools.cli.faults import Fault, Status
-from debvote_tools.inbox import box_records
 from debvote_tools.inbox import box_records
 from debvote_tools.inbox.box_records import Asked, ask, box_words
 from debvote_tools.inbox.letter import parse
 from debvote_tools.inbox.mailbox import NotRead, RawLetter, are_letters, letters_of_file
-from debvote_tools.poll.box import list_digest, proof_digest, script_of
 from debvote_tools.text import times
 
 from tests.support.elections import ElectionTest

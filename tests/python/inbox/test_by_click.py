@@ -18,13 +18,13 @@ import zoneinfo
 from concurrent.futures import ThreadPoolExecutor
 
 from debvote_tools.book import queries
-from debvote_tools.book.election import Election
-from debvote_tools.inbox.judging import Ballot
-from debvote_tools.inbox.letter import ParsedLetter
+from debvote_tools.call.box import asking_word, list_digest, proof_digest, third_part
+from debvote_tools.election import Election
 from debvote_tools.inbox import box_records
 from debvote_tools.inbox.box_records import MOST
+from debvote_tools.inbox.judging import Ballot
+from debvote_tools.inbox.letter import ParsedLetter
 from debvote_tools.inbox.vote import Vote
-from debvote_tools.poll.box import asking_word, list_digest, proof_digest, third_part
 
 from tests.support import at_browser, boxes, elections, sealing
 from tests.support.letters import OWN, at, judged, letter, mailbox, outcome, outcomes, parsed
@@ -442,7 +442,7 @@ class Clicks(boxes.BoxElectionTest):
         vote = Vote(Election(self.folder, PROGRAM.parent))
         asked = box_records.Asked(datetime.datetime.now(datetime.UTC), 0, "", self.file().read_bytes().removeprefix(FIRST))
         kept = queries.records_since(vote.book, 0)
-        with unittest.mock.patch("debvote_tools.poll.sealed_ballots.key_pair") as opening:
+        with unittest.mock.patch("debvote_tools.call.sealed_ballots.key_pair") as opening:
             letters, unopened = box_records.records_in(vote, asked, {}, kept)
         self.assertEqual((opening.called, len(letters), unopened), (False, 2, []))
         self.assertEqual({one.digest for one in letters}, {one.digest for one in kept})

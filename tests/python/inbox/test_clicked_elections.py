@@ -14,7 +14,7 @@ import shutil
 import time
 import unittest.mock
 
-from debvote_tools.poll.box import personal_link, proof_digest
+from debvote_tools.call.box import personal_link, proof_digest
 
 from tests.support import boxes, elections
 from tests.support.at_browser import NEEDS_BROWSER, Window

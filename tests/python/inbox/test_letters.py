@@ -5,7 +5,7 @@ import re
 from unittest import mock
 
 from debvote_tools.book import queries
-from debvote_tools.book.election import POLL_WITH_NAMES
+from debvote_tools.election import POLL_WITH_NAMES
 from debvote_tools.inbox import entering, signature
 
 from tests.support import elections, pgp

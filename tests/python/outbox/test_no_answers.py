@@ -8,9 +8,9 @@ import textwrap
 import unittest
 from collections.abc import Iterable
 
-from debvote_tools.book.election import Election
+from debvote_tools.call.call import call_letter
+from debvote_tools.election import Election
 from debvote_tools.outbox.words import Composer
-from debvote_tools.poll.call import call_letter
 from debvote_tools.poll.questions import Questions
 from debvote_tools.poll.sealed import SealedPoll
 from debvote_tools.text.language import LANGUAGES, language_of

@@ -14,18 +14,18 @@ import types
 import unittest
 from typing import Any
 
-from debvote_tools.book.queries import Elector, EnteredBallot, Envelope
 from debvote_tools.book.outgoing import OutgoingLetter
-from debvote_tools.inbox.letter_lines import ReadLine
+from debvote_tools.book.queries import Elector, EnteredBallot, Envelope
+from debvote_tools.call.call import CallData, call_page
 from debvote_tools.inbox.fates import REFUSED, Fate
+from debvote_tools.inbox.letter_lines import ReadLine
 from debvote_tools.inbox.reasons import Reason, ReasonWithValues, for_elector
 from debvote_tools.inbox.rules import LetterOutcome
 from debvote_tools.outbox.letter_folder import message, rows_to_print
-from debvote_tools.outbox.words import OF_BALLOT, PACKAGE, SUBJECTS, Composer, Said
-from debvote_tools.poll.announced import is_mail_address
-from debvote_tools.poll.call import CallData, call_page
+from debvote_tools.outbox.words import OF_BALLOT, PACKAGE, SUBJECTS, Composer, OutgoingText
 from debvote_tools.poll.questions import Questions
 from debvote_tools.poll.sealed import SealedPoll
+from debvote_tools.text.addresses import is_mail_address
 from debvote_tools.text.ballots import faults_of
 from debvote_tools.text.language import LANGUAGES, language_of
 from debvote_tools.text.rendering import one_line as on_one_line, render_page, resources
@@ -79,13 +79,17 @@ def all_that_came(answers: str = "1,2,3") -> list[Fate]:
 WAITS = next(one for one in all_that_came() if one.became is LetterOutcome.WAITS and one.is_own)
 
 
-def texts(now: Composer, answers: str = "1,2,3") -> list[str]:
+def letters(now: Composer, answers: str = "1,2,3") -> list[OutgoingText]:
     came = all_that_came(answers)
-    calls = [now.call_letter(elector, is_extension=is_extension).text for elector, is_extension in ((ADA, False), (ADA._replace(key="A"), False), (ADA, True))]
-    calls += [now.call_letter(ADA._replace(code="c0de"), is_extension=False, earlier=["a@b.example"]).text]
-    results = (now.said("result", ADA, letter="RESULT\n", answers=ranks, fates=came).text for ranks in (answers, None))
-    closed = now.said("closed", ADA, letter="CLOSED\n").text
-    return [*calls, now.reminder(ADA, [WAITS]).text, now.reminder(ADA, []).text, now.receipt(ADA, came).text, closed, *results]
+    calls = [now.call_letter(elector, is_extension=is_extension) for elector, is_extension in ((ADA, False), (ADA._replace(key="A"), False), (ADA, True))]
+    calls += [now.call_letter(ADA._replace(code="c0de"), is_extension=False, earlier=["a@b.example"])]
+    results = (now.letter("result", ADA, letter="RESULT\n", answers=ranks, fates=came) for ranks in (answers, None))
+    closed = now.letter("closed", ADA, letter="CLOSED\n")
+    return [*calls, now.reminder(ADA, [WAITS]), now.reminder(ADA, []), now.receipt(ADA, came), closed, *results]
+
+
+def texts(now: Composer, answers: str = "1,2,3") -> list[str]:
+    return [letter.text for letter in letters(now, answers)]
 
 
 class Texts(unittest.TestCase):
@@ -101,8 +105,8 @@ class Texts(unittest.TestCase):
                     self.assertEqual(same - commands if code != "en" else set(), set(), code)
         # each kind has its own subject
         for code in LANGUAGES:
-            subjects = [vote(code).subject(kind) for kind in SUBJECTS] + [vote(code).subject("call", is_extension=True)]
-            self.assertEqual(len(set(subjects)), 6, subjects)
+            subjects = {letter.subject for letter in letters(vote(code))}
+            self.assertEqual(len(subjects), len(SUBJECTS) + 1, subjects)
             for subject in subjects:
                 self.assertTrue(subject.endswith(": Spring"), subject)
 
@@ -142,7 +146,7 @@ class Texts(unittest.TestCase):
         typed = EnteredBallot(2, "ben 1,2,3", is_late=False, is_struck=False, is_taken_back=False, is_typed=True)
         letter = came_letter(None, entered=[typed._replace(number=1, is_typed=False), typed])
         there = Envelope(1, 1, 1, b"ada 1,2,3", None, 1, "", TIME, False, None)
-        told = [vote().said_of(Fate(TIME, "counts", there._replace(number=number), came_by=letter), "ada") for number in (1, 2)]
+        told = [vote().fate_in_words(Fate(TIME, "counts", there._replace(number=number), came_by=letter), "ada") for number in (1, 2)]
         self.assertEqual(["The secretary typed it" in text for text in told], [False, True])
 
     def test_of_a_result(self) -> None:
@@ -151,7 +155,7 @@ class Texts(unittest.TestCase):
         place = "The result is published at:\n  https://club.example/vote/\n"
         earlier = place.replace("club", "earlier")
         for letter in ("RESULT\n", f"RESULT\n\n{rest}", f"RESULT\n\n{place}\nDOUBTS\n\n{rest}", f"RESULT\n\n{earlier}\nDOUBTS\n\n{rest}"):
-            texts = [now.said("result", ADA, letter=letter, answers="2,1,3").text for now in (vote(), vote(has_aliases=True))]
+            texts = [now.letter("result", ADA, letter=letter, answers="2,1,3").text for now in (vote(), vote(has_aliases=True))]
             end = letter.removeprefix("RESULT\n").removeprefix(f"\n{place}").removeprefix(f"\n{earlier}")
             for text in texts:
                 self.assertTrue(text.startswith(f"Dear Ada L.,\n\nRESULT\n\n{place}\nYour "), text)
@@ -161,11 +165,11 @@ class Texts(unittest.TestCase):
             self.assertIn(own, " ".join(texts[0].split()))
             self.assertNotRegex(texts[1], "#|2,1,3|Hall")
             self.assertIn("find it with your name, ada, and your code", " ".join(texts[1].split()))
-            self.assertIn("The result has no ballot of yours", vote().said("result", ADA, letter=letter, answers=None, fates=()).text)
+            self.assertIn("The result has no ballot of yours", vote().letter("result", ADA, letter=letter, answers=None, fates=()).text)
 
     def test_in_a_secret_vote_no_letter_repeats_what_came(self) -> None:
         elector, now = ADA._replace(code="c0de" * 8), vote(has_aliases=True)
-        result = now.said("result", elector, letter="RESULT\n", answers=None, fates=all_that_came()).text
+        result = now.letter("result", elector, letter="RESULT\n", answers=None, fates=all_that_came()).text
         for text in (now.reminder(elector, all_that_came()).text, now.receipt(elector, all_that_came()).text, result):
             self.assertIn("It has 1 rank, and the vote has 3 options.", " ".join(text.split()))
             self.assertNotRegex(text, r"ada \d|\d,\d|\||c0de|in words|Lake, then")
@@ -402,7 +406,7 @@ class Bytes(unittest.TestCase):
     def message(self, text: str, subject: str = "Vote: Fr\u00fchling", sender_name: str = "") -> bytes:
         due = types.SimpleNamespace(sender="vote@club.example", sender_name=sender_name)
         due.composer = types.SimpleNamespace(call_data=types.SimpleNamespace(to=None))
-        due.said = lambda letter: (Said(subject, text), "[0123456789abcdef-abcdefghjk]")
+        due.text_of = lambda letter: OutgoingText(subject, "[0123456789abcdef-abcdefghjk]", text)
         return message(due, LETTER, is_draft=False)  # type: ignore[arg-type]
 
     def test_texts_come_through_as_they_are(self) -> None:
@@ -434,7 +438,7 @@ class Bytes(unittest.TestCase):
             for line in (line for line in data.split(b"\n") if b"=?" in line):
                 self.assertLessEqual((len(line) > 76, max(map(len, line.split())) > 75), (False, False), line)
         elector = ADA._replace(who="Ada\r\nBcc: x@y.example\n\nada 1,2,3\u2028" + "x" * 500)
-        text = vote().said("closed", elector, letter="CLOSED\n").text
+        text = vote().letter("closed", elector, letter="CLOSED\n").text
         self.assertEqual(len(text.split("\n\n")), 2)
         self.assertEqual(one_line(parsed(self.message(text)))[:9], "Dear Ada ")
         self.assertLess(len(text), 250)

@@ -16,9 +16,9 @@ import unittest
 from collections.abc import Callable, Iterable
 from typing import Any
 
+from debvote_tools.call.box import SENTENCES, proof_digest, records_file, script_of, third_part
+from debvote_tools.call.call import CallData, call_files
 from debvote_tools.inbox.box_records import MOST
-from debvote_tools.poll.box import SENTENCES, proof_digest, third_part, records_file, script_of
-from debvote_tools.poll.call import CallData, call_files
 from debvote_tools.poll.questions import Questions
 from debvote_tools.poll.sealed import with_roll
 from debvote_tools.text.language import LANGUAGES, language_of

@@ -11,7 +11,7 @@ import tempfile
 import unittest
 import urllib.parse
 
-from debvote_tools.poll.call import CallData, call_files
+from debvote_tools.call.call import CallData, call_files
 from debvote_tools.poll.questions import LABELS, Questions
 from debvote_tools.poll.sealed import SealedPoll, with_roll
 from debvote_tools.text.language import ENGLISH, LANGUAGES, language_of
@@ -86,13 +86,13 @@ def choices_of(size: int, many: int, chance: random.Random) -> list[tuple[str, l
 
 
 def words_of(ranks: list[str]) -> str:
-    """The whole ballot in its order, in which each option has its number."""
+    """The whole ballot in its order, each option as its number behind its rank."""
     by_rank: dict[str, list[str]] = {}
     for number, rank in enumerate(ranks, start=1):
         by_rank.setdefault(rank, []).append(f"{{{number}}}")
     unranked = by_rank.pop("-", [])
-    steps = enumerate((by_rank[rank] for rank in sorted(by_rank, key=int)), start=1)
-    return ", ".join([*(f"{place} {option}" for place, step in steps for option in step), *(f"\u2013 {option}" for option in unranked)])
+    ranked = (f"{rank} {option}" for rank in sorted(by_rank, key=int) for option in by_rank[rank])
+    return ", ".join([*ranked, *(f"\u2013 {option}" for option in unranked)])
 
 
 @NEEDS_BROWSER
@@ -188,7 +188,7 @@ class Lines(PageTest):
           document.querySelectorAll(".rank").forEach((rank, place) => { rank.querySelectorAll("input")[place].checked = true; });
           dispatchEvent(new Event("pageshow"));""")
         self.assertEqual(self.window.ask(text_of("Line")), "ada 1,2,3,4")
-        self.assertEqual(self.window.ballot("ada", "441-")["words"], "1 {3}, 2 {1}, 2 {2}, \u2013 {4}")
+        self.assertEqual(self.window.ballot("ada", "441-")["words"], "1 {3}, 4 {1}, 4 {2}, \u2013 {4}")
         # a letter that is to be signed has the mark below the ballot
         self.open(KINDS["signed"])
         self.assertEqual(self.window.ballot("ada", "1234")["body"], f"ada 1,2,3,4\r\n[{CALL.questions.mark}]\r\n")
@@ -233,8 +233,10 @@ class Several(PageTest):
             result = self.window.ballot("Ada", ranks)
             lines = ["ada", *(f"{label} {','.join(answers[label])}" for label in chosen)] if chosen else []
             left = ", ".join(label for label in answers if label not in chosen)
-            missing = (f"Not answered: {left}" if left else "") if chosen else "Give at least one option a rank."
-            self.assertEqual((result["line"], result["missing"]), (" ".join(lines), missing))
+            answered = f"{len(chosen)} of 3 answered{'; not ' if left else ''}{left}"
+            missing = "" if chosen else "Give at least one option a rank."
+            self.assertEqual((result["line"], result["answered"], result["missing"]), (" ".join(lines), answered, missing))
+            self.assertEqual(self.window.ask("document.getElementById('Lines').checkVisibility()"), bool(chosen))
             self.assertEqual((result["body"], result["ready"]), ("".join(f"{line}\r\n" for line in lines) if lines else None, bool(lines)))
             self.assertEqual((result["words"], result["wide"]), (", ".join(said[label] for label in chosen), 360))
             # debvote reads each answer as one to its question
@@ -248,7 +250,8 @@ class Several(PageTest):
         self.assertEqual(self.window.ballot("", "1221-311")["missing"], "Type your name.")
         # what was copied is another ballot
         self.assertEqual(self.window.ask(text_of("Copied")), "")
-        self.assertEqual(self.window.ballot("", "----2111")["missing"], "Type your name. Not answered: A")
+        result = self.window.ballot("", "----2111")
+        self.assertEqual((result["missing"], result["answered"]), ("Type your name.", "2 of 3 answered; not A"))
 
     def test_signed_and_secret(self) -> None:
         self.open(self.call(data=KINDS["signed"]))
@@ -264,13 +267,16 @@ class Several(PageTest):
         self.assertEqual(self.window.ask(buttons), [3, 20, 3])
         rows = "[...document.querySelectorAll('p.rank')].map((node) => new Set([...node.children].map((one) => one.offsetTop)).size)"
         self.assertEqual(self.window.ask(rows), [1, 1])
-        for ranks, line, missing, shown in (
-            (["1,2", *"21-3", "1,1"], "ada A 1,2 B 2,1,-,3 C 1,1", "", 4),
-            (["-", *"----", "2,1"], "ada C 2,1", "Not answered: A, B", 0),
-            (["-", *"1111", "-"], "ada B 1,1,1,1", "Not answered: A, C", 4),
+        of_b = "B1\u00a072 Euro2\u00a0At the lake3\u00a0None of the above\u2013\u00a0Sell the house"
+        for ranks, line, answered, shown, words in (
+            (["1,2", *"21-3", "1,1"], "ada A 1,2 B 2,1,-,3 C 1,1", "3 of 3 answered", 4, ["AYes", of_b, "CAbstain"]),
+            (["-", *"----", "2,1"], "ada C 2,1", "1 of 3 answered; not A, B", 0, ["CNo"]),
+            (["-", *"21-3", "-"], "ada B 2,1,-,3", "1 of 3 answered; not A, C", 4, [of_b]),
         ):
             found = self.window.ballot("ada", ranks)
-            self.assertEqual((found["line"], found["missing"]), (line, missing))
+            self.assertEqual((found["line"], found["answered"]), (line, answered))
+            # the whole ballot, at a touch
+            self.assertEqual(self.window.ask("[...document.querySelectorAll('#Words > li')].map((node) => node.textContent)"), words)
             # what a button says needs no words beside it
             self.assertEqual(self.window.ask("[...document.querySelectorAll('#Ballot li')].filter((node) => node.checkVisibility()).length"), shown)
 
@@ -282,12 +288,13 @@ class Several(PageTest):
         self.assertEqual((of_all["letter"], of_all["ready"], of_all["missing"], of_all["wide"]), (False, True, "", 360))
         lines = ["e01", *(f"{label} {','.join(ranks)}" for label in LABELS)]
         self.assertEqual((of_all["line"], self.copied(TAKES)[0]), (" ".join(lines), "\n".join(lines)))
-        # what would take most of the window lies below the questions
-        self.assertEqual(self.window.ask("getComputedStyle(document.getElementById('Bottom')).position"), "static")
+        # what would take most of the window, once it is open, lies below the questions
+        self.window.ask("document.getElementById('Lines').open = true")
+        self.window.until("getComputedStyle(document.getElementById('Bottom')).position === 'static'")
 
         def link(count: int) -> str:
             found = self.window.ballot("e01", [*ranks * count, *["-"] * 20 * (24 - count)])
-            self.assertEqual(found["missing"], f"Not answered: {', '.join(LABELS[count:])}")
+            self.assertEqual(found["answered"], f"{count} of 24 answered; not {', '.join(LABELS[count:])}")
             return found["letter"] or ""
 
         # each answer makes it as much longer
@@ -299,7 +306,7 @@ class Several(PageTest):
         data = self.call()
         shown = ("Assembly & 2026", "Question A: Raise the fee", "Question B: Where we meet", "Yes, 72 Euro", "Sell the house")
         self.open(data, page=call_files(data)["index.html"].replace(b'"use strict";', b'"use strict"; '))
-        self.assert_seen(shown, ("Send by e-mail", "Your name", "Not answered"))
+        self.assert_seen(shown, ("Send by e-mail", "Your name", " answered"))
         self.window.ask("document.querySelectorAll('details').forEach((node) => { node.open = true; })")
         self.assert_seen(("NAME\nA _,_\nB _,_,_,_\nC _,_\n", "sha256sum -c polls.sha256 && sha256sum polls.sha256", *THREE.checksums), ())
         places = self.window.ask("[...document.querySelectorAll('pre a')].map((link) => link.getAttribute('href'))")
@@ -309,7 +316,7 @@ class Several(PageTest):
         self.window.show(on_paper=True)
         self.addCleanup(self.window.show)
         # a paper to be filled in has nothing of what was chosen
-        self.assert_seen(shown, ("Send by e-mail", "Your name", "Not answered", "ada\nA 1,2"))
+        self.assert_seen(shown, ("Send by e-mail", "Your name", " answered", "ada\nA 1,2"))
         self.assertFalse(self.window.ask("document.querySelector('#Ballot ul').checkVisibility()"))
         boxes = "[...document.querySelectorAll('.option')].map((option) => parseFloat(getComputedStyle(option, '::after').width) > 30)"
         self.assertEqual(self.window.ask(boxes), [True] * 8)
@@ -593,6 +600,6 @@ class ByKeys(PageTest):
             self.window.press("1")
         self.assertEqual(self.window.ask(text_of("Line")), "ada\nA 1,1\nB 1,1,1,1\nC 1,1")
         way += self.tab_to("Copy")
-        self.assertEqual([place["name"] for place in way], ["Name", *ranks, "Letter", "Copy"])
+        self.assertEqual([place["name"] for place in way], ["Name", *ranks, "3 of 3 answered", "Letter", "Copy"])
         back = self.tab_to("Name", shift=True)
         self.assertEqual([place["name"] for place in way + back if not place["inWindow"]], [])

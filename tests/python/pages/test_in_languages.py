@@ -5,7 +5,7 @@ import json
 import pathlib
 import re
 
-from debvote_tools.poll.call import SENTENCES as CALL_SENTENCES
+from debvote_tools.call.call import SENTENCES as CALL_SENTENCES
 from debvote_tools.result.page import COUNT_AGAIN, FIND, FIND_IN_OPEN, FIND_IN_SECRET
 from debvote_tools.text.language import LANGUAGES, language_of
 

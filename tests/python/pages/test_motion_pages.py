@@ -5,7 +5,7 @@ import json
 import pathlib
 import re
 
-from debvote_tools.poll.call import CallData, call_page
+from debvote_tools.call.call import CallData, call_page
 from debvote_tools.poll.questions import Questions
 from debvote_tools.poll.sealed import SealedPoll, read_plain
 from debvote_tools.text.language import ENGLISH, LANGUAGES, language_of
@@ -19,7 +19,7 @@ CALL = CallData(ENGLISH, Questions({"": POLL}), {"": 0}, to="vote@club.example")
 
 # the buttons: their texts, and whether each is seen, as a finger finds it
 BUTTONS = """[...document.querySelectorAll(".rank label")].map((node) => [node.textContent, node.checkVisibility(), node.offsetHeight >= 40])"""
-SHOWN = f"""({{ line: {text_of("Line")}, missing: {text_of("Missing")}, words: document.getElementById("Words").checkVisibility(),
+SHOWN = f"""({{ line: {text_of("Line")}, missing: {text_of("Missing")}, words: document.getElementById("Words").textContent,
   letter: document.getElementById("Letter").getAttribute("href"), wide: document.documentElement.scrollWidth }})"""
 
 
@@ -29,12 +29,13 @@ class Form(PageTest):
             self.open(dataclasses.replace(CALL, language=language_of(language)), "#ada/23456789ab")
             self.assertEqual(self.window.ask(BUTTONS), [[word.capitalize(), True, True] for word in WORDS[language]])
             before = self.window.ask(SHOWN)
-            self.assertEqual((before["line"], before["words"], before["letter"], before["wide"]), ("", False, None, 360))
+            self.assertEqual((before["line"], before["words"], before["letter"], before["wide"]), ("", "", None, 360))
             self.assertNotEqual(before["missing"], "")
             for place, ranks in enumerate(RANKS):
                 self.window.ask(f"document.querySelectorAll('.rank input')[{place}].click()")
                 found = self.window.ask(SHOWN)
                 self.assertEqual((found["line"], found["missing"], found["wide"]), (f"ada {ranks}", "", 360))
+                self.assertEqual(found["words"], WORDS[language][place].capitalize())
                 # a mail from the form has ranks
                 self.assertTrue(found["letter"].endswith(f"&body=ada%20{ranks.replace(',', '%2C')}%0D%0A"), found["letter"])
             self.assertEqual(self.window.faults, [])
@@ -60,7 +61,10 @@ class Form(PageTest):
             self.open(CALL, page=shown)
             self.window.show(on_paper=on_paper)
             seen = self.window.ask("""[...document.querySelectorAll(".rank, .option .name")].filter((node) => node.checkVisibility()).map((node) => node.textContent)""")
-            self.assertEqual(seen, ["Raise it", "No, as it is"])
+            # on paper a word is marked, and no rank is written
+            self.assertEqual(seen, ["Raise it", "No, as it is"] + ["YesNoAbstain"] * on_paper)
+            boxes = "[...document.querySelectorAll('.option')].map((node) => getComputedStyle(node, '::after').content)"
+            self.assertEqual(self.window.ask(boxes), ["none"] * 2)
             self.window.show()
 
     def test_other_polls_have_no_such_buttons(self) -> None:
@@ -77,7 +81,7 @@ class Result(ResultPageTest):
         """A folder with the result of a motion."""
         room = plain_room(self.scratch / f"{name}-{language}", OPEN_POLL, "ada 1,2\nben 7,-\ncleo -,-\ndan 2,1\n")
         poll = read_plain((room / "poll.toml").read_bytes(), motion=True)
-        return self.published(room, f"{name}-{language}-made", poll=poll, language=language_of(language))
+        return self.published(room, f"{name}-{language}-made", questions=Questions({"": poll}), language=language_of(language))
 
     def test_answers_in_words(self) -> None:
         for language, said in {

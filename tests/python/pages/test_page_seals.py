@@ -9,7 +9,7 @@ import shutil
 import subprocess
 import unittest
 
-from debvote_tools.poll.box import page_of, personal_link, script_of
+from debvote_tools.call.box import page_of, personal_link, script_of
 from debvote_tools.poll.questions import LABELS
 from debvote_tools.text.rendering import resources
 
@@ -65,7 +65,7 @@ def sent_under_node(line: str, place: str, options: int) -> bytes:
     data = {"box": "vote.php", "mark": vector.MARK, "page": page_of(vector.KEY, vector.MARK)}
     data |= {"seal": sealing.key_pair(vector.KEY, vector.MARK)[0], "until": "", "words": json.dumps(WORDS)}
     given = {"place": json.dumps(place), "line": json.dumps(line), "data": json.dumps(data), "options": options}
-    script = AROUND % given + fixed() + resources("debvote_tools.poll", "box.js") + "\npressed[0]();"
+    script = AROUND % given + fixed() + resources("debvote_tools.call", "box.js") + "\npressed[0]();"
     ended = subprocess.run([str(NODE), "-"], input=script.encode(), capture_output=True, timeout=60)
     assert (ended.returncode, ended.stderr) == (0, b""), ended
     return ended.stdout

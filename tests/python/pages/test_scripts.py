@@ -5,8 +5,8 @@ import json
 import re
 import subprocess
 
-from debvote_tools.poll.secret import alias_of
-from debvote_tools.result.sheet import sheet_in
+from debvote_tools.call.secret import alias_of
+from debvote_tools.sheet import sheet_in
 
 from tests.support import at_browser, publishing
 from tests.support.program import PROGRAM

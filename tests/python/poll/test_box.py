@@ -8,13 +8,11 @@ import re
 import unittest
 import unittest.mock
 
+from debvote_tools.call.box import SCRIPT, SECRET_SENTENCES, SENTENCES, asking_word, key_of, list_digest, page_of, records_file, script_address, script_of, third_part, without_links
 from debvote_tools.cli.faults import Fault
 from debvote_tools.inbox.box_records import MOST
-from debvote_tools.poll.box import SCRIPT, SECRET_SENTENCES, SENTENCES, asking_word, key_of, list_digest, page_of
-from debvote_tools.poll.box import records_file, script_address, script_of, third_part
-from debvote_tools.poll.box import without_links
-from debvote_tools.text.rendering import resources
 from debvote_tools.poll.sealed import OWN_LENGTH, OWN_SIGNS, new_own_mark
+from debvote_tools.text.rendering import resources
 
 MARK, KEY = "1ac5041b936c7fc1", bytes(range(32))
 OWNS = {"ada": "23456789ab", "ben-lee": "3456789abc", "m.12": "456789abcd"}
@@ -123,7 +121,7 @@ class Scripts(unittest.TestCase):
 
     def test_what_the_page_runs_to_send_is_short(self) -> None:
         """Whoever reads it sees what is sealed, and that nothing else is sent."""
-        self.assertLessEqual(len(resources("debvote_tools.poll", "box.js").encode()), 6_700)
+        self.assertLessEqual(len(resources("debvote_tools.call", "box.js").encode()), 6_700)
 
     def test_as_many_records_of_a_link_are_kept_as_the_script_takes(self) -> None:
         """More would be acknowledged, and passed over."""

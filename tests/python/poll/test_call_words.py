@@ -11,9 +11,9 @@ import subprocess
 import unittest
 import urllib.parse
 
+from debvote_tools.call.call import CallData, call_files, call_letter
 from debvote_tools.cli.faults import Fault, Status
 from debvote_tools.poll.announced import demand_mail_address, demand_web_address, named_address
-from debvote_tools.poll.call import CallData, call_files, call_letter
 from debvote_tools.poll.sealed import read_plain, with_roll
 from debvote_tools.text.language import LANGUAGES, language_of
 

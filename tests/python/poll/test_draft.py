@@ -10,9 +10,9 @@ import tempfile
 import tomllib
 import unittest
 
-from debvote_tools.book.election import Election
+from debvote_tools.call.draft import NEW_POLL, DraftPoll, draft_in, faults_of_names, sealed_form
 from debvote_tools.cli.faults import Fault, Status
-from debvote_tools.poll.draft import NEW_POLL, DraftPoll, draft_in, faults_of_names, sealed_form
+from debvote_tools.election import Election
 from debvote_tools.poll.sealed import SealedPoll, read_plain
 
 from tests.support import elections

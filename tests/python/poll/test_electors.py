@@ -4,8 +4,8 @@ import unittest
 from collections.abc import Iterable
 
 from debvote_tools.book.queries import Elector
+from debvote_tools.call.members import Member, Roll, roll_of
 from debvote_tools.cli.faults import Fault
-from debvote_tools.poll.members import Member, Roll, roll_of
 
 KEY = "0123456789ABCDEF0123456789ABCDEF01234567"
 KNOWN = [Elector(1, "ada", 1, "Ada L", ("a@x",)), Elector(2, "ben", 2, "Ben", ("b@x",), KEY), Elector(3, "zoe", 3, "Zoë", ())]

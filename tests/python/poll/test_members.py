@@ -4,8 +4,8 @@ import codecs
 import itertools
 import unittest
 
+from debvote_tools.call import members
 from debvote_tools.cli.faults import Fault, Status
-from debvote_tools.poll import members
 
 
 KEY = "0123456789ABCDEF0123456789ABCDEF01234567"

@@ -8,11 +8,11 @@ import pathlib
 import tempfile
 import unittest
 
-from debvote_tools.book.election import Sealed
 from debvote_tools.book.queries import Elector
-from debvote_tools.poll.call import call_files
+from debvote_tools.call.call import call_files
+from debvote_tools.call.secret import alias_in, aliased, codes_csv, slips
+from debvote_tools.election import Sealed
 from debvote_tools.poll.questions import LABELS, Questions, read_questions
-from debvote_tools.poll.secret import alias_in, aliased, codes_csv, slips
 
 from tests.support import calls
 from tests.support.at_browser import NEEDS_BROWSER, Window

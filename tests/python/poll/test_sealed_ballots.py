@@ -10,10 +10,10 @@ import pytest
 
 pytest.importorskip("cryptography", reason="python3-cryptography is not installed")
 
+from debvote_tools.call import sealed_ballots
+from debvote_tools.call.box import personal_link, proof_digest
+from debvote_tools.call.sealed_ballots import key_pair
 from debvote_tools.cli.faults import Fault, Status
-from debvote_tools.poll import sealed_ballots
-from debvote_tools.poll.box import personal_link, proof_digest
-from debvote_tools.poll.sealed_ballots import key_pair
 
 from tests.support import sealing
 

@@ -16,26 +16,12 @@ import unittest.mock
 from collections.abc import Sequence
 
 from debvote_tools.book.queries import Elector
+from debvote_tools.call.call import CallData
+from debvote_tools.call.secret import BY_OPENSSL, BY_PYTHON, NUMBER, alias_of, aliased, aliased_ballots, codes_csv, codes_for_roll, demand_no_code, new_code, seal_line, sealed_checksum, slips
 from debvote_tools.cli.faults import Fault
 from debvote_tools.inbox.letter_lines import with_texts
-from debvote_tools.inbox.lines import has_code
-from debvote_tools.poll.call import CallData
+from debvote_tools.poll.codes import has_code
 from debvote_tools.poll.sealed import read_plain
-from debvote_tools.poll.secret import (
-    BY_OPENSSL,
-    BY_PYTHON,
-    NUMBER,
-    alias_of,
-    aliased_ballots,
-    aliased,
-    codes_csv,
-    codes_for_roll,
-    demand_no_code,
-    new_code,
-    seal_line,
-    sealed_checksum,
-    slips,
-)
 from debvote_tools.text.language import LANGUAGES, language_of
 
 from tests.support import calls
@@ -85,7 +71,7 @@ class Codes(unittest.TestCase):
         self.assertEqual(len({code[start : start + 8] for code in codes for start in range(0, 32, 8)}), 200)
 
     def test_codes_on_the_roll_are_typed_so_they_have_the_signs_of_own_marks(self) -> None:
-        with unittest.mock.patch("debvote_tools.poll.secret.new_own_mark", side_effect=["22222e2222", "b" * 10, "a2" * 5, "b" * 10, "c" * 10]):
+        with unittest.mock.patch("debvote_tools.call.secret.new_own_mark", side_effect=["22222e2222", "b" * 10, "a2" * 5, "b" * 10, "c" * 10]):
             self.assertEqual(codes_for_roll(3), ["a2" * 5, "b" * 10, "c" * 10])
         codes = [code for code in codes_for_roll(500) if re.fullmatch("[2-9a-hjkmnp-z]{10}", code)]
         self.assertEqual((len(codes), codes), (500, sorted(codes)))
@@ -102,7 +88,7 @@ class Codes(unittest.TestCase):
         for bad in ("1" * 32, "1234e567" + "0" * 24):
             with unittest.mock.patch("secrets.token_hex", side_effect=[bad, good]):
                 self.assertEqual(new_code("ada"), good)
-        with unittest.mock.patch("debvote_tools.poll.secret.alias_of", side_effect=["2" * 32, "12e" + "4" * 29, "b" * 32]) as made:
+        with unittest.mock.patch("debvote_tools.call.secret.alias_of", side_effect=["2" * 32, "12e" + "4" * 29, "b" * 32]) as made:
             code = new_code("ada")
         self.assertEqual(([call.args[1] for call in made.call_args_list], made.call_args.args[0]), (["ada"] * 3, code))
         self.assertFalse(NUMBER.fullmatch("12a4"))

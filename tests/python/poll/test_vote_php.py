@@ -12,8 +12,7 @@ import tempfile
 import time
 import unittest
 
-from debvote_tools.poll.box import END_OF_CODE, SCRIPT, asking_word, list_digest, page_of
-from debvote_tools.poll.box import proof_digest, script_of, third_part
+from debvote_tools.call.box import END_OF_CODE, SCRIPT, asking_word, list_digest, page_of, proof_digest, script_of, third_part
 from debvote_tools.poll.questions import LABELS
 from debvote_tools.text.rendering import resources
 
@@ -73,7 +72,7 @@ class Requests(BoxTest):
         return found[1] if found else ""
 
     def test_the_script_is_short_and_the_same_for_each_vote(self) -> None:
-        code = resources("debvote_tools.poll", SCRIPT).encode()
+        code = resources("debvote_tools.call", SCRIPT).encode()
         self.assertLessEqual(len(code), 4_700)
         self.assertTrue(code.endswith(END_OF_CODE) and code.count(END_OF_CODE) == 1)
         other = script_of(b"x" * 32, "0" * 16, {})
@@ -318,7 +317,7 @@ class Votes(BoxTest):
 
     def test_a_script_without_its_list(self) -> None:
         host = self.host()
-        for cut in (len(resources("debvote_tools.poll", SCRIPT)), 1_000):
+        for cut in (len(resources("debvote_tools.call", SCRIPT)), 1_000):
             (self.folder / SCRIPT).write_bytes(self.script[:cut])
             for body in (ASK, ballot("ada", "1,2", 1)):
                 self.assertNotIn(host.send(body).word, ("box", "received"))

@@ -89,7 +89,7 @@ class Clicks(QuestionsByBox):
         self.open("ada")
         self.answer("A", "1,2")
         self.answer("D", *PLACES)
-        self.assertEqual(self.shown("Missing"), "Not answered: B, C")
+        self.assertEqual(self.shown("Answered"), "2 of 4 answered; not B, C")
         self.assertEqual(self.window.ask("document.documentElement.scrollWidth"), 360)
         self.vote()
         # more is answered on the same page: it is sent with what was answered before

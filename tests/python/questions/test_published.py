@@ -12,7 +12,7 @@ import shlex
 import subprocess
 import sys
 
-from debvote_tools.poll.secret import alias_of
+from debvote_tools.call.secret import alias_of
 
 from tests.support import at_browser
 from tests.support.elections import HAS_PICTURES, PUBLISH

@@ -15,7 +15,7 @@ import unittest
 from unittest import mock
 
 from debvote_tools.book import queries
-from debvote_tools.book.election import fixed_by
+from debvote_tools.election import fixed_by
 from debvote_tools.result.folder import NewFolder, beside
 from debvote_tools.text import times
 from debvote_tools.text.language import ENGLISH

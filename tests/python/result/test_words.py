@@ -6,8 +6,8 @@ import random
 
 from debvote_tools.result.facts import Act
 from debvote_tools.result.page import share
-from debvote_tools.result.sheet import sheet_in
 from debvote_tools.result.why import Why
+from debvote_tools.sheet import sheet_in
 from debvote_tools.text.ballots import ballot_lines, ballots_in_words, line_of, part_of, ranks_by_label
 from debvote_tools.text.language import ENGLISH, language_of
 from debvote_tools.text.rendering import templates_of

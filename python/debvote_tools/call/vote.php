@@ -1,5 +1,5 @@
 <?php
-// Keeps each ballot of the page, sealed to the secretary, beside it until the secretary asks. FORMATS has the protocol.
+// Keeps each ballot of the page, sealed to the secretary, beside it until the secretary asks. INSIDE has the protocol.
 // Each vote has the same code, as hosts keep it compiled. Nobody can vote by reading what is below it, or learns who may.
 const LONGEST = 4000, PER_LINK = 20, AHEAD = 600, FULL = 30_000_000;
 const BALLOT = '/\A(?:box=)?([0-9a-f]{16}) ([0-9a-f]{64}) ([0-9a-f]{32})\n([\w-]{200,3800})\n\z/';

@@ -1,6 +1,5 @@
 """The poll as the secretary writes it, and the sealed poll that it becomes."""
 
-import itertools
 import json
 import math
 import os
@@ -10,25 +9,13 @@ import tomllib
 from collections.abc import Iterator, Mapping, Sequence
 from typing import Any, NamedTuple
 
-from debvote_tools.book import queries
-from debvote_tools.cli.console import LINE_ENDS, count_of, shown_text, tell, tell_as_it_is
-from debvote_tools.book.election import LETTER_TEXT, POLLS, TEXTS, Election
+from debvote_tools.cli.console import LINE_ENDS, shown_text, tell_as_it_is
 from debvote_tools.cli.faults import Fault, Status, bad_words, kept_in, stop_at
+from debvote_tools.election import LETTER_TEXT, POLLS, TEXTS, Election
 from debvote_tools.files import POLL_LIMIT, read_text, read_whole
-from debvote_tools.inbox.letter_text import reading_of
-from debvote_tools.inbox.lines import names_of
 from debvote_tools.poll.plain_names import bad_options, bad_title, plain_options, plain_title
-from debvote_tools.poll.questions import (
-    LABELS,
-    POLL_FILE,
-    Questions,
-    TITLE_FILE,
-    place_of,
-    read_questions,
-)
-from debvote_tools.poll.sealed import KEYS, SealedPoll, is_set, plain_form
-from debvote_tools.result.sheet import sheet_in
-from debvote_tools.text.language import Language
+from debvote_tools.poll.questions import LABELS, POLL_FILE, TITLE_FILE, Questions, place_of
+from debvote_tools.poll.sealed import KEYS, is_set, plain_form
 from debvote_tools.text.motions import ABSTAIN, NO, YES, first_word, words_of
 
 # the file that `new` writes, with its explanations
@@ -87,7 +74,9 @@ def bad_poll(file: object, reason: str, cure: str) -> Fault:
 
 # ---- the files
 def labels_in(folder: pathlib.Path) -> list[str]:
-    """The labels of several questions, by the files of their polls, or that of one, which is empty."""
+    """The labels of several questions, by the files of their polls, or that of one, which is
+    empty.
+    """
     place = folder / POLLS
     if not place.is_dir():
         return [""]
@@ -219,7 +208,9 @@ def faults_of_names(draft: DraftPoll, roll: Sequence[str], language: str) -> Ite
 
 
 def faults_of_several(election: Election, drafts: Mapping[str, DraftPoll]) -> Iterator[Fault]:
-    """What can't be of the polls of several questions together, or is in their folders beside them."""
+    """What can't be of the polls of several questions together, or is in their folders beside
+    them.
+    """
     place, labels = election.path(POLLS), list(drafts)
     if (file := election.path(POLL_FILE)).exists():
         reason = f"it is beside the folder {POLLS}, which has the polls of several questions"
@@ -282,64 +273,6 @@ def sealed_form(draft: DraftPoll, roll: Sequence[str], language: str, **announce
     return plain_form({key: made[key] for key in KEYS if key in made} | others)
 
 
-# ---- asking debvote
-class Checked(NamedTuple):
-    """What a call would seal, how many votes the quorum of each question is, and whether it is about a
-    secret vote in which not all electors have codes.
-    """
-
-    questions: Questions
-    quorums: Mapping[str, int]
-    letter_text: str
-    lacks_codes: bool
-
-
-def checked(election: Election, **announced: object) -> Checked:
-    """Checks the polls and all texts. Raises all faults at once. The polls are sealed with what is
-    announced, as `sealed_form` has it.
-    """
-    faults, title, letter_text, language = list[Fault](), "", "", election.language.code
-    electors = queries.electors(election.book)
-    roll = [elector.name for elector in electors]
-    drafts = {label: draft_in(election, label) for label in labels_in(election.folder)}
-    for draft in drafts.values():
-        faults += [*draft.faults, *faults_of_names(draft, roll, language)]
-    if "" not in drafts:
-        with kept_in(faults):
-            faults += faults_of_several(election, drafts)
-        with kept_in(faults):
-            title = title_in(election.folder)
-    if not roll:
-        cure = f"run {election.command('roll')} first"
-        faults.append(Fault(None, "there are no electors yet", cure, done=None))
-    with kept_in(faults):
-        letter_text = letter_text_in(election.folder)
-    polls = {}
-    for label, draft in drafts.items():
-        polls[label] = sealed_form(draft, roll or ["nobody"], language, **announced)
-        faults += faults_by_debvote(election, draft.file, polls[label])
-    stop_at(faults)
-    quorums = {
-        label: sheet_in(election.debvote.answer("count", data).text).quorum
-        for label, data in polls.items()
-    }
-    motions = [label for label, draft in drafts.items() if draft.says("motion")]
-    questions = read_questions(polls, motions, title)
-    stop_at([*faults_of_ballots(election, questions, letter_text)])
-    has_codes = election.history().has_codes_on_roll or all(one.code for one in electors)
-    return Checked(questions, quorums, letter_text, questions.is_secret and not has_codes)
-
-
-def faults_by_debvote(election: Election, file: pathlib.Path, poll_bytes: bytes) -> Iterator[Fault]:
-    answer = election.debvote.run("explain", "--poll", "/dev/stdin", given=poll_bytes)
-    if not answer.text:
-        reason = answer.refusal or f"debvote ended with status {answer.status}"
-        yield Fault(file, reason, f"run {election.command('check')} again", answer.status, None)
-    for line in answer.text.splitlines():
-        if line.startswith("poll: "):
-            yield bad_poll(file, line.removeprefix("poll: "), BY_EDITOR)
-
-
 # ---- what letters quote
 def texts_of(questions: Questions) -> dict[str, str]:
     """The files of the texts of the options, by these texts."""
@@ -348,73 +281,3 @@ def texts_of(questions: Questions) -> dict[str, str]:
         for label, poll in questions.items()
         for number, text in enumerate(poll.explanations, start=1)
     }
-
-
-def like_answers(
-    questions: Questions, letter_text: str, language: Language
-) -> list[tuple[str, str]]:
-    """What letters have of the secretary's words that looks like an answer: titles, options and lines
-    of texts, each behind its file, and the number of its line.
-    """
-    found = [(f"{POLLS}/{TITLE_FILE}", questions.title)]
-    for label, poll in questions.items():
-        file, before = (f"{POLLS}/{label}.toml", f"{label}: ") if label else (POLL_FILE, "")
-        found += [(file, f"{before}{poll.name}"), *((file, name) for name in poll.names)]
-    for text, file in {**texts_of(questions), letter_text: LETTER_TEXT}.items():
-        lines = enumerate(text.splitlines(), start=1)
-        found += [(f"{file}:{number}", line) for number, line in lines]
-    answers = questions.answers(language)
-    return [(place, text) for place, text in found if answers.search(text)]
-
-
-def faults_of_ballots(
-    election: Election, questions: Questions, letter_text: str
-) -> Iterator[Fault]:
-    """Those that read as ballots: an elector may send one back."""
-    names = names_of(questions, queries.electors(election.book), election.language)
-    for text, file in {**texts_of(questions), letter_text: LETTER_TEXT}.items():
-        lines = text.splitlines()
-        for ballot in reading_of(lines, names).ballots:
-            reason = f"`{shown_text(lines[ballot.number - 1])}` reads as a ballot"
-            yield bad_words(
-                f"{file}:{ballot.number}", reason, f"write it in another way{THEN}", None
-            )
-
-
-def tell_checked(found: Checked, language: Language) -> None:
-    tell(f"Title: {found.questions.name}")
-    for label, poll in found.questions.items():
-        tell(*poll_in_words(label, poll))
-    own = found.letter_text.splitlines()
-    if own:
-        tell(f"Letters to electors begin with {LETTER_TEXT}:")
-        tell(*(f"  {line}".rstrip() for line in own))
-    if long := [str(number) for number, line in enumerate(own, 1) if len(line) > LONGEST_LINE]:
-        why = f"have more than {LONGEST_LINE} characters, so mail programs may break them"
-        tell(f"Note: these lines of {LETTER_TEXT} {why}: {', '.join(long)}")
-    if like := like_answers(found.questions, found.letter_text, language):
-        tell("Note: these look like answers, and letters that quote one of them wait:")
-        tell(*(f"  {place}: {shown_text(text)}" for place, text in like))
-
-
-def poll_in_words(label: str, poll: SealedPoll) -> Iterator[str]:
-    """What is asked, below the title of the one question."""
-    if label:
-        yield f"Question {label}: {poll.name}"
-    if poll.name != poll.title:
-        yield f"  plain: {poll.title}"
-    yield "Options:"
-    # the default option is the last, and has no ratio and no text
-    options = itertools.zip_longest(poll.names, poll.plain_names, poll.ratios, poll.explanations)
-    for number, (name, plain, ratio, text) in enumerate(options, start=1):
-        kind = f"majority ratio {ratio}" if ratio else "the default option"
-        yield f"{number:3}  {name} ({kind})"
-        if name != plain:
-            yield f"     plain: {plain}"
-        if text:
-            words = count_of(len(text.split()), "word")
-            yield f"     text: {words} from {TEXTS}/{place_of(label, f'{number}.txt')}"
-    if poll.motion:
-        yield "A motion, yes: {}, no: {}".format(*poll.names)
-    if poll.wording == "more_than":
-        yield "Majority: more than the ratio (Debian's rule is at least the ratio)"

@@ -1,9 +1,9 @@
-"""The box of a vote: `vote.php`, beside the page of the call, keeps the ballots that electors send by
-a click, and `add --box` asks it for them.
+"""The box of a vote: `vote.php`, beside the page of the call, keeps the ballots that electors send
+by a click, and `add --box` asks it for them.
 
 The key of the box never leaves the book: whoever has it makes the link of each elector from name
-and own mark, and opens each ballot (`sealed_ballots.py`). The host gets digests alone; the word that
-asks makes no link.
+and own mark, and opens each ballot (`sealed_ballots.py`). The host gets digests alone; the word
+that asks makes no link.
 """
 
 import contextlib
@@ -16,8 +16,8 @@ from collections.abc import Mapping
 
 from debvote_tools.book import queries
 from debvote_tools.book.book import Book
-from debvote_tools.book.election import BOX_KEY, BOX_SCRIPT
 from debvote_tools.cli.faults import Fault, bad_words
+from debvote_tools.election import BOX_KEY, BOX_SCRIPT
 from debvote_tools.files import sha256_of
 from debvote_tools.poll.sealed import OWN, OWN_SIGNS
 from debvote_tools.text.language import marked
@@ -53,8 +53,8 @@ SENTENCES = marked(
         "unsealed": "This browser can't seal a ballot. Open the link in another one.",
     }
 )
-# those that are others in a secret vote, in which nobody is asked to send a ballot by e-mail, and no
-# receipt says what is in it
+# those that are others in a secret vote, in which nobody is asked to send a ballot by e-mail, and
+# no receipt says what is in it
 SECRET_SENTENCES = marked(
     {
         "type_name": "To vote here by a click, open the link in your own letter.",
@@ -81,16 +81,16 @@ def asking_word(key: bytes) -> str:
 
 
 def page_of(key: bytes, mark: str) -> str:
-    """What the page of the poll with this mark posts with each ballot, so that a page of another call,
-    or of another book with this poll, is refused.
+    """What the page of the poll with this mark posts with each ballot, so that a page of another
+    call, or of another book with this poll, is refused.
     """
     return sha256_of(hmac.digest(key, f"page {mark}".encode(), "sha256"))[:PAGE_DIGITS]
 
 
 @functools.cache
 def third_part(key: bytes, name: str, own: str) -> str:
-    """The third part of the personal link of an elector with this own mark. It stands in no subject,
-    as own marks do: who gets an answer of the elector in copy cannot vote.
+    """The third part of the personal link of an elector with this own mark. It stands in no
+    subject, as own marks do: who gets an answer of the elector in copy cannot vote.
     """
     number = int.from_bytes(hmac.digest(key, f"{name} {own}".encode(), "sha256"))
     places = (len(OWN_SIGNS) ** place for place in range(LINK_LENGTH))
@@ -98,13 +98,15 @@ def third_part(key: bytes, name: str, own: str) -> str:
 
 
 def personal_link(key: bytes, name: str, own: str) -> str:
-    """What is behind the address of the page in the personal link of an elector with this own mark."""
+    """What is behind the address of the page in the personal link of an elector with this own
+    mark.
+    """
     return f"{name}/{own}/{third_part(key, name, own)}"
 
 
 def proof_digest(mark: str, link: str) -> str:
-    """What the host knows of a link to the page of the poll with this mark: the digest of the proof that
-    the page sends, which is one of the link.
+    """What the host knows of a link to the page of the poll with this mark: the digest of the proof
+    that the page sends, which is one of the link.
     """
     return sha256_of(sha256_of(f"{mark} {link}".encode()).encode())
 
@@ -138,12 +140,12 @@ def script_of(key: bytes, mark: str, owns: Mapping[str, str]) -> bytes:
     digests = sorted(proof_digest(mark, link) for link in links)
     first = f"{mark} {sha256_of(asking_word(key).encode())} {page_of(key, mark)}"
     lines = "".join(f"{line}\n" for line in (first, *digests))
-    return f"{resources('debvote_tools.poll', SCRIPT)}{lines}".encode()
+    return f"{resources('debvote_tools.call', SCRIPT)}{lines}".encode()
 
 
 def box_files(book: Book, mark: str, owns: Mapping[str, str]) -> dict[str, bytes]:
-    """What is sealed of the box: its key, which is the same for each call, so that its file on the web
-    host stays; and the script, if it is another one now.
+    """What is sealed of the box: its key, which is the same for each call, so that its file on the
+    web host stays; and the script, if it is another one now.
     """
     key = key_of(book)
     files = {BOX_KEY: key, BOX_SCRIPT: script_of(key, mark, owns)}

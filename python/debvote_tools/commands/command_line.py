@@ -9,21 +9,22 @@ import sys
 from collections.abc import Sequence
 from typing import Any
 
-from debvote_tools.book.election import Election
 from debvote_tools.cli import arguments, console
 from debvote_tools.cli.faults import Fault, Status
+from debvote_tools.election import Election
 
 PROGRAM = "debvote-election"
 
-# in the order in which an election needs them. Each is a function with this name, in a module with this
-# name or one of `SHARED`; its docstring is the help, and the class of its arguments has the options
+# in the order in which an election needs them. Each is a function with this name, in a module with
+# this name or one of `SHARED`; its docstring is the help, and the class of its arguments has the
+# options
 COMMANDS = (
     "new roll check codes call add held undo strike desk letters show status "
     "close reopen count publish log export backup"
 ).split()
 
 SHARED = {
-    "begin": "new roll check codes",
+    "begin": "new roll codes",
     "correct": "undo strike reopen",
     "look": "status show log export backup",
 }

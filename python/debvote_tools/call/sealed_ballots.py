@@ -1,7 +1,8 @@
 """The ballots that the page of a vote seals to the secretary: the key pair of a poll, and opening.
 
 Both keys are made from the key of the box, so an old copy of the book opens all that comes later.
-This alone needs Debian's python3-cryptography, so it is imported only where a page is made or a record opened.
+This alone needs Debian's python3-cryptography, so it is imported only where a page is made or a
+record opened.
 """
 
 import base64
@@ -32,9 +33,9 @@ NONCE = bytes(12)
 
 @functools.cache
 def key_pair(key: bytes, mark: str) -> tuple[str, Callable[[str, str], str]]:
-    """The public key of the poll with this mark, as its page has it, and what opens a text that was sealed
-    to it for a number. This raises ValueError at all else, such as a point off the curve, another number,
-    or a text that was changed.
+    """The public key of the poll with this mark, as its page has it, and what opens a text that was
+    sealed to it for a number. This raises ValueError at all else, such as a point off the curve,
+    another number, or a text that was changed.
     """
     # from more bits than it has (FIPS 186-5, A.2.1)
     number = int.from_bytes(hmac.digest(key, f"seal {mark}".encode(), "sha512"))

@@ -8,10 +8,10 @@ import secrets
 from collections.abc import Collection, Iterable, Mapping, Sequence
 
 from debvote_tools.book.queries import Elector
+from debvote_tools.call.call import PACKAGE, CallData
 from debvote_tools.cli.faults import Fault
 from debvote_tools.files import sha256_of
-from debvote_tools.inbox.lines import codes_in
-from debvote_tools.poll.call import PACKAGE, CallData
+from debvote_tools.poll.codes import codes_in
 from debvote_tools.poll.questions import Questions
 from debvote_tools.poll.sealed import OWN_LENGTH, OWN_SIGNS, new_own_mark, with_roll
 from debvote_tools.text.ballots import in_normal_form
@@ -40,7 +40,9 @@ FORMULA = re.compile(
 
 # ---- codes
 def new_code(name: str) -> str:
-    """Draws 16 random bytes in hex digits, until no spreadsheet takes code or alias for a number."""
+    """Draws 16 random bytes in hex digits, until no spreadsheet takes code or alias for a
+    number.
+    """
     while True:
         code = secrets.token_hex(16)
         if not NUMBER.fullmatch(code) and not NUMBER.fullmatch(alias_of(code, name)):
@@ -48,8 +50,8 @@ def new_code(name: str) -> str:
 
 
 def codes_for_roll(count: int) -> list[str]:
-    """Draws codes that stand on the roll in place of names, in their order. People type them, so they have
-    the signs of own marks.
+    """Draws codes that stand on the roll in place of names, in their order. People type them, so
+    they have the signs of own marks.
     """
     codes = set[str]()
     while len(codes) < count:
@@ -59,7 +61,9 @@ def codes_for_roll(count: int) -> list[str]:
 
 
 def demand_no_code(name: str, data: bytes, codes: Collection[str]) -> None:
-    """Stops if a file for everybody would have a code: the list of codes may be one of the texts."""
+    """Stops if a file for everybody would have a code: the list of codes may be one of the
+    texts.
+    """
     if codes and not codes_in(data.decode("utf-8", "replace")).isdisjoint(codes):
         words = f"{name} would have the code of an elector in it"
         raise Fault(None, words, "check the texts that you gave")
@@ -67,7 +71,8 @@ def demand_no_code(name: str, data: bytes, codes: Collection[str]) -> None:
 
 def codes_csv(call: CallData, electors: Iterable[Elector]) -> bytes:
     """The table of the codes, for a spreadsheet or a mail merge. With several questions it has no
-    aliases: each elector has one for each. The mark, which ends the subject of an answer, the call makes.
+    aliases: each elector has one for each. The mark, which ends the subject of an answer, the call
+    makes.
     """
     text = io.StringIO()
     table = csv.writer(text, lineterminator="\n")
@@ -114,13 +119,15 @@ def lines_of_slip(call: CallData, electors: Sequence[Elector]) -> float:
 
 # ---- aliases
 def alias_of(code: str, name: str) -> str:
-    """The first 32 hex digits of HMAC-SHA-256, with the code's text as key and the name as message."""
+    """The first 32 hex digits of HMAC-SHA-256, with the code's text as key and the name as
+    message.
+    """
     return hmac.new(code.encode(), name.encode(), "sha256").hexdigest()[:32]
 
 
 def alias_in(label: str, elector: Elector) -> str:
-    """The alias of an elector in a question, so that no two questions have the same one; of an elector
-    whose name on the roll is a code, that name.
+    """The alias of an elector in a question, so that no two questions have the same one; of an
+    elector whose name on the roll is a code, that name.
     """
     return (
         alias_of(elector.code, f"{label} {elector.name}".strip()) if elector.code else elector.name
@@ -153,7 +160,7 @@ def seal_line() -> str:
 
 
 def sealed_checksum(seal: str, ballots: bytes) -> str:
-    """The checksum of the ballots that the close publishes; in a secret vote that of the seal's line,
-    followed by the ballots.
+    """The checksum of the ballots that the close publishes; in a secret vote that of the seal's
+    line, followed by the ballots.
     """
     return sha256_of((f"{seal}\n".encode() if seal else b"") + ballots)

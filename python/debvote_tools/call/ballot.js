@@ -28,6 +28,7 @@
     names: [...node.querySelectorAll(".option .name")].map((name) => name.textContent),
     // each is a list, or has a button for each rank, or in a motion for each answer, which makes both ranks
     ranks: [...node.querySelectorAll(".rank")],
+    // a motion that is one of several questions says its answer below them alone
     said: node.querySelector("ul"),
   }));
   // the names on the roll, and the real names beside them, where the page shows them
@@ -101,15 +102,15 @@
   }
 
   // ---- the ranks in words
-  // The whole ballot in its order, as the result shows it: each option behind its place, those that are not ranked last.
+  // The whole ballot in its order: each option behind the rank that was chosen for it, those that are not ranked last.
   function ballotNodes(given, names) {
     const steps = [...new Set(given)].filter((rank) => rank !== UNRANKED).sort((a, b) => a - b);
-    return [...steps, UNRANKED].flatMap((rank, step) => {
+    return [...steps, UNRANKED].flatMap((rank) => {
       const options = given.flatMap((other, option) => (other === rank ? [option] : []));
       return options.map((option) => {
         const name = element("bdi", names[option]);
         name.dataset.option = option + 1;
-        return element("li", element("b", rank === UNRANKED ? "–" : String(step + 1)), "\u00a0", name);
+        return element("li", element("b", rank === UNRANKED ? "–" : rank), "\u00a0", name);
       });
     });
   }
@@ -142,29 +143,33 @@
 
   // The answer to a question, as it is on the ballot; none while no option is ranked. It is said in words beside the question.
   function answerTo({ label, names, ranks, said }) {
-    const given = ranks.flatMap((rank) => ((rank.value ?? rank.querySelector(":checked")?.value) || UNRANKED).split(","));
+    const chosen = ranks.map((rank) => rank.querySelector(":checked"));
+    const given = chosen.flatMap((node) => (node?.value ?? UNRANKED).split(","));
     const isRanked = given.some((rank) => rank !== UNRANKED);
-    say(said, ...(isRanked ? ballotNodes(given, names) : []));
-    return isRanked ? `${label} ${given}`.trim() : undefined;
+    // a motion has one group of buttons, each with the word of the answer
+    const inWords = ranks.length === names.length ? () => ballotNodes(given, names) : () => [element("li", chosen[0].parentNode.textContent)];
+    if (sections.length === 0 || ranks.length === names.length) say(said, ...(isRanked ? inWords() : []));
+    return isRanked ? { label, line: `${label} ${given}`.trim(), inWords } : undefined;
   }
 
-  // What the page still lacks, or leaves unanswered.
-  function missingFrom(name, answers) {
-    const left = questions.filter((question, at) => answers[at] === undefined).map(({ label }) => label);
-    const said = name === undefined ? [words.type_name] : [];
-    if (left.length === questions.length) said.push(words.rank_missing);
-    else if (left.length > 0) said.push(sentence("unanswered", { questions: left.join(", ") }));
-    return said.join(" ");
+  // Below several questions: how many are answered, and how, each behind its label.
+  function sayAnswers(given) {
+    const answered = given.map(({ label }) => label);
+    const left = questions.map(({ label }) => label).filter((label) => !answered.includes(label));
+    const places = { number: answered.length, count: questions.length, questions: left.join(", ") };
+    byId("Lines").hidden = given.length === 0;
+    say("Answered", sentence(left.length > 0 ? "some_answered" : "all_answered", places));
+    say("Words", ...given.map(({ label, inWords }) => element("li", element("b", label), element("ul", ...inWords()))));
   }
 
   function update() {
     const name = nameTyped();
-    const answers = questions.map(answerTo);
-    const given = answers.filter(Boolean);
+    const given = questions.map(answerTo).filter(Boolean);
     const isWhole = name !== undefined && given.length > 0;
-    ballot = isWhole ? [name, ...given].join(sections.length > 0 ? "\n" : " ") : "";
+    ballot = isWhole ? [name, ...given.map(({ line }) => line)].join(sections.length > 0 ? "\n" : " ") : "";
     say("Line", ballot);
-    say("Missing", missingFrom(name, answers));
+    if (sections.length > 0) sayAnswers(given);
+    say("Missing", [name === undefined && words.type_name, given.length === 0 && words.rank_missing].filter(Boolean).join(" "));
     say("Copied", "");
     byId("Ready").hidden = !isWhole;
     byId("Long").hidden = ballot.split("\n").every((line) => line.length <= MAIL_LIMIT);
@@ -187,6 +192,7 @@
       say("Copied", words.copied);
     } catch {
       // a browser gives no clipboard to a page that did not come by https
+      byId("Lines")?.setAttribute("open", "");
       getSelection().selectAllChildren(byId("Line"));
       say("Copied", words.selected);
     }

@@ -1,5 +1,5 @@
-"""The list of members, a table as spreadsheets save it, and the roll that it becomes: CSV with a comma,
-semicolon or tab, in UTF-8 or UTF-16.
+"""The list of members, a table as spreadsheets save it, and the roll that it becomes: CSV with a
+comma, semicolon or tab, in UTF-8 or UTF-16.
 """
 
 import codecs
@@ -11,7 +11,6 @@ import unicodedata
 from collections.abc import Iterable, Iterator, Mapping, Sequence
 from typing import NamedTuple
 
-from debvote_tools.inbox.mime import ADDRESS, address_key
 from debvote_tools.book.queries import Elector
 from debvote_tools.cli.console import listed, shown_text, steering
 from debvote_tools.cli.faults import Fault, stop_at
@@ -24,6 +23,7 @@ from debvote_tools.poll.plain_names import (
     is_elector_name,
     made_different,
 )
+from debvote_tools.text.addresses import ADDRESS, address_key
 
 DELIMITERS = {",": "comma", ";": "semicolon", "\t": "tab"}
 # longer than a file that is read, so that a cell has no limit of its own
@@ -126,8 +126,8 @@ def bad_list(file: object, reason: str, cure: str) -> Fault:
 
 
 def read_table(data: bytes, file: object) -> tuple[list[Row], str]:
-    """The rows of a table that are not blank, the head line first; and its delimiter, which is the one
-    that finds most heads in that line. A quotation mark after spaces begins a cell, too.
+    """The rows of a table that are not blank, the head line first; and its delimiter, which is the
+    one that finds most heads in that line. A quotation mark after spaces begins a cell, too.
     """
     text = table_text(data, file)
     head_line = next((line for line in re.split(r"[\r\n]+", text) if line.strip(' \t,;"')), "")

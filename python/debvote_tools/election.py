@@ -1,4 +1,6 @@
-"""An election in its folder: the book, what its acts say of the election as a whole, and debvote."""
+"""An election in its folder: the book, what its acts say of the election as a whole, and
+debvote.
+"""
 
 import datetime
 import functools
@@ -12,11 +14,11 @@ from debvote_tools.book import queries
 from debvote_tools.book.book import NAME, ActName, Book, DoneAct, damaged, from_text, open_book
 from debvote_tools.cli.arguments import Acting, demand_reason
 from debvote_tools.cli.console import FOR_TERMINALS, ZONE, tell_aside
-from debvote_tools.debvote import Debvote
 from debvote_tools.cli.faults import NOTHING_CHANGED, Fault, Status, bad_words, stop_at
+from debvote_tools.debvote import Debvote
 from debvote_tools.files import real_place
-from debvote_tools.text.language import Language, language_of
 from debvote_tools.poll.questions import Questions, read_questions
+from debvote_tools.text.language import Language, language_of
 
 MEMBERS_FILE, POLLS, TEXTS = "members.csv", "polls", "texts"
 CALL, LETTERS, RESULT, PRIVATE = "call", "letters", "result", "private"
@@ -28,8 +30,8 @@ RESULT_LETTER = "result.txt"
 # the names of what is sealed: the polls of the call, each with its label behind the name, and in a
 # secret vote so the polls that have names, and so, with nothing in it, that a poll is a motion; the
 # title of several questions; the keys of those whose letters have to be signed; what the secretary
-# writes at the head of letters, in the file of the same name; the key of the box, which never leaves
-# the book, its script, and its page
+# writes at the head of letters, in the file of the same name; the key of the box, which never
+# leaves the book, its script, and its page
 POLL, POLL_WITH_NAMES, KEYRING, LETTER_TEXT = "poll", "poll with names", "keyring", "letter.txt"
 MOTION, TITLE = "motion", "title"
 BOX_KEY, BOX_SCRIPT, BOX_PAGE = "box key", f"{CALL}/vote.php", f"{CALL}/index.html"
@@ -70,7 +72,9 @@ class History(NamedTuple):
 
     @property
     def is_secret_by_click(self) -> bool:
-        """Whether the vote is secret and has a box: of such a one alone the call says whether slips go out."""
+        """Whether the vote is secret and has a box: of such a one alone the call says whether slips
+        go out.
+        """
         return self.announced("slips") is not None
 
     @property
@@ -134,8 +138,8 @@ class History(NamedTuple):
 
     @property
     def timing(self) -> list[DoneAct]:
-        """The acts on which it depends whether the vote is open, and until when: a plan that is made
-        again is compared by them.
+        """The acts on which it depends whether the vote is open, and until when: a plan that is
+        made again is compared by them.
         """
         return self.named("call", "take back", "extend", "close", "reopen")
 
@@ -213,8 +217,8 @@ class Election:
 
     @functools.cached_property
     def book(self) -> Book:
-        """The book: for reading, and for acts once `demand_right_book` has passed. Before that it says
-        on standard error why it may not be the right one.
+        """The book: for reading, and for acts once `demand_right_book` has passed. Before that it
+        says on standard error why it may not be the right one.
         """
         tell_aside(*(f"Note: {doubt.file}: {doubt.reason}." for doubt in self.opened.doubts()))
         return self.opened
@@ -268,8 +272,8 @@ class Election:
         return language_of(self.book.acts()[0].detail["language"])
 
     def history(self) -> History:
-        """The acts until now. From here on times are told in the zone of the vote, and what people wrote as
-        its secrecy allows.
+        """The acts until now. From here on times are told in the zone of the vote, and what people
+        wrote as its secrecy allows.
         """
         history = History(self.book.acts())
         ZONE.set(history.zone)
@@ -310,8 +314,8 @@ class Election:
                 raise bad_words(target, words, "name a place outside that folder", done)
 
     def to_all(self, kind: str, file: pathlib.Path) -> str:
-        """How a letter goes to all: where nobody knows whose each code is, none can be written to an
-        elector.
+        """How a letter goes to all: where nobody knows whose each code is, none can be written to
+        an elector.
         """
         by_hand = f"send {file} to all electors"
         return by_hand if self.history().has_codes_on_roll else self.command("letters", kind)

@@ -10,14 +10,14 @@ from typing import Any
 
 from debvote_tools.book import queries
 from debvote_tools.book.book import Detail
-from debvote_tools.book.election import LETTER_TEXT, Election, History, Sealed
 from debvote_tools.book.queries import Elector
+from debvote_tools.call import box
+from debvote_tools.election import LETTER_TEXT, Election, History, Sealed
 from debvote_tools.files import sha256_of
-from debvote_tools.text.language import Language, marked
-from debvote_tools.text.rendering import render_letter, render_page, resources
-from debvote_tools.poll import box
 from debvote_tools.poll.questions import Questions
 from debvote_tools.poll.sealed import SealedPoll, in_brackets
+from debvote_tools.text.language import Language, marked
+from debvote_tools.text.rendering import render_letter, render_page, resources
 
 # a first line that greets: it ends as one does, or begins so in one of the languages
 GREETING = re.compile(
@@ -29,7 +29,7 @@ GREETING = re.compile(
 SUBJECT = marked("Ballot: {title}")
 
 
-PACKAGE = "debvote_tools.poll"
+PACKAGE = "debvote_tools.call"
 
 # the sentences of the script on the page
 SENTENCES = marked(
@@ -45,7 +45,12 @@ SENTENCES = marked(
         "copied": "The line is copied.",
     }
 )
-OF_SEVERAL = {"unanswered": marked("Not answered: {questions}")}
+OF_SEVERAL = marked(
+    {
+        "some_answered": "{number} of {count} answered; not {questions}",
+        "all_answered": "{number} of {count} answered",
+    }
+)
 
 
 @dataclasses.dataclass(frozen=True)
@@ -65,7 +70,8 @@ class CallData:
     # the real names by the names on the roll; None if they will not be published
     real_names: Mapping[str, str] | None = None
     is_signed: bool = False
-    # beside the page a script keeps the ballots that it sends, if there is a key, which makes the links to it
+    # beside the page a script keeps the ballots that it sends, if there is a key, which makes the
+    # links to it
     box_key: bytes = b""
     # it takes none now, as letters say
     is_without_box: bool = False
@@ -96,7 +102,9 @@ class CallData:
 
     @property
     def is_by_click(self) -> bool:
-        """Whether electors are asked to vote by a click alone: in a secret vote an e-mail can be read."""
+        """Whether electors are asked to vote by a click alone: in a secret vote an e-mail can be
+        read.
+        """
         return self.has_box and not self.is_by_name
 
     @property
@@ -119,7 +127,9 @@ class CallData:
         return in_brackets(self.questions.mark, own)
 
     def link_of(self, elector: Elector | None) -> str | None:
-        """The address of the page, as the personal link of an elector whose own mark may be told."""
+        """The address of the page, as the personal link of an elector whose own mark may be
+        told.
+        """
         is_linked = self.is_by_name or self.has_box
         if elector is None or not (elector.mark and self.at and is_linked):
             return self.at
@@ -135,7 +145,7 @@ class CallData:
     @property
     def seal(self) -> str:
         """The key to which this page seals ballots."""
-        from debvote_tools.poll.sealed_ballots import key_pair
+        from debvote_tools.call.sealed_ballots import key_pair
 
         return key_pair(self.box_key, self.questions.mark)[0]
 
@@ -174,8 +184,8 @@ class CallData:
         return "CODE" if self.has_codes_on_roll else "NAME"
 
     def form_of(self, name: str) -> list[str]:
-        """A ballot with gaps in place of the ranks, where an elector is to write them: one line, or the
-        name and each answer with its label.
+        """A ballot with gaps in place of the ranks, where an elector is to write them: one line, or
+        the name and each answer with its label.
         """
         return re.split(" (?=[A-Z] )", self.questions.line(name, lambda *_: "_"))
 
@@ -246,8 +256,8 @@ def call_page(call: CallData) -> bytes:
 
 
 def call_files(call: CallData) -> dict[str, bytes]:
-    """The files of a call by name, the checksums last. The polls are the sealed ones, byte for byte;
-    if they have codes, they stay out.
+    """The files of a call by name, the checksums last. The polls are the sealed ones, byte for
+    byte; if they have codes, they stay out.
     """
     files = {"index.html": call_page(call), "call.txt": call_letter(call).encode()}
     if not call.has_codes_on_roll:
