@@ -112,15 +112,20 @@ def test_names_of_functions():
         assert len([pattern for pattern in found if pattern.fullmatch(name)]) == 1
 
 
-def test_each_edit_is_listed():
-    """What an edit says of goals is read, and the kit reads the same pairs as before."""
-    for file in ROOT.glob("crates/*/must-fail/*.edit"):
-        lines = file.read_text().splitlines()
-        found = edits.read_edit(file)
-        assert len(found.pairs) == sum(line.startswith("old: ") for line in lines) > 0, file
-        assert sorted(edits.lines_of(found.goals)) == sorted(
-            line for line in lines if line.startswith("#")
-        ), file
+def test_edits_of_the_crates():
+    """The lines about goals are read, and each edit that has some fits a batch."""
+    found = 0
+    for folder in sorted(ROOT.glob("crates/*/must-fail")):
+        texts = edits.texts_of(folder.parent)
+        for file in folder.glob("*.edit"):
+            found += 1
+            read = edits.read_edit(file)
+            lines = file.read_text().splitlines()
+            assert len(read.pairs) == sum(line.startswith("old: ") for line in lines) > 0, file
+            named = [line for line in lines if line.startswith("#")]
+            assert sorted(edits.lines_of(read.goals)) == sorted(named), file
+            assert not read.goals or edits.changed_by(read, texts), file
+    assert found > 400
 
 
 # ---------------------------------------------------------------- what the prover says
