@@ -7,6 +7,7 @@ tests were skipped, and above pytest's own last line 'N passed, M failed', as th
 import collections
 import locale
 import os
+import pathlib
 import shutil
 from collections.abc import Iterator
 
@@ -15,7 +16,7 @@ from _pytest.terminal import TerminalReporter
 
 from debvote_tools.cli import console
 
-from tests.support import debian, forks, program
+from tests.support import debian, program
 
 # the classes that take longest begin first, so that none of them runs alone at the end
 LONGEST = ["Sequences", "WhatHappened", "SecretByClicks", "Many", "LargestTest", "Damaged", "In_", "Lines", "Marked", "RandomTest", "Sending"]
@@ -37,10 +38,10 @@ def pytest_configure(config: pytest.Config) -> None:
         config.option.dist = "loadscope"
 
 
-def pytest_sessionstart(session: pytest.Session) -> None:
-    # with -n only the processes that run tests need this
-    if hasattr(session.config, "workerinput") or not getattr(session.config.option, "numprocesses", None):
-        forks.read_ahead()
+def pytest_ignore_collect(collection_path: pathlib.Path, config: pytest.Config) -> bool | None:
+    """With `-m without_program` no module is read of which no test would run."""
+    is_left_out = collection_path.is_file() and collection_path.stem not in WITHOUT_PROGRAM
+    return True if is_left_out and config.option.markexpr == "without_program" else None
 
 
 @pytest.hookimpl(tryfirst=True)

@@ -48,7 +48,7 @@ class NamesTest(unittest.TestCase):
         where = {**os.environ, "PYTHONPATH": str(others), "PYTHONDONTWRITEBYTECODE": "1"}
         imports = [[sys.executable, "-c", IMPORTS, program] for program in programs()]
         self.assertGreater(len(imports), 10)
-        for words in [*imports, [sys.executable, "-m", "pytest", "--collect-only", "-q"]]:
+        for words in [*imports, [sys.executable, "-m", "pytest", "--assert=plain", "--collect-only", "-q"]]:
             with self.subTest(words[-1]):
                 ended = subprocess.run(words, cwd=ROOT, capture_output=True, text=True, env=where, timeout=SECONDS)
                 self.assertEqual((ended.stderr, ended.returncode), ("", 0), ended.stdout[-2000:])

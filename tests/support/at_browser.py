@@ -1,7 +1,10 @@
 """A page in chromium that a test uses as a reader does, by real keys in a window of a given size, through chromium's own protocol on a pipe."""
 
+import atexit
 import base64
+import collections
 import contextlib
+import functools
 import itertools
 import json
 import os
@@ -71,12 +74,13 @@ class Gone(RuntimeError):
     """The page was left before it answered."""
 
 
-class Window:
-    """A window with one page. It is closed with `with`."""
+class Browser:
+    """Chromium, which the windows of this process share: to start it takes longer than most pages."""
 
-    def __init__(self, width: int, height: int) -> None:
+    def __init__(self) -> None:
         self.numbers = itertools.count(1)
-        self.faults: list[str] = []
+        # those of each window, by its session
+        self.faults: dict[str | None, list[str]] = collections.defaultdict(list)
         self.room = tempfile.mkdtemp(prefix="debvote-browser-")
         read, self.to_browser = os.pipe()
         from_browser, write = os.pipe()
@@ -86,11 +90,58 @@ class Window:
         os.close(write)
         self.answers = os.fdopen(from_browser, "rb")
         self.rest = b""
+        atexit.register(self.end)
+
+    def end(self) -> None:
+        os.close(self.to_browser)  # it ends if nobody speaks to it
+        self.process.wait(60)
+        self.answers.close()
+        shutil.rmtree(self.room, ignore_errors=True)
+
+    def tell(self, session: str | None, method: str, **given: object) -> dict[str, Any]:
+        """Makes a call of chromium's protocol for a window, or for the browser, and returns the answer."""
+        number = next(self.numbers)
+        call = {"id": number, "method": method, "params": given} | ({"sessionId": session} if session else {})
+        os.write(self.to_browser, json.dumps(call).encode() + b"\0")
+        while True:
+            answer = self.message()
+            if answer.get("method") == "Log.entryAdded":
+                self.faults[answer.get("sessionId")].append(answer["params"]["entry"]["text"])
+            elif answer.get("method") == "Runtime.exceptionThrown":
+                self.faults[answer.get("sessionId")].append(str(answer["params"]["exceptionDetails"]))
+            if answer.get("id") == number:
+                if "error" in answer:
+                    was_left = any(word in answer["error"]["message"] for word in ("navigated", "destroyed"))
+                    raise (Gone if was_left else RuntimeError)(f"{method}: {answer['error']}")
+                return dict(answer["result"])
+
+    def message(self) -> dict[str, Any]:
+        while b"\0" not in self.rest:
+            data = os.read(self.answers.fileno(), 1 << 20)
+            if not data:
+                # the next window has another one
+                browser.cache_clear()
+                raise RuntimeError("chromium has ended")
+            self.rest += data
+        text, self.rest = self.rest.split(b"\0", 1)
+        return dict(json.loads(text))
+
+
+browser = functools.cache(Browser)
+
+
+class Window:
+    """A window with one page, and a profile of its own. It is closed with `with`."""
+
+    def __init__(self, width: int, height: int) -> None:
+        self.browser = browser()
         self.session: str | None = None
-        page = next(target for target in self.tell("Target.getTargets")["targetInfos"] if target["type"] == "page")
-        self.session = self.tell("Target.attachToTarget", targetId=page["targetId"], flatten=True)["sessionId"]
+        self.context = self.tell("Target.createBrowserContext")["browserContextId"]
+        page = self.tell("Target.createTarget", url="about:blank", browserContextId=self.context)["targetId"]
+        self.session = self.tell("Target.attachToTarget", targetId=page, flatten=True)["sessionId"]
         self.tell("Log.enable")
         self.tell("Runtime.enable")
+        self.tell("Emulation.setFocusEmulationEnabled", enabled=True)
         self.show()
         self.resize(width, height)
 
@@ -98,10 +149,12 @@ class Window:
         return self
 
     def __exit__(self, *_: object) -> None:
-        os.close(self.to_browser)  # it ends if nobody speaks to it
-        self.process.wait(60)
-        self.answers.close()
-        shutil.rmtree(self.room, ignore_errors=True)
+        self.session = None
+        self.tell("Target.disposeBrowserContext", browserContextId=self.context)
+
+    @property
+    def faults(self) -> list[str]:
+        return self.browser.faults[self.session]
 
     def resize(self, width: int, height: int) -> None:
         self.tell("Emulation.setDeviceMetricsOverride", width=width, height=height, deviceScaleFactor=1, mobile=False)
@@ -113,29 +166,7 @@ class Window:
 
     def tell(self, method: str, **given: object) -> dict[str, Any]:
         """Makes a call of chromium's protocol, and returns the answer."""
-        number = next(self.numbers)
-        call = {"id": number, "method": method, "params": given} | ({"sessionId": self.session} if self.session else {})
-        os.write(self.to_browser, json.dumps(call).encode() + b"\0")
-        while True:
-            answer = self.message()
-            if answer.get("method") == "Log.entryAdded":
-                self.faults.append(answer["params"]["entry"]["text"])
-            elif answer.get("method") == "Runtime.exceptionThrown":
-                self.faults.append(str(answer["params"]["exceptionDetails"]))
-            if answer.get("id") == number:
-                if "error" in answer:
-                    was_left = any(word in answer["error"]["message"] for word in ("navigated", "destroyed"))
-                    raise (Gone if was_left else RuntimeError)(f"{method}: {answer['error']}")
-                return dict(answer["result"])
-
-    def message(self) -> dict[str, Any]:
-        while b"\0" not in self.rest:
-            data = os.read(self.answers.fileno(), 1 << 20)
-            if not data:
-                raise RuntimeError("chromium has ended")
-            self.rest += data
-        text, self.rest = self.rest.split(b"\0", 1)
-        return dict(json.loads(text))
+        return self.browser.tell(self.session, method, **given)
 
     @contextlib.contextmanager
     def before_each_page(self, script: str) -> Iterator[None]:

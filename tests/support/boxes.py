@@ -73,12 +73,15 @@ class BoxElectionTest(elections.ElectionTest):
         found = [link_in(file.read_bytes()) for folder in folders for file in sorted(folder.glob("*.eml"))]
         return {name: link for name, _, link in found}
 
-    def begun(self) -> dict[str, str]:
-        """Called, uploaded, asked, and written to all: the links."""
+    def begun(self, **clicks: str) -> dict[str, str]:
+        """Called, uploaded, asked, and written to all, of whom some have clicked: the links."""
         self.call()
         self.done("add", "--box")
         self.done("letters", "call")
-        return self.links()
+        links = self.links()
+        for name, ranks in clicks.items():
+            self.click(name, ranks, links[name])
+        return links
 
     def of_page(self, what: str) -> str:
         """What the page that is uploaded knows: its poll, the key to which it seals, and what it posts."""

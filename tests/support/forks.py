@@ -8,6 +8,7 @@ imports a module has the lock of imports for ever. With DEBVOTE_FORKS=0 every ru
 
 import contextlib
 import ctypes
+import functools
 import importlib
 import itertools
 import os
@@ -47,6 +48,7 @@ def run(words: Sequence[object], tracer: Sequence[object] = (), **how: object) -
     """What subprocess.run returns for these arguments and settings; `tracer` is strace with its options, which traces the run."""
     if not is_plain(words, how):
         return subprocess.run([*map(str, tracer), *words], **how)
+    read_ahead()
     module = importlib.import_module(LAUNCHERS[str(words[1])])
     with tempfile.TemporaryFile() as given, tempfile.TemporaryFile() as output, tempfile.TemporaryFile() as faults:
         text = how.get("input")
@@ -98,9 +100,10 @@ class Compiled(jinja2.BytecodeCache):
         self.kept[bucket.key] = bucket.bytecode_to_string()
 
 
+@functools.cache
 def read_ahead() -> None:
     """Imports all modules, makes the schema of a book, and reads all templates in each language, so that no fork has to: it takes longer
-    than most commands."""
+    than most commands. It is done before the first fork, as some processes of the tests make none."""
     for found in pkgutil.walk_packages(debvote_tools.__path__, f"{debvote_tools.__name__}."):
         # one needs python3-cryptography
         with contextlib.suppress(Fault):
@@ -108,13 +111,14 @@ def read_ahead() -> None:
     chain.schema()
     # a page escapes, and a letter does not
     compiled = {True: Compiled(), False: Compiled()}
+    # the files that are of the other one alone
+    left_out = {True: ".txt", False: ".html"}
     packages = {file.parent.parent for file in (ROOT / "python" / "debvote_tools").glob("*/templates/*")}
     for package, code, is_page in itertools.product(packages, LANGUAGES, (True, False)):
         templates = templates_of(f"debvote_tools.{package.name}", language_of(code), is_page=is_page)
         templates.bytecode_cache = compiled[is_page]
         for name in templates.list_templates():
-            # one that letters and pages do not share
-            with contextlib.suppress(jinja2.TemplateError):
+            if not name.endswith(left_out[is_page]):
                 templates.get_template(name)
 
 
@@ -125,6 +129,14 @@ def is_plain(words: Sequence[object], how: Mapping[str, object]) -> bool:
     has_settings = how.keys() <= {"capture_output", "cwd", "env", "input", "stdin", "text", "timeout"}
     is_alone = threading.current_thread() is threading.main_thread()
     return is_known and is_captured and has_settings and is_alone and os.environ.get("DEBVOTE_FORKS") != "0"
+
+
+def become(words: Sequence[str], folder: pathlib.Path, env: Mapping[str, str]) -> None:
+    """In a fork that has its own terminal: it becomes a launcher with these words, and ends as that does."""
+    if os.environ.get("DEBVOTE_FORKS") == "0":
+        os.chdir(folder)
+        os.execve(words[0], words, env)
+    in_child(importlib.import_module(LAUNCHERS[words[1]]).main, words, {"cwd": folder, "env": env}, [])
 
 
 def in_child(main: Callable, words: Sequence[object], how: Mapping[str, object], streams: Sequence[int]) -> None:

@@ -15,7 +15,7 @@ from debvote_tools.poll.sealed import in_brackets
 from debvote_tools.text.language import catalog_of, language_of
 from debvote_tools.text.rendering import templates_of
 
-from tests.support import elections, sentences
+from tests.support import elections, forks, sentences
 from tests.support.program import ROOT
 
 LANGUAGES = ("de", "es", "fr")
@@ -61,6 +61,7 @@ def marked_german() -> Iterator[None]:
     """In this process, and in the runs that are forks of it, German is a language with all words marked."""
     if os.environ.get("DEBVOTE_FORKS") == "0":
         raise unittest.SkipTest("the language with marked words is in forks of the test alone")
+    forks.read_ahead()
     head = (sentences.LOCALE / "de.po").read_text(encoding="utf-8").split("\n\n")[0]
     catalog = catalog_of("\n".join([f"{head}\n", *[sentences.as_po(texts, tuple(map(marked, texts))) for texts in sentences.in_code()]]).encode())
     with unittest.mock.patch.dict(vars(language_of("de").catalog), vars(catalog)):

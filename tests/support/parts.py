@@ -14,8 +14,8 @@ from collections.abc import Iterable
 
 ROOT = pathlib.Path(__file__).resolve().parent.parent.parent
 
-# as many tests at once as there are processors
-PYTEST = f"/usr/bin/python3 -m pytest -q -n {len(os.sched_getaffinity(0))}"
+# as many tests at once as there are processors; modules as Python itself compiles them, since few have a bare `assert`
+PYTEST = f"/usr/bin/python3 -m pytest -q --assert=plain -n {len(os.sched_getaffinity(0))}"
 
 COUNT = re.compile(r"(\d+) passed, (\d+) failed")
 SKIPPED = re.compile(r"skipped: (.*?)(?: \((\d+)\))?")

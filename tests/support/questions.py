@@ -47,6 +47,9 @@ class QuestionsTest(LettersTest):
     poll = "".join(polls.values())
     new_words: Sequence[str] = ("--questions", "3")
 
+    def kind(self) -> tuple[object, ...]:
+        return (*super().kind(), self.title, *self.polls.items())
+
     def fill_in(self, folder: pathlib.Path) -> None:
         super().fill_in(folder)
         (folder / "poll.toml").unlink()

@@ -8,7 +8,7 @@ import signal
 import sys
 import time
 
-from tests.support import elections
+from tests.support import elections, forks
 
 # words that have not come by then do not come, and a program that has not ended hangs
 SECONDS = 120
@@ -19,11 +19,12 @@ class Terminal:
 
     def __init__(self, test: elections.ElectionTest, *words: str) -> None:
         self.test, self.text = test, ""
+        program = [sys.executable, str(elections.ELECTION), *(words or ("desk",))]
+        env = elections.environment() | test.clock | {"XDG_STATE_HOME": str(test.state)}
+        forks.read_ahead()
         self.process, self.keys = pty.fork()
         if self.process == 0:
-            os.chdir(test.folder)
-            program = [sys.executable, str(elections.ELECTION), *(words or ("desk",))]
-            os.execve(sys.executable, program, elections.environment() | test.clock | {"XDG_STATE_HOME": str(test.state)})
+            forks.become(program, test.folder, env)
         # a test that fails leaves no program running
         test.addCleanup(self.kill)
 

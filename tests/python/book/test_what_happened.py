@@ -206,6 +206,10 @@ class WhatHappenedTest(elections.ElectionTest):
     # of the web host: what it answers to an asking above the records of the clicks, and when; its page; and the key of that
     begun, time, records, page, seal, links = "", "", "", b"", "", dict[str, str]()
 
+    def kind(self):
+        # it has the host of its class
+        return (type(self), *super().kind())
+
     def made(self):
         """An election with a box, of which the call went out."""
         self.set_time(CALLED)

@@ -8,6 +8,10 @@ import shutil
 import signal
 import subprocess
 import sys
+from unittest import mock
+
+from debvote_tools.files import LINES_LIMIT
+from debvote_tools.inbox import entering
 
 from tests.support import elections
 from tests.support.called import HALL, LAKE, OTHER_RANKS, RANKS, CalledTest
@@ -17,6 +21,9 @@ RIGHT = (
     "4 Further discussion; 1 is the best"
 )
 NEXT = "Next: debvote-election status; add more ballots with debvote-election add FILE, and when the vote is over: debvote-election close"
+
+# how many lines an election takes in this test; fewer than debvote takes are quick
+MOST_LINES = int(os.environ.get("DEBVOTE_MOST_LINES", LINES_LIMIT))
 
 
 class Added(CalledTest):
@@ -184,18 +191,19 @@ class Added(CalledTest):
         self.assertEqual(ended.status, 9)
 
     def test_more_lines_than_debvote_takes(self) -> None:
-        lines = [f"ada {a},{b},1,2" for a in range(1, 100) for b in range(1, 100)] * 10 + [f"ben {RANKS}"] * 1_990
+        lines = [f"ada {number // 99 % 99 + 1},{number % 99 + 1},1,2" for number in range(MOST_LINES)]
+        self.enterContext(mock.patch.object(entering, "LINES_LIMIT", MOST_LINES))
         replies = [line for line in self.told("add", given="\n".join(lines)).splitlines() if line[0].isdigit()]
-        self.assertEqual([int(line.split()[0]) for line in replies], list(range(1, 100_001)))
+        self.assertEqual([int(line.split()[0]) for line in replies], list(range(1, MOST_LINES + 1)))
         self.assertEqual(self.lines(), lines)
-        said = "with the new lines there would be 100001 lines and "
-        limits = "; nothing was added: debvote takes at most 100000 lines and 33554432 bytes: add fewer"
+        said = f"with the new lines there would be {MOST_LINES + 1} lines and "
+        limits = f"; nothing was added: debvote takes at most {MOST_LINES} lines and 33554432 bytes: add fewer"
         self.assert_refused(("add",), 4, said, limits, given=f"cleo {RANKS}\n")
         # what is struck takes no room, and what is late neither
         self.told("strike", 1, "--because", "a test")
-        self.assertIn("100001 counted  cleo: ", self.told("add", given=f"cleo {RANKS}\n"))
-        self.act("close", {"lines": 100_000, "checksum": "", "early": False})
-        self.assertIn("100002 late  dan: ", self.told("add", given=f"dan {RANKS}\n"))
+        self.assertIn(f"{MOST_LINES + 1} counted  cleo: ", self.told("add", given=f"cleo {RANKS}\n"))
+        self.act("close", {"lines": MOST_LINES, "checksum": "", "early": False})
+        self.assertIn(f"{MOST_LINES + 2} late  dan: ", self.told("add", given=f"dan {RANKS}\n"))
 
 
 class OneNameOfTwo(CalledTest):

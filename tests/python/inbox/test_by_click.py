@@ -178,8 +178,7 @@ class Clicks(boxes.BoxElectionTest):
 
     def test_a_backup_that_is_put_back(self) -> None:
         """The book lacks the link of a ballot that came: it is kept, and waits for whoever knows why."""
-        links = self.begun()
-        self.click("ben", "1,2,3,4", links["ben"])
+        links = self.begun(ben="1,2,3,4")
         self.done("add", "--box", "--yes")
         self.done("backup", self.scratch / "copy.db")
         self.write("members.csv", elections.members_of(elections.NAMES).replace("ada@club", "ada@new"))
@@ -203,8 +202,7 @@ class Clicks(boxes.BoxElectionTest):
         self.assertEqual(self.standing(), {"ada": "1,2,3,4", "ben": "1,2,3,4"})
 
     def test_a_link_of_a_call_that_was_taken_back(self) -> None:
-        links = self.begun()
-        self.click("ada", "1,2,3,4", links["ada"])
+        self.begun(ada="1,2,3,4")
         self.done("call", "--take-back")
         self.call()
         said = self.done("add", "--box", "--yes").output
@@ -232,9 +230,7 @@ class Clicks(boxes.BoxElectionTest):
         self.assertEqual(self.standing(), {"ada": "1,2,3,4"})
 
     def test_by_ftp_and_then_by_key(self) -> None:
-        links = self.begun()
-        self.click("ada", "1,2,3,4", links["ada"])
-        self.click("ben", "1,2,3,4", links["ben"])
+        self.begun(ada="1,2,3,4", ben="1,2,3,4")
         shutil.copy(self.file(), self.folder / "fetched.php")
         self.assertTrue(self.read("fetched.php").startswith(FIRST))
         ended = self.done("add", "--yes", "fetched.php")
@@ -253,8 +249,7 @@ class Clicks(boxes.BoxElectionTest):
 
     def test_by_ftp_and_set_aside(self) -> None:
         """Then it came by the page, too, and not from another address."""
-        links = self.begun()
-        self.click("ada", "1,2,3,4", links["ada"])
+        links = self.begun(ada="1,2,3,4")
         data = self.file().read_bytes()
         # whoever has the file can make none of another proof
         other = data.removeprefix(FIRST).replace(proof_digest(self.mark(), self.place_of("ada", links["ada"])).encode(), b"2" * 64)
@@ -328,8 +323,7 @@ class Clicks(boxes.BoxElectionTest):
 
     def test_a_dishonest_host(self) -> None:
         """What it makes or changes waits for nobody, and what it dates anew waits."""
-        links = self.begun()
-        self.click("ada", "1,2,3,4", links["ada"])
+        links = self.begun(ada="1,2,3,4")
         self.done("add", "--box", "--yes")
         at = str(self.boxes_kept()[-1]["time"])[:19]
         real = self.file().read_bytes()
@@ -424,9 +418,7 @@ class Clicks(boxes.BoxElectionTest):
         self.assertEqual(self.election("count").faults.count("these letters arrived in time, and wait: 1, 2;"), 1, self.election("count").faults)
 
     def test_what_was_asked_before_is_not_opened_again(self) -> None:
-        links = self.begun()
-        self.click("ada", "1,2,3,4", links["ada"])
-        self.click("ben", "1,2,3,4", links["ben"])
+        links = self.begun(ada="1,2,3,4", ben="1,2,3,4")
         self.done("add", "--box", "--yes")
         [data, other] = [bytes(data) for data, in self.rows("SELECT data FROM source ORDER BY source")]  # type: ignore[arg-type]
         record = self.file().read_bytes().removeprefix(FIRST).split(END)[0].partition(b"\n")[2] + END[:-1]
@@ -448,8 +440,7 @@ class Clicks(boxes.BoxElectionTest):
         self.assertEqual({one.digest for one in letters}, {one.digest for one in kept})
 
     def test_each_that_does_not_open_alone_beside_good_ones(self) -> None:
-        links = self.begun()
-        self.click("ada", "1,2,3,4", links["ada"])
+        links = self.begun(ada="1,2,3,4")
         good = self.file().read_bytes()
         now = f"{datetime.datetime.now(datetime.UTC):%Y-%m-%dT%H:%M:%S}"
         one = self.record("ben 1,2,3,4", links["ben"], 50, now)
@@ -512,8 +503,7 @@ class Clicks(boxes.BoxElectionTest):
 
     def test_who_is_to_vote_again(self) -> None:
         """By whose proof came what nobody can open: named until a later ballot comes."""
-        links = self.begun()
-        self.click("ada", "1,2,3,4", links["ada"])
+        links = self.begun(ada="1,2,3,4")
         self.done("add", "--box", "--yes")
         self.assertEqual(json.loads(self.done("status", "--json").output)["lost"], [])
         for number, name in enumerate(("ada", "ben"), start=900):
@@ -636,9 +626,7 @@ class Clicks(boxes.BoxElectionTest):
         self.assertIn("from the page of the vote, ", self.done("show", "ada").output)
 
     def test_no_link_is_shown_again(self) -> None:
-        links = self.begun()
-        self.click("ada", "1,2,3,5", links["ada"])
-        self.click("ben", "1,2,3", links["ben"])
+        links = self.begun(ada="1,2,3,5", ben="1,2,3")
         self.done("add", "--box", "--yes")
         arrived = time.strftime("%a, %d %b %Y %H:%M:%S +0000")
         own = boxes.link_in(next((self.folder / "letters/call").rglob("*ada*.eml")).read_bytes())[1]
@@ -692,8 +680,7 @@ class Clicks(boxes.BoxElectionTest):
         self.assertNotIn("No receipt is about", self.done("letters", "receipts").output)
 
     def test_what_is_gone_is_told_once(self) -> None:
-        links = self.begun()
-        self.click("ada", "1,2,3,4", links["ada"])
+        self.begun(ada="1,2,3,4")
         self.done("add", "--box", "--yes")
         self.file().write_bytes(FIRST)
         self.assertIn("1 record that it had it has no more", self.done("add", "--box", "--yes").output)
@@ -806,8 +793,7 @@ class Asked(boxes.BoxElectionTest):
         self.assert_fault(self.election("letters", "reminders", "--yes"), 9, fault)
 
     def test_close_and_after_it(self) -> None:
-        links = self.begun()
-        self.click("ada", "1,2,3,4", links["ada"])
+        links = self.begun(ada="1,2,3,4")
         self.done("add", "--box", "--yes")
         self.assertIn("Box of the web host: 1 record when it was asked last", self.done("count", "--force").faults)
         self.off(700)
@@ -844,8 +830,7 @@ class Asked(boxes.BoxElectionTest):
         self.assertNotIn(b"that the secretary did not get", self.read("result-2/index.html"))
 
     def test_the_end_by_both_clocks(self) -> None:
-        links = self.begun()
-        self.click("ada", "1,2,3,4", links["ada"])
+        self.begun(ada="1,2,3,4")
         self.done("add", "--box", "--yes")
         self.set_clock("2099-12-04T18:00:01+01:00")
         fault = "--box: the box of the web host was not asked since the end; nothing was changed: run debvote-election add --box; if it does not answer any more, close with --force --because TEXT (the result page says so)"
@@ -950,8 +935,7 @@ class Pages(boxes.BoxElectionTest):
         self.done("publish", *words)
 
     def test_a_page_with_a_script_more(self) -> None:
-        links = self.begun()
-        self.click("ada", "1,2,3,4", links["ada"])
+        self.begun(ada="1,2,3,4")
         self.change()
         # a look keeps nothing
         self.assertIn(self.other, self.done("add", "--box", "--look").output)
@@ -1014,8 +998,7 @@ class Moved(boxes.BoxElectionTest):
     has_clock = True
 
     def test_what_the_page_of_before_goes_on_taking(self) -> None:
-        links = self.begun()
-        self.click("ada", "1,2,3,4", links["ada"])
+        links = self.begun(ada="1,2,3,4")
         self.done("add", "--box", "--yes")
         before, file = self.host.at, self.file()
         self.click("ben", "1,2,3,4", links["ben"])
@@ -1096,8 +1079,7 @@ class Moved(boxes.BoxElectionTest):
 
     def test_what_was_asked_elsewhere_says_nothing_of_this_host(self) -> None:
         """Neither when it was asked, by a clock that is behind, nor which records it has."""
-        links = self.begun()
-        self.click("ada", "1,2,3,4", links["ada"])
+        links = self.begun(ada="1,2,3,4")
         self.done("add", "--box", "--yes")
         before, file = self.host.at, self.file()
         self.move()

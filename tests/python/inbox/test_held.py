@@ -4,7 +4,7 @@ import re
 
 from tests.support import elections
 from tests.support.called import HALL, LAKE, LettersTest
-from tests.support.letters import HTML, MARK, OTHER_RANKS as OTHER, OWN, RANKS, TEN, judged, letter, mailbox, marked
+from tests.support.letters import HTML, MARK, OTHER_RANKS as OTHER, OWN, RANKS, TEN, judged, letter, marked
 from tests.support.questions import QuestionsTest
 from tests.support.terminal import Terminal
 

@@ -1,7 +1,6 @@
 """Letters in an election: `add`, `undo`, `strike`, `close`, `status` as a secretary meets them; `held` is in test_held.py."""
 
 import hashlib
-import re
 from unittest import mock
 
 from debvote_tools.book import queries
@@ -10,7 +9,7 @@ from debvote_tools.inbox import entering, signature
 
 from tests.support import elections, pgp
 from tests.support.called import LAKE, LettersTest
-from tests.support.letters import OTHER_RANKS as OTHER, OWN, RANKS, TEN, letter, mailbox, marked
+from tests.support.letters import OTHER_RANKS as OTHER, OWN, RANKS, letter, mailbox, marked
 from tests.support.terminal import Terminal
 
 # asks for the lock of the book while debvote would run, and notes both

@@ -199,29 +199,31 @@ class Sending(SendTest):
 
     def test_whose_letter_came_back_is_named_and_gets_it_again(self) -> None:
         """In each run, until the address is another one. A server that takes letters, as a reminder, shows nothing."""
-        for what in ("whole", "head", "text", "link", "encoded", "id"):
-            with self.subTest(what):
-                self.server.taken.clear()
-                address = f"ada@{what}.example"
-                self.change_roll("ada@club.example", address)
-                self.assert_sent("call")
-                self.assertEqual(self.not_reached(), {})
-                self.came_back("ada", what)
-                self.assertEqual(self.not_reached(), {"ada": "came back"})
-                self.assertIn("Not reached by the call: ada (came back)\n", self.told("letters", "receipts"))
-                first = next(parsed(taken.data) for taken in self.server.taken if taken.to == address)
-                for _ in range(2):
-                    self.assertIn("Not reached by the call: ada (came back)\n", self.assert_sent("call", "Sent 1 of 1 letter.\n").output)
-                    again = parsed(self.server.taken[-1].data)
-                    self.assertEqual((again["To"], again["Message-ID"]), (address, first["Message-ID"]))
-                self.done("letters", "reminders", "--send", "--yes")
-                self.assertEqual(self.not_reached(), {"ada": "came back"})
-                if what == "whole":
-                    # also her receipt, which a server has taken; that to her earlier address goes out once
-                    self.add_lines(f"ada {RANKS}")
-                    for said in ("Sent 2 of 2 letters.\n", "Sent 1 of 1 letter.\n"):
-                        self.assert_sent("receipts", said)
-                    self.assertEqual(self.server.addresses()[-1], address)
+        self.change_roll("ada@club.example", "ada@home.example")
+        self.assert_sent("call")
+        self.assertEqual(self.not_reached(), {})
+        first = {taken.to: parsed(taken.data)["Message-ID"] for taken in self.server.taken[:6]}
+        back = dict.fromkeys(elections.NAMES[:6], "came back")
+        for name, what in zip(back, ("whole", "head", "text", "link", "encoded", "id"), strict=True):
+            self.came_back(name, what)
+        self.assertEqual(self.not_reached(), back)
+        named = f"Not reached by the call: {', '.join(f'{name} (came back)' for name in back)}\n"
+        self.assertIn(named, self.told("letters", "receipts"))
+        for _ in range(2):
+            self.server.taken.clear()
+            self.assertIn(named, self.assert_sent("call", "Sent 6 of 6 letters.\n").output)
+            self.assertEqual({taken.to: parsed(taken.data)["Message-ID"] for taken in self.server.taken}, first)
+        self.done("letters", "reminders", "--send", "--yes")
+        self.assertEqual(self.not_reached(), back)
+        # also her receipt, which a server has taken; that to her earlier address goes out once
+        self.add_lines(f"ada {RANKS}")
+        for said in ("Sent 2 of 2 letters.\n", "Sent 1 of 1 letter.\n"):
+            self.assert_sent("receipts", said)
+        self.assertEqual(self.server.addresses()[-1], "ada@home.example")
+        self.write("members.csv", elections.members_of(self.names).replace("@club.example", "@new.example"))
+        self.told("roll", "--yes")
+        self.assert_sent("call", "Sent 9 of 9 letters.\n")
+        self.assertEqual(self.not_reached(), {})
 
     def test_a_letter_that_came_back_is_no_news_once_a_ballot_came(self) -> None:
         """Nor is a copy of it that is added later. A ballot on paper shows nothing."""

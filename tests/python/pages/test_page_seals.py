@@ -223,7 +223,7 @@ class Elsewhere(RealBoxTest):
         """Opens a page beside this one, and runs a script in it."""
         window, own = self.window, self.window.session
         window.session = None
-        tab = window.tell("Target.createTarget", url=url)["targetId"]
+        tab = window.tell("Target.createTarget", url=url, browserContextId=window.context)["targetId"]
         window.session = window.tell("Target.attachToTarget", targetId=tab, flatten=True)["sessionId"]
         window.until(f"document.readyState === 'complete' && location.href === '{url}'")
         window.ask(f"{script}.then(() => true)")
