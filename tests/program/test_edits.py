@@ -152,6 +152,7 @@ def test_refused_at_its_goal():
     # that it calls what is not proved is no fault of its own
     assert refused(CALLED, f"fn apart::one_more: no proof: {BY_CALL}") == ["apart/called"]
     assert refused("fn apart::at_most_ten: proved", CALLER) == ["apart/caller"]
+    assert refused("fn apart::at_most_ten: proved, may wait", CALLER) == ["apart/caller"]
 
 
 def test_refused_by_an_answer():

@@ -20,6 +20,7 @@ HEAD = re.compile(r"( *)(?:pub(?:\([^)]*\))? )?(?:unsafe )?fn (\w+)")
 IMPL = re.compile(r"impl(?:<.*?>)? (?:.* for )?&?(\w+)")
 # what the prover says of a function, and what it may say of one that is not proved
 FUNCTION = re.compile(r"fn \w+?::(\S+): (.*)")
+PROVED = re.compile(r"proved(?:, may [a-z]+)*")
 OPEN = re.compile(r"`search` did not prove (.*)")
 CALLS = re.compile(r"it (?:calls|passes the block) `.*, which (?:is|are) not proved")
 NO_GOAL = re.compile(rf"not proved|expected answers in \S+|{CALLS.pattern}")
@@ -233,7 +234,7 @@ def open_goals(status: int, output: str) -> Goals:
     refused = set()
     for line in lines:
         found = FUNCTION.fullmatch(line)
-        if found and found[2] != "proved":
+        if found and not PROVED.fullmatch(found[2]):
             function = found[1]
             refused.add(function)
             goals[function].update(goals_of_reasons(found[2]))
