@@ -193,6 +193,19 @@ def test_another_goal_refuses_nothing():
 
 
 @pytest.mark.parametrize(
+    "line",
+    [
+        "not proved",
+        "could not tell",
+        "no proof: expected `one_more_spec` in ./proofs/one_more/Proof.antt",
+        "no proof: antt did not admit its contract; `search` did not prove `returns`",
+    ],
+)
+def test_what_is_unclear_refuses_nothing(line):
+    assert refused(CALLED, f"fn apart::one_more: {line}") == ["apart/called"]
+
+
+@pytest.mark.parametrize(
     "why, lines, end",
     [
         ("all is proved", [CALLED, CALLER], {"status": 0, "last": "logic=proved functions=2"}),
@@ -203,7 +216,6 @@ def test_another_goal_refuses_nothing():
         ),
         ("it was killed", [CALLED], {"status": -9, "last": "fn apart::one_more: proved"}),
         ("a function has no line", [CALLED], {}),
-        ("a function could not be told", [CALLED, "fn apart::one_more: could not tell"], {}),
         ("the front end found an error", ["error[E0308]: mismatched types", CALLED, CALLER], {}),
         (
             "a clause could not be read",
@@ -215,7 +227,6 @@ def test_another_goal_refuses_nothing():
             ["./proofs/Counts.antt:9:4: error: `more`: the two types differ", CALLED, CALLER],
             {},
         ),
-        ("nothing says why", [CALLED, "fn apart::one_more: not proved"], {}),
         (
             "a function is open that no edit names",
             [CALLED, CALLER, CALLER.replace("one_more", "two_more")],

@@ -193,7 +193,7 @@ class Batch:
         if len(owners) > 1:
             owners = [edit for edit in owners if function in edit.goals]
         if len(owners) != 1:
-            raise Void(f"goals of {function} are open, which {len(owners)} edits change")
+            raise Void(f"{function} is not proved, which {len(owners)} edits change")
         return owners[0]
 
 
@@ -221,10 +221,10 @@ def functions_in(output: str) -> set[str]:
     return {line[1] for line in found if line and not DROPS.fullmatch(line[1])}
 
 
-def open_goals(status: int, output: str) -> Goals:
-    """The goals that a check left open.
+def open_goals(status: int, output: str) -> tuple[Goals, set[str]]:
+    """The goals that a check left open, and the functions of which it says something else.
 
-    A function that only calls one that is not proved has none.
+    A function that only calls one that is not proved is in neither.
     """
     lines = output.rstrip("\n").split("\n")
     if status != 1 or lines[-1] != "logic=not-proved":
@@ -232,17 +232,20 @@ def open_goals(status: int, output: str) -> Goals:
     goals = goals_of_errors(lines)
     explained = set(goals)
     refused = set()
+    unclear = set()
     for line in lines:
         found = FUNCTION.fullmatch(line)
         if found and not PROVED.fullmatch(found[2]):
             function = found[1]
             refused.add(function)
-            goals[function].update(goals_of_reasons(found[2]))
-            if not goals[function] and function not in explained and not CALLS.search(line):
-                raise Void(f"nothing says why: {line}")
+            named, is_clear = goals_of_reasons(found[2])
+            goals[function] |= named
+            is_explained = goals[function] or function in explained or CALLS.search(line)
+            if not is_clear or not is_explained:
+                unclear.add(function)
     if strays := goals.keys() - refused:
         raise Void(f"an error is in the proof of {min(strays)}, but no line says so of it")
-    return frozen(goals)
+    return frozen(goals), unclear
 
 
 def goals_of_errors(lines: list[str]) -> dict[str, set[str]]:
@@ -267,14 +270,17 @@ def goals_of_errors(lines: list[str]) -> dict[str, set[str]]:
     return goals
 
 
-def goals_of_reasons(reasons: str) -> Iterator[str]:
-    """The goals that the prover names in its line about a function that is not proved."""
+def goals_of_reasons(reasons: str) -> tuple[set[str], bool]:
+    """The goals in the prover's line about a function, and whether it says nothing else of it."""
+    goals: set[str] = set()
+    is_clear = True
     for reason in reasons.removeprefix("no proof: ").split("; "):
         found = OPEN.fullmatch(reason)
         if found:
-            yield from GOAL.findall(found[1])
+            goals.update(GOAL.findall(found[1]))
         elif not NO_GOAL.fullmatch(reason):
-            raise Void(f"it says of a function: {reason}")
+            is_clear = False
+    return goals, is_clear
 
 
 def refused_in(batch: Batch, seed: str, status: int, output: str) -> dict[Edit, Goals]:
@@ -283,12 +289,14 @@ def refused_in(batch: Batch, seed: str, status: int, output: str) -> dict[Edit, 
     These are the goals that the edit names; if it names none, any of the functions that it changes.
     `seed` is what a check of the crate as it is has said.
     """
-    open_in = open_goals(status, output)
+    open_in, unclear = open_goals(status, output)
     if lost := functions_in(seed) - functions_in(output):
         raise Void(f"the function {min(lost)} has no line")
     found: dict[Edit, Goals] = {edit: {} for edit in batch.functions}
     for function, goals in open_in.items():
         found[batch.owner(function)][function] = goals
+    for function in unclear:
+        found[batch.owner(function)] = {}
     return {
         edit: goals for edit, goals in found.items() if goals and goals == (edit.goals or goals)
     }
