@@ -105,6 +105,13 @@ def test_functions_that_call_themselves_are_alone():
     assert edits.batches_of([tried], {"src/lib.rt": source}) == ([], [tried])
 
 
+def test_the_empty_body_of_a_law_hides_no_function():
+    law = "pub fn law()\n    ensures { 1 ≤ 2 }\n{}\n\n"
+    source = SOURCE.replace("/// One more", f"{law}/// One more")
+    batches, alone = edits.batches_of([edit("caller", *WRONG_CALLER)], {"src/lib.rt": source})
+    assert (len(batches), alone) == (1, [])
+
+
 def test_names_of_functions():
     texts = edits.texts_of(ROOT / "crates" / "vote_tray")
     found = [body.name for path, text in texts.items() for body in edits.bodies_of(path, text)]

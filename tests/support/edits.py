@@ -139,10 +139,14 @@ def bodies_of(path: str, text: str) -> Iterator[Body]:
 def opening_brace(lines: list[str], number: int, indent: str) -> int | None:
     """The line that opens the body of the function whose head begins here; None if it has none."""
     for at in range(number, len(lines)):
+        head = HEAD.match(lines[at])
+        if at > number and head and head[1] == indent:
+            return None
         is_signature = at == number or lines[at].startswith(f"{indent})")
         if lines[at] == f"{indent}{{" or is_signature and lines[at].endswith(" {"):
             return at
-        if is_signature and lines[at].endswith(";"):
+        # a body of one line, as of a law, has no line between its braces
+        if lines[at] == f"{indent}{{}}" or is_signature and lines[at].endswith((";", "}")):
             return None
     return None
 
@@ -164,7 +168,8 @@ def changed_by(
         around = [body for body in bodies_of(path, text) if body.first < line < body.last]
         if not around:
             return None
-        functions.add(around[0].name)
+        # a function may be in another
+        functions.add(max(around, key=lambda body: body.first).name)
         found[path] = text.replace(old, new)
     if not all(does_match(functions, function) for function in edit.goals):
         return None
