@@ -12,10 +12,28 @@ from collections.abc import Iterable
 ROOT = pathlib.Path(__file__).resolve().parent.parent.parent
 
 
+def lines_of_crates() -> dict[str, str]:
+    """The lines of crates.txt by their crates, lowest first."""
+    lines = [line.partition("#")[0].strip() for line in (ROOT / "crates.txt").read_text().splitlines()]
+    return {line.partition(":")[0].split()[0]: line for line in lines if line}
+
+
 def crates() -> list[str]:
     """The names of all crates, lowest first."""
-    lines = [line.partition("#")[0] for line in (ROOT / "crates.txt").read_text().splitlines()]
-    return [line.partition(":")[0].split()[0] for line in lines if line.strip()]
+    return list(lines_of_crates())
+
+
+def lines_below(*crates: str) -> dict[str, str]:
+    """The lines of crates.txt for these crates and those that they use, directly or not, by crate."""
+    lines = lines_of_crates()
+    below: dict[str, str] = {}
+    left = list(crates)
+    while left:
+        name = left.pop()
+        if name in lines and name not in below:
+            below[name] = lines[name]
+            left += lines[name].partition(":")[2].split()
+    return below
 
 
 def words_of_missing(kind: str, name: str, names: Iterable[str], listed_by: str) -> str:

@@ -1,0 +1,307 @@
+"""Edits that the prover must refuse: which of them fit one check, and what a check says of each.
+
+`tests/edits` says why a check of many is as strong as one of each.
+"""
+
+import collections
+import dataclasses
+import pathlib
+import re
+import typing
+from collections.abc import Iterable, Iterator
+
+# what `tests/edits` prints once `rt ci` has ended
+EDITS_LEFT = "== the edits that are left"
+
+REFUSED_AT = re.compile(r"# refused at (\S+) of (\S+)")
+# how `rt fmt` lays out the head of a function, but a `const fn`, which constants may call, and of
+# an impl, with its type
+HEAD = re.compile(r"( *)(?:pub(?:\([^)]*\))? )?(?:unsafe )?fn (\w+)")
+IMPL = re.compile(r"impl(?:<.*?>)? (?:.* for )?&?(\w+)")
+# what the prover says of a function, and what it may say of one that is not proved
+FUNCTION = re.compile(r"fn \w+?::(\S+): (.*)")
+PROVED = re.compile(r"proved(?:, may [a-z]+)*")
+OPEN = re.compile(r"`search` did not prove (.*)")
+CALLS = re.compile(r"it (?:calls|passes the block) `.*, which (?:is|are) not proved")
+NO_GOAL = re.compile(rf"not proved|expected answers in \S+|{CALLS.pattern}")
+GOAL = re.compile(r"`([^`]+)`")
+# an error, of which those in proofs name their goal, and what it says of a name that is gone
+ERROR = re.compile(r"(?:note: )?(?:\./)?(\S+?):\d+:\d+: error: (?:`([^`]+)`: )?(.*)")
+ONLY_A_NAME = re.compile(r"has no field|is not in scope|has no `|was not admitted")
+# what it says of an answer that cites one with an error
+UNCHECKED = re.compile(r"\d+ declarations? that depends? on `.*`, which was rejected, .*")
+# these functions come and go with the uses of their type
+DROPS = re.compile(r".*\+Destruct::drop")
+
+# the goals that are open, by their function
+Goals = dict[str, frozenset[str]]
+
+
+class Void(Exception):
+    """Why the output of a check says nothing of the edits in it."""
+
+
+@dataclasses.dataclass(frozen=True)
+class Edit:
+    """An edit: its file, each old and new text with their file, and the goals that refuse it."""
+
+    file: pathlib.Path
+    pairs: tuple[tuple[str, str, str], ...]
+    goals: Goals = dataclasses.field(compare=False)
+
+    @property
+    def name(self) -> str:
+        return f"{self.file.parent.parent.name}/{self.file.stem}"
+
+
+def read_edit(file: pathlib.Path) -> Edit:
+    """Reads an edit: after a line 'file: PATH' come pairs of lines 'old: TEXT' and 'new: TEXT'."""
+    path = old = ""
+    pairs: list[tuple[str, str, str]] = []
+    goals: dict[str, set[str]] = collections.defaultdict(set)
+    for line in file.read_text().splitlines():
+        key, _, text = line.partition(":")
+        if found := REFUSED_AT.fullmatch(line):
+            goals[found[2]].add(found[1])
+        elif key == "file":
+            path = text.strip()
+        elif key == "old":
+            old = text.removeprefix(" ")
+        elif key == "new":
+            pairs.append((path, old, text.removeprefix(" ")))
+    return Edit(file, tuple(pairs), frozen(goals))
+
+
+def frozen(goals: dict[str, set[str]]) -> Goals:
+    return {function: frozenset(names) for function, names in goals.items() if names}
+
+
+def lines_of(goals: Goals) -> list[str]:
+    """The lines that say in an edit at which goals it is refused."""
+    return [
+        f"# refused at {goal} of {function}"
+        for function in sorted(goals)
+        for goal in sorted(goals[function])
+    ]
+
+
+def words_of(goals: Goals) -> str:
+    return ", ".join(line.removeprefix("# refused at ") for line in lines_of(goals))
+
+
+def record(edit: Edit, goals: Goals) -> None:
+    """Writes into the edit at which goals it is refused."""
+    lines = edit.file.read_text().splitlines()
+    kept = [line for line in lines if not REFUSED_AT.fullmatch(line)]
+    edit.file.write_text("\n".join([*kept, *lines_of(goals), ""]))
+
+
+# ---------------------------------------------------------------- which edits fit one check
+def texts_of(folder: pathlib.Path) -> dict[str, str]:
+    """The texts of a crate's `src/`, by their paths from the crate's folder."""
+    return {str(file.relative_to(folder)): file.read_text() for file in folder.glob("src/**/*.rt")}
+
+
+class Body(typing.NamedTuple):
+    """The body of a function: the lines of its braces, from 0, and how the prover names it."""
+
+    first: int
+    last: int
+    name: re.Pattern[str]
+
+
+def bodies_of(path: str, text: str) -> Iterator[Body]:
+    """The bodies in a file as `rt fmt` lays it out, but those of functions that call themselves."""
+    parts = pathlib.PurePath(path).with_suffix("").parts[1:]
+    module = "".join(f"{part}::" for part in parts if part not in ("lib", "main", "mod"))
+    lines = text.split("\n")
+    owner = module
+    is_in_cycle = False
+    for number, line in enumerate(lines):
+        if found := IMPL.match(line):
+            # the prover names the module of the type, which may be another
+            owner = rf"(?:\w+::)*{found[1]}\w*::"
+        elif line == "}":
+            owner = module
+        if line.lstrip().startswith("#["):
+            is_in_cycle = is_in_cycle or "#[cycle(" in line
+            continue
+        head = HEAD.match(line)
+        if head and not is_in_cycle:
+            first = opening_brace(lines, number, head[1])
+            # what is in a function is named after it
+            name = re.compile(rf"{owner}{head[2]}(?:::.*)?")
+            if first is not None:
+                yield Body(first, lines.index(f"{head[1]}}}", first), name)
+        is_in_cycle = False
+
+
+def opening_brace(lines: list[str], number: int, indent: str) -> int | None:
+    """The line that opens the body of the function whose head begins here; None if it has none."""
+    for at in range(number, len(lines)):
+        head = HEAD.match(lines[at])
+        if at > number and head and head[1] == indent:
+            return None
+        is_signature = at == number or lines[at].startswith(f"{indent})")
+        if lines[at] == f"{indent}{{" or is_signature and lines[at].endswith(" {"):
+            return at
+        # a body of one line, as of a law, has no line between its braces
+        if lines[at] == f"{indent}{{}}" or is_signature and lines[at].endswith((";", "}")):
+            return None
+    return None
+
+
+def changed_by(
+    edit: Edit, texts: dict[str, str]
+) -> tuple[dict[str, str], set[re.Pattern[str]]] | None:
+    """The texts with the edit, and the names of the functions whose bodies it changes.
+
+    None if it changes anything else, or names the goals of other functions.
+    """
+    found = dict(texts)
+    functions = set()
+    for path, old, new in edit.pairs:
+        text = found.get(path, "")
+        if text.count(old) != 1:
+            return None
+        line = text[: text.index(old)].count("\n")
+        around = [body for body in bodies_of(path, text) if body.first < line < body.last]
+        if not around:
+            return None
+        # a function may be in another
+        functions.add(max(around, key=lambda body: body.first).name)
+        found[path] = text.replace(old, new)
+    if not all(does_match(functions, function) for function in edit.goals):
+        return None
+    return found, functions
+
+
+class Batch:
+    """Edits of the bodies of different functions, and the texts that all of them make."""
+
+    def __init__(self, texts: dict[str, str]) -> None:
+        self.texts = texts
+        # how the prover names the functions that each edit changes
+        self.functions: dict[Edit, set[re.Pattern[str]]] = {}
+
+    def take(self, edit: Edit) -> bool:
+        """Takes the edit if it fits beside those that are there."""
+        changed = changed_by(edit, self.texts)
+        if changed is None or any(changed[1] & names for names in self.functions.values()):
+            return False
+        self.texts, self.functions[edit] = changed
+        return True
+
+    def owner(self, function: str) -> Edit:
+        """The edit that changes this function."""
+        owners = [edit for edit, names in self.functions.items() if does_match(names, function)]
+        if len(owners) > 1:
+            owners = [edit for edit in owners if function in edit.goals]
+        if len(owners) != 1:
+            raise Void(f"{function} is not proved, which {len(owners)} edits change")
+        return owners[0]
+
+
+def does_match(names: Iterable[re.Pattern[str]], function: str) -> bool:
+    return any(name.fullmatch(function) for name in names)
+
+
+def batches_of(edits: Iterable[Edit], texts: dict[str, str]) -> tuple[list[Batch], list[Edit]]:
+    """The batches for the edits of a crate with these texts, and the edits that are tried alone."""
+    batches: list[Batch] = []
+    alone = []
+    for edit in edits:
+        if changed_by(edit, texts) is None:
+            alone.append(edit)
+        elif not any(batch.take(edit) for batch in batches):
+            batches.append(Batch(texts))
+            batches[-1].take(edit)
+    return batches, alone
+
+
+# ---------------------------------------------------------------- what the prover says
+def functions_in(output: str) -> set[str]:
+    """The functions that have a line in the output, but those that drop a value."""
+    found = (FUNCTION.fullmatch(line) for line in output.splitlines())
+    return {line[1] for line in found if line and not DROPS.fullmatch(line[1])}
+
+
+def open_goals(status: int, output: str) -> tuple[Goals, set[str]]:
+    """The goals that a check left open, and the functions of which it says something else.
+
+    A function that only calls one that is not proved is in neither.
+    """
+    lines = output.rstrip("\n").split("\n")
+    if status != 1 or lines[-1] != "logic=not-proved":
+        raise Void(f"the check ended with status {status} and the line {lines[-1]!r}")
+    goals = goals_of_errors(lines)
+    explained = set(goals)
+    refused = set()
+    unclear = set()
+    for line in lines:
+        found = FUNCTION.fullmatch(line)
+        if found and not PROVED.fullmatch(found[2]):
+            function = found[1]
+            refused.add(function)
+            named, is_clear = goals_of_reasons(found[2])
+            goals[function] |= named
+            is_explained = goals[function] or function in explained or CALLS.search(line)
+            if not is_clear or not is_explained:
+                unclear.add(function)
+    if strays := goals.keys() - refused:
+        raise Void(f"an error is in the proof of {min(strays)}, but no line says so of it")
+    return frozen(goals), unclear
+
+
+def goals_of_errors(lines: list[str]) -> dict[str, set[str]]:
+    """The goals whose proofs by hand have errors, by the function.
+
+    An error that names what is gone says little of the contract, and opens no goal.
+    """
+    goals: dict[str, set[str]] = collections.defaultdict(set)
+    for line in lines:
+        error = ERROR.match(line)
+        if error is None:
+            if line.startswith("error"):
+                raise Void(line)
+            continue
+        folder, *function, _ = pathlib.PurePath(error[1]).parts
+        is_unchecked = UNCHECKED.fullmatch(error[3])
+        if folder != "proofs" or not error[2] and not is_unchecked:
+            raise Void(line)
+        of_function = goals["::".join(function)]
+        if not is_unchecked and not ONLY_A_NAME.search(error[3]):
+            of_function.add(error[2])
+    return goals
+
+
+def goals_of_reasons(reasons: str) -> tuple[set[str], bool]:
+    """The goals in the prover's line about a function, and whether it says nothing else of it."""
+    goals: set[str] = set()
+    is_clear = True
+    for reason in reasons.removeprefix("no proof: ").split("; "):
+        found = OPEN.fullmatch(reason)
+        if found:
+            goals.update(GOAL.findall(found[1]))
+        elif not NO_GOAL.fullmatch(reason):
+            is_clear = False
+    return goals, is_clear
+
+
+def refused_in(batch: Batch, seed: str, status: int, output: str) -> dict[Edit, Goals]:
+    """The edits of the batch that a check refused, and at which goals.
+
+    These are the goals that the edit names; if it names none, any of the functions that it changes.
+    `seed` is what a check of the crate as it is has said.
+    """
+    open_in, unclear = open_goals(status, output)
+    if lost := functions_in(seed) - functions_in(output):
+        raise Void(f"the function {min(lost)} has no line")
+    found: dict[Edit, Goals] = {edit: {} for edit in batch.functions}
+    for function, goals in open_in.items():
+        found[batch.owner(function)][function] = goals
+    for function in unclear:
+        found[batch.owner(function)] = {}
+    return {
+        edit: goals for edit, goals in found.items() if goals and goals == (edit.goals or goals)
+    }
