@@ -9,7 +9,7 @@ from collections.abc import Sequence
 from typing import Any, Literal, NamedTuple
 
 from debvote_tools.book import queries
-from debvote_tools.book.book import NAME, ActName, Book, DoneAct, damaged, from_text, open_book
+from debvote_tools.book.book import BOOK_FILE, ActName, Book, DoneAct, damaged, from_text, open_book
 from debvote_tools.cli.arguments import Acting, demand_reason
 from debvote_tools.cli.console import FOR_TERMINALS, ZONE, tell_aside
 from debvote_tools.cli.faults import NOTHING_CHANGED, Fault, Status, bad_words, stop_at
@@ -219,9 +219,9 @@ class Election:
     @functools.cached_property
     def opened(self) -> Book:
         """The book, of which nothing is said: commands use `book` or `book_for`."""
-        if not self.path(NAME).is_file():
+        if not self.path(BOOK_FILE).is_file():
             raise no_book(self.folder)
-        book = open_book(self.path(NAME))
+        book = open_book(self.path(BOOK_FILE))
         book.note_seen()
         return book
 
@@ -301,7 +301,7 @@ class Election:
             read = (read_questions(polls, motions, title) for polls in (public, counted))
             return Sealed(*read)
         except Fault:
-            raise damaged(self.path(NAME), "its sealed poll is not in plain form") from None
+            raise damaged(self.path(BOOK_FILE), "its sealed poll is not in plain form") from None
 
     @property
     def questions(self) -> Questions:
@@ -337,13 +337,13 @@ class Election:
 
 def no_book(folder: pathlib.Path) -> Fault:
     """The fault of a folder without a book, with what it is instead."""
-    words = f"there is no {NAME} in it, so it is not an election"
+    words = f"there is no {BOOK_FILE} in it, so it is not an election"
     cure = "go to the folder of the election, or name it with --folder; new makes one"
     place = folder.absolute()
     if not folder.is_dir():
         words = "there is no such folder"
         cure = "name the folder of the election with --folder"
-    elif (place.parent / NAME).is_file() and place.name in MADE:
+    elif (place.parent / BOOK_FILE).is_file() and place.name in MADE:
         words = "the election is one folder up"
         cure = "go there with cd .., then run the command again"
     elif any(os.path.lexists(folder / name) for name in ("journal", "ballots", "received")):

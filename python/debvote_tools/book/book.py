@@ -25,7 +25,7 @@ from debvote_tools.text import times
 from debvote_tools.text.addresses import address_in
 from debvote_tools.text.ballots import part_of
 
-NAME = "election.db"
+BOOK_FILE = "election.db"
 
 AGAIN = "run the command again"
 
@@ -356,7 +356,7 @@ class Book:
         """Why this may not be the book to work on: a copy lies beside it, or this machine knows
         another one, and this one is not accepted now.
         """
-        reason = f"it is another book of this election, with acts that {NAME} lacks; a sync tool may have left it"
+        reason = f"it is another book of this election, with acts that {BOOK_FILE} lacks; a sync tool may have left it"
         cure = "find out which book is right, and move the other out of the folder"
         faults = [Fault(file, reason, cure) for file in self.other_books()]
         if not is_accepted:
@@ -391,9 +391,9 @@ class Book:
         return bool(self.digest_at(number) == digest)
 
     def back_up(self, target: pathlib.Path) -> None:
-        with sqlite_faults(target), whole_folder(target, NAME) as folder:
-            (folder / NAME).touch(0o600)
-            with contextlib.closing(sqlite3.connect(folder / NAME)) as copy:
+        with sqlite_faults(target), whole_folder(target, BOOK_FILE) as folder:
+            (folder / BOOK_FILE).touch(0o600)
+            with contextlib.closing(sqlite3.connect(folder / BOOK_FILE)) as copy:
                 self.connection.backup(copy)
 
 
@@ -445,7 +445,7 @@ def open_book(path: pathlib.Path) -> Book:
         except sqlite3.Error as error:
             if is_read_only and "unable to open" in str(error) or "readonly" in str(error):
                 reason = "a command was cut off in its act, and the act can be taken back only in a folder that is writable"
-                cure = f"copy {NAME} and {NAME}-journal together into a folder of your own, and work there"
+                cure = f"copy {BOOK_FILE} and {BOOK_FILE}-journal together into a folder of your own, and work there"
                 raise Fault(path, reason, cure, done=None) from None
             raise
         if differing is not None:

@@ -289,10 +289,10 @@ def lines_to_count(book: Book) -> list[bytes]:
     """What debvote counts from: the line of each envelope that is in time and not struck, in their
     order; also those that it refuses, or that a later one replaces.
     """
-    return [line for line, _ in answered_lines(book)]
+    return [line for line, _ in lines_with_refusals(book)]
 
 
-def answered_lines(book: Book) -> list[tuple[bytes, str | None]]:
+def lines_with_refusals(book: Book) -> list[tuple[bytes, str | None]]:
     """The same lines, each with why debvote refuses it; None of a ballot."""
     return book.rows("SELECT line, answer FROM ballot ORDER BY envelope")
 

@@ -9,7 +9,7 @@ from debvote_tools.election import Election, History
 from debvote_tools.inbox.asked import asked_words
 from debvote_tools.inbox.stopping import Pending, pending_letters, what_stops
 from debvote_tools.poll.questions import Questions
-from debvote_tools.result.publication import counted, kept_of
+from debvote_tools.result.publication import kept_of, sheet_of
 from debvote_tools.result.sheet import (
     CASTING,
     Castings,
@@ -49,7 +49,7 @@ def count(election: Election, arguments: Arguments) -> int:
     elif not arguments.force:
         stop_at(what_stops(election, history, "count", pending).values())
     sheets = {
-        label: counted(election, kept, castings.get(label))
+        label: sheet_of(election, kept, castings.get(label))
         for label, kept in kept_of(election, history, labels).items()
     }
     for label, sheet in sheets.items():

@@ -47,7 +47,7 @@ def new(election: Election, arguments: Arguments) -> None:
         not folder.is_dir() or folder.is_symlink() or any(folder.iterdir())
     ):
         what = "not empty" if folder.is_dir() else "not a folder"
-        if (folder / book.NAME).exists():
+        if (folder / book.BOOK_FILE).exists():
             what = "an election already"
         raise bad_words(folder, f"it exists, and is {what}", "choose another name")
     polls = new_polls(arguments.questions)
@@ -91,5 +91,5 @@ def make(folder: pathlib.Path, language: str, polls: Mapping[str, bytes]) -> Non
         for name, data in (*polls.items(), (MEMBERS_FILE, NEW_MEMBERS.encode())):
             (made / name).parent.mkdir(exist_ok=True)
             write_whole(made / name, data, 0o600)
-        final_path = place.parent.resolve() / place.name / book.NAME
-        book.create(made / book.NAME, {"language": language}, final_path)
+        final_path = place.parent.resolve() / place.name / book.BOOK_FILE
+        book.create(made / book.BOOK_FILE, {"language": language}, final_path)

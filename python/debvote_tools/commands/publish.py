@@ -113,7 +113,7 @@ def publish(election: Election, arguments: Arguments) -> int:
     is_bare = given == PublishedWords(is_forced=arguments.force)
     words = PublishedWords(**last.detail["words"]) if last and is_bare else given
     again = last if last and words._asdict() == last.detail["words"] else None
-    make = functools.partial(filled_in_place, election, arguments, target, words, again)
+    make = functools.partial(published_in_place, election, arguments, target, words, again)
     is_new = again is None
     try:
         filled = make(is_new=is_new)
@@ -129,7 +129,7 @@ def publish(election: Election, arguments: Arguments) -> int:
     return max(sheet.status for sheet in sheets.values())
 
 
-def filled_in_place(
+def published_in_place(
     election: Election,
     arguments: Arguments,
     target: pathlib.Path,

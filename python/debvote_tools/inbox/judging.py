@@ -394,7 +394,7 @@ def outcome_of_copy(
     begin, end = sorted((original.time, case.time))
     # not what was typed for it, nor another line of it
     known = {ballot.number for ballot in original.entered}
-    typed = (ballot.line for ballot in original.standing if ballot.is_typed)
+    typed = (ballot.line for ballot in original.not_taken_back if ballot.is_typed)
     for line in (*(ballot.as_entered for ballot in case.ballots), *typed):
         elector = line.partition(" ")[0]
         if between := by_elector[elector].first_other(line, begin, end, known):

@@ -103,7 +103,7 @@ class OfBox:
     # came before it
     sent: datetime.datetime | None = None
     sent_before: datetime.datetime | None = None
-    # whether it was fetched with the file of the box
+    # whether it is from the file of the box, which somebody downloaded by hand
     is_fetched: bool = False
 
 

@@ -255,8 +255,8 @@ class LetterCase:
         return {answer: ballot for ballot in ballots for answer in ballot.answers}
 
     @property
-    def standing(self) -> list[EnteredBallot]:
-        """The ballots of it that were entered, also if they were struck, and not taken back."""
+    def not_taken_back(self) -> list[EnteredBallot]:
+        """The ballots of it that were entered, also if they were struck."""
         return [ballot for ballot in self.entered if not ballot.is_taken_back]
 
     @property

@@ -208,7 +208,7 @@ class Composer:
         if letter is None:
             sentence = (OF_BALLOT | AT_THE_END if self.is_over else OF_BALLOT)[fate.became]
         # what is told of a letter is told to those of whom nothing was entered
-        elif letter.standing and (fate.is_own or fate.became is LetterOutcome.ENTERED):
+        elif letter.not_taken_back and (fate.is_own or fate.became is LetterOutcome.ENTERED):
             sentence = OF_OTHERS[letter.is_pending]
         else:
             is_done = fate.became in (LetterOutcome.SET_ASIDE, LetterOutcome.OLDER)

@@ -165,7 +165,7 @@ def filled(
     same result had when it was made first: the reason of then is not one for what came since.
     """
     filling = Filling(folder, vote)
-    outcomes = {facts.label: filling.counted(facts, program_folder) for facts in questions}
+    outcomes = {facts.label: filling.outcome_of(facts, program_folder) for facts in questions}
     doubts = demand_publishable(vote, outcomes, is_forced=is_forced, known=known)
     for (label, outcome), picture in zip(outcomes.items(), pictures_of(outcomes.values())):
         filling.write(label, further_files(outcome, picture))
@@ -216,7 +216,7 @@ class Filling:
         lines = (f"{checksum}  {name}\n" for name, checksum in sorted(self.sums(label).items()))
         self.write(label, {CHECKSUMS: "".join(lines).encode()})
 
-    def counted(self, facts: QuestionFacts, program_folder: pathlib.Path | None) -> Outcome:
+    def outcome_of(self, facts: QuestionFacts, program_folder: pathlib.Path | None) -> Outcome:
         """Writes poll, ballots and sheet of a question, and asks debvote about them."""
         label = facts.label
         folder = self.folder / label

@@ -81,7 +81,7 @@ def kept_of(election: Election, history: History, labels: Iterable[str]) -> dict
 
 def kept_of_question(book: Book, label: str, poll: SealedPoll) -> Kept:
     """What the book has of the question that is seen alone."""
-    answered = queries.answered_lines(book)
+    answered = queries.lines_with_refusals(book)
     counting = queries.what_counts(book)
     ballots = ballot_file(line for line, _ in answered)
     aliases = {elector.name: alias_in(label, elector) for elector in queries.electors(book)}
@@ -116,7 +116,7 @@ def demand_kept(election: Election, answer: object, kept: object) -> None:
         raise Fault(election.book.path, words, KEEP)
 
 
-def counted(election: Election, kept: Kept, casting: str | None) -> Sheet:
+def sheet_of(election: Election, kept: Kept, casting: str | None) -> Sheet:
     """What debvote counts of a question, with the option of the casting vote."""
     words = casting_words(casting)
     return sheet_in(
@@ -162,7 +162,7 @@ def question_facts(election: Election, vote: VoteFacts) -> list[QuestionFacts]:
             facts = facts._replace(
                 late=None,
                 seal=fixed_by(history.closes[-1])[label].seal,
-                private=counted(election, kept, facts.casting),
+                private=sheet_of(election, kept, facts.casting),
                 compared=shown_by_comparison(election, history, label, kept),
             )
         questions.append(facts)

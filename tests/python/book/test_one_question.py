@@ -5,7 +5,7 @@ import pathlib
 import pytest
 
 from debvote_tools.book import queries
-from debvote_tools.book.book import NAME, Book, connected, create, open_book
+from debvote_tools.book.book import BOOK_FILE, Book, connected, create, open_book
 
 LINES = [(b"ada A 1,2 C 2,1,3", None), (b"ben A 2,1", None), (b"ada C 1,1,1", None), (b"ben C 1,2", "bad rank count: ..")]
 
@@ -14,8 +14,8 @@ SEEN = {"": [line for line, _ in LINES], "A": [b"ada 1,2", b"ben 2,1"], "B": [],
 
 @pytest.fixture
 def book(tmp_path: pathlib.Path) -> Book:
-    create(tmp_path / NAME, {"language": "en"}, tmp_path / NAME)
-    book = open_book(tmp_path / NAME)
+    create(tmp_path / BOOK_FILE, {"language": "en"}, tmp_path / BOOK_FILE)
+    book = open_book(tmp_path / BOOK_FILE)
     with book.act("roll", {"electors": 2}) as act:
         ada, ben = (act.insert("elector", name=name) for name in ("ada", "ben"))
     with book.act("add") as act:

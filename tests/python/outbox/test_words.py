@@ -52,7 +52,7 @@ def vote(code: str = "en", *, is_over: bool = False, **how: object) -> Composer:
 
 def came_letter(reason: ReasonWithValues | None, **how: object) -> Any:
     """A letter as far as its receipt tells it."""
-    usual: dict[str, object] = {"refused": (), "standing": (), "is_pending": True}
+    usual: dict[str, object] = {"refused": (), "not_taken_back": (), "is_pending": True}
     return types.SimpleNamespace(reason=reason, read=types.SimpleNamespace(link="", sent=None), **{**usual, **how})
 
 
@@ -72,7 +72,7 @@ def all_that_came(answers: str = "1,2,3") -> list[Fate]:
     kinds = itertools.product((LetterOutcome.WAITS, LetterOutcome.SET_ASIDE), (True, False), ([], [typed]))
     letters = []
     for outcome, is_own, standing in kinds:
-        letter = came_letter(Reason.NO_BALLOT(), refused=read, standing=standing, is_pending=outcome is LetterOutcome.WAITS)
+        letter = came_letter(Reason.NO_BALLOT(), refused=read, not_taken_back=standing, is_pending=outcome is LetterOutcome.WAITS)
         letters.append(Fate(TIME, outcome, letter=letter, is_own=is_own))
     return [*ballots, *(envelope(9, REFUSED, answer) for answer in refused), *letters]
 
