@@ -26,6 +26,8 @@ SENTENCES = {
     "missed its majority": "It needs more for it than against it: {needed}.",
     "missed a majority of a ratio": "It needs {times} times as many for it as against it: {needed}.",
     "its own defeat removed": "It beats {b} by {over} to {under}, but this defeat was set aside in round {round} as the weakest.",
+    "equal with the winner": "It and {a} are equal, {over} to {under}.",
+    "dropped, and preferred to the winner": "More electors prefer it to {winner}, {over} to {under}.",
     "loses directly": "{a} beats it by {over} to {under}.",
     "loses by a chain": "{a} beats {b} by {over} to {under}.",
     "left in a tie": "{a} against {b}: {over} to {under}.",
@@ -38,8 +40,8 @@ SENTENCES = {
     "a tie without defeats": "None of them beats another.",
     "the casting vote": "Winner: {winner} by casting vote. {left}",
     "the casting vote among many": "These options were left: {left}.",
-    "the default option, a few failed": "Winner: {winner}. All other options were dropped. {failed}",
-    "the default option, many failed": "Winner: {winner}. All other options were dropped. The nearest, {nearest}",
+    "the default option, a few failed": "Winner: {winner}. {failed}",
+    "the default option, many failed": "Winner: {winner}. {nearest} The {number} other options lacked more.",
     "a circle": "Winner: {winner}. Options beat each other in a circle, so the weakest defeat was set aside: {last}. "
     "Then it beats {beaten}, and nothing beats it.",
     "circles": "Winner: {winner}. Options beat each other in circles, so {number} weakest defeats were set aside, the last of them {last}. "
@@ -175,7 +177,7 @@ class Parts:
 
     def check(self):
         """Meets all parts with the count. Raises Wrong, or returns the kinds of sentences that the page has."""
-        for part in "headings named facts panel lines rule bars options table defeats why_not rounds ballots who_voted".split():
+        for part in "headings named facts panel lines rule others options table defeats rounds ballots who_voted".split():
             getattr(self, part)()
         self.numbered = "Option {}: {}"
         self.deciding()
@@ -237,30 +239,46 @@ class Parts:
         of = f"The quorum is {counted(least_of(self.count), 'vote')}: at least {poll.quorum}Q, where Q is half of the square root"
         demand_equal("the quorum", (of in said, "No quorum is asked for." in said), (poll.quorum > 0, poll.quorum == 0))
 
-    def bars(self):
-        """All but the default option, the winner first, then as the rounds leave them; of each the name, the chip, the bar with its mark,
-        the numbers, and what it lacks if it was dropped."""
-        count, poll = self.count, self.count.poll
-        default, least = poll.default, least_of(count)
-        section = self.sections["Who-had-enough-votes"]
-        whole, hint = max(len(count.last), least, 1), next(section.all("p", "hint")).text()
-        said = (f"prefer the option to the default option, {self.name(default)}." in hint, f"stands for {whole}." in hint)
-        demand_equal("the hint of the bars", said, (True, whole != len(count.last)))
+    def others(self):
+        """Below the panel, each whose fate the panel does not say, as the rounds leave them, and last those that were dropped: of each
+        the name, the chip, and what became of it; of one that was dropped a bar with its numbers, too."""
+        count, poll, votes = self.count, self.count.poll, self.count.votes
+        default, winner, final = poll.default, count.winner, count.final
+        told = {winner} | {o for _, o in few(self.nearest())} if winner == default else {winner}
+        told |= set(final) if winner is None and len(final) == 2 else set()
         last = {o: max((n for n, (kept, _) in enumerate(count.rounds, 1) if o in kept), default=0) for o in poll.options}
-        order = sorted(poll.ratios, key=lambda o: (o != count.winner, o in count.dropped, -last[o], o))
-        lists = [list(found.all("li")) for found in section.all("ol", "options")]
+        order = [o for o in sorted(poll.options, key=lambda o: (o in count.dropped, -last[o], o)) if o not in told and len(poll.options) > 2]
+        demand_equal("whether others are told", "Why-not-the-others" in self.sections, order != [])
+        if not order:
+            return
+        lists = [list(found.all("li")) for found in self.sections["Why-not-the-others"].all("ol", "options")]
         demand_equal("how many options are seen, and folded", list(map(len, lists)), [len(order)] if len(order) <= 8 else [5, len(order) - 5])
+        chips = {"quorum": "no quorum", "majority": "no majority", "left": "tied"}
         for option, entry in zip(order, [entry for entries in lists for entry in entries]):
-            chip = f"no {count.dropped[option]}" if option in count.dropped else "enough"
             head = [part.text() for part in entry.one("p", "option").inner if isinstance(part, Node)]
-            demand_equal(f"the head of {option}", head, [self.name(option), chip])
-            over, under = count.votes[option, default], count.votes[default, option]
-            equal = len(count.last) - over - under
-            for_it = f"{over} for, {equal} equal" if equal else f"{over} for"
-            demand_equal(f"the numbers of {option}", [part.text() for part in entry.one("p", "numbers").all("span")], [for_it, f"{under} against"])
-            demand_equal(f"what {option} lacks", [part.text() for part in entry.all("p", "reason")], [self.lack(option)] if option in count.dropped else [])
-            needed = needed_by(count, option)
-            demand_equal(f"the bar of {option}", bar_of(entry.one("svg", "bar")), (whole, over, whole - under, under, [needed] if needed <= whole else []))
+            demand_equal(f"the head of {option}", head, [self.name(option), chips.get(count.ended(option), "lost")])
+            reasons, bars = [part.text() for part in entry.all("p", "reason")], list(map(bar_of, entry.all("svg", "bar")))
+            if option not in count.dropped:
+                demand_equal(f"why {option} has not won", (reasons, bars), ([" ".join(self.fate(option))], []))
+                continue
+            wanted = [f"{votes[option, default]} for it, {votes[default, option]} for {self.name(default)}. {self.lack(option)}"]
+            if winner not in (None, default) and votes[option, winner] > votes[winner, option]:
+                pair = {"winner": self.name(winner), "over": votes[option, winner], "under": votes[winner, option]}
+                wanted.append(self.say("dropped, and preferred to the winner", **pair))
+            demand_equal(f"why {option} was dropped", (reasons, bars), (wanted, [self.bar(option, default, needed_by(count, option))]))
+
+    def nearest(self):
+        """The options that were dropped, by what they lacked for quorum and majority."""
+        count, default = self.count, self.count.poll.default
+        return sorted((max(least_of(count), majority_of(count, o)) - count.votes[o, default], o) for o in count.dropped)
+
+    def bar(self, a, b, needed=0):
+        """A bar, all of which have one scale: it ends at the voters, and what is needed beyond them is dashed, up to as much again."""
+        count, voters = self.count, len(self.count.last)
+        whole = max(voters, min(max((needed_by(count, o) for o in count.dropped), default=0), 2 * voters), 1)
+        over, under = count.votes[a, b], count.votes[b, a]
+        dashed = [(voters, min(needed, whole) - voters)] if needed > voters else []
+        return (whole, voters), over, (voters - under, under), dashed, [needed] if 0 < needed <= whole else []
 
     def lack(self, option):
         """What an option lacks that was dropped."""
@@ -269,19 +287,12 @@ class Parts:
         kind = {"quorum": "missed the quorum", "majority": majority}[count.dropped[option]]
         return self.say(kind, needed=needed_by(count, option), times=f"more than {ratio}" if count.poll.is_more_than else str(ratio))
 
-    def why_not(self):
-        """Of each option that was not dropped and has not won what became of it."""
-        count = self.count
-        others = [option for option in count.poll.options if option not in count.dropped and option != count.winner]
-        heads = [head.text() for head in self.sections["Defeats"].all("h4")]
-        demand_equal("the parts below the defeats", heads, ["Why the others have not won"] * bool(others) + ["Rounds"])
-        found = [" ".join(entry.split(" ")) for entry in self.entries("Defeats")[max(len(count.defeats), 0) :]]
-        demand_equal("why the others have not won", sorted(found), sorted(f"{self.name(option)}: {' '.join(self.fate(option))}" for option in others))
-
     def fate(self, option):
         """What became of an option that was not dropped and has not won, a sentence each."""
         count = self.count
         if option not in count.final:
+            if count.winner and count.votes[option, count.winner] == count.votes[count.winner, option]:
+                yield self.say("equal with the winner", (count.winner, option))
             yield from (self.say("its own defeat removed", pair) for _, gone in count.rounds for pair in sorted(gone) if pair[0] == option)
             first, *more = self.chain(option)
             yield self.say("loses directly", first)
@@ -352,11 +363,10 @@ class Parts:
     def failed(self):
         """The options that the default option has outlived, the nearest first."""
         count, default = self.count, self.count.poll.default
-        rows = sorted((needed_by(count, o) - count.votes[o, default], o) for o in count.dropped)
+        rows = self.nearest()
         for _, option in few(rows):
-            over, under, needed = count.votes[option, default], count.votes[default, option], needed_by(count, option)
-            whole = max(len(count.last), least_of(count), 1, needed)
-            yield [self.name(option), f"{over} of {needed}", self.lack(option)], (whole, over, whole - under, under, [needed]), None
+            votes = f"{count.votes[option, default]} for, {count.votes[default, option]} against"
+            yield [self.name(option), votes, self.lack(option)], self.bar(option, default, needed_by(count, option)), None
         yield from others_of(rows)
 
     def rivals(self, winner):
@@ -371,8 +381,8 @@ class Parts:
             demand(kind is None or over > under, f"the bar of {rival} contradicts the result")
             # by its name alone: a number there would be read as one of votes
             name = self.names.get(rival, count.poll.names[rival])
-            equal = f", {whole - over - under}\xa0equal" if over + under < whole else ""
-            return [f"against {name}", f"{over} to {under}{equal}", *more], (whole, over, whole - under, under, []), kind
+            equal = f" {whole - over - under}\xa0equal" if over + under < whole else ""
+            return [f"against {name}", f"{over} to {under}{equal}", *more], self.bar(winner, rival), kind
 
         yield from (row(rival, kind="won") for _, rival in few(beaten))
         yield from others_of(beaten)
@@ -398,11 +408,10 @@ class Parts:
         count, default = self.count, self.count.poll.default
         if winner == default:
             demand_equal("all others were dropped", set(count.dropped), set(count.poll.options) - {default})
-            rows = sorted((needed_by(count, o) - count.votes[o, default], o) for o in count.dropped)
-            failed = [(self.name(o), f"needs {needed_by(count, o)} and has {count.votes[o, default]}.") for _, o in rows]
-            if len(failed) > 3:
-                return self.say("the default option, many failed", nearest=", ".join(failed[0]), **places)
-            return self.say("the default option, a few failed", failed=" ".join(map(" ".join, failed)), **places)
+            rows = [f"{self.name(o)}: {count.votes[o, default]} for, {count.votes[default, o]} against. {self.lack(o)}" for _, o in self.nearest()]
+            if len(rows) > 3:
+                return self.say("the default option, many failed", nearest=rows[0], number=len(rows) - 1, **places)
+            return self.say("the default option, a few failed", failed=" ".join(rows), **places)
         removed = [pair for _, pairs in count.rounds for pair in sorted(pairs)]
         others = set(count.poll.options) - set(count.dropped) - {winner}
         demand(not any(b == winner for _, b in count.defeats - set(removed)), "nothing beats the winner")
@@ -494,12 +503,14 @@ class Parts:
 
 
 def bar_of(svg):
-    """The whole width of a bar, the width of those for, from where those against begin and their width, and the marks."""
-    whole = int(svg.attributes["viewbox"].split()[2])
-    over, under = svg.one("rect", "for"), svg.one("rect", "against")
+    """The whole width and that of the bar, the width of those for, from where those against begin and their width, the same of what is
+    lacking, and the marks."""
+    ground, over, under = next(svg.all("rect")), svg.one("rect", "for"), svg.one("rect", "against")
+    widths = int(svg.attributes["viewbox"].split()[2]), int(ground.attributes["width"])
     demand_equal("a reader has the numbers of a bar as text", svg.attributes["aria-hidden"], "true")
     marks = [int(re.match(r"M(\d+) ", mark.attributes["d"])[1]) for mark in svg.all("path")]
-    return whole, int(over.attributes["width"]), int(under.attributes["x"]), int(under.attributes["width"]), marks
+    from_to = [(int(part.attributes["x"]), int(part.attributes["width"])) for part in (under, *svg.all("rect", "lacking"))]
+    return widths, int(over.attributes["width"]), from_to[0], from_to[1:], marks
 
 
 def majority_of(count, option):

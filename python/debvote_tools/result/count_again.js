@@ -177,13 +177,15 @@ async function inSlices(steps, isWanted, tell = () => {}) {
     return isSame && document.querySelector("h1").textContent === poll.shownTitle;
   }
 
-  // Whether the winner's numbers against others are those of the count; each language parts thousands by its own sign.
+  // Whether the numbers of the panel are those of the count: the winner's against others, or those of options that failed against the
+  // default option; each language parts thousands by its own sign.
   function areDuelsSame(poll, { votes, voters }, won) {
+    const fallback = poll.names.length - 1;
     return [...document.querySelectorAll(".duel")].every((node) => {
       const other = poll.shown.indexOf(node.querySelector("bdi").textContent);
       const numbers = node.lastElementChild.textContent.replace(/(\d)[.,\u00a0](?=\d{3})/g, "$1").match(/\d+/g).map(Number);
-      if (won === poll.names.length - 1) return numbers[0] === votes[other]?.[won];
       const [over, under, equal = 0] = numbers;
+      if (node.matches(".failed")) return over === votes[other]?.[fallback] && under === votes[fallback][other];
       return over === votes[won][other] && under === votes[other]?.[won] && equal === voters - over - under;
     });
   }

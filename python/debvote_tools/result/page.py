@@ -40,9 +40,6 @@ from debvote_tools.text.times import date_in_words
 STYLES = ("fields.css", "given.css", "page.css")
 SCRIPTS = ("names.js", "find.js", "fold.js")
 
-# the questions of a result that are shown whole; of more each is a line, which opens
-MOST_WHOLE = 6
-
 # in bytes; larger files are not carried by the page, and the reader chooses them. Those of a secret
 # vote, which the finding of one's own ballot needs too, never come to more: a poll has at most
 # 1,048,576 bytes, and each of 10,000 ballots at most 129
@@ -144,7 +141,6 @@ def front_page_of(vote: VoteFacts, outcomes: Mapping[str, Outcome]) -> bytes:
         script=resources(__package__, *SCRIPTS),
         outcomes=outcomes,
         named=functools.partial(named_in_html, form=NAME_ALONE),
-        are_folded=len(outcomes) > MOST_WHOLE,
     )
 
 
@@ -372,7 +368,7 @@ COUNT_AGAIN = marked(
         last="By this count the last line of the sheet is: {line}",
         casting="The sheet has a casting vote for {option}. No count shows whose it was.",
         page_same="This page shows what its files come to: the result, the names of the options, the table of votes, and each of the {ballots} "
-        "ballots, by its ranks and in words. Other words are not compared.",
+        "ballots, by its ranks and in words. Bars and other words are not compared.",
         page_differs="This page does not show what its files come to: {where}.",
         the_result="the result",
         the_names="the names of title and options",

@@ -19,14 +19,20 @@ class Why:
         self.sheet = sheet
         self.options = options
         self.default = sheet.default
-        # what the whole width of a bar means: all voters, or the quorum if it is greater
-        self.whole = max(sheet.voters, sheet.quorum, 1)
         # the defeats that were removed as the weakest, with their rounds
         self.removed = {
             pair: number
             for number, (_, removed) in enumerate(sheet.rounds, start=1)
             for pair in removed
         }
+
+    @property
+    def whole(self) -> int:
+        """What the whole width means of each bar of a page, which ends at the voters, but for what
+        options lack, at most as much again.
+        """
+        needed = max((row["needed"] for row in self.failed), default=0)
+        return max(self.sheet.voters, min(needed, 2 * self.sheet.voters), 1)
 
     def names(self, options: Iterable[int]) -> list[str]:
         return [self.options[option] for option in options]
@@ -70,10 +76,13 @@ class Why:
         """
         by_cause = {"quorum": self.sheet.quorum, "majority": self.majority(option)}
         dropped = self.sheet.dropped.get(option)
-        return self.row((option, self.default)) | {
+        row = self.row((option, self.default))
+        return row | {
+            "number": option,
             "ratio": self.sheet.ratios[option],
             "dropped": dropped,
             "needed": by_cause[dropped] if dropped else max(by_cause.values()),
+            "lacked": max(by_cause.values()) - row["over"],
         }
 
     @property
@@ -83,9 +92,23 @@ class Why:
 
     @property
     def failed(self) -> list[Row]:
-        """What the options that were dropped need, the nearest first."""
+        """What the options that were dropped need, first the one that lacked least for quorum and
+        majority.
+        """
         rows = map(self.needs, self.sheet.dropped)
-        return sorted(rows, key=lambda row: int(row["needed"] - row["over"]))
+        return sorted(rows, key=lambda row: int(row["lacked"]))
+
+    @property
+    def others(self) -> list[int]:
+        """The options whose fate the panel of the result leaves untold: none of two, not both of a
+        tie, and of those that the default option has outlived none that it shows.
+        """
+        sheet = self.sheet
+        shown = self.few(self.failed)[0] if sheet.winner == self.default else []
+        told = {sheet.winner, *(row["number"] for row in shown)}
+        if sheet.winner is None and len(sheet.left) == 2:
+            told |= {*sheet.left}
+        return [option for option in self.in_order if option not in told and len(self.options) > 2]
 
     # ---- beside each other
     @property

@@ -56,10 +56,10 @@ class InBrowser(languages.LanguageTest):
             self.assertEqual(found, [size[0], self.language.code], str(file.relative_to(self.scratch)))
 
     def check_telephone(self, place: pathlib.Path) -> None:
-        """On a small one the winner, the facts and the first option with its bar are on the first screen, also with doubts."""
+        """On a small one the winner, the facts and the first other option are on the first screen, also with doubts."""
         self.window.open(place / "result" / "index.html")
         self.window.resize(*SMALL)
-        first = self.window.ask("document.querySelector('.options li .numbers').getBoundingClientRect().bottom")
+        first = self.window.ask("document.querySelector('.options li').getBoundingClientRect().bottom")
         self.assertLessEqual(first, SMALL[1], f"{place.name}: the first screen of a small telephone")
         # what is folded says each doubt, and what a doubt is; it links no file
         folded = self.window.ask("""((doubts) => [doubts.querySelector("summary").textContent.trim().length > 10,
@@ -74,7 +74,7 @@ class InBrowser(languages.LanguageTest):
         self.window.resize(*TELEPHONE)
 
     def check_outcomes(self, code: str) -> None:
-        """In a tie, by a casting vote and where a defeat was set aside the first option with its bar is on the first screen, too, and the
+        """In a tie, by a casting vote and where a defeat was set aside the first other option is on the first screen, too, and the
         count in the browser finds the page right."""
         ranks = {"tie": ["1,2,3,4", "3,1,2,4", "2,3,1,4"] * 3, "two": ["1,2,3,4", "2,1,3,4"] * 4, "circle": ["1,2,3,4"] * 4 + ["3,1,2,4"] * 3 + ["2,3,1,4"] * 2}
         poll = languages.POLL.replace("[1, 1, 3]", "[1, 1, 1]") + f"roll = {json.dumps(languages.ELECTORS)}\n"
@@ -86,7 +86,7 @@ class InBrowser(languages.LanguageTest):
             self.program("debvote-publish", *files, "--language", code, *casting, folder, status=status)
             self.window.resize(*SMALL)
             self.window.open(self.scratch / folder / "index.html")
-            first = self.window.ask("document.querySelector('.options li .numbers').getBoundingClientRect().bottom")
+            first = self.window.ask("document.querySelector('.options li').getBoundingClientRect().bottom")
             self.assertLessEqual(first, SMALL[1], f"{folder}: the first screen of a small telephone")
             if name == "circle" and elections.HAS_PICTURES:
                 self.assertIn(f"5 : 4, {ROUNDS[code]} 1", self.window.ask(PICTURE_TEXTS))

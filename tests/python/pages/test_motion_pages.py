@@ -98,8 +98,12 @@ class Result(ResultPageTest):
                 self.assertEqual((found[1], len(found)), (said[at], 3), found)
             again = window.count_again()
             self.assertRegex(" ".join(again), {"en": "This page shows what its files come to", "de": "Diese Seite zeigt", "fr": "Cette page montre", "es": "Esta página muestra"}[language])
-            facts = window.ask("document.querySelector('.facts').textContent")
-            self.assertRegex(facts, {"en": "2 yes, 1 no, 1 abstained", "de": "2 Ja, 1 Nein, Enthaltungen: 1", "fr": "2 oui, 1 non, abstentions\u00a0: 1|2 oui, 1 non, abstentions : 1", "es": "2 sí, 1 no, abstenciones: 1"}[language])
+            panel = window.ask("[document.querySelector('.ended'), document.querySelector('.duel span + span'), document.querySelector('.facts')].map((node) => node.textContent)")
+            said = {
+                "en": ("Carried", "2 yes, 1 no", "1 abstained"), "de": ("Angenommen", "2 Ja, 1 Nein", "Enthaltungen: 1"),
+                "fr": ("Adoptée", "2 oui, 1 non", "Abstentions\u00a0: 1"), "es": ("Aprobada", "2 sí, 1 no", "Abstenciones: 1"),
+            }[language]  # fmt: skip
+            self.assertEqual((*panel[:2], said[2] in panel[2]), (*said[:2], True), panel)
             self.assertEqual(window.faults, [])
 
     def test_a_changed_answer_is_seen(self) -> None:

@@ -85,7 +85,7 @@ class ScriptsTest(publishing.ResultPageTest):
         room = plain_room(self.scratch / "family", poll, "anna-meier 10,9,3\ndan 1,2\ndan-x 1,2,3\nEVE-LEE: 1;2\n")
         published = self.published(room, "family-names", real_names={"anna-meier": "Anna Meier", "dan": "Dan"})
         # the default option has won, whose page has the numbers of the others
-        said = self.page_of(published, ("<b>0 of 1</b>", "<b>1 of 1</b>")).count_again()
+        said = self.page_of(published, ("<span><b>0</b> for", "<span><b>1</b> for")).count_again()
         self.expect(f"another number: {said}", [": the result. " in row for row in said if row.startswith("This page does")], [True])
         window = self.page_of(published)
         self.expect("ranks of two digits", window.find("anna-meier")[1:], ["N", "B", "A", "The line: anna-meier 10,9,3"])
@@ -299,7 +299,7 @@ class ScriptsTest(publishing.ResultPageTest):
             "the result": ('<h2 id="Result"><b><bdi>&lt;i&gt;B', '<h2 id="Result"><b><bdi>&lt;i&gt;C'),
             "the result ": ("<b>1 to 0</b>", "<b>1 to 1</b>"),
             "the result  ": ("against <bdi>N", "against <bdi>M"),
-            "the result   ": ("</b>, 2\u00a0equal", "</b>, 1\u00a0equal"),
+            "the result   ": ("<small>2\u00a0equal", "<small>1\u00a0equal"),
             "the names of title and options  ": ('<p class="option"><span><i>1</i>\u00a0<bdi>72', '<p class="option"><span><i>1</i>\u00a0<bdi>73'),
             "the names of title and options": ('<h1 dir="auto">Größe', '<h1 dir="auto">Grösse'),
             "the names of title and options ": (">plain name, on the result sheet: A<", ">plain name, on the result sheet: B<"),

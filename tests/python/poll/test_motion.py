@@ -84,7 +84,9 @@ class Sealed(MotionTest):
         self.assertEqual(self.lines(), ["ada 2,1", "ben 1,1"])
         self.told("close", "--early", "--yes")
         self.told("publish")
-        self.assertIn("0 yes, 1 no, 1 abstained", self.read("letters/result.txt").decode().replace("\n", " "))
+        letter = self.read("letters/result.txt").decode().replace("\n", " ")
+        self.assertIn("Winner: Option 2: No, as it is. 0 yes, 1 no. More had to say yes than no.", letter)
+        self.assertIn("2 of 2 voted, 1 abstained.", letter)
         self.assertIn(b"<code>2,1</code>: No</li>", self.read("result/index.html"))
 
 

@@ -477,8 +477,8 @@ class PagesTest(PublishedTest):
         with at_browser.Window(360, 800) as window:
             window.open(result / "index.html")
             self.assertEqual(window.ask("document.documentElement.scrollWidth"), 360)
-            heads = "[...document.querySelectorAll('.outcome')].map((part) => [part.querySelector('h2').textContent, part.querySelector('b').textContent])"
-            self.assertIn("2 yes, 1 no, 0 abstained", window.ask("document.querySelector('.facts').textContent"))
+            heads = "[...document.querySelectorAll('.question')].map((part) => [part.querySelector('h2').textContent, part.querySelector('.won b').textContent])"
+            self.assertEqual("2 yes, 1 no.", window.ask("document.querySelector('.votes').textContent"))
             self.assertEqual(
                 window.ask(heads),
                 [["A Raise the fee to 72 Euro", "Yes, 72 Euro"], ["B The chair of the board", "Mary Somerville"], ["C A new roof", "Slate and Tiles"]],
@@ -536,24 +536,9 @@ class ManyTest(PublishedTest):
         self.assertEqual((ended.status, re.findall("question (.): no elector has a ballot that counts", ended.faults)), (9, list("CDEF")))
         self.publish("--force", "--because", "nobody wanted them")
         page = self.read("result/index.html").decode()
-        lines = re.findall(r'<details>\n<summary><h2 id="Question-(.)">.*?</h2> .*?<b><bdi>(.*?)</bdi></b></summary>', page)
-        self.assertEqual(lines, [("A", "Yes, 70 Euro"), *((label, "No, as it is") for label in "BCDEFG")])
-        # a doubt is not folded
-        self.assertEqual(len(re.findall('</details>\n<p class="doubts">.*no ballot counts</p>\n</section>', page)), 4)
+        lines = re.findall(r'<h2 id="Question-(.)">.*?<p class="ended">(.*?)</p>\s*<p class="won"><b><bdi>(.*?)</bdi></b></p>', page, re.DOTALL)
+        lost = [(label, "The default option has won", "No, as it is") for label in "BCDEFG"]
+        self.assertEqual(lines, [("A", "Has won", "Yes, 70 Euro"), *lost])
+        # nothing is folded, a doubt neither
+        self.assertEqual((page.count("<details>"), len(re.findall('<p>No elector has a ballot that counts: .*?</p>\n</div>', page))), (0, 4))
         self.assertEqual(pathlib.Path(self.folder / "result" / "G" / "ballots.txt").read_text(), "ada 2,1\n")
-
-
-class SixTest(PublishedTest):
-    polls = {label: ManyTest.polls[label] for label in "ABCDEF"}
-    poll = "".join(polls.values())
-    new_words = ("--questions", "6")
-
-    def setUp(self) -> None:
-        QuestionsTest.setUp(self)
-        self.add_lines("ada A 1,2 B 1,2 C 1,2 D 1,2 E 1,2 F 1,2")
-
-    def test_each_is_whole(self) -> None:
-        self.done("close", "--early")
-        self.publish()
-        page = self.read("result/index.html").decode()
-        self.assertEqual((page.count('<section class="outcome"'), page.count("<summary>")), (6, 0))

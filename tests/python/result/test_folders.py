@@ -197,7 +197,7 @@ class FoldersTest(looks.LooksTest):
                 self.expect(name, bar["share"] is None or abs(bar["share"] - wanted) <= 10, True)
                 self.expect(f"{name} can be seen", looks.contrast(edge, look["paper"]) >= 3, True)
                 fills.add((look["is_dark"], bar["kind"], fill))
-        self.expect("bars of each kind have one fill in light and one in dark", (len(fills), len({fill for _, _, fill in fills})), (8, 6))
+        self.expect("bars of each kind have one fill in light and one in dark", (len(fills), len({fill for _, _, fill in fills})), (10, 7))
 
     @looks.NEEDS_BROWSER
     def test_doubts(self):

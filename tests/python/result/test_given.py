@@ -57,7 +57,7 @@ class GivenTest(publishing.PublishTest):
             self.expect(f"nobody can see: {start}", [check in row for row in rows if row.startswith(start)], [True])
         self.expect("nobody can see: how many", len(rows), 6)
         folded = "Options Votes Defeats Ballots Who-voted Refused-lines What-was-done What-nobody-can-see-from-here How-to-verify".split()
-        self.expect("the order of the parts", list(sections), ["Result", "Who-had-enough-votes", "Find-your-ballot", "Check-it", *folded])
+        self.expect("the order of the parts", list(sections), ["Result", "Why-not-the-others", "Find-your-ballot", "Check-it", *folded])
         heads = {name: [head.one("h3").attributes["id"] for head in part.all("summary") if list(head.all("h3"))] for name, part in sections.items()}
         self.expect("what is folded, under its heading", {name: head for name, head in heads.items() if head}, {name: [name] for name in folded})
         heads = [head.text() for head in sections["How-to-verify"].all("h4")]

@@ -456,7 +456,7 @@ class OfOpenVotes(OfElections):
         # a late one that arrived after the end is no doubt
         self.say("publish", "--language", "en")
         done = self.sections()["What-was-done"].text()
-        self.expect("when the vote was", "Vote of 26 February 2027 to 1 March 2027 · Result" in self.page(), True)
+        self.expect("when the vote was", "Vote of 26 February 2027 to 1 March 2027\u00a0·\u00a0Result" in self.page(), True)
         for said in (
             "3 lines came after the end, and are in time, since the vote was not closed yet.",
             "12:50 (UTC): The clock of the secretary's computer went back: the act before has a later time, Monday, 1 March 2027, 13:00 (UTC).",
@@ -614,7 +614,7 @@ class OfOpenVotes(OfElections):
         cast = ("--casting", plain, "--cast-by", f"by {hostile}", "--cast-on", TODAY)
         self.say("publish", *cast, "--about", "about", "--force", "--because", f"force {hostile}", "--language", "en")
         pages.try_page(self.expect, "hostile", self.folder / "result")
-        seen = ["Result", "Who-had-enough-votes", "Find-your-ballot", "Check-it", "About-this-vote"]
+        seen = ["Result", "Why-not-the-others", "Find-your-ballot", "Check-it", "About-this-vote"]
         self.expect("the text about the vote stands above what is folded", list(self.sections())[: len(seen)], seen)
         shown = pages.tree_of(self.page()).one("main").text()
         for text in (f"{hostile} 1", f"ada {hostile}", *(f"{word} {hostile}" for word in ("text", "strike", "reopen", "about", "by", "force"))):

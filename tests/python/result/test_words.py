@@ -96,11 +96,6 @@ class WordsTest(expecting.Expecting):
         for data, lines in ((b"", []), (b"\n", [b""]), (b"ada 1,2", [b"ada 1,2"]), (b"ada 1,2\n\n\n", [b"ada 1,2", b"", b""])):
             self.expect(f"{data}", ballot_lines(data), lines)
 
-    def test_who_is_for_an_option(self):
-        said = "For: how many prefer the option to the default option, {option}. Against: the reverse. The mark: what it needs."
-        for code, before in {"de": "vor die Standardoption", "fr": "avant l'option par défaut", "es": "delante de la opción por defecto"}.items():
-            self.expect(f"in {code}", f" {before}, 4 None. " in language_of(code).say(said, option="4 None"), True)
-
     def test_thousands_are_parted(self):
         for code, wanted in {"en": "1,234,567", "de": "1.234.567", "fr": "1\u00a0234\u00a0567", "es": "1\u00a0234\u00a0567"}.items():
             self.expect(f"in {code}", [language_of(code).number(number) for number in (1_234_567, 999)], [wanted, "999"])
