@@ -1,5 +1,7 @@
-"""Builds the Debian package of the program twice, from two copies of this repository with other times and modes, looks at it, unpacks it, and
-runs its programs as a user without rights. If dpkg-deb, objdump, strip or msgfmt is not installed, nothing is tested.
+"""Builds the Debian package twice, looks at it, unpacks it, and runs its programs.
+
+It is built from two copies of this repository with other times and modes; the programs run as a user without rights. If dpkg-deb,
+objdump, strip or msgfmt is not installed, nothing is tested.
 """
 
 import gzip

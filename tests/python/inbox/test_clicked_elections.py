@@ -1,5 +1,7 @@
-"""Whole elections in which each member clicks, in a browser and on a real host: what is published is what was chosen, and neither
-the host nor, in a secret vote, anybody who reads what comes out of it learns who chose it.
+"""Whole elections in which each member clicks, in a browser and on a real host.
+
+What is published is what was chosen, and neither the host nor, in a secret vote, anybody who reads what comes out of it learns who
+chose it.
 """
 
 import datetime
