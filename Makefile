@@ -29,7 +29,7 @@ edit: ## try the edit NAME=.. of the crate CRATE=.., which the prover must refus
 polls: ## compare the built program with the reference on N=500 random polls from SEED=1 on
 	@tests/random-polls --n "$(N)" --seed "$(SEED)"
 
-claim: ## make docs/claim.html, what one believes when one believes a sheet, and the pages of the other commands from the sources
+claim: ## make docs/claim.html from the sources, what one believes when one believes a sheet, and the pages of the other commands
 	@docs/make-claim
 
 all: ## prove everything, try all edits, and run all tests: tests/all

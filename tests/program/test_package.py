@@ -22,7 +22,7 @@ from tests.support.program import PROGRAM, ROOT
 TOOLS = ["dpkg-deb", "objdump", "strip", "msgfmt"]
 
 # what packaging/deb reads, except the program and its sources
-PACKED = ["packaging", "bin", "python", "man", "completions", "docs", "examples", "CHANGELOG.md", "SECURITY.md", "HANDLES"]
+PACKED = ["packaging", "bin", "python", "man", "completions", "docs", "examples", "CHANGELOG.md", "SECURITY.md", "HANDLES", "crates.txt"]
 
 # the files that a user looks for, each in its folder
 DOCS = "SECRETARY SECRET-VOTES SPECIAL-CASES READING-A-SHEET FORMATS INSIDE DEFINITIONS"
@@ -60,17 +60,16 @@ def copy_to(folder, time, mask):
     (leavings / f"of-{time}.pyc").touch()
     (folder / "tests").mkdir()
     shutil.copyfile(ROOT / "tests" / "reference.py", folder / "tests" / "reference.py")
-    for rooms in (ROOT / "crates").iterdir():
-        for room in ("src", "specs", "proofs"):
-            (folder / "crates" / rooms.name / room).mkdir(parents=True)
-    shutil.copyfile(ROOT / "crates" / "debvote" / "src" / "main.rt", folder / "crates" / "debvote" / "src" / "main.rt")
+    # of these docs/make-claim makes pages
+    for room in [*(ROOT / "crates").glob("*/src"), *(ROOT / "crates").glob("*/specs")]:
+        shutil.copytree(room, folder / room.relative_to(ROOT), copy_function=shutil.copyfile)
     program = folder / "crates" / "debvote" / "out" / "debvote"
     program.parent.mkdir()
     shutil.copyfile(PROGRAM, program)
     note_proved(folder)
     for file in folder.rglob("*"):
         os.utime(file, (time, time))
-    for file in (program, folder / "packaging" / "deb"):
+    for file in (program, folder / "packaging" / "deb", folder / "docs" / "make-claim"):
         file.chmod(0o755)
     os.umask(before)
 
