@@ -31,7 +31,7 @@ class Arguments(Acting):
     casting: list[str] | None = option(*CASTING, action="append")
     question: str | None = option("LABEL", "Of several questions count this one alone")
     force: bool = flag(
-        "Count although letters wait that arrived in time, or the box of the web host was not asked since an early close"
+        "Count although letters wait that arrived in time, or the web box was not asked since an early close"
     )
 
 

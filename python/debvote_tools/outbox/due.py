@@ -203,7 +203,7 @@ def demand_due(election: Election, history: History, kind: str, *, is_over: bool
         words = "the vote is over, so nobody is asked to vote"
         cure = f"see {election.command('status')}"
     elif kind == "call" and history.announced("box") and history.until is None:
-        words = "the call has a box, and says no end of the vote"
+        words = "the call has a web box, and says no end of the vote"
         cure = f"say it: {election.command('call', '--until', 'TIME')}"
     elif kind in ("closed", "result") and not history.is_closed:
         words = "the vote is not closed"
