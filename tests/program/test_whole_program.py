@@ -185,7 +185,8 @@ class WordsTest(WholeTest):
         ]:
             top.append(f"{command} {said}")
             self.check_help([command], [f"{name} {options[name]}" for name in names.split()])
-        self.check_help([], [*top, "Exit statuses:"])
+        joined = "Without a command it acts as steps on standard input: poll, a line %%, ballots"
+        self.check_help([], [*top, "Usage: debvote [COMMAND]", joined, "If a file is refused, explain says why, and where", "Exit statuses:"])
 
     def check_help(self, command, wanted):
         output, faults, status = run([*command, "--help"])
