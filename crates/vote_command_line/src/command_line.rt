@@ -220,7 +220,8 @@ fn command_of<'a>(alloc: Global, subcommand: Subcommand) -> Result<Command<'a>, 
 }
 
 /// The end of the help: what is done without a command, who says why, and the exit statuses.
-const LAST_HELP: &str = "Without a command it acts as steps on standard input: poll, a line %%, ballots
+const LAST_HELP: &str =
+    "Without a command it acts as steps on standard input: poll, a line %%, ballots
 
 If a file is refused, explain says why, and where
 
