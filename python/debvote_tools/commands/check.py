@@ -16,6 +16,7 @@ from debvote_tools.call.draft import (
     DraftPoll,
     bad_poll,
     draft_in,
+    faults_of_lacking,
     faults_of_names,
     faults_of_several,
     labels_in,
@@ -38,6 +39,8 @@ from debvote_tools.sheet import sheet_in
 from debvote_tools.text.language import Language
 from debvote_tools.text.motions import with_ranks
 
+# what debvote says of a key that no poll has
+NOT_READ = "is not read"
 # how many electors a note names
 MAX_NAMED = 200
 # a real name that ends in a letter, or is one, which may be read as a label
@@ -128,7 +131,10 @@ def checked(election: Election, **announced: object) -> Checked:
         for label, draft in drafts.items()
     }
     for label, draft in drafts.items():
-        faults += faults_by_debvote(election, draft.file, polls[label])
+        lacking = faults_of_lacking(draft)
+        said = faults_by_debvote(election, draft.file, polls[label])
+        # a key that no poll has may be one that is lacking, misspelt
+        faults += [*lacking, *(fault for fault in said if not lacking or NOT_READ in fault.words)]
     stop_at(faults)
     motions = [label for label, draft in drafts.items() if draft.says("motion")]
     questions = read_questions(polls, motions, title)

@@ -131,7 +131,7 @@ class Check(QuestionsTest):
             ("polls/title.txt: it has 201 characters",): write("polls/title.txt", "x" * 201),
             ("polls/title.txt: it has the mark of a vote",): write("polls/title.txt", f"Assembly [{elections.ANY_MARK}]"),
             ("polls: only some questions are secret: B",): write("polls/B.toml", f"secret = true\n{FEE}"),
-            ("polls/B.toml: number of options",): write("polls/B.toml", FEE.replace('["Yes"]', "[]").replace("[1]", "[]")),
+            ("polls/B.toml: it does not say yet what can be chosen (options)",): write("polls/B.toml", FEE.replace('["Yes"]', "[]").replace("[1]", "[]")),
             ("polls/A.toml: the option of a motion begins with a word for no",): write("polls/A.toml", f"motion = true\n{FEE.replace('Yes', 'No fee')}"),
             ("polls/C.toml: it can't be read as TOML",): write("polls/C.toml", "title = \n"),
             ("polls/C.toml: the key `roll` is not written here",): write("polls/C.toml", f"roll = []\n{FEE}"),
