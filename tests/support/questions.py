@@ -82,10 +82,11 @@ def one_line(name: str, answers: Answers) -> str:
 
 
 def in_a_letter(folder: pathlib.Path, answers: Answers, code: str = "en") -> str:
-    """The same in words, as the letter of the result has it in a language."""
+    """The same in words, as the letter of the result has it in a language, but for its line ends."""
     language = language_of(code)
     said = Election(folder, PROGRAM.parent).questions.in_words(language)(one_line("", answers).strip())
-    return language.say("Your own ballot in words: {ballot}. The page shows it at:", ballot=said)
+    lines = [language.say("Your own ballot in words:"), *said.split("\n"), language.say("The page shows it at:")]
+    return " ".join(lines)
 
 
 def taken_apart(line: str) -> tuple[str, dict[str, str]]:

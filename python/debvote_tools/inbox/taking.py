@@ -108,7 +108,8 @@ def keep(vote: Vote, raws: Sequence[RawLetter], read: Sequence[ReadLetter], deta
 @dataclasses.dataclass(frozen=True, kw_only=True)
 class LetterEntry(Entry):
     """An act that enters ballots of letters, and decides of the letters that are done. Prints the
-    reply to each ballot in words, and then `end`, if it has one.
+    reply to each ballot, and then `end`, if it has one. In words a ballot was shown before, and of
+    one question it is so once more.
     """
 
     end: str = dataclasses.field(default="", compare=False)
@@ -116,7 +117,9 @@ class LetterEntry(Entry):
     def words(self, numbers: range, replies: Sequence[str]) -> Iterator[str]:
         for number, reply, envelope in zip(numbers, replies, self.envelopes):
             ballot = envelope.line.decode("ascii")
-            yield f"{number} {reply}  {self.vote.ballot_in_words(ballot)}"
+            name, _, _ = ballot.partition(" ")
+            said = name if self.vote.is_several else self.vote.ballot_in_words(ballot)
+            yield f"{number} {reply}  {said}"
         yield from filter(None, [self.end])
 
 

@@ -348,7 +348,7 @@ class ActsTest(QuestionsTest):
                     counts |= dict(one.answers)
             shown = self.done("show", name).output
             if shown != f"{name}: nothing came\n":
-                self.assertIn(f"The current ballot: {f'{one_line(name, counts)}: ' if counts else 'none'}", shown)
+                self.assertIn(f"The current ballot: {f'{one_line(name, counts)}:' if counts else 'none'}\n", shown)
 
 
 # a class for each, so that they run side by side
