@@ -22,7 +22,7 @@ from debvote_tools.commands.check import (
     checked,
     demand_read,
     faults_of_ballots,
-    tell_checked,
+    notes_on,
 )
 from debvote_tools.commands.codes import CODES, SLIPS, write_slips
 from debvote_tools.election import (
@@ -141,7 +141,7 @@ def call_first(election: Election, arguments: Arguments) -> None:
     }
     act = sealing(election, arguments, detail, draft, keyring)
     act.do(election.book, history.last.number)
-    tell_checked(draft, election.language)
+    tell(*notes_on(election, draft))
 
 
 def sealing(

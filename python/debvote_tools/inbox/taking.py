@@ -42,21 +42,21 @@ def take_letters(
     """
     files = [opened(vote.book, raw) if raw.is_fetched else raw for raw in given]
     brought = asked_box(vote) if of_box else Brought(files)
-    raws = [raw for raw in brought.letters if raw.why_not_read is None]
-    new = new_of(vote, raws)
-    read = read_letters(vote, new)
     tell(*brought.words)
+    new, read = new_in(vote, brought)
     if not is_look:
         keep(vote, new, read, brought.detail)
     for raw in brought.letters:
         if why := raw.why_not_read:
             what, cure = why.value
             tell(f"{shown_text(raw.where)}: {what}, and was passed over; {cure}")
-    came_before = f"{count_of(len(new), 'new letter')}; {len(raws) - len(new)} came before."
-    plan = functools.partial(what_goes_in, vote, of_box=of_box, is_agreed=is_agreed)
+    readable = sum(raw.why_not_read is None for raw in brought.letters)
+    came_before = f"{count_of(len(new), 'new letter')}; {readable - len(new)} came before."
+    own = {raw.digest for raw in new}
+    plan = functools.partial(what_goes_in, vote, own, of_box=of_box, is_agreed=is_agreed)
     if is_look:
         would = plan(read)
-        tell_letters(vote, would.cases)
+        would.tell_letters()
         tell(came_before, would.end.replace("went in", "would go in"), "Nothing was changed.")
         return
     tell(came_before)
@@ -68,15 +68,17 @@ def take_letters(
 
 
 # ---- keeping
-def new_of(vote: Vote, raws: Sequence[RawLetter]) -> list[RawLetter]:
-    """The letters that the book does not have, each of them once."""
+def new_in(vote: Vote, brought: Brought) -> tuple[list[RawLetter], list[ReadLetter]]:
+    """The letters that the book does not have, each of them once, and as they are read."""
+    raws = [raw for raw in brought.letters if raw.why_not_read is None]
     kept = queries.kept_digests(vote.book)
     # of letters with the same bytes the first that can't be text of another, or else the first
     chosen: dict[str, RawLetter] = {}
     for raw in raws:
         if raw.digest not in chosen or chosen[raw.digest].is_parted_off > raw.is_parted_off:
             chosen[raw.digest] = raw
-    return [raw for digest, raw in chosen.items() if is_not_kept(digest, raw.is_parted_off, kept)]
+    new = [raw for digest, raw in chosen.items() if is_not_kept(digest, raw.is_parted_off, kept)]
+    return new, read_letters(vote, new)
 
 
 def is_not_kept(digest: str, is_parted_off: bool, kept: Set[tuple[str, bool]]) -> bool:
@@ -133,12 +135,26 @@ def with_outcome(cases: Iterable[LetterCase], outcome: LetterOutcome) -> list[Le
 
 @dataclasses.dataclass(frozen=True, kw_only=True)
 class GoingIn(LetterEntry):
-    """Letters go in by themselves, once that is agreed to."""
+    """Letters go in by themselves, once that is agreed to. `own` are the digests of those that this
+    run has brought: of the others that stay out it is told how many wait.
+    """
 
     cases: list[LetterCase] = dataclasses.field(compare=False)
+    own: Set[str] = dataclasses.field(compare=False)
+
+    def tell_letters(self) -> None:
+        own = [letter for letter in self.cases if letter.read.digest in self.own]
+        going_in = with_outcome(self.cases, LetterOutcome.GOES_IN)
+        tell(*letter_words.going_in_words(going_in, self.vote))
+        tell(*letter_words.table(with_outcome(own, LetterOutcome.WAITS)))
+        if older := with_outcome(own, LetterOutcome.OLDER):
+            numbers = listed([*map(letter_words.name_of, older)], MOST_NAMED)
+            tell(f"Passed over, since a later letter of its elector went in: {numbers}")
+        of_others = with_outcome(self.cases, LetterOutcome.OTHER_VOTE)
+        tell(*other_votes_words(letter.other_vote for letter in of_others))
 
     def show(self) -> None:
-        tell_letters(self.vote, self.cases)
+        self.tell_letters()
         if self.is_nothing:
             tell(self.end)
         elif self.question and not is_terminal():
@@ -157,7 +173,12 @@ class GoingIn(LetterEntry):
 
 
 def what_goes_in(
-    vote: Vote, previewed: Sequence[ReadLetter] = (), *, of_box: bool, is_agreed: bool
+    vote: Vote,
+    own: Set[str],
+    previewed: Sequence[ReadLetter] = (),
+    *,
+    of_box: bool,
+    is_agreed: bool,
 ) -> GoingIn:
     every = judged(vote, vote.history(), queries.kept_letters(vote.book), previewed)
     cases = [letter for letter in every if letter.read.link or not of_box]
@@ -176,6 +197,7 @@ def what_goes_in(
         is_late=False,
         end=letter_words.went_in_words(every, len(new)),
         cases=cases,
+        own=own,
     )
 
 
@@ -190,13 +212,3 @@ def tell_next(change: GoingIn) -> None:
     if not election.history().is_closed and queries.last_entering_act(election.book):
         following += f"; {election.command('undo')} takes back what was entered last"
     tell(f"Next: {following}")
-
-
-def tell_letters(vote: Vote, cases: Sequence[LetterCase]) -> None:
-    tell(*letter_words.going_in_words(with_outcome(cases, LetterOutcome.GOES_IN), vote))
-    tell(*letter_words.table(with_outcome(cases, LetterOutcome.WAITS)))
-    if older := with_outcome(cases, LetterOutcome.OLDER):
-        numbers = listed([*map(letter_words.name_of, older)], MOST_NAMED)
-        tell(f"Passed over, since a later letter of its elector went in: {numbers}")
-    of_others = with_outcome(cases, LetterOutcome.OTHER_VOTE)
-    tell(*other_votes_words(letter.other_vote for letter in of_others))

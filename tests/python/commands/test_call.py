@@ -239,8 +239,10 @@ class Letters(CallTest):
         self.assertIn(f"Note: these lines of letter.txt {why}", self.done("check").output)
         self.write("letter.txt", "\ufeffDear members,\r\npaper ballots go to the office.\r\n\r\n")
         text = "Dear members,\npaper ballots go to the office.\n"
-        for output in (self.done("check").output, self.done("call", *UNTIL).output):
-            self.assertIn("Letters to electors begin with letter.txt:\n  Dear members,\n  paper ballots go to the office.\n", output)
+        shown = "Letters to electors begin with letter.txt:\n  Dear members,\n  paper ballots go to the office.\n"
+        self.assertIn(shown, self.done("check").output)
+        # what `check` shows is not shown again
+        self.assertNotIn(shown, self.done("call", *UNTIL).output)
         acts = len(self.done("log").output.splitlines())
         self.done("call")
         self.assertEqual((self.letter_texts(), len(self.done("log").output.splitlines())), ([text.encode()], acts))

@@ -325,7 +325,7 @@ class ActsTest(QuestionsTest):
 
     def sheets(self) -> dict[str, str]:
         """While a letter waits that arrived in time, a closed vote is counted by force."""
-        found = self.election("count", "--force")
+        found = self.election("count", "--sheets", "--force")
         self.assertIn(found.status, (0, 1), found)
         parts = re.split(r"(?m)^Question ([A-Z])\n", found.output)
         return dict(zip(parts[1::2], parts[2::2], strict=True))
