@@ -7,6 +7,7 @@ from debvote_tools.cli.console import tell, tell_as_it_is, tell_aside
 from debvote_tools.cli.faults import bad_words, stop_at
 from debvote_tools.election import Election, History
 from debvote_tools.inbox.asked import asked_words
+from debvote_tools.inbox.asking import ask_for
 from debvote_tools.inbox.stopping import Pending, pending_letters, what_stops
 from debvote_tools.poll.questions import Questions
 from debvote_tools.result.publication import kept_of, sheet_of
@@ -44,6 +45,9 @@ def count(election: Election, arguments: Arguments) -> int:
     demand_countable(election, history)
     castings = castings_in(arguments.casting, questions)
     labels = labels_asked_for(questions, arguments.question)
+    if history.is_closed and not arguments.force:
+        ask_for(election, "count", tell_aside)
+        history = election.history()
     pending = pending_letters(election, history) if history.is_closed else Pending()
     if not history.is_closed:
         tell_aside(*asked_words(history))

@@ -19,7 +19,7 @@ from debvote_tools.cli.console import (
 )
 from debvote_tools.election import LETTERS, RESULT_LETTER, Election, History
 from debvote_tools.inbox import letter_words
-from debvote_tools.inbox.asked import asked_last, asked_words, unasked_fault, with_lost_records
+from debvote_tools.inbox.asked import asked_last, asked_words, with_lost_records
 from debvote_tools.inbox.stopping import Pending, pending_letters, taken_out_words
 from debvote_tools.inbox.vote import envelope_words
 from debvote_tools.outbox.reached import unreached_and_printed
@@ -177,7 +177,5 @@ def what_next(election: Election, history: History, state: State) -> str:
     if state["stage"] == "published" and not state["stopping"]:
         return f"put the published folder on the web site as it is, then {election.to_all('result', election.path(LETTERS) / RESULT_LETTER)}"
     # what stops a count goes first
-    is_unasked = unasked_fault(election, history, "count")
-    first = f"{election.command('add', '--box')}, then " if is_unasked else ""
-    first += f"{election.command('held')}, then " if state["stopping"] else ""
+    first = f"{election.command('held')}, then " if state["stopping"] else ""
     return f"{first}{election.command('count')}, then {election.command('publish')}"
