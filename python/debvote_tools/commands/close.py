@@ -11,6 +11,7 @@ from debvote_tools.call.secret import seal_line, sealed_checksum
 from debvote_tools.cli.arguments import Acting, demand_reason, flag, has_reason
 from debvote_tools.cli.console import act_time, count_of, tell
 from debvote_tools.cli.faults import Fault, stop_at
+from debvote_tools.commands.letters import write_ready
 from debvote_tools.election import LETTERS, Election, Fixed, History, fixed_by
 from debvote_tools.files import OWN, write_made
 from debvote_tools.inbox.asking import ask_before_close
@@ -64,15 +65,15 @@ def close(election: Election, arguments: Arguments) -> None:
         )
     if written:
         tell(f"Made {path}.")
-    # where nobody knows whose each code is, no letter can be written to an elector
-    sending = "" if history.has_codes_on_roll else f"{election.command('letters', 'closed')}, then "
+    ready = write_ready(election, "closed")
     tell(
         *(
             f"Checksum of the ballots{label and f' of question {label}'}{' with the random line' if of_one.seal else ''}: {of_one.checksum}"
             for label, of_one in fixed.items()
         ),
         f"Send {path} to all electors before you count anything.",
-        f"Next: {sending}{election.command('count')}",
+        *ready,
+        f"Next: {election.to_all('closed', path, is_ready=bool(ready))}; then {election.command('count')}",
     )
 
 

@@ -3,14 +3,19 @@
 What is new is kept, and nothing is entered: `add` alone does that.
 """
 
+import datetime
+import time
 from collections.abc import Callable
 
 from debvote_tools.book import queries
 from debvote_tools.cli.console import count_of, tell
 from debvote_tools.cli.faults import Fault
 from debvote_tools.election import Election
-from debvote_tools.inbox.asked import unasked_fault
+from debvote_tools.inbox.asked import AFTER_CLOSE, unasked_fault
 from debvote_tools.inbox.stopping import pending_letters
+from debvote_tools.text import times
+
+SECOND = datetime.timedelta(seconds=1)
 
 
 def ask_for(election: Election, step: str, say: Callable[..., None] = tell) -> set[int]:
@@ -26,6 +31,9 @@ def ask_for(election: Election, step: str, say: Callable[..., None] = tell) -> s
 
     vote = Vote(election)
     before = election.book.last_number()
+    if step in AFTER_CLOSE and times.now() - vote.history().closes[0].time < SECOND:
+        # clocks have whole seconds, and an asking of that of the close would be none
+        time.sleep(1)
     try:
         brought = asked_box(vote)
     except Fault as fault:

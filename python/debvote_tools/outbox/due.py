@@ -143,8 +143,7 @@ def letters_due(
     """
     history = election.history()
     time = now()
-    until = history.until
-    is_over = bool(history.closes) or (until is not None and time > until)
+    is_over = history.is_over(time)
     demand_due(election, history, kind, is_over=is_over)
     if kind in ASKING and not has_reason(because):
         ask_for(election, kind)

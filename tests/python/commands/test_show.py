@@ -34,9 +34,11 @@ class Show(CalledTest):
             f"  envelope 6, TIME (struck by undo at TIME): {equal}",
             f"  envelope 7, TIME (late): {LAKE}",
             f"The current ballot: {HALL}",
+            "  closed, TIME, to ada@club.example: written",
         ]
-        self.assertEqual((self.shown(), self.shown("ben")[1:]), (wanted, [f"  envelope 2, TIME: {LAKE}", f"The current ballot: {LAKE}"]))
-        self.assertEqual(self.shown("cleo"), ["cleo: Cleo cleo@club.example", "The current ballot: none"])
+        of_ben = [f"  envelope 2, TIME: {LAKE}", f"The current ballot: {LAKE}", "  closed, TIME, to ben@club.example: written"]
+        self.assertEqual((self.shown(), self.shown("ben")[1:]), (wanted, of_ben))
+        self.assertEqual(self.shown("cleo"), ["cleo: Cleo cleo@club.example", "The current ballot: none", "  closed, TIME, to cleo@club.example: written"])
         # a ballot of a letter has the time of the letter, and its place
         with self.book.act("add") as act:
             time = act.time.replace(year=2020)
