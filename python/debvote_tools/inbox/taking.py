@@ -14,6 +14,7 @@ from debvote_tools.book.change import carried_out
 from debvote_tools.book.queries import NewEnvelope
 from debvote_tools.cli.console import count_of, is_terminal, listed, shown_text, tell
 from debvote_tools.cli.faults import Fault
+from debvote_tools.election import CALL, Election, History
 from debvote_tools.inbox import letter_words
 from debvote_tools.inbox.given_files import safe
 from debvote_tools.inbox.entering import Entry
@@ -24,6 +25,7 @@ from debvote_tools.inbox.box_records import Brought, asked_box, opened, unopened
 from debvote_tools.inbox.rules import LetterCase, LetterOutcome
 from debvote_tools.inbox.vote import Vote
 from debvote_tools.inbox.stopping import other_votes_words
+from debvote_tools.text import times
 
 # how many letters with later ones are named
 MOST_NAMED = 20
@@ -203,12 +205,24 @@ def what_goes_in(
 
 def tell_next(change: GoingIn) -> None:
     election = change.vote.election
-    following = election.command("status")
+    history = election.history()
+    following = next_step(election, history)
     if with_outcome(change.cases, LetterOutcome.WAITS):
         following = f"{election.command('held')}, which lists the letters that wait"
     if offered := [str(letter.number) for letter in change.cases if letter.is_offered]:
         enter = election.command("held", *offered, "--enter")
         following = f"{enter}, which shows these ballots and asks; {following}"
-    if not election.history().is_closed and queries.last_entering_act(election.book):
+    if not history.is_closed and queries.last_entering_act(election.book):
         following += f"; {election.command('undo')} takes back what was entered last"
     tell(f"Next: {following}")
+
+
+def next_step(election: Election, history: History) -> str:
+    """What comes after an `add` where no letter waits."""
+    if history.is_closed:
+        return election.command("count")
+    if history.is_over(times.now()):
+        return election.command("close")
+    if history.announced("box") and not history.is_call_written:
+        return election.to_all("call", election.path(CALL) / "call.txt")
+    return election.command("status")

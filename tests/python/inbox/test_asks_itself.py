@@ -1,6 +1,7 @@
 """The steps that ask the web box themselves: `letters call`, `letters closed`, `close` and, after an early one, `count`."""
 
 import datetime
+import email
 import json
 import os
 import signal
@@ -9,6 +10,7 @@ import sys
 import time
 
 from tests.support import boxes, elections
+from tests.support.letters import letter, mailbox
 from tests.support.terminal import Terminal
 from tests.support.web_host import NEEDS_PHP
 
@@ -189,6 +191,88 @@ class Asks(boxes.BoxElectionTest):
         ended = self.election("count")
         self.assertEqual(ended.status, 9)
         self.assertIn("these letters arrived in time, and wait: 1;", ended.faults)
+
+
+@NEEDS_PHP
+class Next(boxes.BoxElectionTest):
+    """What `add --box` and `roll` say comes next."""
+
+    has_clock = True
+
+    def next_of(self, *words: str) -> str:
+        return self.done(*words).output.splitlines()[-1].removeprefix("Next: ")
+
+    def test_after_each(self) -> None:
+        self.call()
+        letters = "debvote-election letters --send sends the letters, or debvote-election letters call writes them"
+        self.assertEqual(self.next_of("add", "--box"), letters)
+        self.done("letters", "call")
+        self.assertEqual(self.next_of("add", "--box"), "debvote-election status")
+        self.done("call", "--until", "2099-12-05 18:00")
+        self.upload()
+        self.assertEqual(self.next_of("add", "--box"), letters)
+        self.done("letters", "call")
+        self.write("members.csv", elections.members_of(elections.NAMES).replace("ada@club", "ada@new"))
+        upload = "upload call/vote.php again, since these electors have new links; then debvote-election letters call, for the new addresses"
+        self.assertEqual(self.next_of("roll", "--yes"), upload)
+        self.assertEqual(self.next_of("roll", "--yes"), "debvote-election status")
+        self.upload()
+        self.done("letters", "call")
+        self.set_clock("2099-12-05T18:00:01+01:00")
+        self.assertEqual(self.next_of("add", "--box"), "debvote-election close")
+        self.clock = {}
+        time.sleep(1.1)
+        self.done("add", "--box")
+        self.done("close", "--early")
+        time.sleep(1.1)
+        self.assertEqual(self.next_of("add", "--box"), "debvote-election count")
+
+
+@NEEDS_PHP
+class Receipts(boxes.BoxElectionTest):
+    """A receipt of a letter that waits has the personal link, to the present address of its elector alone, while the vote is open."""
+
+    members = "who,mail\nAda,ada@club.example\nBen,ben@club.example\nCleo,cleo@club.example\nDan,dan@club.example home@dan.example\nEve,eve@club.example\n"
+    names = ("ada", "ben", "cleo", "dan", "eve")
+
+    def writes(self, name: str, number: int, text: str = "my answer", **how: object) -> bytes:
+        arrived = f"{datetime.datetime.now(datetime.UTC) - datetime.timedelta(minutes=5):%a, %d %b %Y %H:%M:%S} +0000"
+        return letter(name, f"{text}\n", time=arrived, number=number, **how)  # type: ignore[arg-type]
+
+    def test_whose_has_it(self) -> None:
+        links = self.begun()
+        self.write("inbox.mbox", mailbox(*map(self.of_this_vote, (
+            self.writes("ada", 1),
+            # in her own name from elsewhere, and one of each
+            self.writes("ben", 2, f"ben {RANKS}", sender="x@else.example"),
+            self.writes("cleo", 3), self.writes("cleo", 4, f"cleo {RANKS}", sender="x@else.example"),
+            self.writes("dan", 5),
+        ))))  # fmt: skip
+        self.done("add", "--yes", "inbox.mbox")
+        self.click("eve", RANKS, links["eve"])
+        self.done("add", "--box", "--yes")
+        with_link = {name: set(boxes.LINK.findall(text)) for name, text in self.receipts().items()}
+        self.assertEqual({name: bool(found) for name, found in with_link.items()}, dict(ada=True, ben=False, cleo=False, dan=True, eve=False))
+        self.assertEqual({link for _, _, link in with_link["ada"]}, {links["ada"]})
+        # after the end nobody is invited to vote
+        self.write("inbox.mbox", mailbox(self.of_this_vote(self.writes("ada", 6, "and more"))))
+        self.done("add", "--yes", "inbox.mbox")
+        self.set_clock("2099-12-04T18:00:01+01:00")
+        self.assertEqual({name for name, text in self.receipts().items() if boxes.LINK.search(text)}, set())
+
+    def test_an_earlier_address_has_it_not(self) -> None:
+        self.begun()
+        # the address from which he wrote stays
+        self.write("inbox.mbox", mailbox(self.of_this_vote(self.writes("dan", 5, sender="home@dan.example"))))
+        self.done("add", "--yes", "inbox.mbox")
+        self.write("members.csv", self.members.replace("dan@club", "dan@new"))
+        self.done("roll", "--yes")
+        self.upload()
+        self.done("letters", "receipts")
+        texts = {email.message_from_bytes(file.read_bytes())["To"]: file.read_bytes() for file in (self.folder / "letters/receipts").rglob("*.eml")}
+        self.assertEqual(sorted(texts), ["dan@club.example", "dan@new.example"])
+        found = {to: bool(boxes.LINK.search(text.decode())) for to, text in texts.items()}
+        self.assertEqual(found, {"dan@club.example": False, "dan@new.example": True})
 
 
 @NEEDS_PHP
