@@ -232,20 +232,26 @@ def names_like_answers(election: Election, questions: Questions) -> Iterator[str
 
 
 def poll_in_words(label: str, poll: SealedPoll) -> Iterator[str]:
-    """What is asked, below the title of the one question."""
+    """What is asked, below the title of the one question; of several each option on one line."""
+    between = "; " if label else "\n     "
     if label:
         yield f"Question {label}: {poll.name}"
     if poll.name != poll.title:
         yield f"  plain: {poll.title}"
-    yield "Options:"
+    if not label:
+        yield "Options:"
     # the default option is the last, and has no ratio and no text
     options = itertools.zip_longest(poll.names, poll.plain_names, poll.ratios, poll.explanations)
     for number, (name, plain, ratio, text) in enumerate(options, start=1):
-        yield f"{number:3}  {name} ({f'majority ratio {ratio}' if ratio else 'the default option'})"
+        said = [
+            f"{number:3}  {name} ({f'majority ratio {ratio}' if ratio else 'the default option'})"
+        ]
         if name != plain:
-            yield f"     plain: {plain}"
+            said.append(f"plain: {plain}")
         if text:
-            yield f"     text: {count_of(len(text.split()), 'word')} from {TEXTS}/{place_of(label, f'{number}.txt')}"
+            words = count_of(len(text.split()), "word")
+            said.append(f"text: {words} from {TEXTS}/{place_of(label, f'{number}.txt')}")
+        yield between.join(said)
     if poll.motion:
         yield "A motion, yes: {}, no: {}".format(*poll.names)
     if poll.wording == "more_than":

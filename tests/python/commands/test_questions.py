@@ -72,8 +72,7 @@ class Check(QuestionsTest):
         self.write("texts/A/1.txt", "We need it.\n")
         said = self.done("check").output
         for part in (
-            "The polls are in order: 3 questions, 4 electors.\nTitle: Assembly 2026\nQuestion A: Raise the fee\nOptions:\n  1  Yes (majority ratio 1)\n",
-            "     text: 3 words from texts/A/1.txt\n  2  No (the default option)\nQuestion B: Where we meet in spring\n",
+            "The polls are in order: 3 questions, 4 electors.\nTitle: Assembly 2026\nQuestion A: Raise the fee\n  1  Yes (majority ratio 1); text: 3 words from texts/A/1.txt\n  2  No (the default option)\nQuestion B: Where we meet in spring\n",
             "A: Quorum: none\nB: Quorum: 1 vote (1Q): ",
             "Note: these names end in a letter that may be read as the label of a question: ben-b (Ben B.), a (A)\n",
         ):
