@@ -69,13 +69,13 @@ def command(
     return after.ru_utime + after.ru_stime - before.ru_utime - before.ru_stime
 
 
-def new_election(room: pathlib.Path, poll: str, members: str, path: str) -> None:
-    """A called election in a folder."""
+def new_election(room: pathlib.Path, poll: str, members: str, path: str, *call: str) -> None:
+    """A called election in a folder. With an address for ballots `close` writes letters."""
     command([ELECTION, "new", room], room.parent, path)
     (room / "poll.toml").write_text(poll)
     (room / "members.csv").write_text(members)
     command([ELECTION, "roll"], room, path)
-    command([ELECTION, "call", "--to", "vote@club.example"], room, path)
+    command([ELECTION, "call", *call], room, path)
 
 
 def asked(room: pathlib.Path, labels: str, clock: pathlib.Path, path: str) -> dict[str, float]:
@@ -217,7 +217,7 @@ def election_by_letters(room: pathlib.Path, path: str, *, is_quoting: bool) -> N
     clock = room.parent / "clock"
     clock.write_text("2026-11-20T09:00:00+00:00")
     with before(clock):
-        new_election(room, poll, members, path)
+        new_election(room, poll, members, path, "--to", "vote@club.example")
     ballots = ((name, f"{name} {'1,2,3,4' if number % 10 else '1,2,3'}") for number, name in enumerate(names))
     write_inbox(room, ballots, is_quoting=is_quoting)
 
@@ -238,6 +238,8 @@ def many_letters(folder: pathlib.Path, path: str) -> Iterator[tuple[str, float, 
     ]:
         yield name, command([ELECTION, *words], room, path), most
     demand_entered(room, LETTERS - LETTERS // 10)
+    close = ["close", "--yes", "--force", "--because", "so be it"]
+    yield "close, with 10,000 letters", command([ELECTION, *close], room, path), 30
     room = folder / "plain"
     election_by_letters(room, path, is_quoting=False)
     yield "add, 10,000 plain letters", command([ELECTION, "add", "--yes", "inbox"], room, path), 15

@@ -22,6 +22,8 @@ WITH_LINKS = ("call", "reminders")
 AFTER_CLOSE = ("count", "closed", "publish")
 # the steps of a close at the end, and before it
 CLOSES = ("close", "early")
+# the steps that ask it themselves where it needs to be asked
+ASKING = ("call", "closed", "count", *CLOSES)
 # what needs an asking, as kinds of letters, a new address (`at`), a close at the end, one that is
 # `early`, and what follows: why it stops, and what can be forced
 FORCE = "with --force --because TEXT"
@@ -152,7 +154,8 @@ def unasked_fault(election: Election, history: History, what: str) -> Fault | No
     if last and since and is_right and history.askings[-1].time > since:
         words += f": when the web box was asked last, it was only {act_time(from_text(last['time']))} by its own clock"
     first = "" if is_right else "upload the folder call, then "
-    cure = f"{first}run {election.command('add', '--box')}"
+    again = "the command again" if what in ASKING else election.command("add", "--box")
+    cure = f"{first}run {again}"
     if force:
         cure += f"; if it does not answer any more, {force}"
     return Fault(what if force == WITHOUT_PAGE else "--box", words, cure)

@@ -12,7 +12,8 @@ from debvote_tools.call.call import CallData, current_call
 from debvote_tools.cli.arguments import demand_reason, has_reason
 from debvote_tools.cli.faults import Fault, bad_words, stop_at
 from debvote_tools.election import LETTERS, RESULT_LETTER, Election, History
-from debvote_tools.inbox.asked import unasked_fault, with_lost_records
+from debvote_tools.inbox.asked import ASKING, unasked_fault, with_lost_records
+from debvote_tools.inbox.asking import ask_for
 from debvote_tools.inbox.fates import COUNTS, NOBODY, Fate, fates_of
 from debvote_tools.inbox.rules import LetterOutcome
 from debvote_tools.inbox.stopping import pending_letters, what_stops
@@ -142,9 +143,11 @@ def letters_due(
     """
     history = election.history()
     time = now()
-    until = history.until
-    is_over = bool(history.closes) or (until is not None and time > until)
+    is_over = history.is_over(time)
     demand_due(election, history, kind, is_over=is_over)
+    if kind in ASKING and not has_reason(because):
+        ask_for(election, kind)
+        history = election.history()
     call_data, forced = call_data_of(election, history, kind, because)
     hides_codes = history.is_secret_by_click and not has_codes
     electors = {
