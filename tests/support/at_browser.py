@@ -70,6 +70,10 @@ LONE_NUMBERS = """[...document.querySelectorAll("i + bdi")].filter((name) => nam
 }).map((name) => name.previousElementSibling.textContent)"""
 
 
+# of each question what the page of a result says by the name in its address: each paragraph, and each step of a list
+MINE = "[...document.querySelectorAll('.mine')].map((node) => [...node.querySelectorAll('p, li')].map((part) => part.textContent))"
+
+
 class Gone(RuntimeError):
     """The page was left before it answered."""
 
@@ -180,6 +184,12 @@ class Window:
         """Opens a page, at a place of it that begins with #."""
         self.tell("Page.navigate", url=page.as_uri() + place)
         self.until(f"document.readyState === 'complete' && location.href.startsWith({json.dumps(page.as_uri())})")
+
+    def open_anew(self, page: pathlib.Path, place: str) -> None:
+        """Opens a page at a place of it, as somebody who comes from elsewhere."""
+        self.tell("Page.navigate", url="about:blank")
+        self.until("location.href === 'about:blank'")
+        self.open(page, place)
 
     def ask(self, script: str) -> Any:
         """Runs a script in the page, and returns its value."""

@@ -115,7 +115,8 @@ class Builder(html.parser.HTMLParser):
             del self.open[max(1, len(self.open) - 1) :]
 
     def handle_data(self, data):
-        self.open[-1].inner.append(data)
+        # where lines may break is seen in a browser
+        self.open[-1].inner.append(data.replace("\u00a0", " "))
 
 
 def tree_of(page):
@@ -164,7 +165,7 @@ class Parts:
         """`names` are those that people read of title (0) and options, where they differ from the plain ones."""
         self.page, self.letter, self.count, self.names = page, " ".join(letter.split()), count, names
         # an option on the page, and in the letter
-        self.numbered = "{}\u00a0{}"
+        self.numbered = "{} {}"
         self.sections = sections_of(page)
         # the kinds of sentences that were met
         self.met = collections.Counter()
@@ -381,7 +382,7 @@ class Parts:
             demand(kind is None or over > under, f"the bar of {rival} contradicts the result")
             # by its name alone: a number there would be read as one of votes
             name = self.names.get(rival, count.poll.names[rival])
-            equal = f" {whole - over - under}\xa0equal" if over + under < whole else ""
+            equal = f" {whole - over - under} equal" if over + under < whole else ""
             return [f"against {name}", f"{over} to {under}{equal}", *more], self.bar(winner, rival), kind
 
         yield from (row(rival, kind="won") for _, rival in few(beaten))

@@ -34,7 +34,7 @@ from debvote_tools.text.ballots import (
 from debvote_tools.text.language import ENGLISH, Language, marked
 from debvote_tools.text.motions import COLON, WORDS
 from debvote_tools.text.rendering import InHtml, render_letter, render_page, resources
-from debvote_tools.text.times import date_in_words
+from debvote_tools.text.times import days_in_words
 
 # what both kinds of pages have
 STYLES = ("fields.css", "given.css", "page.css")
@@ -115,7 +115,7 @@ def page_with(
         __package__,
         template,
         language,
-        days=[date_in_words(day, language) for day in vote.days],
+        days=days_in_words(vote.days, language),
         colon=language.between(COLON),
         vote=vote,
         label=label,
@@ -367,8 +367,9 @@ COUNT_AGAIN = marked(
         tell_if_published="If the files are as they were published, tell the other electors.",
         last="By this count the last line of the sheet is: {line}",
         casting="The sheet has a casting vote for {option}. No count shows whose it was.",
-        page_same="This page shows what its files come to: the result, the names of the options, the table of votes, and each of the {ballots} "
-        "ballots, by its ranks and in words. Bars and other words are not compared.",
+        page_same="This page shows what its files come to: how it ended, the numbers beside its bars, the names of the options, the table of "
+        "votes, and each of the {ballots} ballots, by its ranks and in words. Nothing else is compared, neither the bars nor why the other "
+        "options have not won.",
         page_differs="This page does not show what its files come to: {where}.",
         the_result="the result",
         the_names="the names of title and options",
