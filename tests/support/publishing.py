@@ -7,6 +7,7 @@ import os
 import pathlib
 import sys
 import tempfile
+import unittest.mock
 
 from debvote_tools.poll.questions import Questions
 from debvote_tools.poll.sealed import read_plain
@@ -73,11 +74,12 @@ def plain(values):
 
 
 def publish_questions(target, polls, ballots, language, *, motions, castings):
-    """Publishes several questions, whose polls are in plain form, and returns the letter of the result."""
+    """Publishes several questions, whose polls are in plain form, without pictures, and returns the letter of the result."""
     questions = Questions({label: read_plain(poll, motion=label in motions) for label, poll in polls.items()}, "Several questions")
     vote = VoteFacts(questions, language=language_of(language), words=PublishedWords(castings=castings))
     facts = [QuestionFacts(vote, label, ballots[label]) for label in polls]
-    with folder.beside(target) as new, contextlib.redirect_stderr(io.StringIO()):
+    without_graphviz = unittest.mock.patch.dict(os.environ, {"PATH": str(PROGRAM.parent)})
+    with folder.beside(target) as new, contextlib.redirect_stderr(io.StringIO()), without_graphviz:
         filled = folder.filled(new.folder, vote, facts, PROGRAM.parent, is_forced=True)
         new.take_place(target)
     return filled.letter.decode()

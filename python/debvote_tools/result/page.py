@@ -177,6 +177,7 @@ def picture_on_page(outcome: Outcome, drawing: bytes | None) -> dict[str, Any]:
     sheet = outcome.sheet
     options = len(sheet.names)
     style = resources(__package__, *STYLES) + table_on_paper(options, sheet.voters)
+    escaping = "sed 's/&/\\&amp;/g' | " if "&" in outcome.graph else ""
     picture = None
     if drawing is not None and options <= MOST_IN_PAGE:
         picture, least_width = picture_in_page(drawing, outcome.facts.vote.language)
@@ -185,7 +186,7 @@ def picture_on_page(outcome: Outcome, drawing: bytes | None) -> dict[str, Any]:
     return {
         "style": style,
         "picture": picture,
-        "picture_command": shlex.join(drawing_command(options)),
+        "picture_command": escaping + shlex.join(drawing_command(options)),
     }
 
 
@@ -484,8 +485,10 @@ def drawn(graph: str, options: int) -> bytes:
     if dot is None:
         raise FileNotFoundError("Graphviz (its program dot) is not installed")
     command = [dot, *drawing_command(options)[1:]]
+    # Graphviz takes what is between & and ; for the name of a character
+    given = graph.replace("&", "&amp;").encode()
     return subprocess.run(
-        command, input=graph.encode(), capture_output=True, timeout=PICTURE_SECONDS, check=True
+        command, input=given, capture_output=True, timeout=PICTURE_SECONDS, check=True
     ).stdout
 
 
