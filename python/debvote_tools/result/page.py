@@ -72,8 +72,8 @@ IN_HASTE = ["-Gsplines=line", "-Gnslimit=1", "-Gmclimit=0.1"]
 # read
 LEAST_SHARE = 0.75
 
-# the width of paper, in the size of the text
-PAPER = 40
+# the width of paper, in the size of the text there
+PAPER = 45
 
 # how the name of an option begins in the picture
 NUMBERED = re.compile(r"^([0-9]+) ")

@@ -130,9 +130,9 @@ class ScriptsTest(publishing.ResultPageTest):
             window = self.page_of(self.published_room(f"{options} on paper", poll, f"ada {','.join(map(str, range(1, options + 1)))}\n"))
             window.show(on_paper=True)
             window.resize(717, 900)
-            size = window.ask("parseFloat(getComputedStyle(document.querySelector('table')).fontSize)")
+            size, around = window.ask("['table', 'body'].map((part) => parseFloat(getComputedStyle(document.querySelector(part)).fontSize))")
             wide = window.ask("[document.documentElement.scrollWidth, document.querySelector('table').getBoundingClientRect().right <= 717]")
-            self.expect(f"{options} options in {size} pixels", (wide, 8 < size < 16), ([717, True], is_smaller))
+            self.expect(f"{options} options in {size} pixels", (wide, 8 < size < around), ([717, True], is_smaller))
 
     def test_wide_and_narrow_windows_and_long_names(self):
         """From 70rem finding and checking stand at the right; a long name is smaller, and no number stands alone on a line."""
@@ -282,11 +282,12 @@ class ScriptsTest(publishing.ResultPageTest):
         window.show(on_paper=True)
         self.page_of()
         seen = window.ask("[...document.querySelectorAll('.folded')].map((part) => part.children[1].getBoundingClientRect().height > 0)")
-        self.expect("on paper", (seen, window.ask(unfolded)), ([True] * 9, []))
-        # what is typed there stays out, and of long ballots the names
-        kept = window.ask("""['#Find', '#Count-again-here', '.checks + details', '.verifying', '#Checksums', '.ballots bdi']
-          .map((place) => document.querySelector(place).checkVisibility())""")
-        self.expect("seen on paper", kept, [False, False, False, False, True, True])
+        self.expect("on paper", (seen, window.ask(unfolded)), ([True] * 8 + [False], []))
+        # what is typed there stays out, with how to verify, and of long ballots the names
+        kept = window.ask("""['#Find', '#Count-again-here', '.checks + details > p', '#Checksums code', '.ballots bdi']
+          .map((place) => document.querySelector(place).checkVisibility({ contentVisibilityAuto: true }))""")
+        self.expect("seen on paper", kept, [False, False, False, True, True])
+        self.expect("the first page ends there", window.ask("getComputedStyle(document.querySelector('.side + .main')).breakBefore"), "page")
 
     def test_counting_again(self):
         folder = self.room / "result"

@@ -78,7 +78,7 @@ class GivenTest(publishing.PublishTest):
         again = "Count again here With another program, in your browser. Nothing is sent."
         self.expect("check it: its last row", rows[4].startswith(again), True)
         self.expect("check it: how many words it has", len(" ".join([*wanted, again]).split()) <= 70, True)
-        self.expect("the whole checksum", poll_sum in next(sections["How-to-verify"].all("ul", "checksums")).text(), True)
+        self.expect("the whole checksum", poll_sum in sections["Check-it"].one("ul", "checksums").text(), True)
         loaded = [link.attributes["href"] for link in sections["Check-it"].all("a") if "download" in link.attributes]
         self.expect("check it: what is downloaded", loaded, ["SHA256SUMS", "index.html"])
         found = [said in pages.tree_of(page).text() for said in ("in the order in which they were entered", "they came", "announced")]
