@@ -544,3 +544,14 @@ class ManyTest(PublishedTest):
         # nothing is folded, a doubt neither
         self.assertEqual((page.count("<details>"), len(re.findall('<p>No elector has a ballot that counts: .*?</p>\n</div>', page))), (0, 4))
         self.assertEqual(pathlib.Path(self.folder / "result" / "G" / "ballots.txt").read_text(), "ada 2,1\n")
+
+    @at_browser.NEEDS_BROWSER
+    def test_seven_on_a_telephone(self) -> None:
+        """All seven questions with their numbers are on the first screen, if each has ballots."""
+        self.add_lines("cleo " + " ".join(f"{label} 1,2" for label in self.polls), "ben " + " ".join(f"{label} 1,2" for label in self.polls))
+        self.done("close", "--early")
+        self.publish()
+        with at_browser.Window(390, 844) as window:
+            window.open(self.folder / "result" / "index.html")
+            ends = window.ask("[...document.querySelectorAll('.question .votes')].map((node) => node.getBoundingClientRect().bottom)")
+            self.assertEqual((len(ends), max(ends) <= 844, window.ask(at_browser.LONE_LINES)), (7, True, []))
