@@ -179,7 +179,7 @@ class Parts:
 
     def __init__(self, page, letter, count, names, spoken=ENGLISH, *, label="", is_motion=False):
         """`names` are those that people read of title (0) and options, where they differ from the plain ones."""
-        self.page, self.letter, self.count, self.names = page, " ".join(letter.split()), count, names
+        self.page, self.letter, self.count, self.names = page, f" {' '.join(letter.split())} ", count, names
         self.spoken, self.label, self.is_motion = spoken, label, is_motion
         self.say, self.say_number = spoken.say, spoken.say_number
         self.sections = sections_of(page)

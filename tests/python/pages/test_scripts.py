@@ -308,6 +308,7 @@ class ScriptsTest(publishing.ResultPageTest):
             "the result": ('<h2 id="Result"><b><bdi>&lt;i&gt;B', '<h2 id="Result"><b><bdi>&lt;i&gt;C'),
             "the result ": ("<b>1\u00a0to\u00a00</b>", "<b>1\u00a0to\u00a01</b>"),
             "the result    ": ('<p class="ended">Has won', '<p class="ended">The default option has won'),
+            "the result     ": ("<b>1</b> for it, ", "<b>2</b> for it, "),
             "the result  ": ("against <bdi>N", "against <bdi>M"),
             "the result   ": ("<small>2\u00a0equal", "<small>1\u00a0equal"),
             "the names of title and options  ": ('<p class="option"><span><i>1</i>\u00a0<bdi>72', '<p class="option"><span><i>1</i>\u00a0<bdi>73'),
