@@ -187,7 +187,7 @@ async function inSlices(steps, isWanted, tell = () => {}) {
       // the reason below a bar has names, too, which may have numbers
       const nodes = row.matches(".duel") ? [row.lastElementChild] : [...row.parentNode.querySelectorAll(".reason b")];
       const text = nodes.map((node) => node.textContent).join(" ").replace(/(\d)[.,\u00a0](?=\d{3})/g, "$1");
-      const [over, under, equal = 0] = text.match(/\d+/g).map(Number);
+      const [over, under, equal = 0] = (text.match(/\d+/g) ?? []).map(Number);
       if (!row.matches(".duel:not(.failed)")) return over === votes[other]?.[fallback] && under === votes[fallback][other];
       return over === votes[won][other] && under === votes[other]?.[won] && equal === voters - over - under;
     });
