@@ -12,7 +12,7 @@ import sys
 import tempfile
 import unittest
 
-from tests.support import expecting
+from tests.support import expecting, forks
 from tests.support.program import PROGRAM, ROOT
 
 PUBLISH = ROOT / "bin" / "debvote-publish"
@@ -25,8 +25,8 @@ SECONDS = 600
 
 
 def output_of(*words, **how):
-    words = list(map(str, words))
-    return subprocess.run(words, stdout=subprocess.PIPE, stderr=subprocess.STDOUT, text=True, timeout=SECONDS, **how).stdout
+    ended = forks.run([*map(str, words)], capture_output=True, text=True, timeout=SECONDS, **how)
+    return ended.stdout + ended.stderr
 
 
 # ---------------------------------------------------------------- the help

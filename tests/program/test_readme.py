@@ -9,6 +9,7 @@ import re
 import shutil
 import struct
 import subprocess
+import sys
 import tempfile
 import unittest
 
@@ -24,6 +25,13 @@ FOLDERS = "bin examples python tests/support"
 
 # the commands that need the kit
 OF_KIT = ["make try", "make build", "make test", "tests/all"]
+
+# keeps a program as `make try` does
+KEEP = """
+import pathlib, sys
+from tests.support import unproved
+unproved.keep({unproved.CHECKED: pathlib.Path(sys.argv[1])}, unproved.sum_of_sources())
+"""
 
 SECONDS = 600
 
@@ -54,9 +62,7 @@ class Commands(expecting.Expecting):
 
     def test_blocks(self) -> None:
         """Each command prints what README says. What it writes goes to a folder of this test."""
-        program = self.copy / "crates" / "debvote" / "out" / "unproved" / "debvote"
-        program.parent.mkdir(parents=True)
-        shutil.copy(PROGRAM, program)
+        subprocess.run([sys.executable, "-c", KEEP, PROGRAM], cwd=self.copy, check=True, timeout=SECONDS)
         steps = [(words, wanted) for kind, words, wanted in test_guides.steps_of(README) if kind == "command"]
         self.expect("there are commands", [words.split()[0] for words, _ in steps][:1], ["make"])
         for words, wanted in steps:

@@ -715,7 +715,7 @@ class Asked(boxes.BoxElectionTest):
         # a wrong address can be put right, as long as no letter has a link to it
         self.done("call", "--at", self.host.at.replace("http:", "https:"))
         self.done("call", "--at", self.host.at)
-        fault = "call: nobody has seen yet whether the box of the web host works, with page and links of now; nothing was written: upload the folder call, then run the command again"
+        fault = "call: nobody has seen yet whether the web box works, with page and links of now; nothing was written: upload the folder call, then run the command again"
         self.assert_fault(self.election("letters", "call"), 9, fault)
         self.assert_fault(self.election("add", "--box"), 9, f"{self.host.at}vote.php: it answers 404", "nothing was added")
         # what is written all the same says that the page takes none, and the log why
@@ -738,7 +738,7 @@ class Asked(boxes.BoxElectionTest):
             self.done(*words)
             # no letter may have a link that the host does not know
             for kind in kinds:
-                fault = f"{kind}: nobody has seen yet whether the box of the web host works, with page and links of now"
+                fault = f"{kind}: nobody has seen yet whether the web box works, with page and links of now"
                 self.assert_fault(self.election("letters", kind), 9, fault, "upload the folder call")
             self.upload()
         self.assertEqual(json.loads(self.done("status", "--json").output)["box"]["is_present"], False)
@@ -799,7 +799,7 @@ class Asked(boxes.BoxElectionTest):
         self.assertIn("Web box: 1 record when it was asked last", self.done("count", "--force").faults)
         self.off(700)
         # by the clock of the host it was not
-        fault = "--box: the box of the web host was not asked in the last ten minutes: when the box was asked last, it was only "
+        fault = "--box: the web box was not asked in the last ten minutes: when the web box was asked last, it was only "
         self.assert_fault(self.election("close", "--early"), 9, fault, "run the command again")
         self.clock = {}
         self.done("add", "--box", "--yes")
@@ -807,7 +807,7 @@ class Asked(boxes.BoxElectionTest):
         ended = self.done("close", "--early")
         self.assertIn("Note: the page still takes ballots, and says that they arrived: debvote-election count asks for them once more.", ended.output)
         self.assertIn("\nNext: debvote-election count, then", self.done("status").output)
-        fault = "--box: the box of the web host was not asked since the vote was closed early"
+        fault = "--box: the web box was not asked since the vote was closed early"
         (self.web / "vote.php").rename(self.web / "away")
         for words in (("count",), ("letters", "closed")):
             ended = self.election(*words)
@@ -842,7 +842,7 @@ class Asked(boxes.BoxElectionTest):
         # by the clock of the host the end has not come
         ended, asked = self.election("close"), str(self.boxes_kept()[-1]["time"])
         time_there = datetime.datetime.fromisoformat(asked).astimezone(BERLIN)
-        fault = f"was not asked since the end: when the box was asked last, it was only {time_there:%Y-%m-%d %H:%M:%S} UTC+01:00 by its own clock; act "
+        fault = f"was not asked since the end: when the web box was asked last, it was only {time_there:%Y-%m-%d %H:%M:%S} UTC+01:00 by its own clock; act "
         self.assert_fault(ended, 9, fault, "run the command again; if it does not answer any more, close with --force --because TEXT (the result page says so)")
         said = self.done("close", *self.forced).output
         self.assertNotIn("still takes ballots", said)
@@ -867,7 +867,7 @@ class Asked(boxes.BoxElectionTest):
         # that of `count` itself has this second, too
         ended = self.election("count")
         self.assertEqual(ended.status, 9)
-        self.assertIn("--box: the box of the web host was not asked since the vote was closed early", ended.faults)
+        self.assertIn("--box: the web box was not asked since the vote was closed early", ended.faults)
 
     def test_asked_after_the_end_and_then_closed(self) -> None:
         self.off(-3600)
@@ -882,7 +882,7 @@ class Asked(boxes.BoxElectionTest):
         before = len(self.boxes_kept())
         self.done("close")
         self.assertEqual(len(self.boxes_kept()), before + 1)
-        self.assertNotIn("the box of the web host", self.election("count").faults)
+        self.assertNotIn("the web box", self.election("count").faults)
         self.done("publish")
         self.assertNotIn(b"that the secretary did not get", self.read("result/index.html"))
 
