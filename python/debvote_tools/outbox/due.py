@@ -150,10 +150,7 @@ def letters_due(
         history = election.history()
     call_data, forced = call_data_of(election, history, kind, because)
     hides_codes = history.is_secret_by_click and not has_codes
-    electors = {
-        elector.number: elector._replace(code="") if hides_codes else elector
-        for elector in queries.electors(election.book)
-    }
+    electors = electors_by_number(election, hides_codes=hides_codes)
     noted_before = outgoing.outgoing_letters(election.book, kind)
     composer = Composer(call_data, is_over)
     tried_again = not_through(election, history, electors, noted_before)
@@ -171,6 +168,13 @@ def letters_due(
         tried_again,
     )
     return OF_KINDS[kind](run)
+
+
+def electors_by_number(election: Election, *, hides_codes: bool) -> dict[int, Elector]:
+    return {
+        elector.number: elector._replace(code="") if hides_codes else elector
+        for elector in queries.electors(election.book)
+    }
 
 
 def not_through(
