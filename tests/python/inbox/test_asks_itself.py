@@ -9,10 +9,10 @@ import subprocess
 import sys
 import time
 
-from tests.support import boxes, elections
+from tests.support import boxes, elections, sealing
 from tests.support.letters import letter, mailbox
 from tests.support.terminal import Terminal
-from tests.support.web_host import NEEDS_PHP
+from tests.support.web_host import NEEDS_PHP, request_of
 
 RANKS, OTHER = "1,2,3,4", "4,3,2,1"
 ALL = "Is that all?"
@@ -286,11 +286,18 @@ class Secret(boxes.BoxElectionTest):
         links = self.links()
         for name in ("ada", "ben"):
             self.click(name, RANKS, links[name])
+        # and one that nobody can open
+        proof = sealing.proof_of(self.mark(), self.place_of("cleo", links["cleo"]))
+        self.assertEqual(self.host.send(request_of(f"{self.page()} {proof} {950:032x}", "A" * 300)).word, "received")
         self.off(700)
         command = [sys.executable, elections.ELECTION, "close", "--early"]
         env = elections.environment() | self.clock | {"XDG_STATE_HOME": str(self.state)}
         ended = subprocess.run(command, cwd=self.folder, env=env, stdin=subprocess.DEVNULL, capture_output=True, text=True)
         said = ended.stdout + ended.stderr
         self.assertIn("the web box was asked, 2 new ballots are kept; ", said)
-        for word in ("ada", "ben", "At the lake", RANKS):
+        self.assertIn("Note: 1 record can't be opened, ", said)
+        for word in ("ada", "ben", "cleo", "At the lake", RANKS):
             self.assertNotIn(word, said)
+        # at a terminal it says who is to vote again
+        terminal = Terminal(self, "close", "--early")
+        self.assertIn("ballots came by the links of these electors that nobody can open, and no later ones: cleo", terminal.end()[0])
