@@ -123,7 +123,7 @@ class History(NamedTuple):
 
     @property
     def askings(self) -> list[DoneAct]:
-        """The acts that asked the box of the web host."""
+        """The acts that asked the web box."""
         return [act for act in self.since_call("letters") if "box" in act.detail]
 
     @property

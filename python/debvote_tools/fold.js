@@ -8,10 +8,11 @@
     return node;
   }
 
-  // the ballot of an elector is shown above
+  // the ballot of an elector is shown above, but in a secret vote
   function unfoldNamed() {
     const place = placeNamed();
-    if (!document.getElementById(place)?.closest(".ballots, .roll")) unfold(place)?.scrollIntoView();
+    const isShown = document.querySelector(".mine") && document.getElementById(place)?.closest(".ballots, .roll");
+    if (!isShown) unfold(place)?.scrollIntoView();
   }
 
   // a link to the part that the address names already changes no address

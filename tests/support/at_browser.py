@@ -70,6 +70,28 @@ LONE_NUMBERS = """[...document.querySelectorAll("i + bdi")].filter((name) => nam
 }).map((name) => name.previousElementSibling.textContent)"""
 
 
+# the lines of texts of several lines that have no letter, by the middles of their words
+LONE_LINES = r"""(() => {
+  const texts = [...document.querySelectorAll("h1, h2, p, li, summary")].filter((node) => node.checkVisibility({ contentVisibilityAuto: true }));
+  const single = texts.filter((node) => !node.querySelector("p, ul, ol, details") && !node.closest(".wide"));
+  return single.flatMap((node) => {
+    const walker = document.createTreeWalker(node, NodeFilter.SHOW_TEXT), range = document.createRange(), lines = [];
+    while (walker.nextNode()) for (const word of walker.currentNode.data.matchAll(/\S+/g)) {
+      range.setStart(walker.currentNode, word.index);
+      range.setEnd(walker.currentNode, word.index + word[0].length);
+      const { top, bottom } = range.getBoundingClientRect(), middle = (top + bottom) / 2;
+      const line = lines.find((other) => Math.abs(other.middle - middle) < 9);
+      if (line) line.text += ` ${word[0]}`;
+      else lines.push({ middle, text: word[0] });
+    }
+    return lines.map(({ text }) => text).filter((text) => lines.length > 1 && !/\p{L}/u.test(text));
+  });
+})()"""
+
+# of each question what the page of a result says by the name in its address: each paragraph, and each step of a list
+MINE = "[...document.querySelectorAll('.mine')].map((node) => [...node.querySelectorAll('p, li')].map((part) => part.textContent))"
+
+
 class Gone(RuntimeError):
     """The page was left before it answered."""
 
@@ -180,6 +202,12 @@ class Window:
         """Opens a page, at a place of it that begins with #."""
         self.tell("Page.navigate", url=page.as_uri() + place)
         self.until(f"document.readyState === 'complete' && location.href.startsWith({json.dumps(page.as_uri())})")
+
+    def open_anew(self, page: pathlib.Path, place: str) -> None:
+        """Opens a page at a place of it, as somebody who comes from elsewhere."""
+        self.tell("Page.navigate", url="about:blank")
+        self.until("location.href === 'about:blank'")
+        self.open(page, place)
 
     def ask(self, script: str) -> Any:
         """Runs a script in the page, and returns its value."""

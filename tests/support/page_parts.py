@@ -1,7 +1,7 @@
 """Reads a page: its tags, places and links, and each part beside what tests/reference.py counts: numbers, sentences, lists and ballots.
 
 The page is read as a browser reads it: a text that was not escaped is no text here. What a part must say is written down anew, by
-the count of the reference; nothing of debvote_tools is used.
+the count of the reference, in English, and said in the language of the page; nothing of debvote_tools is used but its translations.
 """
 
 import collections
@@ -13,6 +13,7 @@ import re
 import tomllib
 
 from tests import reference
+from tests.support.spoken import Spoken
 
 EMPTY_TAGS = {"meta", "br", "hr", "input", "rect", "path"}
 # of scripts a page has its own alone
@@ -20,37 +21,52 @@ UNWANTED_TAGS = {"link", "iframe", "img", "object", "embed", "form", "base", "au
 UNWANTED_ATTRIBUTES = {"src", "style", "xlink:href"}
 
 
-# what is said of an option, and in the letter of what decides it, by its kind
+# what is said of an option, of a motion, and in the letter and on the page of all questions of what decides it, by its kind
 SENTENCES = {
     "missed the quorum": "It needs {needed} to reach the quorum.",
     "missed its majority": "It needs more for it than against it: {needed}.",
-    "missed a majority of a ratio": "It needs {times} times as many for it as against it: {needed}.",
-    "its own defeat removed": "It beats {b} by {over} to {under}, but this defeat was set aside in round {round} as the weakest.",
-    "equal with the winner": "It and {a} are equal, {over} to {under}.",
-    "dropped, and preferred to the winner": "More electors prefer it to {winner}, {over} to {under}.",
-    "loses directly": "{a} beats it by {over} to {under}.",
-    "loses by a chain": "{a} beats {b} by {over} to {under}.",
-    "left in a tie": "{a} against {b}: {over} to {under}.",
-    "left with a removed defeat": "{a} against {b}: {over} to {under}, a defeat that was set aside in round {round}.",
+    "missed a ratio": "It needs {ratio} times as many for it as against it: {needed}.",
+    "missed more than a ratio": "It needs more than {ratio} times as many for it as against it: {needed}.",
+    "a motion missed the quorum": "At least {needed} had to say yes.",
+    "a motion missed its majority": "More had to say yes than no.",
+    "a motion missed a ratio": "{ratio} times as many had to say yes as no: {needed}.",
+    "a motion missed more than a ratio": "More than {ratio} times as many had to say yes as no: {needed}.",
+    "its own defeat removed": "It beats {other} by {over} to {under}, but this defeat was set aside in round {round} as the weakest.",
+    "equal with the winner": "It and {option} are equal, {over} to {under}.",
+    "dropped, and preferred to the winner": "More electors prefer it to {other}, {over} to {under}.",
+    "loses directly": "{option} beats it by {over} to {under}.",
+    "loses by a chain": "{option} beats {other} by {over} to {under}.",
+    "left in a tie": "{option} against {other}: {over} to {under}.",
+    "left with a removed defeat": "{option} against {other}: {over} to {under}, a defeat that was set aside in round {round}.",
     "left with many": "It is left with {number} other options, and no defeat among them is left.",
-    "lost by the casting vote": "The casting vote chose {winner}.",
-    "a tie of two": "No option has won yet: {left} are tied. The casting vote has to choose one of them. {against}",
-    "a tie of many": "No option has won yet: {left} are tied. The casting vote has to choose one of them. {tied}",
+    "lost by the casting vote": "The casting vote chose {option}.",
+    "a tie": "No option has won yet: {options} are tied. The casting vote has to choose one of them.",
     "a tie by defeats that were removed": "The defeats among them were set aside as the weakest.",
     "a tie without defeats": "None of them beats another.",
-    "the casting vote": "Winner: {winner} by casting vote. {left}",
-    "the casting vote among many": "These options were left: {left}.",
-    "the default option, a few failed": "Winner: {winner}. {failed}",
-    "the default option, many failed": "Winner: {winner}. {nearest} The {number} other options lacked more.",
-    "a circle": "Winner: {winner}. Options beat each other in a circle, so the weakest defeat was set aside: {last}. "
-    "Then it beats {beaten}, and nothing beats it.",
-    "circles": "Winner: {winner}. Options beat each other in circles, so {number} weakest defeats were set aside, the last of them {last}. "
-    "Then it beats {beaten}, and nothing beats it.",
-    "beats by chains": "Winner: {winner}. It beats {beaten}, and each other one by a chain of defeats.",
-    "beats one": "Winner: {winner}. It beats {beaten}.",
-    "beats each of two": "Winner: {winner}. It beats each option that was not dropped: {beaten}.",
-    "beats each of many": "Winner: {winner}. It beats each option that was not dropped, most narrowly {narrowest}.",
+    "a winner": "Winner: {option}",
+    "the casting vote": "Winner: {option} by casting vote",
+    "the casting vote among many": "These options were left: {options}.",
+    "an option failed": "{option}: {votes}.",
+    "many failed": "The {number} other options lacked more.",
+    "a circle": "Options beat each other in a circle, so the weakest defeat was set aside: {defeat}.",
+    "circles": "Options beat each other in circles, so {number} weakest defeats were set aside, the last of them {defeat}.",
+    "beats after circles": "Then it beats {options}, and nothing beats it.",
+    "beats by chains": "It beats {options}, and each other one by a chain of defeats.",
+    "beats one": "It beats {options}.",
+    "beats each of two": "It beats each option that was not dropped: {options}.",
+    "beats each of many": "It beats each option that was not dropped, most narrowly {option}.",
+    "on the page of all questions": "{over} to {under} against {other}",
 }
+
+# how each question may end, in capitals
+ENDED = {"tie": "No option has won yet", "casting": "Has won by the casting vote", "rejected": "Not carried", "carried": "Carried"}
+ENDED |= {"default": "The default option has won", "won": "Has won"}
+
+
+# the answers to a motion: yes, no and abstain
+ANSWERS = {"en": ("Yes", "No", "Abstain"), "de": ("Ja", "Nein", "Enthaltung"), "fr": ("Oui", "Non", "Abstention"), "es": ("Sí", "No", "Abstención")}
+
+ENGLISH = Spoken("en")
 
 
 class Wrong(Exception):
@@ -115,7 +131,8 @@ class Builder(html.parser.HTMLParser):
             del self.open[max(1, len(self.open) - 1) :]
 
     def handle_data(self, data):
-        self.open[-1].inner.append(data)
+        # where lines may break is seen in a browser
+        self.open[-1].inner.append(data.replace("\u00a0", " "))
 
 
 def tree_of(page):
@@ -158,19 +175,26 @@ def try_page(expect, name, folder):
 
 
 class Parts:
-    """The parts of a page beside the count of the reference."""
+    """The parts of a page beside the count of the reference, in a language. A page of several questions has a label."""
 
-    def __init__(self, page, letter, count, names):
+    def __init__(self, page, letter, count, names, spoken=ENGLISH, *, label="", is_motion=False):
         """`names` are those that people read of title (0) and options, where they differ from the plain ones."""
-        self.page, self.letter, self.count, self.names = page, " ".join(letter.split()), count, names
-        # an option on the page, and in the letter
-        self.numbered = "{}\u00a0{}"
+        self.page, self.letter, self.count, self.names = page, f" {' '.join(letter.split())} ", count, names
+        self.spoken, self.label, self.is_motion = spoken, label, is_motion
+        self.say, self.say_number = spoken.say, spoken.say_number
         self.sections = sections_of(page)
         # the kinds of sentences that were met
         self.met = collections.Counter()
 
+    def plain(self, option):
+        """The name of an option without its number."""
+        return self.names.get(option, self.count.poll.names[option])
+
     def name(self, option):
-        return self.numbered.format(option, self.names.get(option, self.count.poll.names[option]))
+        return self.spoken.numbered.format(number=option, name=self.plain(option))
+
+    def all_names(self, options):
+        return self.spoken.joined(map(self.name, options))
 
     def entries(self, heading, kind="ul"):
         return [entry.text() for found in list(self.sections[heading].all(kind)) for entry in found.all("li")]
@@ -179,17 +203,18 @@ class Parts:
         """Meets all parts with the count. Raises Wrong, or returns the kinds of sentences that the page has."""
         for part in "headings named facts panel lines rule others options table defeats rounds ballots who_voted".split():
             getattr(self, part)()
-        self.numbered = "Option {}: {}"
-        self.deciding()
+        self.spoken = self.spoken.in_letters()
+        self.in_letter()
         return self.met
 
-    def say(self, kind, pair=None, **places):
+    def told(self, kind, pair=None, **places):
         """A sentence of a kind, in which a pair of options may have its names, numbers and round."""
         self.met[kind] += 1
         if pair is not None:
             (a, b), removed = pair, [number for number, (_, gone) in enumerate(self.count.rounds, start=1) if {pair, pair[::-1]} & gone]
-            places |= {"a": self.name(a), "b": self.name(b), "over": self.count.votes[a, b], "under": self.count.votes[b, a], "round": sum(removed)}
-        return SENTENCES[kind].format(**places)
+            numbers = {"over": self.count.votes[a, b], "under": self.count.votes[b, a], "round": sum(removed)}
+            places |= {"option": self.name(a), "other": self.name(b), **numbers}
+        return self.say(SENTENCES[kind], **places)
 
     def headings(self):
         """Each part has a heading with its place, and a part of a group is one deeper than the group."""
@@ -205,39 +230,53 @@ class Parts:
         for node in tree_of(self.page).within():
             pairs = [pair for pair in zip(node.inner, node.inner[2:]) if isinstance(pair[0], Node) and pair[0].tag == "i"]
             for number, name in pairs:
-                option = int(number.text())
-                demand_equal("a named option", (name.tag, name.text()), ("bdi", self.names.get(option, self.count.poll.names[option])))
+                demand_equal("a named option", (name.tag, name.text()), ("bdi", self.plain(int(number.text()))))
 
     def facts(self):
-        """The numbers below the winner; what is none is not told."""
+        """The numbers below the winner."""
+        demand_equal("the facts", [entry.text() for entry in tree_of(self.page).one("ul", "facts").all("li")], list(self.numbers()))
+
+    def numbers(self):
+        """The numbers of a result; what is none is not told."""
         count, poll = self.count, self.count.poll
-        found = [entry.text() for entry in tree_of(self.page).one("ul", "facts").all("li")]
-        reached = any(count.votes[option, poll.default] >= least_of(count) for option in poll.ratios)
-        quorum = [f"quorum {least_of(count)} {'reached' if reached else 'not reached'}"] if poll.quorum else []
-        refused = len(count.lines) - count.valid
-        lines = [f"{refused} of {counted(len(count.lines), 'line')} refused"] if refused else []
-        demand_equal("the facts", found, [f"{len(count.last)} of {len(poll.roll)} voted", *quorum, *lines])
+        quorum, refused, voters = least_of(count), len(count.lines) - count.valid, len(count.last)
+        reached = any(count.votes[option, poll.default] >= quorum for option in poll.ratios)
+        abstained = voters - count.votes[1, 2] - count.votes[2, 1] if self.is_motion else 0
+        of_voters = "{voters} of {electors} voted"
+        yield self.say_number(of_voters, of_voters, voters, voters=voters, electors=len(poll.roll))
+        if poll.quorum:
+            yield self.say("quorum {quorum} reached" if reached else "quorum {quorum} not reached", quorum=quorum)
+        if refused:
+            of_lines = "{refused} of {lines} line refused", "{refused} of {lines} lines refused"
+            yield self.say_number(*of_lines, len(count.lines), refused=refused, lines=len(count.lines))
+        if abstained:
+            yield self.say("{number} abstained", number=abstained)
 
     def lines(self):
-        count, poll, valid = self.count, self.count.poll, self.count.valid
-        are = "is" if len(count.lines) == 1 else "are"
-        wanted = f"{counted(len(count.lines), 'line')} {are} in the ballot file: {valid} valid, {len(count.lines) - valid} refused."
-        if valid != len(count.last):
-            of = f"{counted(len(count.last), 'voter')} {'has' if len(count.last) == 1 else 'have'}"
-            wanted += f" {of} {valid} valid lines: electors who voted again account for the difference, and the last valid line of each counts."
+        count, poll, valid, voters = self.count, self.count.poll, self.count.valid, len(self.count.last)
+        numbers = {"valid": valid, "refused": len(count.lines) - valid}
+        one = "{number} line is in the ballot file: {valid} valid, {refused} refused."
+        wanted = [self.say_number(one, "{number} lines are in the ballot file: {valid} valid, {refused} refused.", len(count.lines), **numbers)]
+        if valid != voters:
+            more = "{valid} valid lines: electors who voted again account for the difference, and the last valid line of each counts."
+            wanted.append(self.say_number(f"{{number}} voter has {more}", f"{{number}} voters have {more}", voters, valid=valid))
         if poll.last_envelope is not None:
-            wanted += f" The last envelope is {poll.last_envelope}: a line with a greater number is late, and is refused."
-        demand_equal("the lines", " ".join(next(self.sections["Refused-lines"].all("p")).text().split()), wanted)
+            wanted.append(self.say("The last envelope is {number}: a line with a greater number is late, and is refused.", number=poll.last_envelope))
+        demand_equal("the lines", " ".join(next(self.sections["Refused-lines"].all("p")).text().split()), " ".join(wanted))
 
     def rule(self):
         poll, said = self.count.poll, self.sections["Options"].text()
-        at_least = "At least the ratio times as many electors must prefer it as prefer the default option, and in any case more."
-        more_than = "More than the ratio times as many electors must prefer it as prefer the default option."
-        debian = "(more than the ratio, where the Constitution of Debian has at least the ratio)"
-        wanted = (False, True, True) if poll.is_more_than else (True, False, False)
-        demand_equal("the wording of majorities", (at_least in said, more_than in said, debian in said), wanted)
-        of = f"The quorum is {counted(least_of(self.count), 'vote')}: at least {poll.quorum}Q, where Q is half of the square root"
-        demand_equal("the quorum", (of in said, "No quorum is asked for." in said), (poll.quorum > 0, poll.quorum == 0))
+        sentences = (
+            "At least the ratio times as many electors must prefer it as prefer the default option, and in any case more.",
+            "More than the ratio times as many electors must prefer it as prefer the default option.",
+            "more than the ratio, where the Constitution of Debian has at least the ratio",
+        )
+        wanted = [not poll.is_more_than, poll.is_more_than, poll.is_more_than]
+        demand_equal("the wording of majorities", [self.say(sentence) in said for sentence in sentences], wanted)
+        of = ": at least {multiple}Q, where Q is half of the square root of the number of electors."
+        quorum = self.say_number(f"The quorum is {{number}} vote{of}", f"The quorum is {{number}} votes{of}", least_of(self.count), multiple=poll.quorum)
+        none = self.say("No quorum is asked for.")
+        demand_equal("the quorum", (quorum in said, none in said), (poll.quorum > 0, poll.quorum == 0))
 
     def others(self):
         """Below the panel, each whose fate the panel does not say, as the rounds leave them, and last those that were dropped: of each
@@ -256,15 +295,15 @@ class Parts:
         chips = {"quorum": "no quorum", "majority": "no majority", "left": "tied"}
         for option, entry in zip(order, [entry for entries in lists for entry in entries]):
             head = [part.text() for part in entry.one("p", "option").inner if isinstance(part, Node)]
-            demand_equal(f"the head of {option}", head, [self.name(option), chips.get(count.ended(option), "lost")])
+            demand_equal(f"the head of {option}", head, [self.name(option), self.say(chips.get(count.ended(option), "lost"))])
             reasons, bars = [part.text() for part in entry.all("p", "reason")], list(map(bar_of, entry.all("svg", "bar")))
             if option not in count.dropped:
                 demand_equal(f"why {option} has not won", (reasons, bars), ([" ".join(self.fate(option))], []))
                 continue
-            wanted = [f"{votes[option, default]} for it, {votes[default, option]} for {self.name(default)}. {self.lack(option)}"]
+            numbers = {"over": votes[option, default], "under": votes[default, option], "other": self.name(default)}
+            wanted = [f"{self.say('{over} for it, {under} for {other}.', **numbers)} {self.lack(option)}"]
             if winner not in (None, default) and votes[option, winner] > votes[winner, option]:
-                pair = {"winner": self.name(winner), "over": votes[option, winner], "under": votes[winner, option]}
-                wanted.append(self.say("dropped, and preferred to the winner", **pair))
+                wanted.append(self.told("dropped, and preferred to the winner", (option, winner)))
             demand_equal(f"why {option} was dropped", (reasons, bars), (wanted, [self.bar(option, default, needed_by(count, option))]))
 
     def nearest(self):
@@ -277,38 +316,43 @@ class Parts:
         count, voters = self.count, len(self.count.last)
         whole = max(voters, min(max((needed_by(count, o) for o in count.dropped), default=0), 2 * voters), 1)
         over, under = count.votes[a, b], count.votes[b, a]
+        demand(over + under <= voters <= whole, f"the bar of {a} and {b} is longer than its numbers say")
         dashed = [(voters, min(needed, whole) - voters)] if needed > voters else []
         return (whole, voters), over, (voters - under, under), dashed, [needed] if 0 < needed <= whole else []
 
     def lack(self, option):
         """What an option lacks that was dropped."""
         count, ratio = self.count, self.count.poll.ratios[option]
-        majority = "missed its majority" if ratio == 1 else "missed a majority of a ratio"
-        kind = {"quorum": "missed the quorum", "majority": majority}[count.dropped[option]]
-        return self.say(kind, needed=needed_by(count, option), times=f"more than {ratio}" if count.poll.is_more_than else str(ratio))
+        kind = "missed more than a ratio" if count.poll.is_more_than else "missed a ratio"
+        kind = "missed the quorum" if count.dropped[option] == "quorum" else "missed its majority" if ratio == 1 else kind
+        return self.told(f"a motion {kind}" if self.is_motion else kind, needed=needed_by(count, option), ratio=ratio)
+
+    def for_and_against(self, option):
+        numbers = {"over": self.count.votes[option, self.count.poll.default], "under": self.count.votes[self.count.poll.default, option]}
+        return self.say("{over} yes, {under} no" if self.is_motion else "{over} for, {under} against", **numbers)
 
     def fate(self, option):
         """What became of an option that was not dropped and has not won, a sentence each."""
         count = self.count
         if option not in count.final:
             if count.winner and count.votes[option, count.winner] == count.votes[count.winner, option]:
-                yield self.say("equal with the winner", (count.winner, option))
-            yield from (self.say("its own defeat removed", pair) for _, gone in count.rounds for pair in sorted(gone) if pair[0] == option)
+                yield self.told("equal with the winner", (count.winner, option))
+            yield from (self.told("its own defeat removed", pair) for _, gone in count.rounds for pair in sorted(gone) if pair[0] == option)
             first, *more = self.chain(option)
-            yield self.say("loses directly", first)
-            yield from (self.say("loses by a chain", pair) for pair in more)
+            yield self.told("loses directly", first)
+            yield from (self.told("loses by a chain", pair) for pair in more)
             return
         others = [other for other in count.final if other != option]
         if len(others) < 3:
             yield from (self.against(option, other) for other in others)
         else:
-            yield self.say("left with many", number=len(others))
+            yield self.told("left with many", number=len(others))
         if count.winner not in (None, option):
-            yield self.say("lost by the casting vote", winner=self.name(count.winner))
+            yield self.told("lost by the casting vote", option=self.name(count.winner))
 
     def against(self, option, other):
         is_removed = any({(option, other), (other, option)} & gone for _, gone in self.count.rounds)
-        return self.say("left with a removed defeat" if is_removed else "left in a tie", (option, other))
+        return self.told("left with a removed defeat" if is_removed else "left in a tie", (option, other))
 
     def chain(self, option):
         """The shortest chain of defeats that were there when an option left the set: to the winner if one is, or else to the least number."""
@@ -322,37 +366,46 @@ class Parts:
             chains, last = chains | step, sorted(step)
         return chains[self.count.winner if self.count.winner in chains else min(within & chains.keys())]
 
+    def how_it_ended(self):
+        count, is_default = self.count, self.count.winner == self.count.poll.default
+        kind = ("rejected" if is_default else "carried") if self.is_motion else "default" if is_default else "won"
+        return self.say(ENDED["tie" if count.winner is None else "casting" if count.final[1:] else kind])
+
     def panel(self):
         """How it ended, the name of the winner, and the winner against each rival: no bar but that of a defeat that was set aside has
         fewer for the winner than against it."""
         count, section, default = self.count, self.sections["Result"], self.count.poll.default
         head, texts = section.one("h2"), [part.text() for part in section.all("p")]
-        left = in_words(list(map(self.name, count.final)))
+        demand_equal("how it ended", texts.pop(0), self.how_it_ended())
         if count.winner is None:
-            more = self.tied() if count.final[2:] else self.against(*count.final)
-            wanted = ["No option has won yet", left, f"The casting vote has to choose one of them. {more}"]
-            demand_equal("a tie", (head.text(), list(head.within()), texts), ("A tie", [], wanted))
+            wanted = [self.all_names(count.final), f"{self.say('The casting vote has to choose one of them.')} {self.tied()}"]
+            demand_equal("a tie", (head.text(), list(head.within()), texts), (self.say("A tie"), [], wanted))
             return
-        name = self.names.get(count.winner, count.poll.names[count.winner])
+        name = self.plain(count.winner)
         demand_equal("the head of the result", (head.text(), [node.tag for node in head.within()]), (name, ["b", "bdi"]))
         demand_equal("whether it is long", head.attributes.get("class"), "long" if len(name) > 60 else None)
+        is_grey = "default" in section.attributes["class"].split()
+        demand_equal("whether the panel is grey", is_grey, count.winner == default)
         if count.final[1:]:
             said = "Those who publish this page do not say whose casting vote it was, or when it was given."
-            demand_equal("a casting vote", texts, ["Has won by the casting vote", self.left(), said])
+            demand_equal("a casting vote", texts, [self.left(), self.say(said)])
             return
-        demand_equal("how it ended", texts[0], "The default option has won" if count.winner == default else "Has won")
         rows = [self.shown(entry) for entry in section.one("ul", "duels").all("li")]
-        demand_equal("the rivals", rows, list(self.failed() if count.winner == default else self.rivals(count.winner)))
+        rivals = self.failed() if count.winner == default else self.carried() if self.is_motion else self.rivals(count.winner)
+        demand_equal("the rivals", rows, list(rivals))
 
     def tied(self):
-        """Of more than two that are left, why."""
-        among = {pair for _, gone in self.count.rounds for pair in gone if {*pair} <= {*self.count.final}}
-        return self.say("a tie by defeats that were removed" if among else "a tie without defeats")
+        """Why there is a tie: two have their numbers."""
+        final = self.count.final
+        if not final[2:]:
+            return self.against(*final)
+        among = {pair for _, gone in self.count.rounds for pair in gone if {*pair} <= {*final}}
+        return self.told("a tie by defeats that were removed" if among else "a tie without defeats")
 
     def left(self):
         """Among which the casting vote chose."""
         final = self.count.final
-        return self.say("the casting vote among many", left=in_words(list(map(self.name, final)))) if final[2:] else self.against(*final)
+        return self.told("the casting vote among many", options=self.all_names(final)) if final[2:] else self.against(*final)
 
     def shown(self, entry):
         """A row of the panel: its texts, its bar, and whether it is one of a defeat that holds."""
@@ -362,84 +415,149 @@ class Parts:
 
     def failed(self):
         """The options that the default option has outlived, the nearest first."""
-        count, default = self.count, self.count.poll.default
         rows = self.nearest()
         for _, option in few(rows):
-            votes = f"{count.votes[option, default]} for, {count.votes[default, option]} against"
-            yield [self.name(option), votes, self.lack(option)], self.bar(option, default, needed_by(count, option)), None
-        yield from others_of(rows)
+            texts = [self.name(option), self.for_and_against(option), self.lack(option)]
+            yield texts, self.bar(option, self.count.poll.default, needed_by(self.count, option)), None
+        yield from self.more(rows)
+
+    def carried(self):
+        """A motion that was carried, whose name stands above."""
+        yield ["", self.for_and_against(1)], self.bar(1, 2, needed_by(self.count, 1)), "won"
 
     def rivals(self, winner):
         """Those whom the winner beats, the nearest first; defeats that were set aside; and those whom it beats by chains."""
         count, votes = self.count, self.count.votes
         removed = [pair for _, pairs in count.rounds for pair in sorted(pairs)]
-        beaten = sorted((votes[a, b] - votes[b, a], b) for a, b in count.defeats - set(removed) if a == winner)
         aside = [a if b == winner else b for a, b in removed if winner in (a, b)]
 
         def row(rival, *more, kind=None):
             over, under, whole = votes[winner, rival], votes[rival, winner], len(count.last)
             demand(kind is None or over > under, f"the bar of {rival} contradicts the result")
+            said = [self.say("{over} to {under}", over=over, under=under)]
+            said += [self.say("{equal}\u00a0equal", equal=whole - over - under)] if over + under < whole else []
             # by its name alone: a number there would be read as one of votes
-            name = self.names.get(rival, count.poll.names[rival])
-            equal = f" {whole - over - under}\xa0equal" if over + under < whole else ""
-            return [f"against {name}", f"{over} to {under}{equal}", *more], self.bar(winner, rival), kind
+            return [self.say("against {option}", option=self.plain(rival)), " ".join(said), *more], self.bar(winner, rival), kind
 
+        beaten = self.beaten()
         yield from (row(rival, kind="won") for _, rival in few(beaten))
-        yield from others_of(beaten)
-        yield from (row(rival, "set aside: the weakest defeat in a circle of options that beat each other") for rival in few(aside))
-        yield from others_of(aside)
+        yield from self.more(beaten)
+        why = self.say("set aside: the weakest defeat in a circle of options that beat each other")
+        yield from (row(rival, why) for rival in few(aside))
+        yield from self.more(aside)
         rest = set(count.poll.options) - set(count.dropped) - {winner, *aside, *(rival for _, rival in beaten)}
         if rest:
-            yield [f"and {len(rest)} other options by chains of defeats" if len(rest) > 1 else "and 1 other option by a chain of defeats"], None
+            chains = "and {number} other option by a chain of defeats", "and {number} other options by chains of defeats"
+            yield [self.say_number(*chains, len(rest))], None
+
+    def more(self, rows):
+        """The row of the panel for those that have none of their own."""
+        if len(rows) > 3:
+            yield [self.say("and {number} other options", number=len(rows) - 2)], None
+
+    def beaten(self):
+        """Those whom the winner beats by defeats that hold, the nearest first."""
+        count, votes = self.count, self.count.votes
+        removed = {pair for _, pairs in count.rounds for pair in pairs}
+        return sorted((votes[pair] - votes[pair[::-1]], pair[1]) for pair in count.defeats - removed if pair[0] == count.winner)
+
+    def in_letter(self):
+        """In the letter, below the head of a question of several: how it ended, what decides it, and the numbers of the result."""
+        count = self.count
+        if count.winner is None:
+            wanted = f"{self.told('a tie', options=self.all_names(count.final))} {self.tied()}"
+        else:
+            kind, decides = ("the casting vote", [self.left()]) if count.final[1:] else ("a winner", self.deciding())
+            wanted = " ".join([f"{self.told(kind, option=self.name(count.winner))}.", *decides])
+        if self.label:
+            title = self.names.get(0, count.poll.title)
+            wanted = f"{self.say('Question {label}: {title}', label=self.label, title=title)} {wanted}"
+        demand(f" {' '.join(wanted.split())} " in self.letter, f"what decides it, in the letter: {wanted} is not in {self.letter[:900]}")
+        facts = ", ".join(self.numbers())
+        demand(f" {facts}. " in self.letter, f"the numbers, in the letter: {facts}. is not in {self.letter[:900]}")
 
     def deciding(self):
-        """In the letter: what decides it, in numbers."""
-        count = self.count
-        left = in_words(list(map(self.name, count.final)))
-        if count.winner is None:
-            kind, more = ("a tie of many", {"tied": self.tied()}) if count.final[2:] else ("a tie of two", {"against": self.against(*count.final)})
-            wanted = self.say(kind, left=left, **more)
-        else:
-            winner = {"winner": self.name(count.winner)}
-            wanted = self.say("the casting vote", left=self.left(), **winner) if count.final[1:] else self.deciding_alone(count.winner, winner)
-        demand(f" {' '.join(wanted.split())} " in self.letter, f"what decides it, in the letter: {wanted} is not in {self.letter[:600]}")
-
-    def deciding_alone(self, winner, places):
-        count, default = self.count, self.count.poll.default
+        """The sentences on what decides it where one option is left."""
+        count, winner, default = self.count, self.count.winner, self.count.poll.default
         if winner == default:
             demand_equal("all others were dropped", set(count.dropped), set(count.poll.options) - {default})
-            rows = [f"{self.name(o)}: {count.votes[o, default]} for, {count.votes[default, o]} against. {self.lack(o)}" for _, o in self.nearest()]
-            if len(rows) > 3:
-                return self.say("the default option, many failed", nearest=rows[0], number=len(rows) - 1, **places)
-            return self.say("the default option, a few failed", failed=" ".join(rows), **places)
+            nearest = self.nearest()
+            yield from (self.failure(option) for _, option in (nearest if len(nearest) < 4 else nearest[:1]))
+            if len(nearest) > 3:
+                yield self.told("many failed", number=len(nearest) - 1)
+        elif self.is_motion:
+            yield f"{self.for_and_against(1)}."
+        else:
+            yield from self.whom_it_beats()
+
+    def failure(self, option):
+        """What an option had that was dropped, and what it lacks."""
+        votes = self.for_and_against(option)
+        said = f"{votes}." if self.is_motion else self.told("an option failed", option=self.name(option), votes=votes)
+        return f"{said} {self.lack(option)}"
+
+    def whom_it_beats(self):
+        count, winner, rows = self.count, self.count.winner, self.beaten()
         removed = [pair for _, pairs in count.rounds for pair in sorted(pairs)]
         others = set(count.poll.options) - set(count.dropped) - {winner}
         demand(not any(b == winner for _, b in count.defeats - set(removed)), "nothing beats the winner")
-        pairs = sorted((count.votes[a, b] - count.votes[b, a], b) for a, b in count.defeats - set(removed) if a == winner)
-        rows = [f"{self.name(b)} by {count.votes[winner, b]} to {count.votes[b, winner]}" for _, b in pairs]
-        narrowest = f"{len(rows)} options, most narrowly {rows[0]}" if len(rows) > 2 else in_words(rows)
+        by = [self.say("{other} by {over} to {under}", other=self.name(b), over=count.votes[winner, b], under=count.votes[b, winner]) for _, b in rows]
+        said = self.say("{number} options, most narrowly {option}", number=len(by), option=by[0]) if len(by) > 2 else self.spoken.joined(by)
         if removed:
-            places |= {"number": len(removed), "last": self.defeat(removed[-1]), "beaten": narrowest}
-            return self.say("circles" if removed[1:] else "a circle", **places)
-        if len(rows) < len(others):
+            yield self.told("circles" if removed[1:] else "a circle", number=len(removed), defeat=self.defeat(removed[-1]))
+            yield self.told("beats after circles", options=said)
+            return
+        if len(by) < len(others):
             chains = reference.transitive_defeats([o for o in count.poll.options if o not in count.dropped], count.defeats)
             demand({b for a, b in chains if a == winner} >= others, "the winner beats all by chains")
-            return self.say("beats by chains", beaten=narrowest, **places)
+            yield self.told("beats by chains", options=said)
+            return
         kind = {1: "beats one", 2: "beats each of two"}.get(len(others), "beats each of many")
-        return self.say(kind, beaten=narrowest, narrowest=rows[0], **places)
+        yield self.told(kind, options=said, option=by[0])
+
+    def above(self, front):
+        """On the page of all questions: label, title, how it ended, the name, and the numbers by which; a tie is framed."""
+        count, default = self.count, self.count.poll.default
+        # it has no list of options, so none has a number there
+        self.spoken = Spoken(self.spoken.code, "{name}")
+        section = sections_of(front)[f"Question-{self.label}"]
+        kind = "tie" if count.winner is None else "default" if count.winner == default else None
+        demand_equal("the kind of question", section.attributes["class"].split()[1:], [kind] if kind else [])
+        demand_equal("its title", section.one("h2").text(), f"{self.label} {self.names.get(0, count.poll.title)}")
+        name = self.all_names(count.final) if count.winner is None else self.plain(count.winner)
+        texts = [" ".join(section.one("p", part).text().split()) for part in ("ended", "won", "votes")]
+        demand_equal("how a question ended", texts, [self.how_it_ended(), " ".join(name.split()), " ".join(self.by_which_numbers().split())])
+        return self.met
+
+    def by_which_numbers(self):
+        count, winner = self.count, self.count.winner
+        if count.final[1:]:
+            return self.tied() if winner is None else self.left()
+        if winner == count.poll.default:
+            return self.failure(self.nearest()[0][1])
+        if self.is_motion:
+            return f"{self.for_and_against(1)}."
+        rows = self.beaten()
+        return self.told("on the page of all questions", (winner, rows[0][1]))
 
     def defeat(self, pair):
         a, b = pair
-        return f"{self.name(a)} over {self.name(b)} by {self.count.votes[a, b]} to {self.count.votes[b, a]}"
+        numbers = {"over": self.count.votes[a, b], "under": self.count.votes[b, a]}
+        return self.say("{option} over {other} by {over} to {under}", option=self.name(a), other=self.name(b), **numbers)
 
     def options(self):
         count, poll = self.count, self.count.poll
-        kinds = {o: "the default option" if o == poll.default else f"majority ratio {poll.ratios[o]}" for o in poll.options}
-        plain = {o: f" (plain name, on the result sheet: {poll.names[o]})" if o in self.names else "" for o in poll.options}
         wanted = []
         for o in poll.options:
-            needs = "" if o == poll.default else f": {least_of(count)} are the quorum, {majority_of(count, o)} a majority; it has {count.votes[o, poll.default]}"
-            wanted.append(f"{self.name(o)}, {kinds[o]}{plain[o]}{needs}")
+            said = self.say("the default option") if o == poll.default else self.say("majority ratio {ratio}", ratio=poll.ratios[o])
+            said = f"{self.name(o)}, {said}"
+            if o in self.names:
+                said += f" ({self.say('plain name, on the result sheet: {name}', name=poll.names[o])})"
+            if o != poll.default:
+                numbers = {"quorum": least_of(count), "majority": majority_of(count, o), "over": count.votes[o, poll.default]}
+                needs = self.say("{quorum} are the quorum, {majority} a majority; it has {over}", **numbers)
+                said = self.spoken.with_colon(said, needs)
+            wanted.append(said)
         demand_equal("Options", self.entries("Options"), wanted)
 
     def table(self):
@@ -447,11 +565,13 @@ class Parts:
         count, poll = self.count, self.count.poll
         rows = list(self.sections["Votes"].one("tbody").all("tr"))
         demand_equal("how many rows", len(rows), len(poll.options))
+        chips = {"won": ("won", "won"), "left": ("tied", "left"), "lost": ("", None)}
         for a, row in zip(poll.options, rows):
             ended = count.ended(a)
-            said, kind = {"won": (" won", "won"), "left": (" tied", "left"), "lost": ("", None)}.get(ended, (f" no {ended}", "dropped"))
-            default = " default option" if a == poll.default else ""
-            demand_equal(f"the head of row {a}", row.one("th").text(), self.name(a) + default + said)
+            said, kind = chips.get(ended, (f"no {ended}", "dropped"))
+            default = [self.say("default option")] if a == poll.default else []
+            head = [self.name(a), *default, *([self.say(said)] if said else [])]
+            demand_equal(f"the head of row {a}", row.one("th").text(), " ".join(head))
             demand_equal(f"the kind of row {a}", row.attributes.get("class"), kind)
             cells = [(cell.text(), cell.attributes.get("class")) for cell in row.all("td")]
             beats = {b: "beats" if (a, b) in count.defeats else None for b in poll.options}
@@ -467,8 +587,10 @@ class Parts:
     def rounds(self):
         wanted = []
         for kept, removed in self.count.rounds:
-            then = f"Removed: {in_words(list(map(self.defeat, sorted(removed))))}." if removed else "No defeat is within it, and the count ends."
-            wanted.append(f"The set is {in_words(list(map(self.name, kept)))}. {then}")
+            places = {"options": self.all_names(kept)}
+            if removed:
+                places["defeats"] = self.spoken.joined(map(self.defeat, sorted(removed)))
+            wanted.append(self.say("The set is {options}. Removed: {defeats}." if removed else "The set is {options}. No defeat is within it, and the count ends.", **places))
         demand_equal("Rounds", self.entries("Defeats", "ol"), wanted)
 
     def ballots(self):
@@ -476,17 +598,34 @@ class Parts:
         found, wanted = [(entry.attributes["id"], entry.text()) for entry in self.sections["Ballots"].all("li")], []
         for voter, ranks in sorted(count.last.items()):
             name, spelled = count.poll.roll[voter], ",".join("-" if rank is None else str(rank) for rank in ranks)
-            wanted.append((name, f"{name} {spelled}: {self.ballot_words(ranks)}"))
+            said = self.answer(ranks) if self.is_motion else self.ballot_words(ranks)
+            wanted.append((name, self.spoken.with_colon(f"{name} {spelled}", said)))
         demand_equal("Ballots", found, wanted)
 
     def ballot_words(self, ranks):
         steps = []
         for rank in sorted({rank for rank in ranks if rank is not None}):
-            equal = [self.name(option) for option, other in enumerate(ranks, start=1) if other == rank]
-            steps.append(in_words(equal) + (" equally" if len(equal) > 1 else ""))
-        unranked = [self.name(option) for option, rank in enumerate(ranks, start=1) if rank is None]
-        behind = f"; not ranked, and so behind all others: {in_words(unranked)}" if unranked else ""
-        return ", then ".join(steps) + behind if steps else "no option is ranked, so nothing is preferred"
+            equal = self.all_names(option for option, other in enumerate(ranks, start=1) if other == rank)
+            steps.append(self.say("{options} equally", options=equal) if ranks.count(rank) > 1 else equal)
+        if not steps:
+            return self.say("no option is ranked, so nothing is preferred")
+        ranked, *rest = steps
+        for step in rest:
+            ranked = self.say("{before}, then {step}", before=ranked, step=step)
+        if None not in ranks:
+            return ranked
+        unranked = self.all_names(option for option, rank in enumerate(ranks, start=1) if rank is None)
+        return self.say("{ranked}; not ranked, and so behind all others: {unranked}", ranked=ranked, unranked=unranked)
+
+    def answer(self, ranks):
+        """What a ballot says to a motion: a word, and the name of what it is for, unless that begins with the word."""
+        one, other = (100 if rank is None else rank for rank in ranks)
+        if one == other:
+            return ANSWERS[self.spoken.code][2]
+        option = 1 if one < other else 2
+        word = ANSWERS[self.spoken.code][option - 1]
+        first = re.match(r"\W*(\w*)", self.plain(option))[1]
+        return word if first.lower() == word.lower() else self.spoken.with_colon(word, self.plain(option))
 
     def who_voted(self):
         """The electors in the order of the roll: who has a ballot that counts, and who has none and so a place here."""
@@ -494,11 +633,14 @@ class Parts:
         voted = [name for voter, name in enumerate(count.poll.roll) if voter in count.last]
         absent = [name for voter, name in enumerate(count.poll.roll) if voter not in count.last]
         heads = [head.text() for head in section.all("h4")]
-        demand_equal("who voted, heads", heads, [f"Voted ({len(voted)})", f"No ballot that counts ({len(absent)})"])
+        wanted = [self.say("Voted ({number})", number=len(voted)), self.say("No ballot that counts ({number})", number=len(absent))]
+        demand_equal("who voted, heads", heads, wanted)
         lists = [[(entry.text(), entry.attributes.get("id")) for entry in names.all("li")] for names in section.all("ul", "roll")]
         demand_equal("who voted", lists, [names for names in ([(name, None) for name in voted], [(name, name) for name in absent]) if names])
-        number = f"{counted(len(voted), 'elector')} of {len(count.poll.roll)} {'has' if len(voted) == 1 else 'have'}"
-        said = f"{number} a ballot that counts, which is {share(len(voted), len(count.poll.roll))}."
+        one = "{number} elector of {electors} has a ballot that counts, which is {share}."
+        many = "{number} electors of {electors} have a ballot that counts, which is {share}."
+        part = share(len(voted), len(count.poll.roll), self.spoken)
+        said = self.say_number(one, many, len(voted), electors=len(count.poll.roll), share=part)
         demand_equal("who voted, number", next(section.all("p")).text(), said)
 
 
@@ -537,24 +679,11 @@ def few(rows):
     return rows if len(rows) == 3 else rows[:2]
 
 
-def others_of(rows):
-    """The row of the panel for those that have none of their own."""
-    if len(rows) > 3:
-        yield [f"and {len(rows) - 2} other options"], None
-
-
-def counted(number, thing):
-    return f"{number} {thing}{'' if number == 1 else 's'}"
-
-
-def in_words(texts):
-    return texts[0] if len(texts) == 1 else ", ".join(texts[:-1]) + " and " + texts[-1] if texts else ""
-
-
-def share(voters, electors):
+def share(voters, electors, spoken):
     """Per cent with one place behind the point, rounded; neither 0 nor 100 unless it is."""
     tenth = decimal.Decimal("0.1")
     rounded = (decimal.Decimal(100) * voters / electors).quantize(tenth, decimal.ROUND_HALF_UP)
     if 0 < voters < electors:
         rounded = min(max(rounded, tenth), decimal.Decimal("99.9"))
-    return f"{str(rounded).removesuffix('.0')} %"
+    whole, tenths = str(rounded).split(".")
+    return spoken.say("{whole} %", whole=whole) if tenths == "0" else spoken.say("{whole}.{tenths} %", whole=whole, tenths=tenths)

@@ -1,11 +1,19 @@
 """What the tests of debvote-publish share: a folder for each test, and the programs, which run as a user runs them."""
 
+import contextlib
+import io
+import json
 import os
 import pathlib
 import sys
 import tempfile
+import unittest.mock
 
+from debvote_tools.poll.questions import Questions
+from debvote_tools.poll.sealed import read_plain
 from debvote_tools.result import command_line, folder
+from debvote_tools.result.facts import PublishedWords, QuestionFacts, VoteFacts
+from debvote_tools.text.language import language_of
 
 from tests.support import at_browser, expecting, forks
 from tests.support.elections import HAS_PICTURES, NO_PICTURE, PUBLISH, SECONDS
@@ -58,6 +66,23 @@ def plain_room(folder, poll=PLAIN_POLL, ballots=PLAIN_BALLOTS):
     (folder / "poll.toml").write_bytes(poll.encode())
     (folder / "ballots").write_bytes(ballots.encode())
     return folder
+
+
+def plain(values):
+    """A poll in plain form."""
+    return "".join(f"{key} = {json.dumps(value, ensure_ascii=False)}\n" for key, value in values.items()).encode()
+
+
+def publish_questions(target, polls, ballots, language, *, motions, castings):
+    """Publishes several questions, whose polls are in plain form, without pictures, and returns the letter of the result."""
+    questions = Questions({label: read_plain(poll, motion=label in motions) for label, poll in polls.items()}, "Several questions")
+    vote = VoteFacts(questions, language=language_of(language), words=PublishedWords(castings=castings))
+    facts = [QuestionFacts(vote, label, ballots[label]) for label in polls]
+    without_graphviz = unittest.mock.patch.dict(os.environ, {"PATH": str(PROGRAM.parent)})
+    with folder.beside(target) as new, contextlib.redirect_stderr(io.StringIO()), without_graphviz:
+        filled = folder.filled(new.folder, vote, facts, PROGRAM.parent, is_forced=True)
+        new.take_place(target)
+    return filled.letter.decode()
 
 
 class PublishTest(expecting.Expecting):

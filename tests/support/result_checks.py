@@ -1,6 +1,7 @@
 """Compares what debvote-publish makes with tests/reference.py on random polls: the data, the parts of the page, the refused lines.
 
-DEBVOTE_PUBLISHED_POLLS is the number of random polls to publish, by default 200.
+Each poll is also one of two questions, beside a motion. Their languages take turns. DEBVOTE_PUBLISHED_POLLS is the number of random
+polls to publish, by default 200.
 """
 
 import collections
@@ -12,6 +13,7 @@ import io
 import json
 import os
 import pathlib
+import random
 import re
 import sys
 import tempfile
@@ -22,6 +24,7 @@ from tests.support import page_parts as pages, publishing
 from tests.support.page_parts import Wrong, demand
 from tests.support.polls import random_polls
 from tests.support.publishing import PROGRAM
+from tests.support.spoken import LANGUAGES, Spoken
 
 # how many random polls without a fault are published; from ENOUGH on all kinds of sentences have to occur
 POLLS, ENOUGH = int(os.environ.get("DEBVOTE_PUBLISHED_POLLS", "200")), 200
@@ -106,24 +109,34 @@ def table_of(count):
         yield [str(a), name, str(poll.ratios.get(a, "")), count.ended(a), *votes]
 
 
-def try_refused(page, count):
+def try_refused(page, count, spoken):
     """The page has each refused line with its cause, in their order, and nothing else."""
     part, found = page.partition('<h3 id="Refused-lines">')[2].partition("</section>")[0], []
     for entry in pages.sections_of(page)["Refused-lines"].all("li"):
-        first, last, text, cause = re.fullmatch(r"lines? (\d+)(?: to (\d+))?: (.*?): ((?:late|bad [a-z ]+): .*)", entry.text(), re.DOTALL).groups()
-        for number in range(int(first), int(last or first) + 1):
-            demand(text == line_shown(count.lines[number - 1]), f"the text of line {number}: {text}")
-        # a remark about the line is open
-        found += [reference_checks.promised(count.poll, f"ballots:{number}: {cause}") for number in range(int(first), int(last or first) + 1)]
+        said, head = entry.text(), entry.one("b").text()
+        numbers = list(map(int, re.findall(r"\d+", head)))
+        one, many = ({"number": numbers[0]}, {"first": numbers[0], "last": numbers[-1]})
+        wanted = spoken.say("lines {first} to {last}", **many) if numbers[1:] else spoken.say("line {number}", **one)
+        demand(head == wanted, f"the number of a refused line: {head}")
+        for number in range(numbers[0], numbers[-1] + 1):
+            before = spoken.with_colon(head, spoken.with_colon(line_shown(count.lines[number - 1], spoken), ""))
+            demand(said.startswith(before), f"the text of line {number}: {said}")
+            cause = said.removeprefix(before)
+            # in other languages what debvote says stands in brackets
+            cause = cause if spoken.code == "en" else re.fullmatch(r"(?:.+? )?\(((?:late|bad [a-z ]+): .*)\)", cause, re.DOTALL)[1]
+            # a remark about the line is open
+            found.append(reference_checks.promised(count.poll, f"ballots:{number}: {cause}"))
     wanted = list(reference_checks.refusals(count.poll, count.lines, count.replies, reference_checks.is_other_file(b"\n".join(count.lines))))
     demand(found == wanted, f"refused lines {found[:3]} in place of {wanted[:3]}")
-    demand(("No line was refused" in part) == (not wanted), "that no line was refused")
+    demand((spoken.say("No line was refused, and none came late.") in part) == (not wanted), "that no line was refused")
 
 
-def line_shown(line):
+def line_shown(line, spoken):
     text = line.decode("utf-8", "backslashreplace")
     seen = "".join(sign if sign.isprintable() else f"\\u{ord(sign):04X}" for sign in text[:100])
-    return seen + (f" (the first 100 of {len(text)} characters)" if len(text) > 100 else "") if line else "(an empty line)"
+    if not line:
+        return spoken.say("(an empty line)")
+    return spoken.say("{text} (the first {shown} of {number} characters)", text=seen, shown=100, number=len(text)) if len(text) > 100 else seen
 
 
 def names_of(seed, count):
@@ -144,21 +157,24 @@ def with_names(poll, count, names):
 
 
 def meet(seed):
-    """Publishes the poll of a seed. Returns the kinds of sentences, or none if the poll is refused, and what is wrong."""
+    """Publishes the poll of a seed, in the language of the seed. Returns the kinds of sentences, or none if the poll is refused, and what
+    is wrong."""
     election = random_polls().election_of(seed)
+    election = election._replace(ballots=b"") if seed % 27 == 0 else election
     try:
         casting = election.casting if election.casting in reference.poll_in(election.poll).names.values() else None
         count = count_of(election.poll, election.ballots, casting)
     except reference.Fault:
         return None, None
+    spoken = Spoken(LANGUAGES[seed // 2 % len(LANGUAGES)])
     with tempfile.TemporaryDirectory() as name:
         try:
-            return try_folder(pathlib.Path(name), seed, election, count, casting), None
-        except (Wrong, KeyError, ValueError, AttributeError, OSError) as wrong:
-            return collections.Counter(), f"seed {seed}: {type(wrong).__name__}: {wrong}"
+            return try_folder(pathlib.Path(name), seed, election, count, casting, spoken), None
+        except (Wrong, KeyError, TypeError, ValueError, AttributeError, OSError) as wrong:
+            return collections.Counter(), f"seed {seed}, in {spoken.code}: {type(wrong).__name__}: {wrong}"
 
 
-def try_folder(room, seed, election, count, casting):
+def try_folder(room, seed, election, count, casting, spoken):
     names = names_of(seed, count)
     (room / "poll.toml").write_bytes(with_names(election.poll, count, names))
     (room / "ballots").write_bytes(election.ballots)
@@ -166,7 +182,7 @@ def try_folder(room, seed, election, count, casting):
     folders = [room / "one", *([room / "two"] if seed % 10 == 0 else [])]
     for folder in folders:
         # no Graphviz: pictures are tested elsewhere
-        _, faults, status = publishing.publish(room, *words, folder.name, path=str(PROGRAM.parent))
+        _, faults, status = publishing.publish(room, *words, "--language", spoken.code, folder.name, path=str(PROGRAM.parent))
         if casting is not None and count.casting not in count.final:
             demand((status, folder.exists()) == (8, False), f"status {status} in place of 8: {faults}")
             left = " and ".join(f"{option} {count.poll.names[option]}" for option in count.final)
@@ -184,7 +200,32 @@ def try_folder(room, seed, election, count, casting):
     if seed % 5 == 0:
         words = [sys.executable, "recount.py", "count", "--poll", "poll.toml", "--ballots", "ballots.txt", *words[4:]]
         demand(publishing.run(words, cwd=room / "one")[:2] == (sheet, ""), "recount.py")
-    return try_made(room / "one", count, names)
+    return try_made(room / "one", count, names, spoken) + try_beside_a_motion(room, seed, count, names, spoken)
+
+
+def try_beside_a_motion(room, seed, count, names, spoken):
+    """The page of all questions, and the letter, where the poll of a folder is one of them, and the other one is a motion; and the page
+    of that motion. Returns the kinds of sentences found."""
+    rng, values = random.Random(seed), tomllib.loads((room / "one" / "poll.toml").read_text())
+    keys = {"title": "The fee", "options": ["Raise it"], "ratios": [rng.choice([1, 1, 2, 4])], "default": "As it is", "quorum": rng.choice([0, 1, 1, 3])}
+    keys |= {"wording": "more_than"} if rng.random() < 0.4 else {}
+    keys |= {"roll": values["roll"]} | ({"shown_options": ["Yes, raise it", "Nein, wie bisher"]} if rng.random() < 0.4 else {})
+    likings = [rng.choice(["1,2", "2,1", "1,1", "-,-", "-,9"]) for _ in range(3)]
+    motion = "".join(f"{voter} {rng.choice(likings)}\n" for voter in values["roll"] if rng.random() < 0.8).encode() if seed % 19 else b""
+    polls = {"A": (room / "one" / "poll.toml").read_bytes(), "B": publishing.plain(keys)}
+    ballots = {"A": (room / "one" / "ballots.txt").read_bytes(), "B": motion}
+    castings = {} if count.casting is None else {"A": count.poll.names[count.casting]}
+    letter = publishing.publish_questions(room / "both", polls, ballots, spoken.code, motions=["B"], castings=castings)
+    counts = {"A": count, "B": count_of(polls["B"], motion, None)}
+    shown = {"A": names, "B": dict(enumerate(keys.get("shown_options", []), start=1))}
+    met = collections.Counter()
+    front = (room / "both" / "index.html").read_text()
+    for label, its in counts.items():
+        page = (room / "both" / label / "index.html").read_text()
+        found = pages.Parts(page, letter, its, shown[label], spoken, label=label, is_motion=label == "B")
+        found.check()
+        met += found.above(front)
+    return met
 
 
 def is_toml_1_0(file):
@@ -193,7 +234,7 @@ def is_toml_1_0(file):
     return False
 
 
-def try_made(folder, count, names):
+def try_made(folder, count, names, spoken):
     """Compares data, names, refused lines and sentences of a folder. Returns the kinds of sentences found."""
     data, table, page, letter = ((folder / name).read_text() for name in ("result.json", "votes.csv", "index.html", "letter.txt"))
     document = document_of(count, publishing.run([PROGRAM, "--version"])[0].strip(), names)
@@ -206,8 +247,8 @@ def try_made(folder, count, names):
     # on paper a table is never larger than the text around it, and smaller only if it has many columns
     [size] = re.findall(r"@media print \{ table \{ font-size: ([\d.]+)rem; \} \}", page)
     demand(float(size) == 1 if len(count.poll.names) < 10 else float(size) <= 1, f"the table on paper: {size}")
-    try_refused(page, count)
-    return pages.Parts(page, letter, count, names).check()
+    try_refused(page, count, spoken)
+    return pages.Parts(page, letter, count, names, spoken).check()
 
 
 def try_published(expect, name, folder, casting):
@@ -218,7 +259,7 @@ def try_published(expect, name, folder, casting):
     names = dict(enumerate([poll.get("shown_title", poll["title"]), *poll.get("shown_options", count.poll.names.values())]))
     names = {number: text for number, text in names.items() if text != {0: poll["title"], **count.poll.names}[number]}
     try:
-        return try_made(folder, count, names)
+        return try_made(folder, count, names, pages.ENGLISH)
     except Wrong as wrong:
         expect(f"{name}: data, sentences and refused lines", str(wrong), None)
         return collections.Counter()

@@ -79,7 +79,7 @@ class Arguments(Acting):
     )
     slips: str | None = option(
         None,
-        "In a secret vote with a box: whether slips with codes will be handed out, as the page says (default: ask at the terminal)",
+        "In a secret vote with a web box: whether slips with codes will be handed out, as the page says (default: ask at the terminal)",
         choices=("yes", "no"),
     )
     keyring: str | None = option(

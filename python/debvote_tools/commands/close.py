@@ -34,7 +34,7 @@ class Arguments(Acting):
 
     early: bool = flag("Close before the end of the vote; the result page says so")
     force: bool = flag(
-        "With --because: close although letters wait that arrived in time, or the box of the web host was not asked since the end; the "
+        "With --because: close although letters wait that arrived in time, or the web box was not asked since the end; the "
         "result page says so"
     )
     yes: bool = flag("Close without asking whether all ballots are in")

@@ -33,7 +33,7 @@ class Arguments(Acting):
     question: str | None = option("LABEL", "Of several questions count this one alone")
     sheets: bool = flag("Of several questions print the sheet of each, too")
     force: bool = flag(
-        "Count although letters wait that arrived in time, or the box of the web host was not asked since an early close"
+        "Count although letters wait that arrived in time, or the web box was not asked since an early close"
     )
 
 

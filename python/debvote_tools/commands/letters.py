@@ -72,11 +72,11 @@ class Arguments(Acting):
         "URL", "With result: the web address of the result, if the call does not name it"
     )
     force: bool = flag(
-        "With --because: write the call or reminders although nobody has seen whether the box of the web host works, and say in them "
+        "With --because: write the call or reminders although nobody has seen whether the web box works, and say in them "
         "that the page takes no ballots; or the letters of the close although it was not asked since"
     )
     codes: bool = flag(
-        "With call, in a secret vote with a box: write the code into each letter, too"
+        "With call, in a secret vote with a web box: write the code into each letter, too"
     )
     yes: bool = flag(
         "Answer yes when asked whether to remind again within a day, or to write codes"
@@ -217,7 +217,7 @@ def demand_codes(history: History, arguments: Arguments) -> None:
     if not arguments.codes:
         return
     if not history.is_secret_by_click:
-        raise bad_words("--codes", "only in a secret vote with a box", "leave it out")
+        raise bad_words("--codes", "only in a secret vote with a web box", "leave it out")
     if not (arguments.yes or is_agreed(CODES, "write them")):
         raise Fault(None, "you did not agree to codes in letters", "give them on slips")
 

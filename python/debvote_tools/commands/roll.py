@@ -34,7 +34,7 @@ class Arguments(Acting):
     yes: bool = flag("After the call: take the new addresses and keys without a question")
     new_link: str | None = option(
         "NAME",
-        "After a call with a box: make a new link for this elector, for whom the box takes no more",
+        "After a call with a web box: make a new link for this elector, for whom it takes no more",
     )
 
 

@@ -146,10 +146,7 @@ def letters_due(
     is_over = history.is_over(time)
     call_data, forced = call_data_of(election, history, kind, because)
     hides_codes = history.is_secret_by_click and not has_codes
-    electors = {
-        elector.number: elector._replace(code="") if hides_codes else elector
-        for elector in queries.electors(election.book)
-    }
+    electors = electors_by_number(election, hides_codes=hides_codes)
     noted_before = outgoing.outgoing_letters(election.book, kind)
     composer = Composer(call_data, is_over)
     tried_again = not_through(election, history, electors, noted_before)
@@ -178,6 +175,13 @@ def history_once_due(election: Election, kind: str, because: str | None) -> Hist
     if kind in ASKING and not has_reason(because):
         ask_for(election, kind)
     return election.history()
+
+
+def electors_by_number(election: Election, *, hides_codes: bool) -> dict[int, Elector]:
+    return {
+        elector.number: elector._replace(code="") if hides_codes else elector
+        for elector in queries.electors(election.book)
+    }
 
 
 def not_through(
@@ -213,7 +217,7 @@ def demand_due(election: Election, history: History, kind: str, *, is_over: bool
         words = "the vote is over, so nobody is asked to vote"
         cure = f"see {election.command('status')}"
     elif kind == "call" and history.announced("box") and history.until is None:
-        words = "the call has a box, and says no end of the vote"
+        words = "the call has a web box, and says no end of the vote"
         cure = f"say it: {election.command('call', '--until', 'TIME')}"
     elif kind in ("closed", "result") and not history.is_closed:
         words = "the vote is not closed"

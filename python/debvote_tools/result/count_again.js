@@ -177,27 +177,38 @@ async function inSlices(steps, isWanted, tell = () => {}) {
     return isSame && document.querySelector("h1").textContent === poll.shownTitle;
   }
 
-  // Whether the numbers of the panel are those of the count: the winner's against others, or those of options that failed against the
+  // Whether the numbers beside bars are those of the count: the winner's against others, or those of an option that failed against the
   // default option; each language parts thousands by its own sign.
-  function areDuelsSame(poll, { votes, voters }, won) {
+  function areNumbersSame(poll, { votes, voters }, won) {
     const fallback = poll.names.length - 1;
-    return [...document.querySelectorAll(".duel")].every((node) => {
-      const other = poll.shown.indexOf(node.querySelector("bdi").textContent);
-      const numbers = node.lastElementChild.textContent.replace(/(\d)[.,\u00a0](?=\d{3})/g, "$1").match(/\d+/g).map(Number);
-      const [over, under, equal = 0] = numbers;
-      if (node.matches(".failed")) return over === votes[other]?.[fallback] && under === votes[fallback][other];
+    return [...document.querySelectorAll(".duel, .option:has(+ .bar)")].every((row) => {
+      // a motion that was carried has its name above alone
+      const other = poll.shown.indexOf((row.querySelector("bdi") ?? byId("Result")).textContent);
+      // the reason below a bar has names, too, which may have numbers
+      const nodes = row.matches(".duel") ? [row.lastElementChild] : [...row.parentNode.querySelectorAll(".reason b")];
+      const text = nodes.map((node) => node.textContent).join(" ").replace(/(\d)[.,\u00a0](?=\d{3})/g, "$1");
+      const [over, under, equal = 0] = (text.match(/\d+/g) ?? []).map(Number);
+      if (!row.matches(".duel:not(.failed)")) return over === votes[other]?.[fallback] && under === votes[fallback][other];
       return over === votes[won][other] && under === votes[other]?.[won] && equal === voters - over - under;
     });
   }
 
-  // Whether the page shows what its files come to: its result, its names, its votes and its ballots.
+  // How it ended, as the page says it.
+  function endedIn(poll, set, won) {
+    const isLast = won === poll.names.length - 1;
+    const kind = words.answers ? (isLast ? "rejected" : "carried") : isLast ? "default" : "won";
+    return byId("Again").dataset[won === null ? "tie" : set.length > 1 ? "casting" : kind];
+  }
+
+  // Whether the page shows what its files come to: how it ended, its numbers, its names, its votes and its ballots.
   function aboutPage(files, poll, tally, outcome, line) {
     const others = [];
     // the winner stands alone; in a tie all that are left stand together
     const won = line.startsWith("Winner: ") ? parseInt(line.slice(8), 10) - 1 : null;
     const named = [...document.querySelectorAll(won === null ? ".outcome .left bdi" : "#Result b")].map((node) => node.textContent);
     const wanted = won === null ? outcome.set.map((at) => poll.shown[at]) : [poll.shown[won]];
-    if (named.join("\n") !== wanted.join("\n") || !areDuelsSame(poll, tally, won)) others.push(sentence("the_result"));
+    const isEnded = document.querySelector(".ended").textContent === endedIn(poll, outcome.set, won);
+    if (!isEnded || named.join("\n") !== wanted.join("\n") || !areNumbersSame(poll, tally, won)) others.push(sentence("the_result"));
     if (!areNamesSame(poll)) others.push(sentence("the_names"));
     const cells = [...document.querySelectorAll('[aria-labelledby="Votes"] tbody td')].map((cell) => cell.textContent);
     const counted = tally.votes.flatMap((row, a) => row.map((votes, b) => (a === b ? "-" : String(votes))));

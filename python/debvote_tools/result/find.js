@@ -39,6 +39,7 @@ function joined(texts, and) {
   const codeInput = byId("Code");
   const CODE = codeInput === null ? /^[2-9a-hjkmnp-z]{10}$/ : /^[0-9a-f]{32}$/;
   const isByCode = "type_code" in words;
+  const isOpen = "do_you_mean" in words;
   // The questions of the page: all, of which it carries the ballot of each elector, null for those who have none; or its own one.
   const carriedQuestions = [...document.querySelectorAll("pre[data-options]")].map(({ dataset, textContent }) => ({
     ...dataset, names: JSON.parse(dataset.options),
@@ -125,7 +126,7 @@ function joined(texts, and) {
     return onPage;
   }
 
-  // A ballot as a numbered list, with the names that the page has for the options, and as the line that came.
+  // A ballot as a numbered list, with the names that the page has for the options.
   function ballotNode(line, { names, motion }) {
     const ranks = line.split(" ")[1].split(",").map((rank) => (rank === "-" ? Infinity : Number(rank)));
     const { steps, unranked } = motion ? { steps: [], unranked: [] } : orderOf(ranks);
@@ -137,7 +138,6 @@ function joined(texts, and) {
     if (motion) node.append(element("p", element("bdi", answerIn(ranks, names, words))));
     else node.append(...(steps.length > 0 ? [list] : [paragraph("nothing")]));
     if (steps.length > 0 && unranked.length > 0) node.append(paragraph("not_ranked", { options: [listed(unranked)] }));
-    node.append(paragraph("line", { line: [element("code", line)] }));
     return node;
   }
 
@@ -177,23 +177,36 @@ function joined(texts, and) {
     return [element("h4", link)];
   }
 
+  // What became of the ballot of an elector in a question: what it says, perhaps with the line that came, or that none counts.
+  function fateOf({ name, onRolls }, at, files, hasLine) {
+    const line = ballotOf(onRolls[at], questions[at], files);
+    if (!line) return [paragraph("no_ballot", { name: [name], alias: [element("code", onRolls[at])] }), ...uncounted(onRolls[at])];
+    const node = ballotNode(line, questions[at]);
+    if (hasLine) node.append(paragraph("line", { line: [element("code", line)] }));
+    return [paragraph("counts", { name: [element("b", name)] }), node];
+  }
+
   // What there is to say of electors, of whom those count that are on the roll. Each has a name that is said, and by question the name
   // on the roll.
   function told(electors, files) {
-    const ballotsOf = ({ onRolls }) => questions.map((question, at) => ballotOf(onRolls[at], question, files));
-    const found = electors.filter((elector) => ballotsOf(elector).some((line) => line !== undefined));
+    const isOnRoll = ({ onRolls }) => questions.some((question, at) => ballotOf(onRolls[at], question, files) !== undefined);
+    const found = electors.filter(isOnRoll);
     if (found.length === 0) {
       const [{ name, onRolls }] = electors;
-      const meant = "do_you_mean" in words ? suggested(nameInput.value) : [];
+      const meant = isOpen ? suggested(nameInput.value) : [];
       return meant.length > 0 ? meant : [paragraph("no_elector", { name: quoted(name), alias: [element("code", onRolls[0])] })];
     }
-    const answerOf = (line, { name, onRolls }, at) => {
-      const heading = headingOf(questions[at], onRolls[at]);
-      if (line) return [...heading, paragraph("counts", { name: [element("b", name)] }), ballotNode(line, questions[at])];
-      const places = { name: [name], alias: [element("code", onRolls[at])] };
-      return [...heading, paragraph("no_ballot", places), ...uncounted(onRolls[at])];
-    };
-    return found.flatMap((elector) => ballotsOf(elector).flatMap((line, at) => answerOf(line, elector, at)));
+    const answerOf = (elector, at) => [...headingOf(questions[at], elector.onRolls[at]), ...fateOf(elector, at, files, true)];
+    return found.flatMap((elector) => questions.flatMap((question, at) => answerOf(elector, at)));
+  }
+
+  // Nodes by the ballots of the files, or why there are none.
+  async function nodesBy(made) {
+    try {
+      return await made(await ballotsOfFiles());
+    } catch (fault) {
+      return [paragraph(fault.key ?? "unread", { fault: [fault.message] })];
+    }
   }
 
   async function show() {
@@ -207,13 +220,8 @@ function joined(texts, and) {
       if (!globalThis.crypto || !crypto.subtle) return say(paragraph("no_alias"));
       rollsOf = (name) => Promise.all(questions.map(({ label }) => aliasOf(`${label} ${name}`.trim(), code)));
     }
-    let nodes;
-    try {
-      const electors = await Promise.all(names.map(async (name) => ({ name, onRolls: await rollsOf(name) })));
-      nodes = told(electors, await ballotsOfFiles());
-    } catch (fault) {
-      nodes = [paragraph(fault.key ?? "unread", { fault: [fault.message] })];
-    }
+    const electors = await Promise.all(names.map(async (name) => ({ name, onRolls: await rollsOf(name) })));
+    const nodes = await nodesBy((files) => told(electors, files));
     return mine === asked ? say(...nodes) : undefined;
   }
 
@@ -222,15 +230,21 @@ function joined(texts, and) {
     say();
   }
 
-  // The ballot that the address of the page names, whatever follows a slash; the browser may have gone to its place in the list.
+  // Says below how each question ended what became of the ballot of the elector whom the address of the page names, whatever follows a
+  // slash. The browser may have gone to its place in the list.
   async function showNamed() {
     const [named] = placeNamed().split("/");
     const place = byId(named) ?? byId(named.toLowerCase());
-    if (codeInput !== null || place?.closest(".ballots, .roll") == null) return;
-    nameInput.value = place.id;
-    await show();
-    place.closest("details")?.removeAttribute("open");
-    byId("Find-your-ballot").scrollIntoView();
+    if (!isOpen || place?.closest(".ballots, .roll") == null) return;
+    const list = place.closest("details");
+    if (list?.open) {
+      list.open = false;
+      scrollTo(0, 0);
+    }
+    const elector = { name: place.id, onRolls: questions.map(() => place.id) };
+    for (const [at, node] of [...document.querySelectorAll(".mine")].entries()) {
+      node.replaceChildren(...(await nodesBy((files) => fateOf(elector, at, files, false))));
+    }
   }
 
   // a telephone begins a text with a capital letter

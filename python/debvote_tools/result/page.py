@@ -34,7 +34,7 @@ from debvote_tools.text.ballots import (
 from debvote_tools.text.language import ENGLISH, Language, marked
 from debvote_tools.text.motions import COLON, WORDS
 from debvote_tools.text.rendering import InHtml, render_letter, render_page, resources
-from debvote_tools.text.times import date_in_words
+from debvote_tools.text.times import days_in_words
 
 # what both kinds of pages have
 STYLES = ("fields.css", "given.css", "page.css")
@@ -72,8 +72,8 @@ IN_HASTE = ["-Gsplines=line", "-Gnslimit=1", "-Gmclimit=0.1"]
 # read
 LEAST_SHARE = 0.75
 
-# the width of paper, in the size of the text
-PAPER = 40
+# the width of paper, in the size of the text there
+PAPER = 45
 
 # how the name of an option begins in the picture
 NUMBERED = re.compile(r"^([0-9]+) ")
@@ -115,7 +115,7 @@ def page_with(
         __package__,
         template,
         language,
-        days=[date_in_words(day, language) for day in vote.days],
+        days=days_in_words(vote.days, language),
         colon=language.between(COLON),
         vote=vote,
         label=label,
@@ -177,6 +177,7 @@ def picture_on_page(outcome: Outcome, drawing: bytes | None) -> dict[str, Any]:
     sheet = outcome.sheet
     options = len(sheet.names)
     style = resources(__package__, *STYLES) + table_on_paper(options, sheet.voters)
+    escaping = "sed 's/&/\\&amp;/g' | " if "&" in outcome.graph else ""
     picture = None
     if drawing is not None and options <= MOST_IN_PAGE:
         picture, least_width = picture_in_page(drawing, outcome.facts.vote.language)
@@ -185,7 +186,7 @@ def picture_on_page(outcome: Outcome, drawing: bytes | None) -> dict[str, Any]:
     return {
         "style": style,
         "picture": picture,
-        "picture_command": shlex.join(drawing_command(options)),
+        "picture_command": escaping + shlex.join(drawing_command(options)),
     }
 
 
@@ -367,8 +368,9 @@ COUNT_AGAIN = marked(
         tell_if_published="If the files are as they were published, tell the other electors.",
         last="By this count the last line of the sheet is: {line}",
         casting="The sheet has a casting vote for {option}. No count shows whose it was.",
-        page_same="This page shows what its files come to: the result, the names of the options, the table of votes, and each of the {ballots} "
-        "ballots, by its ranks and in words. Bars and other words are not compared.",
+        page_same="This page shows what its files come to: how it ended, the numbers beside its bars, the names of the options, the table of "
+        "votes, and each of the {ballots} ballots, by its ranks and in words. Nothing else is compared, neither the bars nor why the other "
+        "options have not won.",
         page_differs="This page does not show what its files come to: {where}.",
         the_result="the result",
         the_names="the names of title and options",
@@ -483,8 +485,10 @@ def drawn(graph: str, options: int) -> bytes:
     if dot is None:
         raise FileNotFoundError("Graphviz (its program dot) is not installed")
     command = [dot, *drawing_command(options)[1:]]
+    # Graphviz takes what is between & and ; for the name of a character
+    given = graph.replace("&", "&amp;").encode()
     return subprocess.run(
-        command, input=graph.encode(), capture_output=True, timeout=PICTURE_SECONDS, check=True
+        command, input=given, capture_output=True, timeout=PICTURE_SECONDS, check=True
     ).stdout
 
 

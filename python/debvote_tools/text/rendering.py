@@ -22,6 +22,9 @@ from debvote_tools.text.language import ENGLISH, Language, marked
 from debvote_tools.text.motions import WORDS
 from debvote_tools.text.times import date_in_words, time_in_words
 
+# two numbers of which a page leaves none alone on a line
+COMPARED = re.compile(r"\{over\}[\w ]+\{under\}")
+
 # mail programs leave lines of this length as they are
 COLUMNS = 72
 
@@ -40,7 +43,7 @@ class InHtml(Language):
     }
 
     def made(self, text: str) -> Markup:
-        return Markup(text)
+        return Markup(COMPARED.sub(lambda found: found[0].replace(" ", "\u00a0"), text))
 
 
 def one_line(text: str) -> str:

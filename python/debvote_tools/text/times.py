@@ -1,6 +1,7 @@
 """The time by the clock, and times and dates in words."""
 
 import datetime
+from collections.abc import Sequence
 
 from debvote_tools.text.language import ENGLISH, Language, marked
 
@@ -52,9 +53,25 @@ def minute_in_words(time: datetime.datetime, zone: datetime.tzinfo | None) -> st
     return time_in_words(time.astimezone(zone).replace(second=0))
 
 
-def date_in_words(date: datetime.date, language: Language = ENGLISH) -> str:
-    """A day, as `4 December 2026`. Some languages have another form for the 1st."""
+def date_in_words(
+    date: datetime.date, language: Language = ENGLISH, *, has_year: bool = True
+) -> str:
+    """A day, as `4 December 2026`, or as `4 December`. Some languages have another form for the
+    1st.
+    """
     month = language.say(MONTHS[date.month - 1])
-    if date.day == 1:
-        return language.say("1 {month} {year}", month=month, year=date.year)
-    return language.say("{day} {month} {year}", day=date.day, month=month, year=date.year)
+    day = (
+        language.say("1 {month}", month=month)
+        if date.day == 1
+        else language.say("{day} {month}", day=date.day, month=month)
+    )
+    return language.say("{date} {year}", date=day, year=date.year) if has_year else day
+
+
+def days_in_words(days: Sequence[datetime.date], language: Language) -> list[str]:
+    """Some days, each once; a year that all have stands once, behind the last."""
+    is_one_year = len({day.year for day in days}) == 1
+    return [
+        date_in_words(day, language, has_year=day == days[-1] or not is_one_year)
+        for day in dict.fromkeys(days)
+    ]

@@ -65,7 +65,7 @@ class Asks(boxes.BoxElectionTest):
         self.click("ada", RANKS, self.links()["ada"])
         self.done("call", "--until", "2099-12-05 18:00")
         ended = self.election("letters", "call")
-        self.assert_fault(ended, 9, "nobody has seen yet whether the box of the web host works", "upload the folder call, then run the command again")
+        self.assert_fault(ended, 9, "nobody has seen yet whether the web box works", "upload the folder call, then run the command again")
         self.assertIn("Note: the page there is the one of before", ended.output)
         # what is new is kept, and enters nothing
         self.assertEqual((self.acts()[-1], self.standing()), ("letters", {}))
@@ -137,7 +137,7 @@ class Asks(boxes.BoxElectionTest):
         self.host.__exit__()
         before = len(self.acts())
         ended = self.election("close")
-        fault = "--box: the box of the web host was not asked since the end; nothing was changed: run the command again; if it does not answer any more, close with --force"
+        fault = "--box: the web box was not asked since the end; nothing was changed: run the command again; if it does not answer any more, close with --force"
         self.assert_fault(ended, 9, fault)
         self.assertIn("vote.php: it does not answer: ", ended.output)
         self.assertEqual(len(self.acts()), before)

@@ -130,17 +130,17 @@ class Clicks(boxes.BoxElectionTest):
         before = self.rows("SELECT * FROM act")
         ended = self.done("add", "--box", "--look")
         self.assertIn("3 new letters; 0 came before.\n3 ballots of letters would go in; 0 letters wait.\nNothing was changed.", ended.output)
-        self.assertIn("ben (box, record 2): ", ended.output)
+        self.assertIn("ben (web box, record 2): ", ended.output)
         self.assertEqual(self.rows("SELECT * FROM act"), before)
         # letters wait for the secretary, and are not entered by what cron runs
         box = mailbox(self.of_this_vote(letter("cleo", "cleo 1,2,3,4\n", time=f"{time.strftime('%a, %d %b %Y %H:%M:%S')} +0000")))
         self.write("inbox.mbox", box)
         self.assertEqual(self.election("add", "inbox.mbox").status, 9)
         ended = self.done("add", "--box", "--yes")
-        self.assertIn("The box has 3 records.\n3 new letters; 0 came before.\n", ended.output)
+        self.assertIn("The web box has 3 records.\n3 new letters; 0 came before.\n", ended.output)
         self.assertNotIn("cleo", ended.output)
         self.assertEqual(self.standing(), {"ada": "4,3,2,1", "ben": "2,1,-,4"})
-        self.assertEqual(self.done("add", "--box", "--yes").output.splitlines()[:2], ["The box has 3 records.", "0 new letters; 3 came before."])
+        self.assertEqual(self.done("add", "--box", "--yes").output.splitlines()[:2], ["The web box has 3 records.", "0 new letters; 3 came before."])
         first, second, third = self.boxes_kept()
         self.assertEqual([(one["records"], one["gone"], one["unopened"]) for one in (first, second, third)], [(0, 0, 0), (3, 0, 0), (3, 0, 0)])
         self.assertEqual(first["list"], list_digest(self.read("call/vote.php")))
@@ -235,7 +235,7 @@ class Clicks(boxes.BoxElectionTest):
         self.assertTrue(self.read("fetched.php").startswith(FIRST))
         ended = self.done("add", "--yes", "fetched.php")
         self.assertIn("2 new letters", ended.output)
-        self.assertEqual(ended.output.count("it is in the file of the box, which others may have changed"), 2)
+        self.assertEqual(ended.output.count("it is in the file of the web box, which others may have changed"), 2)
         self.assertEqual(self.standing(), {})
         for text in self.receipts().values():
             self.assertRegex(
@@ -255,7 +255,7 @@ class Clicks(boxes.BoxElectionTest):
         other = data.removeprefix(FIRST).replace(proof_digest(self.mark(), self.place_of("ada", links["ada"])).encode(), b"2" * 64)
         self.write("fetched.php", data + other)
         said = self.done("add", "--yes", "fetched.php").output
-        self.assertIn("it is a record of the box that can't be opened, and was passed over; ask its elector to vote again\n", said)
+        self.assertIn("it is a record of the web box that can't be opened, and was passed over; ask its elector to vote again\n", said)
         self.assertIn("1 new letter; 0 came before.", said)
         self.done("held", "1", "--set-aside")
         self.done("add", "--box", "--yes")
@@ -587,7 +587,7 @@ class Clicks(boxes.BoxElectionTest):
             said = f"box 2 {mark} {list_digest(true)} {time_}Z\n"
             size = f"header('Content-Length: {len(said)}')"
             script.write_text(f"<?php {size}; echo '{said}';")
-            why = f"it does not answer as a box: {said[:20]}"
+            why = f"it does not answer as a web box: {said[:20]}"
             self.assert_fault(self.election("add", "--box", "--yes"), 9, why)
         script.write_bytes(true)
         self.assertEqual(len(self.boxes_kept()), 1)
@@ -698,7 +698,7 @@ class Clicks(boxes.BoxElectionTest):
         self.file().write_bytes(FIRST + data)
         ended = self.done("add", "--box", "--yes")
         self.assertEqual(self.standing(), {"ada": "1,2,3,4"})
-        self.assertIn("when the box of the web host was asked and did not have it", ended.output)
+        self.assertIn("when the web box was asked and did not have it", ended.output)
 
 
 @NEEDS_PHP
@@ -709,13 +709,13 @@ class Asked(boxes.BoxElectionTest):
 
     def test_letters(self) -> None:
         self.done("call", "--to", "vote@club.example", "--at", self.host.at, "--box")
-        fault = "call: the call has a box, and says no end of the vote"
+        fault = "call: the call has a web box, and says no end of the vote"
         self.assert_fault(self.election("letters", "call"), 9, fault, "call --until TIME")
         self.done("call", *boxes.UNTIL)
         # a wrong address can be put right, as long as no letter has a link to it
         self.done("call", "--at", self.host.at.replace("http:", "https:"))
         self.done("call", "--at", self.host.at)
-        fault = "call: nobody has seen yet whether the box of the web host works, with page and links of now; nothing was written: upload the folder call, then run the command again"
+        fault = "call: nobody has seen yet whether the web box works, with page and links of now; nothing was written: upload the folder call, then run the command again"
         self.assert_fault(self.election("letters", "call"), 9, fault)
         self.assert_fault(self.election("add", "--box"), 9, f"{self.host.at}vote.php: it answers 404", "nothing was added")
         # what is written all the same says that the page takes none, and the log why
@@ -738,7 +738,7 @@ class Asked(boxes.BoxElectionTest):
             self.done(*words)
             # no letter may have a link that the host does not know
             for kind in kinds:
-                fault = f"{kind}: nobody has seen yet whether the box of the web host works, with page and links of now"
+                fault = f"{kind}: nobody has seen yet whether the web box works, with page and links of now"
                 self.assert_fault(self.election("letters", kind), 9, fault, "upload the folder call")
             self.upload()
         self.assertEqual(json.loads(self.done("status", "--json").output)["box"]["is_present"], False)
@@ -755,11 +755,11 @@ class Asked(boxes.BoxElectionTest):
 
     def test_status_says_when_it_was_asked_last(self) -> None:
         self.call()
-        self.assertIn("\nBox of the web host: not asked yet\n", self.done("status").output)
+        self.assertIn("\nWeb box: not asked yet\n", self.done("status").output)
         for seconds in (100, 200):
             self.off(seconds)
             self.done("add", "--box")
-            said = r"Box of the web host: 0 records when it was asked last, (\S+ \S+) UTC(\S*)\n"
+            said = r"Web box: 0 records when it was asked last, (\S+ \S+) UTC(\S*)\n"
             [(found, zone)] = re.findall(said, self.done("status").output)
             self.assertEqual(zone, "+01:00")
             asked = datetime.datetime.fromisoformat(f"{found}{zone}")
@@ -790,16 +790,16 @@ class Asked(boxes.BoxElectionTest):
         # the clock of the host is behind, so that by both clocks ten minutes are past
         self.off(700)
         self.assertIn("seconds behind", self.done("add", "--box").output)
-        fault = "would be told that they have not: when the box was asked last, it was only "
+        fault = "would be told that they have not: when the web box was asked last, it was only "
         self.assert_fault(self.election("letters", "reminders", "--yes"), 9, fault)
 
     def test_close_and_after_it(self) -> None:
         links = self.begun(ada="1,2,3,4")
         self.done("add", "--box", "--yes")
-        self.assertIn("Box of the web host: 1 record when it was asked last", self.done("count", "--force").faults)
+        self.assertIn("Web box: 1 record when it was asked last", self.done("count", "--force").faults)
         self.off(700)
         # by the clock of the host it was not
-        fault = "--box: the box of the web host was not asked in the last ten minutes: when the box was asked last, it was only "
+        fault = "--box: the web box was not asked in the last ten minutes: when the web box was asked last, it was only "
         self.assert_fault(self.election("close", "--early"), 9, fault, "run the command again")
         self.clock = {}
         self.done("add", "--box", "--yes")
@@ -807,14 +807,14 @@ class Asked(boxes.BoxElectionTest):
         ended = self.done("close", "--early")
         self.assertIn("Note: the page still takes ballots, and says that they arrived: debvote-election count asks for them once more.", ended.output)
         self.assertIn("\nNext: debvote-election count, then", self.done("status").output)
-        fault = "--box: the box of the web host was not asked since the vote was closed early"
+        fault = "--box: the web box was not asked since the vote was closed early"
         (self.web / "vote.php").rename(self.web / "away")
         for words in (("count",), ("letters", "closed")):
             ended = self.election(*words)
             self.assertEqual((ended.status, ended.faults.count(fault)), (9, 1), ended)
             self.assertIn("vote.php: it answers 404", ended.output + ended.faults)
         ended = self.election("publish")
-        self.assertIn("the box of the web host was not asked since the end: run debvote-election add --box", ended.faults)
+        self.assertIn("the web box was not asked since the end: run debvote-election add --box", ended.faults)
         self.done("letters", "closed", *self.forced)
         self.assertEqual(self.election("count", "--force").status, 0)
         self.done("publish", *self.forced)
@@ -842,7 +842,7 @@ class Asked(boxes.BoxElectionTest):
         # by the clock of the host the end has not come
         ended, asked = self.election("close"), str(self.boxes_kept()[-1]["time"])
         time_there = datetime.datetime.fromisoformat(asked).astimezone(BERLIN)
-        fault = f"was not asked since the end: when the box was asked last, it was only {time_there:%Y-%m-%d %H:%M:%S} UTC+01:00 by its own clock; act "
+        fault = f"was not asked since the end: when the web box was asked last, it was only {time_there:%Y-%m-%d %H:%M:%S} UTC+01:00 by its own clock; act "
         self.assert_fault(ended, 9, fault, "run the command again; if it does not answer any more, close with --force --because TEXT (the result page says so)")
         said = self.done("close", *self.forced).output
         self.assertNotIn("still takes ballots", said)
@@ -867,7 +867,7 @@ class Asked(boxes.BoxElectionTest):
         # that of `count` itself has this second, too
         ended = self.election("count")
         self.assertEqual(ended.status, 9)
-        self.assertIn("--box: the box of the web host was not asked since the vote was closed early", ended.faults)
+        self.assertIn("--box: the web box was not asked since the vote was closed early", ended.faults)
 
     def test_asked_after_the_end_and_then_closed(self) -> None:
         self.off(-3600)
@@ -882,7 +882,7 @@ class Asked(boxes.BoxElectionTest):
         before = len(self.boxes_kept())
         self.done("close")
         self.assertEqual(len(self.boxes_kept()), before + 1)
-        self.assertNotIn("the box of the web host", self.election("count").faults)
+        self.assertNotIn("the web box", self.election("count").faults)
         self.done("publish")
         self.assertNotIn(b"that the secretary did not get", self.read("result/index.html"))
 
@@ -907,7 +907,7 @@ class Pages(boxes.BoxElectionTest):
         self.call()
         (self.web / "index.html").unlink()
         self.assertIn(self.other, self.done("add", "--box").output)
-        fault = "call: nobody has seen yet whether the box of the web host works, with page and links of now"
+        fault = "call: nobody has seen yet whether the web box works, with page and links of now"
         self.assert_fault(self.election("letters", "call"), 9, fault, "upload the folder call")
         self.upload()
         self.assertNotIn("Note: the page", self.done("add", "--box").output)
@@ -1267,7 +1267,7 @@ class Many(boxes.BoxElectionTest):
         took = list[float]()
         for new, before in ((RECORDS, 0), *[(0, RECORDS)] * 3):
             said, seconds, megabytes = self.measured("add", "--box", "--yes")
-            self.assertIn(f"The box has {RECORDS} records.\n{new} new letters; {before} came before.\n", said)
+            self.assertIn(f"The web box has {RECORDS} records.\n{new} new letters; {before} came before.\n", said)
             self.assertLess(megabytes, 200)
             took.append(seconds)
         # a processor that others use, too, is slower

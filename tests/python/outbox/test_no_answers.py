@@ -1,5 +1,6 @@
-"""No line of what is sent looks like an answer, however a mail program breaks it, so an answer that quotes it goes in; and what the
-secretary has written is named, or refused, if it does.
+"""No line of what is sent looks like an answer, so an answer that quotes it goes in.
+
+That holds however a mail program breaks a line; what the secretary has written is named, or refused, if it looks like one.
 """
 
 import dataclasses

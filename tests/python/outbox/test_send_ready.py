@@ -163,7 +163,7 @@ class WithBox(boxes.BoxElectionTest):
         self.done("letters", "receipts")
         send = ("letters", "--send", "--server", self.server.name)
         ended = self.election(*send)
-        self.assert_fault(ended, 9, "call: nobody has seen yet whether the box of the web host works", "upload the folder call, then run the command again")
+        self.assert_fault(ended, 9, "call: nobody has seen yet whether the web box works", "upload the folder call, then run the command again")
         self.assertEqual(self.server.addresses(), ["ada@club.example"])
         self.upload()
         self.done(*send)

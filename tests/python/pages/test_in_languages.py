@@ -17,6 +17,9 @@ TELEPHONE, SMALL, SCREEN = (390, 844), (360, 640), (1280, 800)
 ROUNDS = {"de": "Runde", "en": "round", "es": "ronda", "fr": "tour"}
 PICTURE_TEXTS = "[...document.querySelectorAll('.picture text')].map((node) => node.textContent)"
 
+# where the panel, the facts and the first other option end
+FIRST = """Math.max(...['.outcome', '.facts', '.options li'].map((place) => document.querySelector(place)?.getBoundingClientRect().bottom ?? 0))"""
+
 # the names of options beside their chips, and the rivals of the winner
 NAMES = "[...document.querySelectorAll('.option > :first-child, .duel > :first-child')]"
 
@@ -59,8 +62,8 @@ class InBrowser(languages.LanguageTest):
         """On a small one the winner, the facts and the first other option are on the first screen, also with doubts."""
         self.window.open(place / "result" / "index.html")
         self.window.resize(*SMALL)
-        first = self.window.ask("document.querySelector('.options li').getBoundingClientRect().bottom")
-        self.assertLessEqual(first, SMALL[1], f"{place.name}: the first screen of a small telephone")
+        self.assertLessEqual(self.window.ask(FIRST), SMALL[1], f"{place.name}: the first screen of a small telephone")
+        self.assertEqual(self.window.ask(at_browser.LONE_LINES), [], f"{place.name}: lines without a word")
         # what is folded says each doubt, and what a doubt is; it links no file
         folded = self.window.ask("""((doubts) => [doubts.querySelector("summary").textContent.trim().length > 10,
           doubts.querySelector("details").open, doubts.querySelectorAll('a:not([href^="#"])').length])(document.querySelector(".doubts"))""")
@@ -74,20 +77,22 @@ class InBrowser(languages.LanguageTest):
         self.window.resize(*TELEPHONE)
 
     def check_outcomes(self, code: str) -> None:
-        """In a tie, by a casting vote and where a defeat was set aside the first other option is on the first screen, too, and the
-        count in the browser finds the page right."""
+        """In a tie, by a casting vote, where a defeat was set aside and where the default option has won the first other option is on the
+        first screen, too, and the count in the browser finds the page right."""
         ranks = {"tie": ["1,2,3,4", "3,1,2,4", "2,3,1,4"] * 3, "two": ["1,2,3,4", "2,1,3,4"] * 4, "circle": ["1,2,3,4"] * 4 + ["3,1,2,4"] * 3 + ["2,3,1,4"] * 2}
+        ranks["default"] = ["1,2,3,4"] * 4 + ["4,3,2,1"] * 7
         poll = languages.POLL.replace("[1, 1, 3]", "[1, 1, 1]") + f"roll = {json.dumps(languages.ELECTORS)}\n"
         (self.scratch / "poll.toml").write_text(poll)
-        for name, *casting in (("tie",), ("two",), ("tie", "--casting=At the lake"), ("circle",)):
+        for name, *casting in (("tie",), ("two",), ("tie", "--casting=At the lake"), ("circle",), ("default",)):
             (self.scratch / "ballots").write_text("".join(f"{who} {given}\n" for who, given in zip(languages.ELECTORS, ranks[name])))
             folder = f"{name}{len(casting)}"
-            files, status = ("--poll", "poll.toml", "--ballots", "ballots"), 0 if casting or name == "circle" else 1
+            files, status = ("--poll", "poll.toml", "--ballots", "ballots"), 0 if casting or name in ("circle", "default") else 1
             self.program("debvote-publish", *files, "--language", code, *casting, folder, status=status)
             self.window.resize(*SMALL)
             self.window.open(self.scratch / folder / "index.html")
-            first = self.window.ask("document.querySelector('.options li').getBoundingClientRect().bottom")
-            self.assertLessEqual(first, SMALL[1], f"{folder}: the first screen of a small telephone")
+            self.assertLessEqual(self.window.ask(FIRST), SMALL[1], f"{folder}: the first screen of a small telephone")
+            broken = self.window.ask(at_browser.LONE_LINES), self.window.broken_words(NAMES)
+            self.assertEqual(broken, ([], []), f"{folder}: lines without a word, and words on two lines")
             if name == "circle" and elections.HAS_PICTURES:
                 self.assertIn(f"5 : 4, {ROUNDS[code]} 1", self.window.ask(PICTURE_TEXTS))
             # what it shows is what its files come to

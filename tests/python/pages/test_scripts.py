@@ -60,24 +60,32 @@ class ScriptsTest(publishing.ResultPageTest):
         exact = "[...document.querySelectorAll('#Answer code, #Answer q')].map((node) => node.textContent)"
         self.expect("what is typed is in quotation marks", (window.find("Zoë Ada"), window.ask(exact))[1], ["zoë ada"])
         self.expect("the line is in code", (window.find("ada"), window.ask(exact))[1], ["ada 2,1,-"])
-        # a browser that opens the page at a name shows the ballot, too, and not its place in the list
-        window.tell("Page.navigate", url="about:blank")
-        window.until("location.href === 'about:blank'")
-        window.open(self.room / "result" / "index.html", "#ben")
-        window.until("document.getElementById('Answer').textContent.includes('ben')")
-        window.until("Math.abs(document.getElementById('Find-your-ballot').getBoundingClientRect().top) < 80")
-        self.expect("the list is folded", window.ask("document.getElementById('ben').closest('details').open"), False)
-        for address, name in (("ben", "ben"), ("ada/23456789ab", "ada"), ("%62en", "ben")):
-            window.ask(f"location.hash = '#{address}'")
-            window.until(f"document.getElementById('Answer').textContent.includes('{name}')")
-            self.expect(f"the address {address} names an elector", window.found()[0], f"{name}: counted")
-            window.until("document.querySelectorAll('.folded[open]').length === 0")
-            top = window.ask("document.getElementById('Find-your-ballot').getBoundingClientRect().top")
-            self.expect(f"{address}: it is shown at once", -1 <= top < 900, True)
         others = ["This page shows other ballots than its files have. Tell the other electors."]
         for before, after in (("<code>2,1,-</code>", "<code>1,2,-</code>"), ('<li id="ada">', '<li id="eva">')):
             self.page_of(change=(before, after))
             self.expect(f"{after} in place of {before}", window.find("ada"), others)
+
+    def test_a_ballot_by_the_address(self):
+        """A page that is opened at a name has its ballot in a line below the panel; nothing scrolls, no list opens, and nothing is typed."""
+        window, page = self.page_of(), self.room / "result" / "index.html"
+        ballots = {
+            "ben": ["ben: counted", '<i>B</i> & "C" and N equally', "Not ranked: 72 Euro"],
+            "ada": ["ada: counted", '<i>B</i> & "C"', "72 Euro", "Not ranked: N"],
+            "cleo": ["cleo: counted", "no option is ranked, so nothing is preferred"],
+            "dan": ["dan is on the roll, and no ballot counts for this name."],
+        }
+        for address, name in (("ben", "ben"), ("ada/23456789ab", "ada"), ("%62en", "ben"), ("cleo", "cleo"), ("DAN", "dan")):
+            window.open_anew(page, f"#{address}")
+            # a second time once the page is open
+            for _ in range(2):
+                window.until(f"JSON.stringify({at_browser.MINE}) === {json.dumps(json.dumps([ballots[name]], separators=(',', ':')))}")
+                window.ask("new Promise((done) => setTimeout(done, 50))")
+                seen = window.ask("[scrollY, document.querySelectorAll('.folded[open]').length, document.getElementById('Name').value]")
+                self.expect(f"{address}: what else is seen", (seen, window.found()), ([0, 0, ""], []))
+                ticked = window.ask("getComputedStyle(document.querySelector('.facts + .mine > p'), '::before').content !== 'none'")
+                self.expect(f"{address}: what counts is ticked off", ticked, name != "dan")
+                window.ask("location.hash = '#%'; document.querySelector('.mine').replaceChildren()")
+                window.ask(f"location.hash = '#{address}'")
 
     def test_a_family_name_alone(self):
         """Whoever may be meant is named, with the real name where the page has it, and nobody is told that the name is wrong."""
@@ -122,9 +130,9 @@ class ScriptsTest(publishing.ResultPageTest):
             window = self.page_of(self.published_room(f"{options} on paper", poll, f"ada {','.join(map(str, range(1, options + 1)))}\n"))
             window.show(on_paper=True)
             window.resize(717, 900)
-            size = window.ask("parseFloat(getComputedStyle(document.querySelector('table')).fontSize)")
+            size, around = window.ask("['table', 'body'].map((part) => parseFloat(getComputedStyle(document.querySelector(part)).fontSize))")
             wide = window.ask("[document.documentElement.scrollWidth, document.querySelector('table').getBoundingClientRect().right <= 717]")
-            self.expect(f"{options} options in {size} pixels", (wide, 8 < size < 16), ([717, True], is_smaller))
+            self.expect(f"{options} options in {size} pixels", (wide, 8 < size < around), ([717, True], is_smaller))
 
     def test_wide_and_narrow_windows_and_long_names(self):
         """From 70rem finding and checking stand at the right; a long name is smaller, and no number stands alone on a line."""
@@ -172,10 +180,10 @@ class ScriptsTest(publishing.ResultPageTest):
         self.expect("counted again", window.count_again()[0].startswith("The same, line for line"), True)
         # a name in capitals in the address is the one in small letters, unless it is that of a part of the page
         window.ask("location.hash = '#Anna-Meier/23456789AB/23456789abcdefgh'")
-        window.until("document.getElementById('Answer').textContent.startsWith('anna-meier: counted')")
+        window.until("document.querySelector('.mine').textContent.startsWith('anna-meier: counted')")
         window.ask("location.hash = '#Ballots'")
         window.until("document.getElementById('Ballots').closest('details').open")
-        self.expect("what is shown at a part of the page", window.ask("document.getElementById('Name').value"), "anna-meier")
+        self.expect("what is shown at a part of the page", window.ask("document.querySelector('.mine b').textContent"), "anna-meier")
 
     def test_finding_a_ballot_of_a_secret_vote(self):
         self.expect("secret", self.told_in_secret[1:], ("", 1))
@@ -189,7 +197,7 @@ class ScriptsTest(publishing.ResultPageTest):
         for place in ("zoe-muller", "zoe-muller/23456789ab/23456789abcdefgh"):
             window.ask(f"location.hash = '#{place}'; new Promise((done) => setTimeout(done, 100))")
             seen = window.ask("document.getElementById('Name').value")
-            self.expect(f"the link of the call, {place}", (seen, window.found()), ("", []))
+            self.expect(f"the link of the call, {place}", (seen, window.found(), window.ask(at_browser.MINE)), ("", [], []))
         for name in ("zoe-muller", "Zoë Müller", "  ZOE  MÜLLER "):
             self.expect(name, window.find(name, f" {self.code[:16].upper()} {self.code[16:20]}-{self.code[20:]}")[1:], wanted)
         above = "document.querySelector('.warning').compareDocumentPosition(document.getElementById('Name')) === Node.DOCUMENT_POSITION_FOLLOWING"
@@ -274,11 +282,12 @@ class ScriptsTest(publishing.ResultPageTest):
         window.show(on_paper=True)
         self.page_of()
         seen = window.ask("[...document.querySelectorAll('.folded')].map((part) => part.children[1].getBoundingClientRect().height > 0)")
-        self.expect("on paper", (seen, window.ask(unfolded)), ([True] * 9, []))
-        # what is typed there stays out, and of long ballots the names
-        kept = window.ask("""['#Find', '#Count-again-here', '.checks + details', '.verifying', '#Checksums', '.ballots bdi']
-          .map((place) => document.querySelector(place).checkVisibility())""")
-        self.expect("seen on paper", kept, [False, False, False, False, True, True])
+        self.expect("on paper", (seen, window.ask(unfolded)), ([True] * 8 + [False], []))
+        # what is typed there stays out, with how to verify, and of long ballots the names
+        kept = window.ask("""['#Find', '#Count-again-here', '.checks + details > p', '#Checksums code', '.ballots bdi']
+          .map((place) => document.querySelector(place).checkVisibility({ contentVisibilityAuto: true }))""")
+        self.expect("seen on paper", kept, [False, False, False, True, True])
+        self.expect("the first page ends there", window.ask("getComputedStyle(document.querySelector('.side + .main')).breakBefore"), "page")
 
     def test_counting_again(self):
         folder = self.room / "result"
@@ -297,7 +306,9 @@ class ScriptsTest(publishing.ResultPageTest):
     def test_counting_again_on_changed_pages(self):
         changes = {
             "the result": ('<h2 id="Result"><b><bdi>&lt;i&gt;B', '<h2 id="Result"><b><bdi>&lt;i&gt;C'),
-            "the result ": ("<b>1 to 0</b>", "<b>1 to 1</b>"),
+            "the result ": ("<b>1\u00a0to\u00a00</b>", "<b>1\u00a0to\u00a01</b>"),
+            "the result    ": ('<p class="ended">Has won', '<p class="ended">The default option has won'),
+            "the result     ": ("<b>1</b> for it, ", "<b>2</b> for it, "),
             "the result  ": ("against <bdi>N", "against <bdi>M"),
             "the result   ": ("<small>2\u00a0equal", "<small>1\u00a0equal"),
             "the names of title and options  ": ('<p class="option"><span><i>1</i>\u00a0<bdi>72', '<p class="option"><span><i>1</i>\u00a0<bdi>73'),

@@ -491,13 +491,15 @@ class PagesTest(PublishedTest):
             self.assertEqual(window.ask(links)[0], ["A Raise the fee to 72 Euro", "A/index.html#cleo"])
             self.assertEqual(window.find("nobody"), ["No elector has the name nobody. Type it as it is on the roll."])
             self.assertEqual(window.find("a-d-a"), ["Do you mean ada (Ada)?"])
-            # the address names an elector
+            # the address names an elector, whose ballots stand below how each question ended
+            none = "{} is on the roll, and no ballot counts for this name."
+            mine = {"cleo": [["cleo: counted", "No"], [none.format("cleo")], ["cleo: counted", *roof[:-1]]]}
+            mine["ben"] = [["ben: counted", "Yes"], ["ben: counted", "Mary Somerville", "Ada Lovelace", "None of these"], ["ben: counted", "Slate and Tiles equally", "As it is", "Straw"]]
             window.ask("location.hash = '#cleo/23456789ab'")
-            window.until("document.getElementById('Answer').textContent.includes('cleo 2,1,4,3')")
-            window.tell("Page.navigate", url="about:blank")
-            window.until("location.href === 'about:blank'")
-            window.open(result / "index.html", "#ben")
-            window.until("document.getElementById('Answer').textContent.includes('ben 1,1,3,2')")
+            for name, shown in mine.items():
+                window.until(f"document.querySelectorAll('.mine')[2].textContent.startsWith('{name}: ')")
+                self.assertEqual((window.ask(at_browser.MINE), window.ask("scrollY")), (shown, 0))
+                window.open_anew(result / "index.html", "#ben")
             for label in self.polls:
                 window.open(result / label / "index.html")
                 self.assertTrue(window.count_again()[0].startswith("The same, line for line"), label)
@@ -542,3 +544,14 @@ class ManyTest(PublishedTest):
         # nothing is folded, a doubt neither
         self.assertEqual((page.count("<details>"), len(re.findall('<p>No elector has a ballot that counts: .*?</p>\n</div>', page))), (0, 4))
         self.assertEqual(pathlib.Path(self.folder / "result" / "G" / "ballots.txt").read_text(), "ada 2,1\n")
+
+    @at_browser.NEEDS_BROWSER
+    def test_seven_on_a_telephone(self) -> None:
+        """All seven questions with their numbers are on the first screen, if each has ballots."""
+        self.add_lines("cleo " + " ".join(f"{label} 1,2" for label in self.polls), "ben " + " ".join(f"{label} 1,2" for label in self.polls))
+        self.done("close", "--early")
+        self.publish()
+        with at_browser.Window(390, 844) as window:
+            window.open(self.folder / "result" / "index.html")
+            ends = window.ask("[...document.querySelectorAll('.question .votes')].map((node) => node.getBoundingClientRect().bottom)")
+            self.assertEqual((len(ends), max(ends) <= 844, window.ask(at_browser.LONE_LINES)), (7, True, []))

@@ -2,10 +2,13 @@
 
 import hashlib
 import html
+import json
 import os
 import re
 import shutil
 import subprocess
+import unittest
+import xml.etree.ElementTree as xml
 
 from tests.support import page_parts as pages, publishing
 from tests.support.publishing import FILES, HAS_PICTURES, PATH, PROGRAM, SECONDS, plain_room, publish, room_with
@@ -75,7 +78,7 @@ class GivenTest(publishing.PublishTest):
         again = "Count again here With another program, in your browser. Nothing is sent."
         self.expect("check it: its last row", rows[4].startswith(again), True)
         self.expect("check it: how many words it has", len(" ".join([*wanted, again]).split()) <= 70, True)
-        self.expect("the whole checksum", poll_sum in next(sections["How-to-verify"].all("ul", "checksums")).text(), True)
+        self.expect("the whole checksum", poll_sum in sections["Check-it"].one("ul", "checksums").text(), True)
         loaded = [link.attributes["href"] for link in sections["Check-it"].all("a") if "download" in link.attributes]
         self.expect("check it: what is downloaded", loaded, ["SHA256SUMS", "index.html"])
         found = [said in pages.tree_of(page).text() for said in ("in the order in which they were entered", "they came", "announced")]
@@ -110,6 +113,19 @@ class GivenTest(publishing.PublishTest):
         page = self.page_of(room, "--language", "de", "result")
         self.expect("refused in German", self.refused_lines(page), wanted)
         self.expect("one has voted, in the singular", " von 4 stimmte ab" in page, True)
+
+    @unittest.skipUnless(HAS_PICTURES, "dot is not installed, so there are no pictures")
+    def test_names_in_the_picture(self):
+        """What Graphviz would take for the name of a character is drawn as it is, by the command of the page, too."""
+        names = ["R&D; more", "&lt;b&gt; &amp; &#65;", "None"]
+        poll = re.sub("options = .*", f"options = {json.dumps(names[:-1])}", publishing.PLAIN_POLL.replace('"N"', '"None"')).replace("Plain", "Q&A;")
+        page = self.page_of(plain_room(self.scratch / "ampersands", poll), "result")
+        folder = self.scratch / "ampersands" / "result"
+        texts = [node.text for node in xml.fromstring((folder / "picture.svg").read_bytes()).iter() if node.tag.endswith("}text")]
+        self.expect("names in the picture", [f"{number} {name}" in texts for number, name in enumerate(names, start=1)], [True] * 3)
+        [command] = re.findall("<code>(debvote picture .*?) &gt; picture.svg</code>", page)
+        made = subprocess.run(["sh", "-c", html.unescape(command)], cwd=folder, env={**os.environ, "PATH": PATH}, capture_output=True)
+        self.expect("by the command", (made.stdout, made.stderr), ((folder / "picture.svg").read_bytes(), b""))
 
     def test_commands(self):
         """Each command of the page is typed in the folder; what it answers is what the page says."""

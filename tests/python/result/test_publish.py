@@ -456,7 +456,7 @@ class OfOpenVotes(OfElections):
         # a late one that arrived after the end is no doubt
         self.say("publish", "--language", "en")
         done = self.sections()["What-was-done"].text()
-        self.expect("when the vote was", "Vote of 26 February 2027 to 1 March 2027\u00a0·\u00a0Result" in self.page(), True)
+        self.expect("when the vote was", "Vote of 26 February to 1 March 2027" in self.page(), True)
         for said in (
             "3 lines came after the end, and are in time, since the vote was not closed yet.",
             "12:50 (UTC): The clock of the secretary's computer went back: the act before has a later time, Monday, 1 March 2027, 13:00 (UTC).",

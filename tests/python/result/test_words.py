@@ -11,6 +11,7 @@ from debvote_tools.sheet import sheet_in
 from debvote_tools.text.ballots import ballot_lines, ballots_in_words, line_of, part_of, ranks_by_label
 from debvote_tools.text.language import ENGLISH, language_of
 from debvote_tools.text.rendering import templates_of
+from debvote_tools.text.times import days_in_words
 
 from tests import reference
 from tests.support import expecting
@@ -99,6 +100,23 @@ class WordsTest(expecting.Expecting):
     def test_thousands_are_parted(self):
         for code, wanted in {"en": "1,234,567", "de": "1.234.567", "fr": "1\u00a0234\u00a0567", "es": "1\u00a0234\u00a0567"}.items():
             self.expect(f"in {code}", [language_of(code).number(number) for number in (1_234_567, 999)], [wanted, "999"])
+
+    def test_the_year_of_two_days_stands_once(self):
+        first, last = datetime.date(2027, 2, 26), datetime.date(2027, 3, 1)
+        for code, wanted in {
+            "en": "Vote of 26 February to 1 March 2027", "de": "Abstimmung vom 26. Februar bis 1. März 2027",
+            "fr": "Vote du 26 février au 1er mars 2027", "es": "Votación del 26 de febrero al 1 de marzo de 2027",
+        }.items():  # fmt: skip
+            language = language_of(code)
+            said = language.say("Vote of {first} to {last}", **dict(zip(("first", "last"), days_in_words([first, last], language))))
+            self.expect(f"in {code}", said, wanted)
+        for days, wanted in {
+            (first.replace(year=2026), last): ["26 February 2026", "1 March 2027"],
+            (last, last): ["1 March 2027"],
+            (first,): ["26 February 2027"],
+            (): [],
+        }.items():
+            self.expect(f"{days}", days_in_words(days, language_of("en")), wanted)
 
     def test_no_bar_of_the_winner_contradicts_the_result(self):
         """Where the winner's bar is the shorter one, its row says that this defeat was set aside; each other option that was not dropped is
