@@ -56,7 +56,7 @@ class Asks(boxes.BoxElectionTest):
     def test_the_letters_of_the_call(self) -> None:
         self.call()
         said = self.done("letters", "call").output
-        self.assertIn("The box has 0 records.\n", said)
+        self.assertIn("The web box has 0 records.\n", said)
         self.assertEqual((self.acts()[-2:], self.is_present()), (["letters", "letters out"], True))
         # an asking that saw page and links of now is enough
         self.done("letters", "call")
@@ -85,7 +85,7 @@ class Asks(boxes.BoxElectionTest):
         asked = len(self.acts())
         self.assertEqual(ended.status, 9)
         self.assertEqual(ended.faults, f"debvote-election: the web box was asked, 4 new ballots are kept; act {asked} (letters) was done; {RUN_ADD}")
-        self.assertIn("The box has 4 records.\n", ended.output)
+        self.assertIn("The web box has 4 records.\n", ended.output)
         self.assertEqual((self.acts()[-1], self.standing()), ("letters", {}))
         # what is kept stops it until it is entered, and nothing is asked again
         self.assert_fault(self.election("close"), 9, "these letters arrived in time, and wait: 1, 2, 3;")
@@ -106,7 +106,7 @@ class Asks(boxes.BoxElectionTest):
         before = len(self.acts())
         terminal = Terminal(self, "close")
         shown = terminal.until(ALL)
-        self.assertIn("The box has 2 records.\n", shown)
+        self.assertIn("The web box has 2 records.\n", shown)
         self.assertNotIn("ben", shown)
         # the asking is an act of its own, before the question
         self.assertEqual(self.acts()[before:], ["letters"])
@@ -170,7 +170,7 @@ class Asks(boxes.BoxElectionTest):
         # what is said of it is in no file with the sheet
         ended = self.done("count")
         self.assertTrue(ended.output.startswith("Poll: "), ended)
-        self.assertIn("The box has 2 records.\n", ended.faults)
+        self.assertIn("The web box has 2 records.\n", ended.faults)
         self.assertEqual(self.acts()[before:], ["letters"])
         self.done("count")
         self.assertEqual(len(self.acts()), before + 1)
