@@ -15,7 +15,7 @@ from debvote_tools.call.call import CallData, call_files, call_letter, current_c
 from debvote_tools.call.draft import letter_text_in, texts_of
 from debvote_tools.call.secret import aliased, demand_no_code
 from debvote_tools.cli.arguments import Acting, flag, given, option
-from debvote_tools.cli.console import act_time, is_terminal, is_yes, tell
+from debvote_tools.cli.console import act_time, count_of, is_terminal, is_yes, tell
 from debvote_tools.cli.faults import Fault, bad_words, kept_in, stop_at
 from debvote_tools.commands.check import (
     Checked,
@@ -467,6 +467,8 @@ def call_in_words(election: Election, data: CallData) -> Iterator[str]:
     if election.history().closes:
         yield f"Next: {election.command('status')}"
         return
+    if data.to and (data.is_by_name or data.has_box):
+        yield f"Ready: {count_of(len(data.questions.roll), 'letter')} of the call"
     tries = ", and tries first whether the page takes ballots" if data.has_box else ""
     yield f"Next: {put}; then {election.to_all('call', letter)}{tries}; enter the ballots that come: {election.command('add', 'FILE')} or {election.command('desk')}"
 

@@ -114,10 +114,7 @@ def checked(election: Election, **announced: object) -> Checked:
         for label, draft in drafts.items()
     }
     for label, draft in drafts.items():
-        lacking = faults_of_lacking(draft)
-        said = faults_by_debvote(election, draft.file, polls[label])
-        # a key that no poll has may be one that is lacking, misspelt
-        faults += [*lacking, *(fault for fault in said if not lacking or NOT_READ in fault.words)]
+        faults += faults_of_poll(election, draft, polls[label])
     stop_at(faults)
     motions = [label for label, draft in drafts.items() if draft.says("motion")]
     questions = read_questions(polls, motions, title)
@@ -147,6 +144,17 @@ def drafts_in(election: Election, roll: Sequence[str], faults: list[Fault]) -> d
         with kept_in(faults):
             faults += faults_of_several(election, drafts)
     return drafts
+
+
+def faults_of_poll(election: Election, draft: DraftPoll, poll_bytes: bytes) -> Iterator[Fault]:
+    """What it lacks, and what debvote says of it; of one that lacks something only which keys no
+    poll has: one of them may be lacking, misspelt.
+    """
+    lacking = faults_of_lacking(draft)
+    yield from lacking
+    for fault in faults_by_debvote(election, draft.file, poll_bytes):
+        if not lacking or NOT_READ in fault.words:
+            yield fault
 
 
 def faults_by_debvote(election: Election, file: pathlib.Path, poll_bytes: bytes) -> Iterator[Fault]:

@@ -11,7 +11,6 @@ from debvote_tools.call.secret import seal_line, sealed_checksum
 from debvote_tools.cli.arguments import Acting, demand_reason, flag, has_reason
 from debvote_tools.cli.console import act_time, count_of, tell
 from debvote_tools.cli.faults import Fault, stop_at
-from debvote_tools.commands.letters import write_ready
 from debvote_tools.election import LETTERS, Election, Fixed, History, fixed_by
 from debvote_tools.files import OWN, write_made
 from debvote_tools.inbox.asking import ask_before_close
@@ -65,16 +64,21 @@ def close(election: Election, arguments: Arguments) -> None:
         )
     if written:
         tell(f"Made {path}.")
-    ready = write_ready(election, "closed")
     tell(
         *(
             f"Checksum of the ballots{label and f' of question {label}'}{' with the random line' if of_one.seal else ''}: {of_one.checksum}"
             for label, of_one in fixed.items()
         ),
         f"Send {path} to all electors before you count anything.",
-        *ready,
-        f"Next: {election.to_all('closed', path, is_ready=bool(ready))}; then {election.command('count')}",
     )
+    ready = list[str]()
+    if history.announced("to"):
+        # what writes letters takes a while to be imported
+        from debvote_tools.commands.letters import write_ready
+
+        ready = write_ready(election, "closed")
+    send = election.to_all("closed", path, is_ready=bool(ready))
+    tell(*ready, f"Next: {send}; then {election.command('count')}")
 
 
 def ask_first(election: Election, arguments: Arguments) -> None:

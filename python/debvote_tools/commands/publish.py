@@ -15,7 +15,6 @@ from debvote_tools.call.draft import texts_of
 from debvote_tools.cli.arguments import Acting, demand_reason, flag, option, positional
 from debvote_tools.cli.console import act_time, odd_sign, tell, tell_aside
 from debvote_tools.cli.faults import Fault, bad_words, kept_in, stop_at
-from debvote_tools.commands.letters import write_ready
 from debvote_tools.election import (
     BOX_KEY,
     CALL,
@@ -240,8 +239,13 @@ def tell_published(
             f"Next: {election.command('close')}, then {election.command('publish', str(other_place(target)))}"
         )
         return
-    ready = write_ready(election, "result")
-    tell(*ready)
+    ready = list[str]()
+    if history.announced("to") and history.announced("at"):
+        # what writes letters takes a while to be imported
+        from debvote_tools.commands.letters import write_ready
+
+        ready = write_ready(election, "result")
+        tell(*ready)
     if tied := [label for label, outcome in outcomes.items() if outcome.sheet.winner is None]:
         # the next result has the casting votes of its own command alone
         castings = history.publications[-1].detail["casting"] | dict.fromkeys(tied, "NAME")

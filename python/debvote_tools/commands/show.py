@@ -60,7 +60,7 @@ def elector_named(election: Election, vote: Vote, name: str) -> queries.Elector:
         cure = "type the code as it was handed out"
     else:
         words = f"no elector on the roll is `{shown_text(name)}`"
-        cure = f"{election.command('status')} and roll show the names"
+        cure = f"{election.command('status', '--electors')} lists the names"
     raise Fault("show", words, cure, done=None)
 
 

@@ -153,9 +153,13 @@ def unasked_fault(election: Election, history: History, what: str) -> Fault | No
     words, force = NEEDS["call" if is_unseen else "page" if is_other else what]
     if last and since and is_right and history.askings[-1].time > since:
         words += f": when the web box was asked last, it was only {act_time(from_text(last['time']))} by its own clock"
-    first = "" if is_right else "upload the folder call, then "
-    again = "the command again" if what in ASKING else election.command("add", "--box")
-    cure = f"{first}run {again}"
+    cure = how_to_ask(election, what)
+    if not is_right:
+        cure = f"upload the folder call, then {cure}"
     if force:
         cure += f"; if it does not answer any more, {force}"
     return Fault(what if force == WITHOUT_PAGE else "--box", words, cure)
+
+
+def how_to_ask(election: Election, what: str) -> str:
+    return f"run {'the command again' if what in ASKING else election.command('add', '--box')}"

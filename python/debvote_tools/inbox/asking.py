@@ -8,7 +8,7 @@ import time
 from collections.abc import Callable
 
 from debvote_tools.book import queries
-from debvote_tools.cli.console import count_of, tell
+from debvote_tools.cli.console import count_of, private, tell
 from debvote_tools.cli.faults import Fault
 from debvote_tools.election import Election
 from debvote_tools.inbox.asked import AFTER_CLOSE, unasked_fault
@@ -25,7 +25,7 @@ def ask_for(election: Election, step: str, say: Callable[..., None] = tell) -> s
     if not unasked_fault(election, election.history(), step) or election.book.is_read_only:
         return set()
     # what reads letters takes a while to be imported
-    from debvote_tools.inbox.box_records import asked_box
+    from debvote_tools.inbox.box_records import asked_box, unopened_words
     from debvote_tools.inbox.taking import keep, new_in
     from debvote_tools.inbox.vote import Vote
 
@@ -41,6 +41,8 @@ def ask_for(election: Election, step: str, say: Callable[..., None] = tell) -> s
         return set()
     keep(vote, *new_in(vote, brought), brought.detail)
     say(*brought.words)
+    if brought.has_unopened:
+        say(unopened_words(vote, private))
     return {letter.number for letter in queries.kept_letters(election.book, "act > ?", before)}
 
 

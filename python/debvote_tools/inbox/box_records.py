@@ -14,7 +14,7 @@ import http.client
 import re
 import ssl
 import urllib.parse
-from collections.abc import Iterator, Sequence
+from collections.abc import Callable, Iterator, Sequence
 from typing import NamedTuple
 
 from debvote_tools.book import queries
@@ -285,10 +285,12 @@ def upload_words(election: Election, box: Detail) -> Iterator[str]:
         yield f"Note: the web host has another {SCRIPT} than the folder call, as an older one: upload that of the folder, since who has a new link cannot vote there."
 
 
-def unopened_words(vote: Vote) -> str:
-    """What is said of records that nobody can open, with who is to vote again."""
+def unopened_words(vote: Vote, shown: Callable[[str], str] = str) -> str:
+    """What is said of records that nobody can open, with who is to vote again, as they are
+    `shown`.
+    """
     history = vote.history()
-    names = listed(with_lost_records(vote.election, history), MOST_NAMED)
+    names = shown(listed(with_lost_records(vote.election, history), MOST_NAMED))
     whose = f", by the links of {names}, who are to vote again" if names else ""
     return f"Note: {count_of(last_box(history)['unopened'], 'record')} can't be opened, or came above the {MOST} of a link, passed over{whose}. An older page may have sent such a one, or the web host have made it."
 

@@ -141,13 +141,9 @@ def letters_due(
     """The letters of a kind that are due. Stops if none may go out now; `because` is the reason for
     which they go out although the box was not asked. Those of a call may have codes beside links.
     """
-    history = election.history()
+    history = history_once_due(election, kind, because)
     time = now()
     is_over = history.is_over(time)
-    demand_due(election, history, kind, is_over=is_over)
-    if kind in ASKING and not has_reason(because):
-        ask_for(election, kind)
-        history = election.history()
     call_data, forced = call_data_of(election, history, kind, because)
     hides_codes = history.is_secret_by_click and not has_codes
     electors = electors_by_number(election, hides_codes=hides_codes)
@@ -168,6 +164,17 @@ def letters_due(
         tried_again,
     )
     return OF_KINDS[kind](run)
+
+
+def history_once_due(election: Election, kind: str, because: str | None) -> History:
+    """The acts until now. Stops if it is too early or too late for the letters, and first asks the
+    web box if they need it.
+    """
+    history = election.history()
+    demand_due(election, history, kind, is_over=history.is_over(now()))
+    if kind in ASKING and not has_reason(because):
+        ask_for(election, kind)
+    return election.history()
 
 
 def electors_by_number(election: Election, *, hides_codes: bool) -> dict[int, Elector]:

@@ -59,7 +59,7 @@ class Show(CalledTest):
     def test_who_is_meant(self) -> None:
         for name in ("Ada", "ADA", " ada "):
             self.assertEqual(self.shown(name)[0], "ada: Ada ada@club.example")
-        self.assert_fault(self.election("show", "zoe\x1b[2J"), 9, "show: no elector on the roll is `zoe\\u001B[2J`; debvote-election status and ")
+        self.assert_fault(self.election("show", "zoe\x1b[2J"), 9, "show: no elector on the roll is `zoe\\u001B[2J`; debvote-election status --electors lists the names")
         with self.book.act("addresses") as act:
             for elector in queries.electors(self.book)[:2]:
                 queries.put_electors(act, [queries.Elector(elector.number, elector.name, elector.position, "Kim Kim", ())])

@@ -9,10 +9,10 @@ import subprocess
 import sys
 import time
 
-from tests.support import boxes, elections
+from tests.support import boxes, elections, sealing
 from tests.support.letters import letter, mailbox
 from tests.support.terminal import Terminal
-from tests.support.web_host import NEEDS_PHP
+from tests.support.web_host import NEEDS_PHP, request_of
 
 RANKS, OTHER = "1,2,3,4", "4,3,2,1"
 ALL = "Is that all?"
@@ -56,7 +56,7 @@ class Asks(boxes.BoxElectionTest):
     def test_the_letters_of_the_call(self) -> None:
         self.call()
         said = self.done("letters", "call").output
-        self.assertIn("The box has 0 records.\n", said)
+        self.assertIn("The web box has 0 records.\n", said)
         self.assertEqual((self.acts()[-2:], self.is_present()), (["letters", "letters out"], True))
         # an asking that saw page and links of now is enough
         self.done("letters", "call")
@@ -85,7 +85,7 @@ class Asks(boxes.BoxElectionTest):
         asked = len(self.acts())
         self.assertEqual(ended.status, 9)
         self.assertEqual(ended.faults, f"debvote-election: the web box was asked, 4 new ballots are kept; act {asked} (letters) was done; {RUN_ADD}")
-        self.assertIn("The box has 4 records.\n", ended.output)
+        self.assertIn("The web box has 4 records.\n", ended.output)
         self.assertEqual((self.acts()[-1], self.standing()), ("letters", {}))
         # what is kept stops it until it is entered, and nothing is asked again
         self.assert_fault(self.election("close"), 9, "these letters arrived in time, and wait: 1, 2, 3;")
@@ -106,7 +106,7 @@ class Asks(boxes.BoxElectionTest):
         before = len(self.acts())
         terminal = Terminal(self, "close")
         shown = terminal.until(ALL)
-        self.assertIn("The box has 2 records.\n", shown)
+        self.assertIn("The web box has 2 records.\n", shown)
         self.assertNotIn("ben", shown)
         # the asking is an act of its own, before the question
         self.assertEqual(self.acts()[before:], ["letters"])
@@ -170,7 +170,7 @@ class Asks(boxes.BoxElectionTest):
         # what is said of it is in no file with the sheet
         ended = self.done("count")
         self.assertTrue(ended.output.startswith("Poll: "), ended)
-        self.assertIn("The box has 2 records.\n", ended.faults)
+        self.assertIn("The web box has 2 records.\n", ended.faults)
         self.assertEqual(self.acts()[before:], ["letters"])
         self.done("count")
         self.assertEqual(len(self.acts()), before + 1)
@@ -286,11 +286,18 @@ class Secret(boxes.BoxElectionTest):
         links = self.links()
         for name in ("ada", "ben"):
             self.click(name, RANKS, links[name])
+        # and one that nobody can open
+        proof = sealing.proof_of(self.mark(), self.place_of("cleo", links["cleo"]))
+        self.assertEqual(self.host.send(request_of(f"{self.page()} {proof} {950:032x}", "A" * 300)).word, "received")
         self.off(700)
         command = [sys.executable, elections.ELECTION, "close", "--early"]
         env = elections.environment() | self.clock | {"XDG_STATE_HOME": str(self.state)}
         ended = subprocess.run(command, cwd=self.folder, env=env, stdin=subprocess.DEVNULL, capture_output=True, text=True)
         said = ended.stdout + ended.stderr
         self.assertIn("the web box was asked, 2 new ballots are kept; ", said)
-        for word in ("ada", "ben", "At the lake", RANKS):
+        self.assertIn("Note: 1 record can't be opened, ", said)
+        for word in ("ada", "ben", "cleo", "At the lake", RANKS):
             self.assertNotIn(word, said)
+        # at a terminal it says who is to vote again
+        terminal = Terminal(self, "close", "--early")
+        self.assertIn("ballots came by the links of these electors that nobody can open, and no later ones: cleo", terminal.end()[0])

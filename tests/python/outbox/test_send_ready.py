@@ -30,6 +30,7 @@ class Ready(SendTest):
         self.assertEqual(self.server.taken, [])
 
     def test_a_whole_vote(self) -> None:
+        self.assertIn("\nReady: 3 letters of the call\nNext: put call on the web site; then debvote-election letters --send sends ", self.done("call").output)
         said = self.send_all().output
         self.assertIn("Without an address: cleo. Print letters/call/", said)
         self.assertIn("call: Sent 2 of 2 letters.\n", said)
@@ -123,6 +124,7 @@ class WithCodes(SendTest):
 
     def test_codes_go_out_only_if_they_were_written(self) -> None:
         """They may be on slips."""
+        self.assertNotIn("Ready: ", self.done("call").output)
         self.done("desk", given="ada 1,2,4,3\n")
         self.done("letters", "receipts")
         send = ("letters", "--send", "--server", self.server.name)

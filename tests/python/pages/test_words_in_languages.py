@@ -148,7 +148,7 @@ class Marked(languages.LanguageTest):
             self.check_files(place, "result/index.html", "letters/result.txt")
             self.election("cast", "letters", "result")
         self.assertIn('class="doubts"', (place / "result" / "index.html").read_text(encoding="utf-8"))
-        self.check_messages(place, "result")
+        self.check_messages(place, "closed", "result")
 
     def test_doubts(self) -> None:
         bad = "e01 1,2,3,4\n" + "bad\n" * 3
@@ -162,7 +162,7 @@ class Marked(languages.LanguageTest):
             self.assertIn('class="doubts"', (place / "result" / "index.html").read_text(encoding="utf-8"))
             if name != "open":
                 self.election(name, "letters", "result")
-                self.check_messages(place, "result")
+                self.check_messages(place, "closed", "result")
 
     def test_what_was_done(self) -> None:
         place = self.called("done", "de")
