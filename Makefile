@@ -1,8 +1,6 @@
 # What a developer calls, by short names. Each target calls what is there; tests/all needs no make.
 .PHONY: help try build check test case edit polls claim all deb
 
-# the words that `make try` runs, with whole paths of files
-ARGS = count --poll $(CURDIR)/examples/plain_win/poll.toml --ballots $(CURDIR)/examples/plain_win/ballots
 N = 500
 SEED = 1
 TO = /tmp/debvote-package
@@ -10,8 +8,8 @@ TO = /tmp/debvote-package
 help: ## list these targets
 	@sed -n 's/^\([a-z]*\):.*## /make \1\t/p' Makefile | expand -t 12
 
-try: ## build without any proof, and count an example; ARGS="check --poll /.." runs other words
-	@cd crates/debvote && rt try -- $(ARGS) && echo "Nothing is proved yet: make build proves the program, tests/all everything."
+try: ## build without any proof, and count two examples; ARGS="check --poll FILE" runs these words
+	@tests/try $(ARGS)
 
 build: ## prove and build the program, crates/debvote/out/debvote
 	@tests/build
@@ -31,7 +29,7 @@ edit: ## try the edit NAME=.. of the crate CRATE=.., which the prover must refus
 polls: ## compare the built program with the reference on N=500 random polls from SEED=1 on
 	@tests/random-polls --n "$(N)" --seed "$(SEED)"
 
-claim: ## make docs/claim.html, what one believes when one believes a sheet, and the pages of the other commands from the sources
+claim: ## make docs/claim.html from the sources, what one believes when one believes a sheet, and the pages of the other commands
 	@docs/make-claim
 
 all: ## prove everything, try all edits, and run all tests: tests/all

@@ -3,8 +3,9 @@
 
     bench/around.py [--program PROGRAM]
 
-PROGRAM is the built debvote. Each line below has the seconds of processor that a command took, with those of the programs that it
-started, and the most that it may take on a quiet machine; beyond it the script fails.
+PROGRAM is the built debvote. The seconds of processor that a command took, with those of the programs that it started, are given as a
+multiple of those of bench/yardstick.py, which runs before each command and after it. So a slow or a busy machine changes both. Each line
+has the most that a command may take; beyond it the script fails.
 """
 
 import argparse
@@ -17,6 +18,7 @@ import pathlib
 import random
 import resource
 import sqlite3
+import statistics
 import subprocess
 import sys
 import tempfile
@@ -28,6 +30,7 @@ import elections
 ROOT = pathlib.Path(__file__).resolve().parent.parent
 PROGRAM = ROOT / "crates" / "debvote" / "out" / "debvote"
 ELECTION, PUBLISH = ROOT / "bin" / "debvote-election", ROOT / "bin" / "debvote-publish"
+YARDSTICK = ROOT / "bench" / "yardstick.py"
 
 # the large election of the other benchmark
 OPTIONS, LINES = 16, 100_000
@@ -36,7 +39,6 @@ DESK_BALLOTS = 10
 
 # the largest page of debvote-publish: so many options with the longest names
 MOST_OPTIONS, MOST_ELECTORS = 32, 10_000
-
 
 # letters of a mailbox
 LETTERS = 10_000
@@ -55,7 +57,24 @@ def before(clock: pathlib.Path) -> Iterator[None]:
         del os.environ["PYTHONPATH"], os.environ["DEBVOTE_CLOCK"]
 
 
-def command(
+# the seconds of each run of the yardstick
+YARDS: list[float] = []
+
+
+def of_yardstick() -> float:
+    """Runs the yardstick, and returns its seconds."""
+    YARDS.append(seconds_of([YARDSTICK], ROOT, os.environ["PATH"]))
+    return YARDS[-1]
+
+
+def measured(words: list[object], folder: pathlib.Path, path: str, statuses: tuple[int, ...] = (0,), given: str | None = None) -> float:
+    """Runs a command, and returns how many times as long it took as the yardstick, before it and after it in the mean."""
+    before = of_yardstick()
+    seconds = seconds_of(words, folder, path, statuses, given)
+    return 2 * seconds / (before + of_yardstick())
+
+
+def seconds_of(
     words: list[object], folder: pathlib.Path, path: str, statuses: tuple[int, ...] = (0,), given: str | None = None
 ) -> float:
     """Runs a command in a folder, which must end with one of these statuses, and returns its seconds of processor."""
@@ -69,28 +88,28 @@ def command(
     return after.ru_utime + after.ru_stime - before.ru_utime - before.ru_stime
 
 
-def new_election(room: pathlib.Path, poll: str, members: str, path: str) -> None:
-    """A called election in a folder."""
-    command([ELECTION, "new", room], room.parent, path)
+def new_election(room: pathlib.Path, poll: str, members: str, path: str, *call: str) -> None:
+    """A called election in a folder. With an address for ballots `close` writes letters."""
+    seconds_of([ELECTION, "new", room], room.parent, path)
     (room / "poll.toml").write_text(poll)
     (room / "members.csv").write_text(members)
-    command([ELECTION, "roll"], room, path)
-    command([ELECTION, "call", "--to", "vote@club.example"], room, path)
+    seconds_of([ELECTION, "roll"], room, path)
+    seconds_of([ELECTION, "call", *call], room, path)
 
 
 def asked(room: pathlib.Path, labels: str, clock: pathlib.Path, path: str) -> dict[str, float]:
-    """The seconds of each command of a whole election that asks these questions; of one without a label if there are none."""
+    """How long each command of a whole election takes that asks these questions; of one without a label if there are none."""
     names = [f"elector-{number}" for number in range(MANY)]
     poll = 'title = "T"\noptions = ["A", "B", "C"]\nratios = [1, 1, 1]\ndefault = "N"\nquorum = 1\n'
-    command([ELECTION, "new", *(["--questions", len(labels)] if labels else []), room], room.parent, path)
+    seconds_of([ELECTION, "new", *(["--questions", len(labels)] if labels else []), room], room.parent, path)
     for place in [f"polls/{label}.toml" for label in labels] or ["poll.toml"]:
         (room / place).write_text(poll)
     if labels:
         (room / "polls/title.txt").write_text("T\n")
     (room / "members.csv").write_text("name,who,mail\n" + "".join(f"{name},{name},{name}@club.example\n" for name in names))
     with before(clock):
-        command([ELECTION, "roll"], room, path)
-        command([ELECTION, "call", "--to", "vote@club.example", "--at", "https://club.example/"], room, path)
+        seconds_of([ELECTION, "roll"], room, path)
+        seconds_of([ELECTION, "call", "--to", "vote@club.example", "--at", "https://club.example/"], room, path)
 
     def ballot(name: str, ranks: str) -> str:
         return " ".join([name, *(f"{label} {ranks}" for label in labels)] if labels else [name, ranks])
@@ -110,7 +129,7 @@ def asked(room: pathlib.Path, labels: str, clock: pathlib.Path, path: str) -> di
         ("publish", ["publish", "--force", "--because", "it is early"]),
         ("letters result", ["letters", "result"]),
     ]
-    found = {name: command([ELECTION, *words], room, path, (0, 1)) for name, words in runs}
+    found = {name: measured([ELECTION, *words], room, path, (0, 1)) for name, words in runs}
     demand_entered(room, FEW)
     return found
 
@@ -120,38 +139,38 @@ def several_questions(folder: pathlib.Path, path: str) -> Iterator[tuple[str, fl
     clock = folder / "clock"
     clock.write_text("2026-11-20T09:00:00+00:00")
     one, six = (asked(folder / f"asked-{len(labels)}", labels, clock, path) for labels in ("", QUESTIONS))
-    for name, seconds in six.items():
-        yield f"six questions, {name}", seconds, round(TIMES * one[name], 1)
+    for name, times in six.items():
+        yield f"six questions, {name}", times, round(TIMES * one[name], 1)
 
 
 def large_election(folder: pathlib.Path, path: str) -> Iterator[tuple[str, float, float]]:
-    """What is done, its seconds and the most of them, in an election of 10,000 electors and 100,000 lines."""
+    """What is done, how long it takes and may take, in an election of 10,000 electors and 100,000 lines."""
     written, ballots = map(pathlib.Path, elections.write(str(folder), OPTIONS, LINES - DESK_BALLOTS))
     poll = tomllib.loads(written.read_text())
     names, room = poll.pop("roll"), folder / "held"
     lines = "".join(f"{key} = {json.dumps(value)}\n" for key, value in poll.items())
     new_election(room, lines, "name,who,mail\n" + "".join(f"{name},{name},{name}@club.example\n" for name in names), path)
-    yield "add, 100,000 lines", command([ELECTION, "add", "--yes", "--force", ballots], room, path), 5
+    yield "add, 100,000 lines", measured([ELECTION, "add", "--yes", "--force", ballots], room, path), 8
     ranks = ",".join(str(option + 1) for option in range(OPTIONS))
     first, second, *others = (f"{name} {ranks}\n" for name in names[:DESK_BALLOTS])
     # each act computes the digest of the act before it anew, and this one had all these lines
-    yield "the first desk after it", command([ELECTION, "desk"], room, path, given=first), 0.5
-    one = command([ELECTION, "desk"], room, path, given=second)
+    yield "the first desk after it", measured([ELECTION, "desk"], room, path, given=first), 0.8
+    one = measured([ELECTION, "desk"], room, path, given=second)
     yield "a desk with one ballot", one, 0.5
-    all_others = command([ELECTION, "desk"], room, path, given="".join(others))
+    all_others = measured([ELECTION, "desk"], room, path, given="".join(others))
     yield "each further ballot of a desk", (all_others - one) / (len(others) - 1), 0.1
-    for name, words, most in [("status", ["status"], 0.5), ("close", ["close"], 1), ("publish", ["publish"], 3)]:
+    for name, words, most in [("status", ["status"], 1), ("close", ["close"], 2), ("publish", ["publish"], 6)]:
         # 1: a tie
-        yield name, command([ELECTION, *words], room, path, (0, 1)), most
+        yield name, measured([ELECTION, *words], room, path, (0, 1)), most
 
 
 def large_roll(folder: pathlib.Path, path: str) -> Iterator[tuple[str, float, float]]:
     """The same for a list of 10,000 members whose names in the vote are made."""
     room = folder / "members"
-    command([ELECTION, "new", room], folder, path)
+    seconds_of([ELECTION, "new", room], folder, path)
     rows = "".join(f'"Ann ""A"" Lee, no. {number}",\n' for number in range(10_000))
     (room / "members.csv").write_text("who,mail\n" + rows)
-    yield "roll, names for 10,000", command([ELECTION, "roll"], room, path), 5
+    yield "roll, names for 10,000", measured([ELECTION, "roll"], room, path), 2
 
 
 def largest_page(folder: pathlib.Path, path: str) -> Iterator[tuple[str, float, float]]:
@@ -169,7 +188,7 @@ def largest_page(folder: pathlib.Path, path: str) -> Iterator[tuple[str, float, 
     lines = [f"{name} {','.join([*rng.sample(ranks[:-1], MOST_OPTIONS - 1), ranks[-1]])}\n" for name in roll]
     (room / "ballots").write_text("".join(lines))
     words = [PUBLISH, "--poll", "poll.toml", "--ballots", "ballots", "result"]
-    yield "publish, 32 options", command(words, room, path, (0, 1)), 60
+    yield "publish, 32 options", measured(words, room, path, (0, 1)), 5
 
 
 def write_inbox(room: pathlib.Path, ballots: Iterable[tuple[str, str]], *, is_quoting: bool) -> None:
@@ -217,7 +236,7 @@ def election_by_letters(room: pathlib.Path, path: str, *, is_quoting: bool) -> N
     clock = room.parent / "clock"
     clock.write_text("2026-11-20T09:00:00+00:00")
     with before(clock):
-        new_election(room, poll, members, path)
+        new_election(room, poll, members, path, "--to", "vote@club.example")
     ballots = ((name, f"{name} {'1,2,3,4' if number % 10 else '1,2,3'}") for number, name in enumerate(names))
     write_inbox(room, ballots, is_quoting=is_quoting)
 
@@ -227,20 +246,22 @@ def many_letters(folder: pathlib.Path, path: str) -> Iterator[tuple[str, float, 
     room = folder / "letters"
     election_by_letters(room, path, is_quoting=True)
     for name, words, most in [
-        ("letters, 10,000 calls", ["letters", "call"], 30),
-        ("status, after these", ["status"], 0.5),
-        ("add, 10,000 that quote", ["add", "--yes", "inbox"], 30),
-        ("add, all of them again", ["add", "--yes", "inbox"], 30),
-        ("held, of 1,000", ["held"], 5),
-        ("letters, 10,000 receipts", ["letters", "receipts"], 30),
-        ("letters, 1,000 reminders", ["letters", "reminders"], 30),
-        ("undo, 9,000 lines", ["undo", "--yes"], 5),
+        ("letters, 10,000 calls", ["letters", "call"], 18),
+        ("status, after these", ["status"], 1),
+        ("add, 10,000 that quote", ["add", "--yes", "inbox"], 20),
+        ("add, all of them again", ["add", "--yes", "inbox"], 6),
+        ("held, of 1,000", ["held"], 4),
+        ("letters, 10,000 receipts", ["letters", "receipts"], 18),
+        ("letters, 1,000 reminders", ["letters", "reminders"], 7),
+        ("undo, 9,000 lines", ["undo", "--yes"], 4),
     ]:
-        yield name, command([ELECTION, *words], room, path), most
+        yield name, measured([ELECTION, *words], room, path), most
     demand_entered(room, LETTERS - LETTERS // 10)
+    close = ["close", "--yes", "--force", "--because", "so be it"]
+    yield "close, with 10,000 letters", measured([ELECTION, *close], room, path), 18
     room = folder / "plain"
     election_by_letters(room, path, is_quoting=False)
-    yield "add, 10,000 plain letters", command([ELECTION, "add", "--yes", "inbox"], room, path), 15
+    yield "add, 10,000 plain letters", measured([ELECTION, "add", "--yes", "inbox"], room, path), 10
     demand_entered(room, LETTERS - LETTERS // 10)
 
 
@@ -255,10 +276,11 @@ def main() -> int:
     with tempfile.TemporaryDirectory(prefix="debvote-around-") as name:
         os.environ["XDG_STATE_HOME"] = str(pathlib.Path(name, "state"))
         for part in (large_election, large_roll, largest_page, many_letters, several_questions):
-            for what, seconds, most in part(pathlib.Path(name), path):
-                is_good = seconds <= most
+            for what, times, most in part(pathlib.Path(name), path):
+                is_good = times <= most
                 failed += not is_good
-                print(f"{'' if is_good else 'TOO LONG '}{what:30}{seconds:7.1f} s, {most} s are the most", flush=True)
+                print(f"{'' if is_good else 'TOO LONG '}{what:30}{times:7.2f} times the yardstick, {most} are the most", flush=True)
+    print(f"the yardstick took {min(YARDS):.2f} to {max(YARDS):.2f} seconds, in the median {statistics.median(YARDS):.2f}")
     return 1 if failed else 0
 
 

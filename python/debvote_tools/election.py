@@ -107,8 +107,23 @@ class History(NamedTuple):
         return self.until is not None and time < self.until
 
     @property
+    def runs_of_call(self) -> list[DoneAct]:
+        """The acts that wrote letters of the call."""
+        return [act for act in self.since_call("letters out") if act.detail["kind"] == "call"]
+
+    @property
+    def is_call_written(self) -> bool:
+        """Whether letters of the call were written since it, or since its last extension."""
+        last = self.since_call("call", "extend")[-1].number
+        return any(run.number > last for run in self.runs_of_call)
+
+    def is_over(self, time: datetime.datetime) -> bool:
+        """Whether nobody is asked to vote any more, also if it was opened again."""
+        return bool(self.closes) or (self.until is not None and time > self.until)
+
+    @property
     def askings(self) -> list[DoneAct]:
-        """The acts that asked the box of the web host."""
+        """The acts that asked the web box."""
         return [act for act in self.since_call("letters") if "box" in act.detail]
 
     @property
@@ -323,12 +338,21 @@ class Election:
                 words = f"it would be in the folder {name}, whose files go to others"
                 raise bad_words(target, words, "name a place outside that folder", done)
 
-    def to_all(self, kind: str, file: pathlib.Path) -> str:
+    def to_all(self, kind: str, file: pathlib.Path, *, is_ready: bool = False) -> str:
         """How a letter goes to all: where nobody knows whose each code is, none can be written to
         an elector.
         """
-        by_hand = f"send {file} to all electors"
-        return by_hand if self.history().has_codes_on_roll else self.command("letters", kind)
+        history = self.history()
+        if history.has_codes_on_roll:
+            return f"send {file} to all electors"
+        send = self.command("letters", "--send")
+        write = self.command("letters", kind)
+        if is_ready:
+            return f"{send}, or your mail program, sends these letters"
+        # codes may be on slips
+        if kind == "call" and self.questions.is_secret and not history.is_secret_by_click:
+            return f"{write} writes letters, with the codes"
+        return f"{send} sends the letters, or {write} writes them"
 
     def command(self, *words: str) -> str:
         folder = [] if self.folder == pathlib.Path() else ["--folder", str(self.folder)]

@@ -1,4 +1,4 @@
-"""Compares the manual pages and the completions with the help of the programs, with docs/FORMATS.md, and with what docs/make-manual makes today.
+"""Compares manual pages and completions with help, with docs/FORMATS.md, and with what docs/make-manual makes today.
 
 If they are installed, `groff` and `man` read the pages without a warning, and bash, zsh and fish complete as their files say.
 """
@@ -12,7 +12,7 @@ import sys
 import tempfile
 import unittest
 
-from tests.support import expecting
+from tests.support import expecting, forks
 from tests.support.program import PROGRAM, ROOT
 
 PUBLISH = ROOT / "bin" / "debvote-publish"
@@ -25,8 +25,8 @@ SECONDS = 600
 
 
 def output_of(*words, **how):
-    words = list(map(str, words))
-    return subprocess.run(words, stdout=subprocess.PIPE, stderr=subprocess.STDOUT, text=True, timeout=SECONDS, **how).stdout
+    ended = forks.run([*map(str, words)], capture_output=True, text=True, timeout=SECONDS, **how)
+    return ended.stdout + ended.stderr
 
 
 # ---------------------------------------------------------------- the help
@@ -41,9 +41,16 @@ def options_in(text):
     return re.findall(rf"^ +(?:-\w, +)?({OPTION})\b", text, re.MULTILINE)
 
 
-def statuses_of_formats():
-    """The exit statuses of docs/FORMATS.md and what each means; the help says the same, but for the words in parentheses."""
-    return re.findall(r"^\| (\d+) \| (.*) \|$", FORMATS.read_text().partition("\n| status | meaning |")[2].partition("\n\n")[0], re.MULTILINE)
+def statuses_of_help():
+    """The exit statuses of the help of debvote, and what each means."""
+    lines = output_of(PROGRAM, "--help").partition("\nExit statuses:\n")[2].splitlines()
+    return [tuple(" ".join(line.split()).split(" ", 1)) for line in lines]
+
+
+def faults_of_formats():
+    """The statuses of docs/FORMATS.md that have fault lines, and the words of these."""
+    text = FORMATS.read_text().partition("\n## Fault lines and exit statuses\n")[2].partition("After `poll refused: `")[0]
+    return [(number, re.findall(r"`(.*?)`", words)) for number, words in re.findall(r"^- (\d+): (.*)$", text, re.MULTILINE)]
 
 
 @functools.cache
@@ -116,9 +123,7 @@ class HelpTest(expecting.Expecting):
         said = output_of(PROGRAM, "--help")
         about = re.search(r"the line above its usage is `(.*?)`", FORMATS.read_text())
         self.expect("--help: the line above the usage", said.partition("\n\nUsage: ")[0], about[1] if about else None)
-        wanted = [f"{number} {re.sub(r' [(].*[)]$', '', words)}" for number, words in statuses_of_formats()]
-        found = [" ".join(line.split()) for line in said.partition("\nExit statuses:\n")[2].splitlines()]
-        self.expect("--help: the exit statuses", (found, len(wanted)), (wanted, 11))
+        self.expect("--help: the exit statuses", [number for number, _ in statuses_of_help()], [str(number) for number in range(11)])
 
     def test_names_of_values(self):
         """In the usage of each command they are in capitals, as they are in its pages, or are choices."""
@@ -156,8 +161,13 @@ class PagesTest(expecting.Expecting):
             line = re.search(rf"^debvote {command}\n(.*?)(?=^\.br|\Z)", synopsis, re.MULTILINE | re.DOTALL)
             self.expect(f"debvote.1: synopsis of {command}", sorted(re.findall(OPTION, line[1] if line else "")), wanted)
         statuses = re.findall(r"^\.TP\n(\d+)\n((?:(?!\.TP\n).*\n)*)", part_of(page, "EXIT STATUS"), re.MULTILINE)
-        wanted = [(number, sentence(words.replace("`", ""))) for number, words in statuses_of_formats()]
-        self.expect("debvote.1: exit statuses", [(number, sentence(as_words(text))) for number, text in statuses], wanted)
+        found = {number: as_words(text) for number, text in statuses}
+        plainly = [(number, sentence(re.sub(r" [(].*[)][.]$", "", text))) for number, text in found.items()]
+        self.expect("debvote.1: exit statuses", plainly, [(number, sentence(words)) for number, words in statuses_of_help()])
+        faults = faults_of_formats()
+        self.expect("docs/FORMATS.md: statuses with fault lines", [number for number, _ in faults], "3 4 5 6 7 8 10".split())
+        for number, words in faults:
+            self.expect(f"debvote.1: fault lines of {number}", [line for line in words if line not in found[number]], [])
 
     def test_made_pages_and_completions(self):
         """The pages and completions that docs/make-manual makes are those that are here."""

@@ -1,5 +1,7 @@
-"""Builds the Debian package of the program twice, from two copies of this repository with other times and modes, looks at it, unpacks it, and
-runs its programs as a user without rights. If dpkg-deb, objdump, strip or msgfmt is not installed, nothing is tested.
+"""Builds the Debian package twice, looks at it, unpacks it, and runs its programs.
+
+It is built from two copies of this repository with other times and modes; the programs run as a user without rights. If dpkg-deb,
+objdump, strip or msgfmt is not installed, nothing is tested.
 """
 
 import gzip
@@ -20,7 +22,7 @@ from tests.support.program import PROGRAM, ROOT
 TOOLS = ["dpkg-deb", "objdump", "strip", "msgfmt"]
 
 # what packaging/deb reads, except the program and its sources
-PACKED = ["packaging", "bin", "python", "man", "completions", "docs", "examples", "CHANGELOG.md", "SECURITY.md", "HANDLES"]
+PACKED = ["packaging", "bin", "python", "man", "completions", "docs", "examples", "CHANGELOG.md", "SECURITY.md", "HANDLES", "crates.txt"]
 
 # the files that a user looks for, each in its folder
 DOCS = "SECRETARY SECRET-VOTES SPECIAL-CASES READING-A-SHEET FORMATS INSIDE DEFINITIONS"
@@ -58,17 +60,16 @@ def copy_to(folder, time, mask):
     (leavings / f"of-{time}.pyc").touch()
     (folder / "tests").mkdir()
     shutil.copyfile(ROOT / "tests" / "reference.py", folder / "tests" / "reference.py")
-    for rooms in (ROOT / "crates").iterdir():
-        for room in ("src", "specs", "proofs"):
-            (folder / "crates" / rooms.name / room).mkdir(parents=True)
-    shutil.copyfile(ROOT / "crates" / "debvote" / "src" / "main.rt", folder / "crates" / "debvote" / "src" / "main.rt")
+    # of these docs/make-claim makes pages
+    for room in [*(ROOT / "crates").glob("*/src"), *(ROOT / "crates").glob("*/specs")]:
+        shutil.copytree(room, folder / room.relative_to(ROOT), copy_function=shutil.copyfile)
     program = folder / "crates" / "debvote" / "out" / "debvote"
     program.parent.mkdir()
     shutil.copyfile(PROGRAM, program)
     note_proved(folder)
     for file in folder.rglob("*"):
         os.utime(file, (time, time))
-    for file in (program, folder / "packaging" / "deb"):
+    for file in (program, folder / "packaging" / "deb", folder / "docs" / "make-claim"):
         file.chmod(0o755)
     os.umask(before)
 

@@ -1,5 +1,6 @@
-"""Runs the built program as a user does on what a case cannot hold, since it is too large or needs more than files: the limits of
-files, outputs that fail, the terminal, help.
+"""Runs the built program as a user does on what a case cannot hold.
+
+It is too large, or needs more than files: the limits of files, outputs that fail, the terminal, help.
 
 DEBVOTE_VOTES_EACH is how often each of 10,000 electors votes, by default 10, which makes the greatest number of lines.
 DEBVOTE_LARGE_POLLS is the size of polls with one large thing, in bytes; by default 131072 and nearly the limit.
@@ -184,7 +185,8 @@ class WordsTest(WholeTest):
         ]:
             top.append(f"{command} {said}")
             self.check_help([command], [f"{name} {options[name]}" for name in names.split()])
-        self.check_help([], [*top, "Exit statuses:"])
+        joined = "Without a command it acts as steps on standard input: poll, a line %%, ballots"
+        self.check_help([], [*top, "Usage: debvote [COMMAND]", joined, "If a file is refused, explain says why, and where", "Exit statuses:"])
 
     def check_help(self, command, wanted):
         output, faults, status = run([*command, "--help"])

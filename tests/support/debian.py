@@ -1,4 +1,4 @@
-"""The packages of Debian that the programs and their tests need: it installs them if it can, or else says what to type."""
+"""What the programs and their tests need: the Rattle kit, and packages of Debian, which it installs if it can, or says what to type."""
 
 import importlib.util
 import os
@@ -9,6 +9,12 @@ import sys
 # what cannot be left out: the modules of /usr/bin/python3 and the programs, by their packages
 MODULES = {"python3-jinja2": "jinja2", "python3-babel": "babel", "python3-pytest": "pytest", "python3-pytest-xdist": "xdist"}
 PROGRAMS = {"gpgv": "gpgv", "gpg": "gpg"}
+
+
+def demand_kit() -> None:
+    """Ends the program if the kit is missing."""
+    if shutil.which("rt") is None:
+        sys.exit("rt is not in PATH: it belongs to the Rattle kit, which README names")
 
 
 def missing() -> list[str]:

@@ -15,7 +15,10 @@ from collections.abc import Iterable
 ROOT = pathlib.Path(__file__).resolve().parent.parent.parent
 
 # as many tests at once as there are processors; modules as Python itself compiles them, since few have a bare `assert`
-PYTEST = f"/usr/bin/python3 -m pytest -q --assert=plain -n {len(os.sched_getaffinity(0))}"
+PROCESSORS = len(os.sched_getaffinity(0))
+PYTEST = f"/usr/bin/python3 -m pytest -q --assert=plain -n {PROCESSORS}"
+# half as many more, for tests that wait for a browser, a host or a clock a third of their time
+PYTEST_WAITING = f"/usr/bin/python3 -m pytest -q --assert=plain -n {PROCESSORS + PROCESSORS // 2}"
 
 COUNT = re.compile(r"(\d+) passed, (\d+) failed")
 SKIPPED = re.compile(r"skipped: (.*?)(?: \((\d+)\))?")

@@ -58,12 +58,16 @@ class QuestionsTest(LettersTest):
             (folder / "polls" / f"{label}.toml").write_text(poll)
 
     def sheets(self) -> dict[str, str]:
-        """What `count` says of each question."""
-        found = self.election("count")
+        """What `count` says of each question: how it ends, on a line, and below if it is asked for the sheet."""
+        found = self.election("count", "--sheets")
         self.assertIn(found.status, (0, 1), found)
-        parts = re.split(r"(?m)^Question ([A-Z])\n", found.output)
-        self.assertEqual(parts[0], "", found)
-        return dict(zip(parts[1::2], parts[2::2], strict=True))
+        head, *parts = re.split(r"(?m)^Question ([A-Z])\n", found.output)
+        sheets = dict(zip(parts[::2], parts[1::2], strict=True))
+        titles = {label: tomllib.loads(poll)["title"] for label, poll in self.polls.items()}
+        lines = [f"{label} ({titles[label]}): {sheet.splitlines()[-1]}\n" for label, sheet in sheets.items()]
+        self.assertEqual((head, [*sheets]), ("".join(lines), [*self.polls]), found)
+        self.assertEqual(self.election("count").output, head)
+        return sheets
 
     def sheet_of(self, label: str, lines: Iterable[str], *, poll: bytes | None = None) -> str:
         """The sheet of an election of its own with the poll of a question and these lines, by the second program."""
@@ -82,10 +86,11 @@ def one_line(name: str, answers: Answers) -> str:
 
 
 def in_a_letter(folder: pathlib.Path, answers: Answers, code: str = "en") -> str:
-    """The same in words, as the letter of the result has it in a language."""
+    """The same in words, as the letter of the result has it in a language, but for its line ends."""
     language = language_of(code)
     said = Election(folder, PROGRAM.parent).questions.in_words(language)(one_line("", answers).strip())
-    return language.say("Your own ballot in words: {ballot}. The page shows it at:", ballot=said)
+    lines = [language.say("Your own ballot in words:"), *said.split("\n"), language.say("The page shows it at:")]
+    return " ".join(lines)
 
 
 def taken_apart(line: str) -> tuple[str, dict[str, str]]:

@@ -1,5 +1,6 @@
-"""Seals a ballot as the page of a vote does, each time with the same own key. Where python3-cryptography is not installed, the modules of
-tests that import this are skipped.
+"""Seals a ballot as the page of a vote does, each time with the same own key.
+
+Where python3-cryptography is not installed, the modules of tests that import this are skipped.
 """
 
 import base64

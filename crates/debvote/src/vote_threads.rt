@@ -1,5 +1,7 @@
-//! The threads of the system, lent to take votes. Who is given them can take votes, and do nothing else with the system: the field is
-//! private, and no other module has what stands there.
+//! The threads of the system, lent to take votes.
+//!
+//! Who is given them can take votes, and do nothing else with the system: the field is private, and
+//! no other module has what stands there.
 
 ghost use Rattle.std.specs.Prelude.{false};
 ghost use Rattle.vote_steps.specs.Desks.{AreDesks};

@@ -1,5 +1,6 @@
-//! The findings in a poll file. tests/refused-memory refuses the memory of the call, one growth
-//! after another.
+//! The findings in a poll file.
+//!
+//! tests/refused-memory refuses the memory of the call, one growth after another.
 
 use crate::same::assert_same;
 use std::alloc::{AllocError, Global};

@@ -1,3 +1,5 @@
+//! The tests of `vote_poll` and `vote_poll_text`: what a file means, and memory that is refused.
+
 use crate::same::{assert_same, assert_that};
 use std::alloc::{AllocError, Global};
 use std::fmt::Display;

@@ -1,3 +1,5 @@
+//! The tests of `vote_tray`: threads take each place once, and memory may be refused.
+
 ghost use Rattle.std.specs.Prelude.{◌≡◌, ◌≤◌, IfOk};
 ghost use Rattle.vote_tray.specs.Passes.{new_pass};
 

@@ -1,5 +1,4 @@
-//! What is said about a ballot file, with each allocation of the call refused in turn
-//! (tests/refused-memory).
+//! What is said about a ballot file, with each allocation refused in turn (tests/refused-memory).
 
 use crate::inputs::{assert_same, lines_of, poll_of};
 use std::alloc::{AllocError, Global};

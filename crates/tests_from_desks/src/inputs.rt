@@ -1,5 +1,7 @@
-//! What several of the tests share: an election, the reading of a poll and its lines when memory may be refused, and the comparison
-//! of results.
+//! What several of the tests share.
+//!
+//! It is an election, the reading of a poll and its lines when memory may be refused, and the
+//! comparison of results.
 
 use std::alloc::{AllocError, Global};
 use std::fmt::Debug;

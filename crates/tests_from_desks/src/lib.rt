@@ -1,5 +1,7 @@
-//! The tests of the calls above the ballot box. They test what no clause says, such as that a call succeeds if there is memory, and
-//! what no command of the program shows, such as gates, threads, a refused growth or a writer that fails.
+//! The tests of the calls above the ballot box.
+//!
+//! They test what no clause says, such as that a call succeeds if there is memory, and what no
+//! command of the program shows, such as gates, threads, a refused growth or a writer that fails.
 //!
 //! The tests of the calls up to the box are in `tests_below_desks`. A module has the tests of one crate and its name, such as
 //! `sheet` for `vote_sheet`. Exceptions: `desks` has the tests of `vote_desks_box` and of the audit, `votes` the other tests of

@@ -1,5 +1,6 @@
-//! What no clause says: that runs succeed. Also writers that fail, gates that stop a desk, and memory and threads that may be
-//! refused.
+//! What no clause says: that runs succeed.
+//!
+//! Also writers that fail, gates that stop a desk, and memory and threads that may be refused.
 //!
 //! Each test `memory_of_perform_on_..` and `threads_of_perform_on_..` has `perform_on` do one request, on a writer with room. The
 //! test passes if the call gave its whole right answer. If the call reported that memory or a thread was refused, and nothing was

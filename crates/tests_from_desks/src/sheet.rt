@@ -1,5 +1,6 @@
-//! A whole sheet and the texts of `steps`, `standing` and `check`, with each allocation of the call refused in turn
-//! (tests/refused-memory).
+//! A whole sheet and the texts of `steps`, `standing` and `check`.
+//!
+//! tests/refused-memory refuses each allocation of the call in turn.
 
 ghost use Rattle.vote_steps.specs.HeldLines.{HoldsLines};
 

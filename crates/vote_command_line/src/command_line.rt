@@ -219,8 +219,13 @@ fn command_of<'a>(alloc: Global, subcommand: Subcommand) -> Result<Command<'a>, 
     Ok(command)
 }
 
-/// The help on the exit statuses.
-const STATUSES_HELP: &str = "Exit statuses:
+/// The end of the help: what is done without a command, who says why, and the exit statuses.
+const LAST_HELP: &str =
+    "Without a command it acts as steps on standard input: poll, a line %%, ballots
+
+If a file is refused, explain says why, and where
+
+Exit statuses:
   0  success: there is a winner, no problem was found, or the sheet was verified
   1  a tie, and no casting vote was given; the result is printed
   2  the command line is refused
@@ -241,7 +246,8 @@ fn bare_command<'a>(alloc: Global) -> Result<Command<'a>, AllocError>
     Command::new(alloc, "debvote")
         .about("Counts votes by the Debian Constitution")
         .version(VERSION)
-        .after_help(STATUSES_HELP)
+        .override_usage("debvote [COMMAND]")
+        .after_help(LAST_HELP)
         .no_binary_name(true)
         .subcommand_required(true)
         .bin_name("debvote")

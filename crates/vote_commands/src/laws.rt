@@ -1,5 +1,6 @@
-//! What follows for what the commands write, and what the poll and the ballots of a joined input are. Each law is the contract of a
-//! function that calls other laws or does nothing.
+//! What follows for what the commands write, and the two parts of a joined input.
+//!
+//! Each law is the contract of a function that calls other laws or does nothing.
 ghost use Rattle.vote_commands.specs.Joined.{InputsArePartedAtSeparator, PartsAreUnique};
 ghost use Rattle.vote_commands.specs.OneText.{ChecksHaveOneText, CountsHaveOneText, ListingsHaveOneText};
 

@@ -1,5 +1,6 @@
-//! From bytes to bytes: the runs of the program. Each run reads its texts, works on them, and writes the text that is meant into a
-//! sink.
+//! From bytes to bytes: the runs of the program.
+//!
+//! Each run reads its texts, works on them, and writes the text that is meant into a sink.
 //!
 //! - [`count_for`] counts the ballots of its [`CountInputs`] and writes the text for its [`Purpose`](vote_request::Purpose): the
 //!   result sheet, the picture, or how a published sheet compares. [`run`] does so for the sheet.

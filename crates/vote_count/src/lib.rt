@@ -1,5 +1,4 @@
-//! The rules of the Debian Constitution for counting votes: section 4.2, the quorum, and Appendix A,
-//! Vote Counting.
+//! The rules of the Debian Constitution for counting votes: the quorum (4.2), and Appendix A.
 //!
 //! A [`Matrix`] has V(A,B), the number of voters who prefer option A to option B, for each two options
 //! of a poll. Ballots are added to it or taken out of it one at a time, and [`recount`] makes it from a

@@ -1,5 +1,6 @@
-//! What an audit means for the voters, and how many desks there can be. Each law is the contract of
-//! a function that does nothing.
+//! What an audit means for the voters, and how many desks there can be.
+//!
+//! Each law is the contract of a function that does nothing.
 ghost use Rattle.vote_desks.specs.Limits.{DesksAreAsWritten};
 ghost use Rattle.vote_desks.specs.Standing.{LastLinesStand, LinesAreCounted};
 

@@ -1,5 +1,4 @@
-//! One box that desks share: its lock, the desks with their slips, and the gathering of desks and
-//! slips.
+//! One box that desks share: its lock, the desks with their slips, and the gathering of both.
 //!
 //! `open_desks` returns a [`SharedBox`] and its desks, 1 to at most [`vote_steps::MAX_DESKS`].
 //! `SharedBox::cast` takes the lock, enters an envelope in the box as one step, and releases the

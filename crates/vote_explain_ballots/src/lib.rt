@@ -1,5 +1,7 @@
-//! What is wrong with the lines of a ballot file, and where: what is at a place, and what the format wants there. What may have been
-//! meant is not said, but for a name on the roll, as a question.
+//! What is wrong with the lines of a ballot file, and where.
+//!
+//! It says what is at a place, and what the format wants there. What may have been meant is not
+//! said, but for a name on the roll, as a question.
 //!
 //! - [`explain_ballots`] gives a text: what is remarked on the whole file, each line of the file that is refused, with what is wrong, a
 //!   ballot of the poll with what its ranks are of, and how many lines are valid, refused and late.

@@ -1,5 +1,7 @@
-//! What lets only remarks through, one line of printable text each; and what is remarked on a whole ballot file: what it is if it is
-//! no ballots, and how the ends of its lines are mended.
+//! What is remarked on a whole ballot file, and what lets only remarks through.
+//!
+//! A remark is one line of printable text: what the file is if it is no ballots, and how the ends
+//! of its lines are mended.
 ghost use Rattle.std.specs.Prelude.{◌≡◌, IfOk, IsTrue};
 ghost use Rattle.std.specs.List.{list_all, list_any};
 ghost use Rattle.vote_poll_text.specs.Names.{is_printable};

@@ -1,4 +1,6 @@
-//! All that is wrong with a poll file, in words: what is at a place, and what the format wants there. What may have been meant is not
+//! All that is wrong with a poll file, in words.
+//!
+//! They say what is at a place, and what the format wants there. What may have been meant is not
 //! said, but for the name of a key, as a question.
 //!
 //! - [`explain_poll`] reads a poll file as [`Poll::from_text`](vote_poll::Poll::from_text) does, and gives beside the poll, or its first

@@ -1,4 +1,6 @@
-//! What is said of a poll file that is no TOML: what kind of file it is, or where it leaves TOML, and what is there. At which place `toml`
+//! What is said of a poll file that is no TOML.
+//!
+//! It is what kind of file it is, or where it leaves TOML, and what is there. At which place `toml`
 //! finds the error no contract says.
 ghost use Rattle.std.specs.Prelude.{◌≡◌, ◌≤◌, ◌++◌, IfOk, codes, decimal, length, string_bytes, take};
 ghost use Rattle.vote_poll_text.specs.Adding.{Adds};

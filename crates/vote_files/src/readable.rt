@@ -1,5 +1,7 @@
-//! What the system has, lent to be read. Who is given one of these can read, and do nothing else with the system's files and input:
-//! the field is private, and no other module of this crate has what stands there.
+//! What the system has, lent to be read.
+//!
+//! Who is given one of these can read, and do nothing else with the system's files and input: the
+//! field is private, and no other module of this crate has what stands there.
 
 use std::fs::File;
 use std::io;

@@ -1,6 +1,7 @@
-//! Finds the sort key of a rank that a ballot line spells, by two look-ups instead of tests. A test
-//! of a rank's length is a coin toss, and a processor that guesses wrong loses the time of several
-//! ranks.
+//! Finds the sort key of a rank that a ballot line spells, by two look-ups instead of tests.
+//!
+//! A test of a rank's length is a coin toss, and a processor that guesses wrong loses the time of
+//! several ranks.
 ghost use Rattle.std.specs.Prelude.{◌≡◌, if◌then◌else◌, ◌==◌, IfSome, Some, option_map};
 ghost use Rattle.std.specs.Str.{byte};
 ghost use Rattle.vote_poll.specs.Parsing.{kind_of};

@@ -1,5 +1,6 @@
-//! What the fact of a sheet means, how a count ends, and the limits of files in numbers. Each law is the contract of a function that
-//! calls other laws or does nothing.
+//! What the fact of a sheet means, how a count ends, and the limits of files in numbers.
+//!
+//! Each law is the contract of a function that calls other laws or does nothing.
 
 ghost use Rattle.std.specs.Prelude.{◌≡◌};
 ghost use Rattle.vote_program.specs.CountLaws.{CountsAskForSheet, KnownEndsAreKept, KnownSheetsAreWritten, StoppedCountsEndSo};

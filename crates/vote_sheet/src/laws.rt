@@ -1,5 +1,7 @@
-//! Laws of the count in terms of what people see, from the lines of a ballot file to the sheet. Each function only calls the laws
-//! of the count that it needs: its contract is the law, and that is proved.
+//! Laws of the count in terms of what people see, from the lines of a ballot file to the sheet.
+//!
+//! Each function only calls the laws of the count that it needs: its contract is the law, and that
+//! is proved.
 ghost use Rattle.vote_sheet.specs.ElectorLaws.{BallotsThatOrderAlikeCountAlike, NamesDoNotMatter, NobodyCountsTwice, OneBallotMovesEachCountByOne, OnlyLastBallotsDecide, OnlyTheLastBallotCounts, RefusedLinesAreOnlyCounted, RefusedLinesHaveNoInfluence};
 ghost use Rattle.vote_sheet.specs.Limits.{LimitsAreAsWritten};
 ghost use Rattle.vote_sheet.specs.Publishing.{KeepsTheOrder, NormalRanksTellTheOrderAlone, PublishedFilesHaveTheSameSheet, PublishedFilesSayTheSame, normal_ranks};

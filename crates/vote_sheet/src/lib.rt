@@ -1,5 +1,4 @@
-//! What is printed for a poll and its lines: the result sheet and its picture, the lines of `steps` and of `standing`, and the line
-//! of `check`.
+//! What is printed for a poll and its lines: sheet, picture, and the lines of the other commands.
 //!
 //! - [`sheet_of_box`] returns the sheet of a box that holds the lines of the poll, and the decision of the sheet. What the sheet
 //!   says is a relation between the poll, the lines, the casting vote and the sheet (`IsSheetOf`), without history, desks or

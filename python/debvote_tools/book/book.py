@@ -87,7 +87,7 @@ ActName = (
 #     keyring, codes_on_roll, quorum_votes; call, extend: until, zone
 #   call, announce, publish: agreed, the checksums of texts that a secret vote may make public
 #   take back: call, its act; codes, how many have lapsed
-#   letters: letters, and box, what the box of the web host had; add: files, lines, letters,
+#   letters: letters, and box, what the web box had; add: files, lines, letters,
 #     unsigned, and passed_over, how many came before; desk: lines
 #   add, desk: came_before_close, after reopen
 #   set aside, put back: letters; enter: letters, and lines, empty if the ballot was typed

@@ -1,1 +1,1 @@
-"""The draft of a poll, the members, the call, the box, and what a secret vote needs."""
+"""The draft of a poll, the members, the call, the web box, and what a secret vote needs."""

@@ -1,4 +1,4 @@
-"""The box of a vote, in which `vote.php` keeps the ballots that electors send by a click.
+"""The web box of a vote, in which `vote.php` keeps the ballots that electors send by a click.
 
 The script lies beside the page of the call, and `add --box` asks it for the ballots. The key of the
 box never leaves the book: whoever has it makes the link of each elector from name and own mark, and

@@ -16,6 +16,7 @@ from debvote_tools.files import POLL_LIMIT, read_text, read_whole
 from debvote_tools.poll.plain_names import bad_options, bad_title, plain_options, plain_title
 from debvote_tools.poll.questions import LABELS, POLL_FILE, TITLE_FILE, Questions, place_of
 from debvote_tools.poll.sealed import KEYS, is_set, plain_form
+from debvote_tools.text.language import ENGLISH
 from debvote_tools.text.motions import ABSTAIN, NO, YES, first_word, words_of
 
 # the file that `new` writes, with its explanations
@@ -49,6 +50,15 @@ SET_ELSEWHERE = {
 
 # keys that are true or false
 FLAGS = ("secret", "motion")
+
+# what each key says that a poll needs, and that the secretary writes
+NEEDED = {
+    "title": "what the vote is about",
+    "options": "what can be chosen",
+    "ratios": "how great a majority each option needs",
+    "default": "the default option",
+    "quorum": "the quorum",
+}
 
 # how `debvote explain` begins a line if it has read the poll as TOML
 IS_TOML = re.compile(r"(?m)^poll(?:: | ok)")
@@ -143,6 +153,19 @@ def faults_of_keys(values: Mapping[str, Any], file: object) -> Iterator[Fault]:
         elif not has_plain_form(value):
             cure = "write a text, a whole number or a list of these, or take it out"
             yield bad_poll(file, f"`{shown_text(key)}` has a value of a wrong kind", cure)
+
+
+def faults_of_lacking(draft: DraftPoll) -> list[Fault]:
+    """What is not written yet."""
+    lacking = [f"{NEEDED[key]} ({key})" for key in NEEDED if is_lacking(draft.values.get(key))]
+    if not lacking:
+        return []
+    reason = f"it does not say yet {ENGLISH.joined(lacking)}"
+    return [bad_poll(draft.file, reason, "fill it in with an editor")]
+
+
+def is_lacking(value: object) -> bool:
+    return value in (None, []) or (isinstance(value, str) and not value.strip())
 
 
 def has_plain_form(value: object) -> bool:

@@ -116,6 +116,11 @@ def label_of(person: Member | Elector) -> str:
     return f"{person.name} ({shown_text(person.who)})" if person.who else person.name
 
 
+def elector_in_words(person: Member | Elector) -> str:
+    """The name on the roll, the real name and the addresses."""
+    return f"  {person.name}: {shown_text(person.who)} {', '.join(person.addresses)}".rstrip()
+
+
 # the line if there is one, what is wrong with it, and the cure
 Wrong = tuple[int | None, str, str]
 

@@ -29,7 +29,7 @@ ZONE = contextvars.ContextVar[datetime.tzinfo | None]("zone", default=datetime.U
 # leaves out of a text what is never shown, such as the links with which somebody could vote
 LEAVING_OUT = contextvars.ContextVar[Callable[[str], str]]("leaving out", default=str)
 # whether a terminal alone shows what people wrote, once the acts are read: cron sends by mail what
-# a command says, and in a secret vote with a box ballots come by no mail
+# a command says, and in a secret vote with a web box ballots come by no mail
 FOR_TERMINALS = contextvars.ContextVar[bool]("for terminals", default=False)
 
 

@@ -22,7 +22,7 @@ from debvote_tools.commands.check import (
     checked,
     demand_read,
     faults_of_ballots,
-    tell_checked,
+    notes_on,
 )
 from debvote_tools.commands.codes import CODES, SLIPS, write_slips
 from debvote_tools.election import (
@@ -79,7 +79,7 @@ class Arguments(Acting):
     )
     slips: str | None = option(
         None,
-        "In a secret vote with a box: whether slips with codes will be handed out, as the page says (default: ask at the terminal)",
+        "In a secret vote with a web box: whether slips with codes will be handed out, as the page says (default: ask at the terminal)",
         choices=("yes", "no"),
     )
     keyring: str | None = option(
@@ -141,7 +141,7 @@ def call_first(election: Election, arguments: Arguments) -> None:
     }
     act = sealing(election, arguments, detail, draft, keyring)
     act.do(election.book, history.last.number)
-    tell_checked(draft, election.language)
+    tell(*notes_on(election, draft))
 
 
 def sealing(
@@ -467,7 +467,8 @@ def call_in_words(election: Election, data: CallData) -> Iterator[str]:
     if election.history().closes:
         yield f"Next: {election.command('status')}"
         return
-    yield f"Next: {put}, and write to the electors: {election.to_all('call', letter)}; enter the ballots that come: {election.command('add', 'FILE')} or {election.command('desk')}"
+    tries = ", and tries first whether the page takes ballots" if data.has_box else ""
+    yield f"Next: {put}; then {election.to_all('call', letter)}{tries}; enter the ballots that come: {election.command('add', 'FILE')} or {election.command('desk')}"
 
 
 def box_in_words(election: Election, data: CallData) -> Iterator[str]:
@@ -482,7 +483,7 @@ def box_in_words(election: Election, data: CallData) -> Iterator[str]:
     yield f"Make a copy of the book now: {election.command('backup', 'FILE')}. Without the book nobody can open what lies on the web host."
     yield f"To ask for the ballots of the page each hour, by cron: {cron_line(election)}"
     first = f"run {ask}, then " if asked_at == data.at else ""
-    yield f"{first}upload the files of {election.path(CALL)} to {data.at}, {SCRIPT} too, then run {ask}, which tries whether it works"
+    yield f"{first}upload the files of {election.path(CALL)} to {data.at}, {SCRIPT} too"
 
 
 def cron_line(election: Election) -> str:

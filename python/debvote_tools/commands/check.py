@@ -16,6 +16,7 @@ from debvote_tools.call.draft import (
     DraftPoll,
     bad_poll,
     draft_in,
+    faults_of_lacking,
     faults_of_names,
     faults_of_several,
     labels_in,
@@ -38,6 +39,8 @@ from debvote_tools.sheet import sheet_in
 from debvote_tools.text.language import Language
 from debvote_tools.text.motions import with_ranks
 
+# what debvote says of a key that no poll has
+NOT_READ = "is not read"
 # how many electors a note names
 MAX_NAMED = 200
 # a real name that ends in a letter, or is one, which may be read as a label
@@ -60,8 +63,8 @@ def check(election: Election, arguments: Options) -> None:
         tell(f"The polls are in order: {len(questions)} questions, {electors}.")
     else:
         tell(f"The poll is in order: {len(questions[''].names)} options, {electors}.")
-    tell_checked(draft, election.language)
-    tell(*names_like_answers(questions, queries.electors(election.book), election.language))
+    tell_checked(draft)
+    tell(*notes_on(election, draft))
     for label, poll in questions.items():
         tell(f"{label and f'{label}: '}{quorum_words(poll.quorum, draft.quorums[label])}")
     if not history.has_codes_on_roll:
@@ -72,23 +75,6 @@ def check(election: Election, arguments: Options) -> None:
             f"{election.command('codes')}, since the vote is secret and electors have no codes yet"
         )
     tell(f"Next: {after}")
-
-
-def names_like_answers(
-    questions: Questions, electors: Sequence[queries.Elector], language: Language
-) -> Iterator[str]:
-    """Notes on people whose names may be read as a part of an answer."""
-    words = questions.words(language)
-    real_names = [elector.who for elector in electors]
-    if names := [name for name in real_names if with_ranks(name, words) != name]:
-        yield f"Note: these real names end in a word of the motion, and a name is no ballot: {listed(names, MAX_NAMED)}"
-    names = [
-        label_of(elector)
-        for elector in electors
-        if LIKE_LABEL.search(elector.who) or len(elector.name) == 1
-    ]
-    if names and questions.is_several:
-        yield f"Note: these names end in a letter that may be read as the label of a question: {listed(names, MAX_NAMED)}"
 
 
 def next_call(election: Election) -> str:
@@ -128,7 +114,10 @@ def checked(election: Election, **announced: object) -> Checked:
         for label, draft in drafts.items()
     }
     for label, draft in drafts.items():
-        faults += faults_by_debvote(election, draft.file, polls[label])
+        lacking = faults_of_lacking(draft)
+        said = faults_by_debvote(election, draft.file, polls[label])
+        # a key that no poll has may be one that is lacking, misspelt
+        faults += [*lacking, *(fault for fault in said if not lacking or NOT_READ in fault.words)]
     stop_at(faults)
     motions = [label for label, draft in drafts.items() if draft.says("motion")]
     questions = read_questions(polls, motions, title)
@@ -205,7 +194,7 @@ def faults_of_ballots(
             )
 
 
-def tell_checked(draft: Checked, language: Language) -> None:
+def tell_checked(draft: Checked) -> None:
     tell(f"Title: {draft.questions.name}")
     for label, poll in draft.questions.items():
         tell(*poll_in_words(label, poll))
@@ -213,30 +202,56 @@ def tell_checked(draft: Checked, language: Language) -> None:
     if lines:
         tell(f"Letters to electors begin with {LETTER_TEXT}:")
         tell(*(f"  {line}".rstrip() for line in lines))
+
+
+def notes_on(election: Election, draft: Checked) -> Iterator[str]:
+    """What may be meant otherwise, in the secretary's own words and in names."""
+    lines = draft.letter_text.splitlines()
     if long := [str(number) for number, line in enumerate(lines, 1) if len(line) > LONGEST_LINE]:
-        tell(
-            f"Note: these lines of {LETTER_TEXT} have more than {LONGEST_LINE} characters, so mail programs may break them: {', '.join(long)}"
-        )
-    if like := like_answers(draft.questions, draft.letter_text, language):
-        tell("Note: these look like answers, and letters that quote one of them wait:")
-        tell(*(f"  {place}: {shown_text(text)}" for place, text in like))
+        yield f"Note: these lines of {LETTER_TEXT} have more than {LONGEST_LINE} characters, so mail programs may break them: {', '.join(long)}"
+    if like := like_answers(draft.questions, draft.letter_text, election.language):
+        yield "Note: these look like answers, and letters that quote one of them wait:"
+        yield from (f"  {place}: {shown_text(text)}" for place, text in like)
+    yield from names_like_answers(election, draft.questions)
+
+
+def names_like_answers(election: Election, questions: Questions) -> Iterator[str]:
+    """Notes on people whose names may be read as a part of an answer."""
+    electors = queries.electors(election.book)
+    words = questions.words(election.language)
+    real_names = [elector.who for elector in electors]
+    if names := [name for name in real_names if with_ranks(name, words) != name]:
+        yield f"Note: these real names end in a word of the motion, and a name is no ballot: {listed(names, MAX_NAMED)}"
+    names = [
+        label_of(elector)
+        for elector in electors
+        if LIKE_LABEL.search(elector.who) or len(elector.name) == 1
+    ]
+    if names and questions.is_several:
+        yield f"Note: these names end in a letter that may be read as the label of a question: {listed(names, MAX_NAMED)}"
 
 
 def poll_in_words(label: str, poll: SealedPoll) -> Iterator[str]:
-    """What is asked, below the title of the one question."""
+    """What is asked, below the title of the one question; of several each option on one line."""
+    between = "; " if label else "\n     "
     if label:
         yield f"Question {label}: {poll.name}"
     if poll.name != poll.title:
         yield f"  plain: {poll.title}"
-    yield "Options:"
+    if not label:
+        yield "Options:"
     # the default option is the last, and has no ratio and no text
     options = itertools.zip_longest(poll.names, poll.plain_names, poll.ratios, poll.explanations)
     for number, (name, plain, ratio, text) in enumerate(options, start=1):
-        yield f"{number:3}  {name} ({f'majority ratio {ratio}' if ratio else 'the default option'})"
+        said = [
+            f"{number:3}  {name} ({f'majority ratio {ratio}' if ratio else 'the default option'})"
+        ]
         if name != plain:
-            yield f"     plain: {plain}"
+            said.append(f"plain: {plain}")
         if text:
-            yield f"     text: {count_of(len(text.split()), 'word')} from {TEXTS}/{place_of(label, f'{number}.txt')}"
+            words = count_of(len(text.split()), "word")
+            said.append(f"text: {words} from {TEXTS}/{place_of(label, f'{number}.txt')}")
+        yield between.join(said)
     if poll.motion:
         yield "A motion, yes: {}, no: {}".format(*poll.names)
     if poll.wording == "more_than":

@@ -11,8 +11,10 @@ from debvote_tools.call.secret import seal_line, sealed_checksum
 from debvote_tools.cli.arguments import Acting, demand_reason, flag, has_reason
 from debvote_tools.cli.console import act_time, count_of, tell
 from debvote_tools.cli.faults import Fault, stop_at
+from debvote_tools.commands.letters import write_ready
 from debvote_tools.election import LETTERS, Election, Fixed, History, fixed_by
 from debvote_tools.files import OWN, write_made
+from debvote_tools.inbox.asking import ask_before_close
 from debvote_tools.inbox.stopping import (
     Pending,
     other_votes_words,
@@ -33,7 +35,7 @@ class Arguments(Acting):
 
     early: bool = flag("Close before the end of the vote; the result page says so")
     force: bool = flag(
-        "With --because: close although letters wait that arrived in time, or the box of the web host was not asked since the end; the "
+        "With --because: close although letters wait that arrived in time, or the web box was not asked since the end; the "
         "result page says so"
     )
     yes: bool = flag("Close without asking whether all ballots are in")
@@ -43,6 +45,7 @@ def close(election: Election, arguments: Arguments) -> None:
     """Close the vote; lines that are entered later are late, and do not count."""
     election.demand_right_book(arguments)
     if is_new := not election.history().is_closed:
+        ask_first(election, arguments)
         carried_out(election.book, lambda: what_is_closed(election, arguments))
     history = election.history()
     act = history.closes[-1]
@@ -52,8 +55,9 @@ def close(election: Election, arguments: Arguments) -> None:
     if is_new:
         tell_closed(act)
         if act.detail["early"] and history.announced("box"):
+            count = election.command("count")
             tell(
-                f"Note: the page still takes ballots, and says that they arrived: run {election.command('add', '--box')}."
+                f"Note: the page still takes ballots, and says that they arrived: {count} asks for them once more."
             )
     else:
         tell(
@@ -61,16 +65,27 @@ def close(election: Election, arguments: Arguments) -> None:
         )
     if written:
         tell(f"Made {path}.")
-    # where nobody knows whose each code is, no letter can be written to an elector
-    sending = "" if history.has_codes_on_roll else f"{election.command('letters', 'closed')}, then "
+    ready = write_ready(election, "closed")
     tell(
         *(
             f"Checksum of the ballots{label and f' of question {label}'}{' with the random line' if of_one.seal else ''}: {of_one.checksum}"
             for label, of_one in fixed.items()
         ),
         f"Send {path} to all electors before you count anything.",
-        f"Next: {sending}{election.command('count')}",
+        *ready,
+        f"Next: {election.to_all('closed', path, is_ready=bool(ready))}; then {election.command('count')}",
     )
+
+
+def ask_first(election: Election, arguments: Arguments) -> None:
+    """Asks the web box if the close needs it, unless it is forced, or it is too early for it."""
+    is_early = election.history().ends_after(times.now())
+    if not (is_forced(arguments) or is_early > arguments.early):
+        ask_before_close(election, "early" if is_early else "close")
+
+
+def is_forced(arguments: Arguments) -> bool:
+    return arguments.force and has_reason(arguments.because)
 
 
 def lines_in_words(fixed: Mapping[str, Fixed]) -> str:
@@ -148,7 +163,7 @@ def what_is_closed(election: Election, arguments: Arguments) -> Closing:
     faults = list[Fault]()
     if history.until is not None and is_early and not arguments.early:
         faults.append(too_early(election, history.until, now))
-    if not (arguments.force and has_reason(arguments.because)):
+    if not is_forced(arguments):
         faults += stopping.values()
     stop_at(faults)
     fixed = {

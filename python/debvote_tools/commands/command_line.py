@@ -15,15 +15,37 @@ from debvote_tools.election import Election
 
 PROGRAM = "debvote-election"
 
-# in the order in which an election needs them. Each is a function in the module of the same name;
-# its docstring is the help, and the class of its arguments has the options
-COMMANDS = (
-    "new roll check codes call add held undo strike desk letters show status "
-    "close reopen count publish log export backup"
-).split()
+# by the phases of an election, as the guide for the secretary has them. Each is a function in the
+# module of the same name; its docstring is the help, and the class of its arguments has the options
+PHASES = {
+    "Before": "new roll check codes",
+    "To begin": "call letters backup",
+    "Each day": "add desk held",
+    "Near the end": "status",
+    "To end": "close",
+    "After it": "count publish",
+    "If something is wrong": "show undo strike reopen log export",
+}
+COMMANDS = " ".join(PHASES.values()).split()
 
 # the commands that change nothing
 QUIET = ("check", "show", "status", "count", "log")
+
+
+class ByPhase(argparse.HelpFormatter):
+    """A help that lists commands by the phases of an election."""
+
+    def _format_action(self, action: argparse.Action) -> str:
+        if not isinstance(action, argparse._SubParsersAction):
+            return super()._format_action(action)
+        commands = {command.dest: command for command in action._get_subactions()}
+        parts = []
+        for phase, names in PHASES.items():
+            parts.append(f"  {phase}:\n")
+            self._indent()
+            parts += [self._format_action(commands[name]) for name in names.split()]
+            self._dedent()
+        return "".join(parts)
 
 
 def parser(typed: Sequence[str] = ()) -> argparse.ArgumentParser:
@@ -36,9 +58,11 @@ def parser(typed: Sequence[str] = ()) -> argparse.ArgumentParser:
     folder.add_argument("--folder", metavar="F", default=argparse.SUPPRESS, help=text)
     how: dict[str, Any] = {"allow_abbrev": False, "parents": [folder]}
     text = "Runs an election in one folder, from the list of members to the published result, with debvote."
-    top = arguments.Parser(prog=PROGRAM, description=text, **how)
+    top = arguments.Parser(prog=PROGRAM, description=text, formatter_class=ByPhase, **how)
     arguments.add_version(top)
-    commands = top.add_subparsers(dest="command", metavar="COMMAND", required=True)
+    commands = top.add_subparsers(
+        title="commands", dest="command", metavar="COMMAND", required=True
+    )
     for name in typed[:1] if typed and typed[0] in COMMANDS else COMMANDS:
         module = importlib.import_module(f"debvote_tools.commands.{name}")
         run = getattr(module, name)

@@ -3,10 +3,11 @@
 from collections.abc import Collection, Mapping
 
 from debvote_tools.cli.arguments import Acting, flag, option
-from debvote_tools.cli.console import tell_as_it_is, tell_aside
+from debvote_tools.cli.console import tell, tell_as_it_is, tell_aside
 from debvote_tools.cli.faults import bad_words, stop_at
 from debvote_tools.election import Election, History
 from debvote_tools.inbox.asked import asked_words
+from debvote_tools.inbox.asking import ask_for
 from debvote_tools.inbox.stopping import Pending, pending_letters, what_stops
 from debvote_tools.poll.questions import Questions
 from debvote_tools.result.publication import kept_of, sheet_of
@@ -30,19 +31,23 @@ class Arguments(Acting):
 
     casting: list[str] | None = option(*CASTING, action="append")
     question: str | None = option("LABEL", "Of several questions count this one alone")
+    sheets: bool = flag("Of several questions print the sheet of each, too")
     force: bool = flag(
-        "Count although letters wait that arrived in time, or the box of the web host was not asked since an early close"
+        "Count although letters wait that arrived in time, or the web box was not asked since an early close"
     )
 
 
 def count(election: Election, arguments: Arguments) -> int:
-    """Print the result sheet; of several questions all, each with its label above it."""
+    """Print the result sheet; of several questions how each ends."""
     election.demand_right_book(arguments)
     questions = election.questions
     history = election.history()
     demand_countable(election, history)
     castings = castings_in(arguments.casting, questions)
     labels = labels_asked_for(questions, arguments.question)
+    if history.is_closed and not arguments.force:
+        ask_for(election, "count", tell_aside)
+        history = election.history()
     pending = pending_letters(election, history) if history.is_closed else Pending()
     if not history.is_closed:
         tell_aside(*asked_words(history))
@@ -52,16 +57,24 @@ def count(election: Election, arguments: Arguments) -> int:
         label: sheet_of(election, kept, castings.get(label))
         for label, kept in kept_of(election, history, labels).items()
     }
-    for label, sheet in sheets.items():
-        # the sheet alone, so that it can go into a file
-        tell_as_it_is(
-            sheet.text if arguments.question or not label else f"Question {label}\n{sheet.text}"
-        )
+    tell_sheets(questions, sheets, arguments)
     tell_aside(*unneeded_words(castings, sheets))
     if pending.stopping:
         tell_aside(f"Note: {pending.why_they_stop}; they are in no count.")
     tell_aside(f"Next: {what_next(election, history, sheets, castings)}")
     return max(sheet.status for sheet in sheets.values())
+
+
+def tell_sheets(questions: Questions, sheets: Mapping[str, Sheet], arguments: Arguments) -> None:
+    """The sheet of one question, alone, so that it can go into a file; of several how each ends,
+    and if they are asked for the sheets below, each with its label above it.
+    """
+    if arguments.question or not questions.is_several:
+        tell_as_it_is(*(sheet.text for sheet in sheets.values()))
+        return
+    tell(*(f"{questions.titled(label)}: {sheet.last_line}" for label, sheet in sheets.items()))
+    for label, sheet in sheets.items() if arguments.sheets else ():
+        tell_as_it_is(f"Question {label}\n{sheet.text}")
 
 
 def labels_asked_for(questions: Questions, label: str | None) -> Collection[str]:

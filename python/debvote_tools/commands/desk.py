@@ -160,7 +160,13 @@ class Casting(entering.Entry):
         # the end may pass while a desk is open; of a late line its reply says so
         if not (is_told or self.is_late):
             yield from self.desk.notes
-        yield from self.vote.report_of_lines(self.lines, numbers, replies)
+        if not self.question:
+            yield from self.vote.report_of_lines(self.lines, numbers, replies)
+            return
+        # what was asked about was shown in words
+        for number, reply, line in zip(numbers, replies, self.lines):
+            said = line.voter if line.is_ballot else shown_line(line.as_entered)
+            yield f"{number} {reply}  {said}"
 
 
 def what_is_cast(desk: Desk, lines: list[CheckedLine], elector: int | None, asks: bool) -> Casting:
@@ -414,6 +420,8 @@ def earlier_words(vote: Vote, ballot: CheckedLine, elector: int) -> Iterator[str
         for is_new in (True, False)
     )
     if replaced:
-        yield f"{ballot.voter} has a ballot: {vote.answers_in_words(answers_text(replaced))}. It will be replaced."
+        words = f"{ballot.voter} has a ballot, which will be replaced"
+        yield vote.with_answers(words, answers_text(replaced))
     if stays:
-        yield f"These earlier answers of {ballot.voter} stay: {vote.answers_in_words(answers_text(stays))}."
+        words = f"These earlier answers of {ballot.voter} stay"
+        yield vote.with_answers(words, answers_text(stays))

@@ -1,5 +1,6 @@
 """The command `letters`, which writes letters to the electors, and sends them."""
 
+import contextlib
 import dataclasses
 import getpass
 import pathlib
@@ -25,17 +26,20 @@ from debvote_tools.cli.faults import Fault, Status, bad_words, kept_in, stop_at
 from debvote_tools.election import LETTERS, Election, History
 from debvote_tools.files import locked, uninterrupted
 from debvote_tools.grouping import grouped
+from debvote_tools.inbox.asked import unasked_fault
 from debvote_tools.outbox import letter_folder, smtp
 from debvote_tools.outbox.due import LettersDue, demand_due, is_present, letters_due
 from debvote_tools.outbox.reached import WAS_REFUSED, unreached_and_printed
 from debvote_tools.outbox.smtp import Server
 from debvote_tools.outbox.words import SUBJECTS
 from debvote_tools.poll.announced import demand_mail_address, demand_web_address
+from debvote_tools.text import times
 
 # how many electors without an address are named
 MOST = 20
 # in characters
 BAR = 40
+ALL_TAKEN = "There is no letter to send: the server has taken all that are due."
 # what is said of letters with link and code
 CODES = "Who reads a letter with its code can vote in that name, and finds the alias"
 
@@ -43,8 +47,11 @@ CODES = "Who reads a letter with its code can vote in that name, and finds the a
 class Arguments(Acting):
     nothing = "written"
 
-    kind: str = positional(
-        "KIND", "call, receipts, reminders, closed or result", choices=list(SUBJECTS)
+    kind: str | None = positional(
+        "KIND",
+        "call, receipts, reminders, closed or result (default, to send: all that are made and not sent, but for reminders)",
+        choices=list(SUBJECTS),
+        nargs="?",
     )
     send: bool = flag("Send the letters to a mail server; if a run was cut off, go on from there")
     server: str | None = option(
@@ -65,11 +72,11 @@ class Arguments(Acting):
         "URL", "With result: the web address of the result, if the call does not name it"
     )
     force: bool = flag(
-        "With --because: write the call or reminders although nobody has seen whether the box of the web host works, and say in them "
+        "With --because: write the call or reminders although nobody has seen whether the web box works, and say in them "
         "that the page takes no ballots; or the letters of the close although it was not asked since"
     )
     codes: bool = flag(
-        "With call, in a secret vote with a box: write the code into each letter, too"
+        "With call, in a secret vote with a web box: write the code into each letter, too"
     )
     yes: bool = flag(
         "Answer yes when asked whether to remind again within a day, or to write codes"
@@ -88,12 +95,25 @@ def letters(election: Election, arguments: Arguments) -> int:
     history = election.history()
     demand_codes(history, arguments)
     sender = sender_of(history, arguments)
-    announce(election, history, arguments)
-    folder = election.path(LETTERS) / arguments.kind
-    letter_folder.make_own(folder)
-    # two runs at once would send each letter twice
-    with locked(folder.with_name(".lock")):
-        due = letters_of(election, arguments, sender)
+    if arguments.kind is None:
+        return send_ready(election, sender, server)
+    announce(election, history, arguments.kind, arguments.at)
+    return letters_of_kind(election, arguments, arguments.kind, sender, server)
+
+
+def letters_of_kind(
+    election: Election, arguments: Arguments, kind: str, sender: str, server: Server | None
+) -> Status:
+    """Writes the letters of a kind, or sends them."""
+    with folder_of(election, kind) as folder:
+        due = letters_due(
+            election,
+            kind,
+            sender,
+            is_sending=arguments.send,
+            because=arguments.because if arguments.force else None,
+            has_codes=arguments.codes,
+        )
         if not (arguments.yes or is_right_time(due)):
             tell("Nobody was reminded.")
             return Status.DONE
@@ -107,6 +127,77 @@ def letters(election: Election, arguments: Arguments) -> int:
     return exit_status(due, tried)
 
 
+@contextlib.contextmanager
+def folder_of(election: Election, kind: str) -> Iterator[pathlib.Path]:
+    """The folder for letters of a kind. Two runs at once would send each letter twice."""
+    folder = election.path(LETTERS) / kind
+    letter_folder.make_own(folder)
+    with locked(folder.with_name(".lock")):
+        yield folder
+
+
+# ---- what is made, and not sent yet
+def write_ready(election: Election, kind: str) -> list[str]:
+    """Writes the letters of a kind to the electors that no run has written, and says which are
+    ready; nothing if none can be written now.
+    """
+    history = election.history()
+    sender = history.announced("to")
+    is_asked = unasked_fault(election, history, kind) is None
+    if not (sender and is_asked and kind in kinds_ready(election, history)):
+        return []
+    with folder_of(election, kind) as folder:
+        due = letters_due(election, kind, sender, is_sending=False, because=None)
+        place = folder / str(due.for_act)
+        written = write(due, place) if due.new else 0
+    ready = [f"Ready: {count_of(written, 'letter')}, {place}"] if written else []
+    return [*notes_on(due, {place: due.new}), *ready]
+
+
+def kinds_ready(election: Election, history: History) -> Iterator[str]:
+    """The kinds of letters that are due now, but for reminders."""
+    if history.has_codes_on_roll:
+        return
+    # codes may be on slips: whoever wants them in letters has these written first
+    has_codes = election.questions.is_secret and not history.is_secret_by_click
+    if not (history.is_over(times.now()) or (has_codes and not history.runs_of_call)):
+        yield "call"
+    yield "receipts"
+    if history.is_closed:
+        yield "closed"
+    if history.stage == "published" and history.announced("at"):
+        yield "result"
+
+
+def send_ready(election: Election, sender: str, server: Server | None) -> Status:
+    """Sends what was made, and no run has sent; of receipts those that were written. What one kind
+    stops at keeps no other back.
+    """
+    demand_due(election, election.history(), "receipts")
+    faults = list[Fault]()
+    status = Status.DONE
+    is_sent = False
+    for kind in [*kinds_ready(election, election.history())]:
+        with folder_of(election, kind) as folder:
+            due = None
+            with kept_in(faults):
+                due = letters_due(election, kind, sender, is_sending=True, because=None)
+            if due and kind == "receipts":
+                due = dataclasses.replace(due, new=(), in_no_receipt=(), letters_pending=0)
+            if due is None or not (due.new or due.to_send):
+                continue
+            place = folder / str(due.for_act)
+            write(due, place)
+            tried = send_letters(due, server)
+        is_sent = True
+        tell(*notes_on(due, {place: due.new}))
+        tell(*(f"{kind}: {line}" for line in sent_words(due, tried)))
+        status = max(status, exit_status(due, tried))
+    tell(*unreached_words(election), *([] if is_sent or faults else [ALL_TAKEN]))
+    stop_at(faults)
+    return status
+
+
 def exit_status(due: LettersDue, tried: Sequence[OutgoingLetter]) -> Status:
     """A doubt if an address refuses a letter, but for one that an elector had before."""
     refused = [letter for letter in tried if letter.state != TAKEN]
@@ -114,23 +205,11 @@ def exit_status(due: LettersDue, tried: Sequence[OutgoingLetter]) -> Status:
     return Status.DOUBT if is_refused else Status.DONE
 
 
-def announce(election: Election, history: History, arguments: Arguments) -> None:
+def announce(election: Election, history: History, kind: str, at: str | None) -> None:
     """The act that says at which address the result is, if nobody has said it."""
-    if arguments.at not in (None, history.announced("at")):
-        demand_due(election, history, arguments.kind)
-        Change("announce", {"at": arguments.at}).do(election.book, history.last.number)
-
-
-def letters_of(election: Election, arguments: Arguments, sender: str) -> LettersDue:
-    """The letters that are due now."""
-    return letters_due(
-        election,
-        arguments.kind,
-        sender,
-        is_sending=arguments.send,
-        because=arguments.because if arguments.force else None,
-        has_codes=arguments.codes,
-    )
+    if at not in (None, history.announced("at")):
+        demand_due(election, history, kind)
+        Change("announce", {"at": at}).do(election.book, history.last.number)
 
 
 def demand_codes(history: History, arguments: Arguments) -> None:
@@ -138,7 +217,7 @@ def demand_codes(history: History, arguments: Arguments) -> None:
     if not arguments.codes:
         return
     if not history.is_secret_by_click:
-        raise bad_words("--codes", "only in a secret vote with a box", "leave it out")
+        raise bad_words("--codes", "only in a secret vote with a web box", "leave it out")
     if not (arguments.yes or is_agreed(CODES, "write them")):
         raise Fault(None, "you did not agree to codes in letters", "give them on slips")
 
@@ -197,7 +276,7 @@ def sent_words(due: LettersDue, tried: Sequence[OutgoingLetter]) -> Iterator[str
     if tried:
         yield f"Sent {len(tried) - len(refused)} of {count_of(len(tried), 'letter')}."
     else:
-        yield "There is no letter to send: the server has taken all that are due."
+        yield ALL_TAKEN
     for letter in refused:
         yield f"Refused: {due.electors[letter.elector].name}, {letter.address}: {shown_text(letter.reply)}"
     if any(map(due.can_be_sent, refused)):
@@ -220,6 +299,11 @@ def unreached_words(election: Election) -> Iterator[str]:
 def demand_words(arguments: Arguments) -> None:
     """Stops at all that is wrong with them alone."""
     faults = list[Fault]()
+    if arguments.kind is None and (not arguments.send or arguments.force):
+        cure = (
+            f"name one of {', '.join(SUBJECTS)}; only --send goes without it, to send what is made"
+        )
+        faults.append(bad_words("letters", "no kind is named", cure))
     if not arguments.send and (options := given(arguments, "server", "user", "password_file")):
         faults.append(
             bad_words(", ".join(options), "only with --send", "give --send too, or leave this out")

@@ -15,6 +15,7 @@ from debvote_tools.call.draft import texts_of
 from debvote_tools.cli.arguments import Acting, demand_reason, flag, option, positional
 from debvote_tools.cli.console import act_time, odd_sign, tell, tell_aside
 from debvote_tools.cli.faults import Fault, bad_words, kept_in, stop_at
+from debvote_tools.commands.letters import write_ready
 from debvote_tools.election import (
     BOX_KEY,
     CALL,
@@ -239,6 +240,8 @@ def tell_published(
             f"Next: {election.command('close')}, then {election.command('publish', str(other_place(target)))}"
         )
         return
+    ready = write_ready(election, "result")
+    tell(*ready)
     if tied := [label for label, outcome in outcomes.items() if outcome.sheet.winner is None]:
         # the next result has the casting votes of its own command alone
         castings = history.publications[-1].detail["casting"] | dict.fromkeys(tied, "NAME")
@@ -246,9 +249,9 @@ def tell_published(
             f"Next: it is a tie: ask for the casting vote, and then give its option, its holder and its day: {publishing(election, castings)}"
         )
     else:
-        tell(
-            f"Next: put the folder {target} on the web site as it is, then {election.to_all('result', election.path(LETTERS) / RESULT_LETTER)}"
-        )
+        letter = election.path(LETTERS) / RESULT_LETTER
+        sending = election.to_all("result", letter, is_ready=bool(ready))
+        tell(f"Next: put the folder {target} on the web site as it is; then {sending}")
     if history.announced("box"):
         tell(
             f"Where it takes the place of the page, remove {SCRIPT} and {records_file(queries.sealed(election.book, BOX_KEY))}."

@@ -7,7 +7,7 @@ from debvote_tools.book import outgoing, queries
 from debvote_tools.book.book import Book
 from debvote_tools.book.change import Change
 from debvote_tools.call.box import SCRIPT, box_files
-from debvote_tools.call.members import Member, Roll, label_of
+from debvote_tools.call.members import Member, Roll, elector_in_words, label_of
 from debvote_tools.cli.arguments import Acting, flag, option
 from debvote_tools.cli.console import count_of, is_terminal, is_yes, listed, shown_text, tell
 from debvote_tools.cli.faults import Fault, bad_words
@@ -20,6 +20,7 @@ from debvote_tools.inbox.lines import Names
 from debvote_tools.poll.plain_names import ELECTOR_LIMIT, alike, similar_names
 from debvote_tools.poll.sealed import new_own_mark
 from debvote_tools.text.addresses import address_in, address_key
+from debvote_tools.text import times
 from debvote_tools.text.language import Language
 
 # `Eve & Dan`, `Eve und Dan`, `Eve/Dan`
@@ -33,7 +34,7 @@ class Arguments(Acting):
     yes: bool = flag("After the call: take the new addresses and keys without a question")
     new_link: str | None = option(
         "NAME",
-        "After a call with a box: make a new link for this elector, for whom the box takes no more",
+        "After a call with a web box: make a new link for this elector, for whom it takes no more",
     )
 
 
@@ -63,9 +64,17 @@ def roll(election: Election, arguments: Arguments) -> None:
         }
         change_addresses(election, history, agreed, arguments.new_link)
         after = election.command("status")
-        if agreed and not history.closes:
-            after = f"{election.command('letters', 'call')}, for the new addresses"
+        if agreed and not history.is_over(times.now()):
+            after = next_letters(election, history)
     tell(f"Next: {after}")
+
+
+def next_letters(election: Election, history: History) -> str:
+    """What is done about new addresses and links while people vote."""
+    script = election.path(CALL) / SCRIPT
+    upload = f"upload {script} again, since these electors have new links; then "
+    write = f"{election.command('letters', 'call')}, for the new addresses"
+    return f"{upload if history.announced('box') else ''}{write}"
 
 
 def linked_anew(history: History, roll: Roll, name: str | None) -> list[Member]:
@@ -128,7 +137,7 @@ def change_addresses(
     change = Change("addresses", {"electors": len(changed)}, electors=electors, sealed=files)
     change.do(book, history.last.number)
     make_anew(election, history)
-    tell(*changed_words(election, changed, has_new_script=bool(files)))
+    tell(*changed_words(election, changed))
     tell(*letter_words.judged_anew(letters_before, letters_now(vote)))
 
 
@@ -178,23 +187,18 @@ def changes_in_words(member: Member, went: Mapping[str, Sequence[str]]) -> str:
 
 
 # ---- what is told
-def changed_words(
-    election: Election, changed: Mapping[Member, str], *, has_new_script: bool
-) -> Iterator[str]:
+def changed_words(election: Election, changed: Mapping[Member, str]) -> Iterator[str]:
     for member, words in changed.items():
         yield f"{member.name}: {words}"
     if election.questions.is_secret:
         yield f"Made {SLIPS} and {CODES} in {election.path(PRIVATE)} anew: a new address has a new mark."
     yield f"{count_of(len(changed), 'elector')} changed; the result page says how many."
-    if has_new_script:
-        yield f"Upload {election.path(CALL) / SCRIPT} again, since these electors have new links; then run {election.command('add', '--box')}."
 
 
 def roll_in_words(roll: Roll, language: Language) -> Iterator[str]:
     electors = roll.electors
     yield f"{count_of(len(electors), 'elector')}, each with the name on the roll:"
-    for member in electors:
-        yield f"  {member.name}: {shown_text(member.who)} {', '.join(member.addresses)}".rstrip()
+    yield from map(elector_in_words, electors)
     if proposed := sum(bool(member.proposal) for member in electors):
         yield f"{count_of(proposed, 'name was', 'names were')} proposed. To change a name, write it into a column `name` of {MEMBERS_FILE}, and run this again."
     for words, names, after in notes_on(electors, language):

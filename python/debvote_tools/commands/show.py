@@ -32,9 +32,10 @@ def show(election: Election, arguments: Arguments) -> None:
     came = [fate.envelope for fate in fates if fate.envelope]
     tell(*(f"  {line}" for fate in fates for line in fate_words(vote, history, fate, came)))
     current = queries.what_counts(election.book, {elector.number}).get(elector.name)
-    line = f"{elector.name} {current}: " if current and vote.questions.is_several else ""
-    said = private(f"{line}{vote.in_words_of(current)}") if current else "none"
-    tell(f"The current ballot: {said}")
+    words = "The current ballot"
+    if current and vote.is_several:
+        words += f": {private(f'{elector.name} {current}')}"
+    tell(vote.with_answers(words, current) if current else f"{words}: none")
     for letter in sorted(
         outgoing.outgoing_letters(election.book, elector=elector.number),
         key=lambda letter: letter.time,
@@ -72,7 +73,6 @@ def fate_words(vote: Vote, history: History, fate: Fate, came: Sequence[Envelope
         else:
             yield f"{letter_words.who_and_when(letter)}: {letter_words.why(letter)}"
     if envelope is not None:
-        answers = vote.answers_in_words(fate.answers) or refused_line(vote, envelope)
         marks = list[str]()
         if envelope.is_late:
             again = (
@@ -91,7 +91,11 @@ def fate_words(vote: Vote, history: History, fate: Fate, came: Sequence[Envelope
             struck = f"struck by {act.name} at {act_time(act.time)}"
             marks.append(f"{struck}: {because}" if because else struck)
         marked = f" ({'; '.join(marks)})" if marks else ""
-        yield f"envelope {envelope.number}, {act_time(envelope.time)}{letter_words.sent_words(fate.came_by)}: {answers}{marked}"
+        words = f"envelope {envelope.number}, {act_time(envelope.time)}{letter_words.sent_words(fate.came_by)}{marked}"
+        if fate.answers:
+            yield vote.with_answers(words, fate.answers, "    ")
+        else:
+            yield f"{words}: {refused_line(vote, envelope)}"
 
 
 def refused_line(vote: Vote, envelope: Envelope) -> str:

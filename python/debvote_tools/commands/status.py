@@ -7,6 +7,7 @@ from typing import Any
 from debvote_tools.book import queries
 from debvote_tools.book.book import Book
 from debvote_tools.book.queries import Envelope
+from debvote_tools.call.members import elector_in_words
 from debvote_tools.cli.arguments import Options, flag
 from debvote_tools.cli.console import (
     act_time,
@@ -17,9 +18,10 @@ from debvote_tools.cli.console import (
     tell,
     wrapped,
 )
+from debvote_tools.cli.faults import Fault
 from debvote_tools.election import LETTERS, RESULT_LETTER, Election, History
 from debvote_tools.inbox import letter_words
-from debvote_tools.inbox.asked import asked_last, asked_words, unasked_fault, with_lost_records
+from debvote_tools.inbox.asked import asked_last, asked_words, with_lost_records
 from debvote_tools.inbox.stopping import Pending, pending_letters, taken_out_words
 from debvote_tools.inbox.vote import envelope_words
 from debvote_tools.outbox.reached import unreached_and_printed
@@ -33,10 +35,17 @@ State = dict[str, Any]
 
 class Arguments(Options):
     json: bool = flag("Print the numbers as JSON, for programs")
+    electors: bool = flag(
+        "List the electors instead: the name on the roll, the real name, the addresses"
+    )
 
 
 def status(election: Election, arguments: Arguments) -> None:
     """Show how far the election is: lines, ballots, electors without a ballot, refused lines."""
+    if arguments.electors:
+        demand_names(election)
+        tell(*map(elector_in_words, queries.electors(election.book)))
+        return
     with election.book.snapshot():
         history = election.history()
         counting = queries.what_counts(election.book)
@@ -49,6 +58,12 @@ def status(election: Election, arguments: Arguments) -> None:
     else:
         stage = stage_words(election, history, state)
         tell(*stage, *state_words(election, history, state, refused))
+
+
+def demand_names(election: Election) -> None:
+    if election.history().has_codes_on_roll:
+        words = "codes are on the roll, and nobody knows whose they are"
+        raise Fault("--electors", words, "leave it out")
 
 
 def state_of(election: Election, history: History, counting: Mapping[str, str]) -> State:
@@ -175,9 +190,7 @@ def what_next(election: Election, history: History, state: State) -> str:
     if state["stage"] == "called":
         return f"add the ballots as they come: {election.command('add', 'FILE')}, or {election.command('desk')}; when the vote is over: {election.command('close')}"
     if state["stage"] == "published" and not state["stopping"]:
-        return f"put the published folder on the web site as it is, then {election.to_all('result', election.path(LETTERS) / RESULT_LETTER)}"
+        return f"put the published folder on the web site as it is; then {election.to_all('result', election.path(LETTERS) / RESULT_LETTER)}"
     # what stops a count goes first
-    is_unasked = unasked_fault(election, history, "count")
-    first = f"{election.command('add', '--box')}, then " if is_unasked else ""
-    first += f"{election.command('held')}, then " if state["stopping"] else ""
+    first = f"{election.command('held')}, then " if state["stopping"] else ""
     return f"{first}{election.command('count')}, then {election.command('publish')}"

@@ -3,7 +3,7 @@
 A letter meets these modules, in this order; `take_letters` in `taking.py` leads it:
 
     given_files             files, folders and standard input are read, once and whole; or
-    box_records             the box of the web host is asked, and each of its records is a letter
+    box_records             the web box is asked, and each of its records is a letter
     mailbox                 a file is split into letters
     mime, letter, html      its head and its parts; its sender, its time and its lines
     signature               what gpgv says of it, if letters have to be signed

@@ -1,4 +1,4 @@
-"""Whether the box of the web host was asked lately enough, for all commands that need it.
+"""Whether the web box was asked lately enough, for all commands that need it.
 
 What an asking brings is in `box_records.py`.
 """
@@ -22,6 +22,8 @@ WITH_LINKS = ("call", "reminders")
 AFTER_CLOSE = ("count", "closed", "publish")
 # the steps of a close at the end, and before it
 CLOSES = ("close", "early")
+# the steps that ask it themselves where it needs to be asked
+ASKING = ("call", "closed", "count", *CLOSES)
 # what needs an asking, as kinds of letters, a new address (`at`), a close at the end, one that is
 # `early`, and what follows: why it stops, and what can be forced
 FORCE = "with --force --because TEXT"
@@ -29,7 +31,7 @@ WITHOUT_PAGE = f"write letters that say that the page takes no ballots, {FORCE}"
 CLOSE = f"close {FORCE} (the result page says so)"
 NEEDS = {
     "call": (
-        "nobody has seen yet whether the box of the web host works, with page and links of now",
+        "nobody has seen yet whether the web box works, with page and links of now",
         WITHOUT_PAGE,
     ),
     "reminders": (
@@ -38,11 +40,11 @@ NEEDS = {
     ),
     "at": ("ballots may lie on the page at the address of now", ""),
     "page": ("the page on the web host was not that of the call", CLOSE),
-    "close": ("the box of the web host was not asked since the end", CLOSE),
-    "early": ("the box of the web host was not asked in the last ten minutes", CLOSE),
+    "close": ("the web box was not asked since the end", CLOSE),
+    "early": ("the web box was not asked in the last ten minutes", CLOSE),
 } | dict.fromkeys(
     AFTER_CLOSE,
-    ("the box of the web host was not asked since the vote was closed early", f"go on {FORCE}"),
+    ("the web box was not asked since the vote was closed early", f"go on {FORCE}"),
 )
 
 
@@ -90,8 +92,8 @@ def asked_words(history: History) -> list[str]:
     if box := last_box(history):
         records = count_of(box["records"], "record")
         time = act_time(history.askings[-1].time)
-        return [f"Box of the web host: {records} when it was asked last, {time}"]
-    return ["Box of the web host: not asked yet"] if history.announced("box") else []
+        return [f"Web box: {records} when it was asked last, {time}"]
+    return ["Web box: not asked yet"] if history.announced("box") else []
 
 
 def with_lost_records(election: Election, history: History) -> list[str]:
@@ -150,9 +152,10 @@ def unasked_fault(election: Election, history: History, what: str) -> Fault | No
         return None
     words, force = NEEDS["call" if is_unseen else "page" if is_other else what]
     if last and since and is_right and history.askings[-1].time > since:
-        words += f": when the box was asked last, it was only {act_time(from_text(last['time']))} by its own clock"
+        words += f": when the web box was asked last, it was only {act_time(from_text(last['time']))} by its own clock"
     first = "" if is_right else "upload the folder call, then "
-    cure = f"{first}run {election.command('add', '--box')}"
+    again = "the command again" if what in ASKING else election.command("add", "--box")
+    cure = f"{first}run {again}"
     if force:
         cure += f"; if it does not answer any more, {force}"
     return Fault(what if force == WITHOUT_PAGE else "--box", words, cure)

@@ -1,4 +1,4 @@
-"""Asks the box of a vote, on the web host, for all that it has, and makes letters of its records.
+"""Asks the web box of a vote for all that it has, and makes letters of its records.
 
 What becomes of them is decided elsewhere.
 
@@ -149,9 +149,9 @@ def ask(at: str | None, mark: str, word: str) -> Asked:
         found_mark, digest, written_time = (part.decode() for part in head.groups())
         time = datetime.datetime.fromisoformat(written_time)
     except ValueError:
-        raise Fault(address, f"it does not answer as a box: {shown(answer)}", UPLOAD) from None
+        raise Fault(address, f"it does not answer as a web box: {shown(answer)}", UPLOAD) from None
     if found_mark != mark:
-        raise Fault(address, f"it is the box of another vote, [{found_mark}]", UPLOAD)
+        raise Fault(address, f"it is the web box of another vote, [{found_mark}]", UPLOAD)
     records = answer.body[head.end() :]
     if records and not (records.startswith(BEGIN) and records.endswith(END)):
         raise cut_off(address)
@@ -268,7 +268,7 @@ def page_there(election: Election, history: History) -> Detail:
 
 def box_words(box: Detail, before: Detail) -> Iterator[str]:
     """What is said of an asking, beside the one before."""
-    yield f"The box has {count_of(box['records'], 'record')}."
+    yield f"The web box has {count_of(box['records'], 'record')}."
     if abs(off := box["behind"]) > MOST_OFF:
         side = "behind" if off > 0 else "ahead of"
         yield f"Note: its clock is {abs(off)} seconds {side} that of this computer, and its records have its time."
@@ -303,7 +303,7 @@ def in_order(records: bytes) -> list[RawLetter]:
     """Records as they came, by the times of the host, without the lines above them."""
     parts = [part.partition(b"\n")[2] + END[:-1] for part in records.split(END)[:-1]]
     raws = (
-        RawLetter(f"box, record {number}", part, record_digest=sha256_of(part))
+        RawLetter(f"web box, record {number}", part, record_digest=sha256_of(part))
         for number, part in enumerate(parts, start=1)
     )
     return sorted(raws, key=arrived)

@@ -55,17 +55,22 @@ def arrival_of(letter: LetterCase) -> str:
 
 # ---- what goes in
 def going_in_words(letters: Sequence[LetterCase], vote: Vote) -> Iterator[str]:
-    """One line a letter: whose ballot it is, and how it is read."""
+    """Of each letter whose ballot it is, and how it is read."""
+    are_many = vote.are_many(letter.sole_ballot.as_entered for letter in letters)
+    between = "\n  " if vote.is_several else "; "
     for letter in letters:
-        yield "; ".join([ballot_words(letter, vote), *more_words(letter)])
+        said = ballot_words(letter, vote, is_short=are_many)
+        yield between.join([said, *more_words(letter)])
+    if are_many:
+        yield vote.show_words
 
 
-def ballot_words(letter: LetterCase, vote: Vote) -> str:
+def ballot_words(letter: LetterCase, vote: Vote, *, is_short: bool) -> str:
     line = letter.sole_ballot
     is_same = line.written == line.as_entered
     as_written = "" if is_same else f", written `{shown_line(line.written.encode())}`"
-    answers = vote.answers_in_words(line.as_entered.partition(" ")[2])
-    return f"{line.elector} ({name_of(letter)}{as_written}): {answers}"
+    whose = f"{line.elector} ({name_of(letter)}{as_written})"
+    return vote.with_answers(whose, line.as_entered.partition(" ")[2], is_short=is_short)
 
 
 def more_words(letter: LetterCase) -> list[str]:

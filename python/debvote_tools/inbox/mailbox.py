@@ -81,10 +81,10 @@ class NotRead(enum.Enum):
     PDF = "it is a PDF", "save the letter itself as .eml"
     NO_LETTER = "it does not look like a letter", "if it is a letter, save it as .eml"
     CUT_OFF = (
-        "it is a record of the box that was cut off, of which nobody was told that it arrived",
+        "it is a record of the web box that was cut off, of which nobody was told that it arrived",
         "fetch the file again",
     )
-    SEALED = "it is a record of the box that can't be opened", "ask its elector to vote again"
+    SEALED = "it is a record of the web box that can't be opened", "ask its elector to vote again"
 
 
 @dataclasses.dataclass(frozen=True, kw_only=True)

@@ -115,11 +115,11 @@ class Reason(enum.Enum):
         LOOKED_AT,
     )
     FETCHED = (
-        "it is in the file of the box, which others may have changed: run add --box, or enter it if the box does not answer",
+        "it is in the file of the web box, which others may have changed: run add --box, or enter it if the web box does not answer",
         LOOKED_AT,
     )
     NOT_THERE_BEFORE = (
-        "it is older than {asked}, when the box of the web host was asked and did not have it",
+        "it is older than {asked}, when the web box was asked and did not have it",
         LOOKED_AT,
     )
     OTHER_TIME = (

@@ -72,7 +72,7 @@ class Circumstances:
     # no letter goes in now
     is_closed: bool
     now: datetime.datetime
-    # the key of the box of the web host
+    # the key of the web box
     box_key: bytes = b""
     # whether lines with what looks like a code or an alias are told: in a secret vote with names on
     # the roll

@@ -14,6 +14,7 @@ from debvote_tools.book.change import carried_out
 from debvote_tools.book.queries import NewEnvelope
 from debvote_tools.cli.console import count_of, is_terminal, listed, shown_text, tell
 from debvote_tools.cli.faults import Fault
+from debvote_tools.election import CALL, Election, History
 from debvote_tools.inbox import letter_words
 from debvote_tools.inbox.given_files import safe
 from debvote_tools.inbox.entering import Entry
@@ -24,6 +25,7 @@ from debvote_tools.inbox.box_records import Brought, asked_box, opened, unopened
 from debvote_tools.inbox.rules import LetterCase, LetterOutcome
 from debvote_tools.inbox.vote import Vote
 from debvote_tools.inbox.stopping import other_votes_words
+from debvote_tools.text import times
 
 # how many letters with later ones are named
 MOST_NAMED = 20
@@ -42,21 +44,21 @@ def take_letters(
     """
     files = [opened(vote.book, raw) if raw.is_fetched else raw for raw in given]
     brought = asked_box(vote) if of_box else Brought(files)
-    raws = [raw for raw in brought.letters if raw.why_not_read is None]
-    new = new_of(vote, raws)
-    read = read_letters(vote, new)
     tell(*brought.words)
+    new, read = new_in(vote, brought)
     if not is_look:
         keep(vote, new, read, brought.detail)
     for raw in brought.letters:
         if why := raw.why_not_read:
             what, cure = why.value
             tell(f"{shown_text(raw.where)}: {what}, and was passed over; {cure}")
-    came_before = f"{count_of(len(new), 'new letter')}; {len(raws) - len(new)} came before."
-    plan = functools.partial(what_goes_in, vote, of_box=of_box, is_agreed=is_agreed)
+    readable = sum(raw.why_not_read is None for raw in brought.letters)
+    came_before = f"{count_of(len(new), 'new letter')}; {readable - len(new)} came before."
+    own = {raw.digest for raw in new}
+    plan = functools.partial(what_goes_in, vote, own, of_box=of_box, is_agreed=is_agreed)
     if is_look:
         would = plan(read)
-        tell_letters(vote, would.cases)
+        would.tell_letters()
         tell(came_before, would.end.replace("went in", "would go in"), "Nothing was changed.")
         return
     tell(came_before)
@@ -68,15 +70,17 @@ def take_letters(
 
 
 # ---- keeping
-def new_of(vote: Vote, raws: Sequence[RawLetter]) -> list[RawLetter]:
-    """The letters that the book does not have, each of them once."""
+def new_in(vote: Vote, brought: Brought) -> tuple[list[RawLetter], list[ReadLetter]]:
+    """The letters that the book does not have, each of them once, and as they are read."""
+    raws = [raw for raw in brought.letters if raw.why_not_read is None]
     kept = queries.kept_digests(vote.book)
     # of letters with the same bytes the first that can't be text of another, or else the first
     chosen: dict[str, RawLetter] = {}
     for raw in raws:
         if raw.digest not in chosen or chosen[raw.digest].is_parted_off > raw.is_parted_off:
             chosen[raw.digest] = raw
-    return [raw for digest, raw in chosen.items() if is_not_kept(digest, raw.is_parted_off, kept)]
+    new = [raw for digest, raw in chosen.items() if is_not_kept(digest, raw.is_parted_off, kept)]
+    return new, read_letters(vote, new)
 
 
 def is_not_kept(digest: str, is_parted_off: bool, kept: Set[tuple[str, bool]]) -> bool:
@@ -108,7 +112,8 @@ def keep(vote: Vote, raws: Sequence[RawLetter], read: Sequence[ReadLetter], deta
 @dataclasses.dataclass(frozen=True, kw_only=True)
 class LetterEntry(Entry):
     """An act that enters ballots of letters, and decides of the letters that are done. Prints the
-    reply to each ballot in words, and then `end`, if it has one.
+    reply to each ballot, and then `end`, if it has one. In words a ballot was shown before, and of
+    one question it is so once more.
     """
 
     end: str = dataclasses.field(default="", compare=False)
@@ -116,7 +121,9 @@ class LetterEntry(Entry):
     def words(self, numbers: range, replies: Sequence[str]) -> Iterator[str]:
         for number, reply, envelope in zip(numbers, replies, self.envelopes):
             ballot = envelope.line.decode("ascii")
-            yield f"{number} {reply}  {self.vote.ballot_in_words(ballot)}"
+            name, _, _ = ballot.partition(" ")
+            said = name if self.vote.is_several else self.vote.ballot_in_words(ballot)
+            yield f"{number} {reply}  {said}"
         yield from filter(None, [self.end])
 
 
@@ -130,12 +137,26 @@ def with_outcome(cases: Iterable[LetterCase], outcome: LetterOutcome) -> list[Le
 
 @dataclasses.dataclass(frozen=True, kw_only=True)
 class GoingIn(LetterEntry):
-    """Letters go in by themselves, once that is agreed to."""
+    """Letters go in by themselves, once that is agreed to. `own` are the digests of those that this
+    run has brought: of the others that stay out it is told how many wait.
+    """
 
     cases: list[LetterCase] = dataclasses.field(compare=False)
+    own: Set[str] = dataclasses.field(compare=False)
+
+    def tell_letters(self) -> None:
+        own = [letter for letter in self.cases if letter.read.digest in self.own]
+        going_in = with_outcome(self.cases, LetterOutcome.GOES_IN)
+        tell(*letter_words.going_in_words(going_in, self.vote))
+        tell(*letter_words.table(with_outcome(own, LetterOutcome.WAITS)))
+        if older := with_outcome(own, LetterOutcome.OLDER):
+            numbers = listed([*map(letter_words.name_of, older)], MOST_NAMED)
+            tell(f"Passed over, since a later letter of its elector went in: {numbers}")
+        of_others = with_outcome(self.cases, LetterOutcome.OTHER_VOTE)
+        tell(*other_votes_words(letter.other_vote for letter in of_others))
 
     def show(self) -> None:
-        tell_letters(self.vote, self.cases)
+        self.tell_letters()
         if self.is_nothing:
             tell(self.end)
         elif self.question and not is_terminal():
@@ -154,7 +175,12 @@ class GoingIn(LetterEntry):
 
 
 def what_goes_in(
-    vote: Vote, previewed: Sequence[ReadLetter] = (), *, of_box: bool, is_agreed: bool
+    vote: Vote,
+    own: Set[str],
+    previewed: Sequence[ReadLetter] = (),
+    *,
+    of_box: bool,
+    is_agreed: bool,
 ) -> GoingIn:
     every = judged(vote, vote.history(), queries.kept_letters(vote.book), previewed)
     cases = [letter for letter in every if letter.read.link or not of_box]
@@ -173,27 +199,30 @@ def what_goes_in(
         is_late=False,
         end=letter_words.went_in_words(every, len(new)),
         cases=cases,
+        own=own,
     )
 
 
 def tell_next(change: GoingIn) -> None:
     election = change.vote.election
-    following = election.command("status")
+    history = election.history()
+    following = next_step(election, history)
     if with_outcome(change.cases, LetterOutcome.WAITS):
         following = f"{election.command('held')}, which lists the letters that wait"
     if offered := [str(letter.number) for letter in change.cases if letter.is_offered]:
         enter = election.command("held", *offered, "--enter")
         following = f"{enter}, which shows these ballots and asks; {following}"
-    if not election.history().is_closed and queries.last_entering_act(election.book):
+    if not history.is_closed and queries.last_entering_act(election.book):
         following += f"; {election.command('undo')} takes back what was entered last"
     tell(f"Next: {following}")
 
 
-def tell_letters(vote: Vote, cases: Sequence[LetterCase]) -> None:
-    tell(*letter_words.going_in_words(with_outcome(cases, LetterOutcome.GOES_IN), vote))
-    tell(*letter_words.table(with_outcome(cases, LetterOutcome.WAITS)))
-    if older := with_outcome(cases, LetterOutcome.OLDER):
-        numbers = listed([*map(letter_words.name_of, older)], MOST_NAMED)
-        tell(f"Passed over, since a later letter of its elector went in: {numbers}")
-    of_others = with_outcome(cases, LetterOutcome.OTHER_VOTE)
-    tell(*other_votes_words(letter.other_vote for letter in of_others))
+def next_step(election: Election, history: History) -> str:
+    """What comes after an `add` where no letter waits."""
+    if history.is_closed:
+        return election.command("count")
+    if history.is_over(times.now()):
+        return election.command("close")
+    if history.announced("box") and not history.is_call_written:
+        return election.to_all("call", election.path(CALL) / "call.txt")
+    return election.command("status")

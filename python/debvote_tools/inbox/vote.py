@@ -4,6 +4,7 @@ import collections
 import functools
 import itertools
 import re
+import textwrap
 from collections.abc import Collection, Iterable, Iterator, Mapping, Sequence
 from typing import NamedTuple
 
@@ -38,6 +39,8 @@ WITHOUT_LABEL = "a ballot here is a name and its ranks, without a label"
 # the reply to a line that came after the close
 LATE_REPLY = "late"
 
+# how many answers of ballots to several questions are said in words at once
+MOST_ANSWERS = 40
 # in characters: what is told of the options beside a ballot line
 MOST_OF_OPTIONS = 600
 
@@ -105,6 +108,7 @@ class Vote:
             LEAVING_OUT.set(functools.partial(without_links, self.book))
         # as ballots are counted
         self.questions = questions = election.questions
+        self.is_several = questions.is_several
         # the one question that is answered without a label, if there is one
         self.label = label
         self.poll = questions.get(label)
@@ -321,22 +325,27 @@ class Vote:
         self, lines: Sequence[CheckedLine], numbers: Iterable[int], replies: Sequence[str]
     ) -> Iterator[str]:
         """Each line that went in, or would, by the number of its envelope and the reply to it."""
+        are_many = self.are_many(line.as_entered.decode() for line in lines if line.is_ballot)
         for number, reply, line in zip(numbers, replies, lines):
             yield from change_words(line)
-            yield f"{number} {reply}  {self.in_words(line, reply)}"
+            yield f"{number} {reply}  {self.in_words(line, reply, is_short=are_many)}"
             if (other := line.lasting) and other != line.finding:
                 written = f"written as `{shown_line(line.as_meant)}` it is refused too"
                 yield f"  it goes in as it came; {written}: {other.word}: {private(other.hint)}"
+        if are_many:
+            yield self.show_words
         if not all(line.is_ballot for line in lines):
             yield self.right_words()
         if LATE_REPLY in replies:
             late = count_of(replies.count(LATE_REPLY), "line")
             yield f"{late} came after the close, and late lines do not count."
 
-    def in_words(self, line: CheckedLine, reply: str = "") -> str:
-        """A ballot in words, or the line and why debvote refuses it."""
+    def in_words(self, line: CheckedLine, reply: str = "", *, is_short: bool = False) -> str:
+        """A ballot in words, or in short as it is entered; or the line and why debvote refuses
+        it.
+        """
         if line.finding is None:
-            return self.ballot_in_words(line.as_entered.decode("ascii"))
+            return self.ballot_in_words(line.as_entered.decode("ascii"), is_short=is_short)
         word = "" if line.finding.word == reply else f"{line.finding.word}: "
         # so that nobody takes one elector for another
         others = self.other_names(line.finding.near)
@@ -345,12 +354,31 @@ class Vote:
         refused = f"{shown_line(line.as_entered)}: {word}{line.finding.hint}{names}"
         return private(refused) + (IS_CODE if is_code else "")
 
-    def answers_in_words(self, answers: str) -> str:
-        return private(self.in_words_of(answers))
+    def with_answers(
+        self, words: str, answers: str, indent: str = "  ", *, is_short: bool = False
+    ) -> str:
+        """Words, and behind them a ballot in words, or in short as it is entered. Of several
+        questions each answer has a line of its own.
+        """
+        if is_short:
+            return f"{words}: {private(answers)}"
+        said = private(self.in_words_of(answers))
+        return (
+            f"{words}:\n{textwrap.indent(said, indent)}" if self.is_several else f"{words}: {said}"
+        )
 
-    def ballot_in_words(self, ballot: str) -> str:
+    def ballot_in_words(self, ballot: str, *, is_short: bool = False) -> str:
         voter, _, answers = ballot.partition(" ")
-        return f"{voter}: {self.answers_in_words(answers)}"
+        return self.with_answers(voter, answers, is_short=is_short)
+
+    def are_many(self, ballots: Iterable[str]) -> bool:
+        """Whether ballots of several questions have more lines in words than are read at once."""
+        return self.is_several and sum(map(len, map(answers_of, ballots))) > MOST_ANSWERS
+
+    @property
+    def show_words(self) -> str:
+        """What is said below ballots in short."""
+        return f"Each in words: {self.election.command('show', 'NAME')}"
 
     @property
     def right_line(self) -> str:
@@ -463,6 +491,8 @@ def standing_words(
         counts = f"  {count_of(gone, 'elector')}: {none}; {count_of(len(changed) - gone, 'elector')}: an earlier ballot"
         return [counts] if changed else []
     return [
-        f"  {name}: {f'{vote.answers_in_words(answers)}, as before' if answers else none}"
+        vote.with_answers(f"  {name}, as before", answers, "    ")
+        if answers
+        else f"  {name}: {none}"
         for name, answers in changed.items()
     ]

@@ -12,7 +12,8 @@ from debvote_tools.call.call import CallData, current_call
 from debvote_tools.cli.arguments import demand_reason, has_reason
 from debvote_tools.cli.faults import Fault, bad_words, stop_at
 from debvote_tools.election import LETTERS, RESULT_LETTER, Election, History
-from debvote_tools.inbox.asked import unasked_fault, with_lost_records
+from debvote_tools.inbox.asked import ASKING, unasked_fault, with_lost_records
+from debvote_tools.inbox.asking import ask_for
 from debvote_tools.inbox.fates import COUNTS, NOBODY, Fate, fates_of
 from debvote_tools.inbox.rules import LetterOutcome
 from debvote_tools.inbox.stopping import pending_letters, what_stops
@@ -142,15 +143,14 @@ def letters_due(
     """
     history = election.history()
     time = now()
-    until = history.until
-    is_over = bool(history.closes) or (until is not None and time > until)
+    is_over = history.is_over(time)
     demand_due(election, history, kind, is_over=is_over)
+    if kind in ASKING and not has_reason(because):
+        ask_for(election, kind)
+        history = election.history()
     call_data, forced = call_data_of(election, history, kind, because)
     hides_codes = history.is_secret_by_click and not has_codes
-    electors = {
-        elector.number: elector._replace(code="") if hides_codes else elector
-        for elector in queries.electors(election.book)
-    }
+    electors = electors_by_number(election, hides_codes=hides_codes)
     noted_before = outgoing.outgoing_letters(election.book, kind)
     composer = Composer(call_data, is_over)
     tried_again = not_through(election, history, electors, noted_before)
@@ -168,6 +168,13 @@ def letters_due(
         tried_again,
     )
     return OF_KINDS[kind](run)
+
+
+def electors_by_number(election: Election, *, hides_codes: bool) -> dict[int, Elector]:
+    return {
+        elector.number: elector._replace(code="") if hides_codes else elector
+        for elector in queries.electors(election.book)
+    }
 
 
 def not_through(
@@ -203,7 +210,7 @@ def demand_due(election: Election, history: History, kind: str, *, is_over: bool
         words = "the vote is over, so nobody is asked to vote"
         cure = f"see {election.command('status')}"
     elif kind == "call" and history.announced("box") and history.until is None:
-        words = "the call has a box, and says no end of the vote"
+        words = "the call has a web box, and says no end of the vote"
         cure = f"say it: {election.command('call', '--until', 'TIME')}"
     elif kind in ("closed", "result") and not history.is_closed:
         words = "the vote is not closed"

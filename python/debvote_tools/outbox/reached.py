@@ -49,8 +49,7 @@ def unreached_and_printed(
     """The electors with an address whom the call has not reached, and the names of those who get it
     printed; none before `letters call`.
     """
-    runs = [act for act in history.since_call("letters out") if act.detail["kind"] == "call"]
-    if not runs:
+    if not history.runs_of_call:
         return [], []
     electors = queries.electors(election.book)
     printed = [elector.name for elector in electors if not address_in(elector.addresses)]

@@ -156,7 +156,8 @@ class Composer:
     def receipt(self, elector: Elector, fates: Sequence[Fate]) -> OutgoingText:
         """What became of what came from an elector. It has the right line if the last of it was
         refused, waits or was set aside. What goes in, was struck, taken back or late asks nobody to
-        vote again.
+        vote again. In a vote by clicks it has the personal link if an e-mail waits, unless it is
+        about one from elsewhere, too.
         """
         decide = (
             fate.became
@@ -165,7 +166,15 @@ class Composer:
         )
         last = next(decide, COUNTS)
         has_right_line = not self.is_over and last not in (COUNTS, LetterOutcome.GOES_IN)
-        return self.letter("receipts", elector, fates=fates, has_right_line=has_right_line)
+        letters = [fate for fate in fates if fate.letter]
+        waits = any(
+            fate.became is LetterOutcome.WAITS and not (fate.letter and fate.letter.read.link)
+            for fate in letters
+        )
+        has_link = waits and all(fate.is_own for fate in letters) and not is_on_paper(elector)
+        return self.letter(
+            "receipts", elector, fates=fates, has_right_line=has_right_line, has_link=has_link
+        )
 
     def letter(
         self, kind: str, elector: Elector, subject: str = "", **values: object

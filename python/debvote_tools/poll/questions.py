@@ -89,8 +89,8 @@ class Questions(dict[str, SealedPoll]):
         return answer_pattern(fewest, "".join(self), frozenset(self.words(language)))
 
     def in_words(self, language: Language = ENGLISH) -> Callable[[str], str]:
-        """Says ballots in words, from what each has behind the name; of several answers each behind
-        label and title of its question.
+        """Says ballots in words, from what each has behind the name; of several answers each on a
+        line of its own, behind label and title of its question.
         """
         # most ballots have one of a few orders
         said = {
@@ -98,7 +98,7 @@ class Questions(dict[str, SealedPoll]):
             for label, poll in self.items()
         }
         before = {label: f"{self.titled(label)}: " if label else "" for label in self}
-        return lambda answers: "; ".join(
+        return lambda answers: "\n".join(
             before[label] + said[label](ranks) for label, ranks in ranks_by_label(answers).items()
         )
 

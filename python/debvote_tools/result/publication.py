@@ -226,7 +226,7 @@ def doubts_of(
         yield early
     if is_unasked_since_end(history):
         ask = election.command("add", "--box")
-        advice = f"the box of the web host was not asked since the end: run {ask}"
+        advice = f"the web box was not asked since the end: run {ask}"
         # at the end `close --force` has agreed to it
         yield Doubt(BOX, advice, stops=BOX in stopping)
     for act in other_pages(history):

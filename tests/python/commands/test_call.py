@@ -48,7 +48,7 @@ class Open(CallTest):
         # made again it is the same, and no act
         before, log = {file: file.read_bytes() for file in (self.folder / "call").iterdir()}, self.done("log").output
         # in the zone of the vote
-        self.assertRegex(log, r"(?m)^3 2026-11-\d\d \d\d:\d\d:\d\d UTC\+01:00 call ")
+        self.assertRegex(log, r"(?m)^ +3  2026-11-\d\d \d\d:\d\d:\d\d UTC\+01:00  call, ")
         self.write("poll.toml", "title = 5\n")
         self.write("members.csv", "nothing\n")
         for file in before:
@@ -106,8 +106,7 @@ class Again(CallTest):
         made = "Made letters/extension.txt, the letter to all that says so.\n"
         self.assertIn(made, ended.output)
         # it goes to each elector once, and to none after the close
-        self.assertRegex(ended.output, r"write to the electors: debvote-election letters call; enter")
-        self.assertNotIn("send", ended.output)
+        self.assertIn("; then debvote-election letters --send sends the letters, or debvote-election letters call writes them; enter", ended.output)
         self.assert_fault(self.election("call", "--until", "2026-12-06 17:00"), 2, "is not later")
         self.set_clock("2026-12-06T17:00:00+01:00")
         self.assert_fault(self.election("close"), 9, SECOND)
@@ -239,8 +238,10 @@ class Letters(CallTest):
         self.assertIn(f"Note: these lines of letter.txt {why}", self.done("check").output)
         self.write("letter.txt", "\ufeffDear members,\r\npaper ballots go to the office.\r\n\r\n")
         text = "Dear members,\npaper ballots go to the office.\n"
-        for output in (self.done("check").output, self.done("call", *UNTIL).output):
-            self.assertIn("Letters to electors begin with letter.txt:\n  Dear members,\n  paper ballots go to the office.\n", output)
+        shown = "Letters to electors begin with letter.txt:\n  Dear members,\n  paper ballots go to the office.\n"
+        self.assertIn(shown, self.done("check").output)
+        # what `check` shows is not shown again
+        self.assertNotIn(shown, self.done("call", *UNTIL).output)
         acts = len(self.done("log").output.splitlines())
         self.done("call")
         self.assertEqual((self.letter_texts(), len(self.done("log").output.splitlines())), ([text.encode()], acts))
@@ -418,7 +419,7 @@ class Secret(CallTest):
         after = set(re.findall(r"\b([2-9a-hjkmnp-z]{10}) _", self.read("private/slips.html").decode()))
         self.assertEqual((len(after), codes & after), (10, set()))
         # nobody can be written to, and all have the call
-        self.assertIn("electors: send letters/extension.txt to all electors; enter", self.done("call", "--until", "2099-12-04 12:00").output)
+        self.assertIn("; then send letters/extension.txt to all electors; enter", self.done("call", "--until", "2099-12-04 12:00").output)
         self.assertIn("is void", self.texts())
 
     def published_codes(self) -> set[str]:

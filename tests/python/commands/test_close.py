@@ -1,7 +1,9 @@
 """`close`, `reopen`, `status`, `export`: when lines are late, what the close binds, and what is said of it all."""
 
 import hashlib
+import json
 import os
+import re
 import unittest
 from collections.abc import Iterator
 from unittest import mock
@@ -24,16 +26,18 @@ class Close(LettersTest):
         before, ended = self.exported()[0], self.done("close")
         letter = self.read("letters/closed.txt").decode()
         sums = [hashlib.sha256(data).hexdigest() for data in (self.read("call/poll.toml"), before.encode())]
-        places = [letter.index(text) for text in (*sums, self.numbers()["digest"])]
+        [closed] = [act.digest for act in self.book.acts() if act.name == "close"]
+        places = [letter.index(text) for text in (*sums, closed)]
         self.assertEqual(places, sorted(places))
         self.assertIn(f"Checksum of the ballots: {sums[1]}", ended.output)
-        self.assertTrue(ended.output.endswith("\nNext: debvote-election letters closed, then debvote-election count\n"), ended)
+        following = "debvote-election letters --send, or your mail program, sends these letters; then debvote-election count"
+        self.assertTrue(ended.output.endswith(f"\nReady: 9 letters, letters/closed/{self.last_act() - 1}\nNext: {following}\n"), ended)
         self.assertIn("3 lines came in time", letter)
         self.write("letters/closed.txt", "another")
-        log = self.done("log").output
+        log = self.done("log", "--json").output
         self.assertIn("late", self.add_lines("ada 4,3,2,1"))
         self.assertIn("Nothing was changed", self.done("close").output)
-        self.assertEqual((self.read("letters/closed.txt").decode(), self.done("log").output.splitlines()[:-2]), (letter, log.splitlines()))
+        self.assertEqual((self.read("letters/closed.txt").decode(), self.done("log", "--json").output.splitlines()[:-1]), (letter, log.splitlines()))
         self.assertEqual(self.exported(), (before, "ada 4,3,2,1\n"))
         wanted = {"stage": "closed", "electors": 9, "lines": 3, "valid": 2, "refused": 1, "late": 1, "voters": 2, "struck": 0, "taken_back": 0, "waiting": 0}
         wanted |= {"stopping": [], "box": None, "lost": [], "not_reached": {}, "printed": []}
@@ -126,7 +130,7 @@ class Meanwhile(LettersTest):
         self.assertIn("Made letters/closed.txt", self.done("close").output)
         moved = self.election("publish", "--moved", "--because", "a new disk", "--casting", "nobody")
         lines = moved.faults.splitlines()
-        self.assertEqual((moved.status, ["; act 6 (moved) was done: " in line for line in lines]), (2, [True, True]), lines)
+        self.assertEqual((moved.status, ["; act 7 (moved) was done: " in line for line in lines]), (2, [True, True]), lines)
 
 
 class Asked(LettersTest):
@@ -218,7 +222,7 @@ class Reopen(LettersTest):
         self.assertRegex(self.done("status").output, r"\nClosed: at [^\n]* UTC\nQuorum")
         self.done("publish")
         self.assertEqual(self.numbers()["stage"], "published")
-        self.assertTrue(self.done("status").output.endswith(", then debvote-election letters result\n"))
+        self.assertTrue(self.done("status").output.endswith("; then debvote-election letters --send sends the letters, or debvote-election letters result writes them\n"))
         self.assert_fault(self.election("reopen"), 2, "reason")
         self.done("reopen", "--because", "x")
         self.assert_fault(self.election("reopen", "--because", "x"), 9, "not closed")
@@ -261,6 +265,36 @@ class Told(LettersTest):
         part = formats.partition("`debvote-election status --json` ")[2].partition("\n## ")[0]
         self.assertEqual([key for key in self.numbers() if f"`{key}`" not in part], [])
 
+    def test_the_acts(self) -> None:
+        """As a table for people, and for programs with all that the book keeps."""
+        self.add_lines("ada 1,2,3,4", "ben 2,1,3,4")
+        for ranks in ("1,2,3,4", "2,1,3,4"):
+            self.done("desk", given=f"cleo {ranks}\n")
+        self.done("strike", "1", "--because", "it was pencil", "--yes")
+        self.done("close", "--early")
+        shown = re.sub(r"\d{4}-\d\d-\d\d \d\d:\d\d:\d\d UTC", "TIME", self.done("log").output).splitlines()
+        acts = self.book.acts()
+        self.assertEqual(
+            shown[-7:],
+            [
+                f"{number:>9}  TIME  {words}"
+                for number, words in (
+                    ("4", "add, files standard input, lines 2"), ("5", "desk, lines 1"), ("6", "desk, lines 1"), ("7", "strike, envelope 1, because it was pencil"),
+                    ("8", "close"), ("9", "letters out, kind closed, letters 9"),
+                )
+            ]
+            + [f"The last digest is {acts[-1].digest}"],
+        )  # fmt: skip
+        told = [json.loads(line) for line in self.done("log", "--json").output.splitlines()]
+        self.assertEqual([(act["act"], act["name"], act["digest"], act["machine"]) for act in told], [(act.number, act.name, act.digest, act.machine) for act in acts])
+        self.assertEqual([act["time"] for act in told], [f"{act.time:%Y-%m-%dT%H:%M:%SZ}" for act in acts])
+        details = [act.detail for act in acts]
+        self.assertEqual(details[7]["questions"][""].pop("seal"), "")
+        self.assertEqual([act["detail"] for act in told], details)
+        formats = (elections.ROOT / "docs" / "FORMATS.md").read_text()
+        part = formats.partition("`debvote-election log --json` ")[2].partition("\n## ")[0]
+        self.assertEqual([key for key in told[0] if f"`{key}`" not in part], [])
+
     def test_a_clock_that_went_back(self) -> None:
         """By a minute at most it is only set right."""
         for hour, back in (("18:00:00", True), ("18:58:59", True), ("18:59:00", False)):
@@ -268,7 +302,8 @@ class Told(LettersTest):
             self.add_lines(f"ada {hour[3:5]},2,3,4")
             self.set_clock(f"2026-12-04T{hour}+01:00")
             self.add_lines(f"ben {hour[3:5]},2,3,4")
-            self.assertEqual(self.done("log").output.endswith("  the clock went back: the previous act has a later time\n"), back, hour)
+            said = self.done("log").output.splitlines()[-2]
+            self.assertEqual(said.endswith("  the clock went back: the previous act has a later time"), back, hour)
         self.set_clock("2026-12-04T19:00:00+01:00")
         self.done("close")
         self.done("publish")

@@ -36,10 +36,10 @@ class AtATerminal(TerminalTest):
         before, changed = self.last_act(), "desk:1: `Ada 1, 2,4,3` was changed to `ada 1,2,4,3`\n"
         self.assertTrue(desk.after("Ada 1, 2,4,3\n", CAST).endswith(f"{changed}ada: {LAKE}\n{CAST}"))
         self.assertEqual(self.last_act(), before)
-        self.assertIn(f"\n1 counted  ada: {LAKE}\n", desk.after("y\n", "Ballot: "))
+        self.assertEqual(desk.after("y\n", "Ballot: "), "y\n1 counted  ada\nBallot: ")
         self.assertEqual(self.lines(), [f"ada {RANKS}"])
-        self.assertIn(f"ada has a ballot: {LAKE}. It will be replaced.\n", desk.after(f"ada {OTHER_RANKS}\n", CAST))
-        self.assertIn(f"\n2 replaced  ada: {HALL}\n", desk.after("YES\n", "Ballot: "))
+        self.assertIn(f"ada has a ballot, which will be replaced: {LAKE}\n", desk.after(f"ada {OTHER_RANKS}\n", CAST))
+        self.assertIn("\n2 replaced  ada\n", desk.after("YES\n", "Ballot: "))
         self.assertIn("This desk has entered 2 lines (1 counted, 1 replaced).\nNext: debvote-election status\n", self.end(desk, "q\n"))
         self.assertEqual(self.acts(), [("desk", {"lines": 1})] * 2)
         found = [(envelope.elector, envelope.source, envelope.time, envelope.is_late) for envelope in self.envelopes()]
@@ -73,7 +73,7 @@ class AtATerminal(TerminalTest):
             # the question is asked in the same words again
             desk.until(CAST_REFUSED)
             desk.until("Ballot: ")
-        self.assertIn("1 bad not on roll  gsu 1,2,3,4: ", desk.after("gsu 1,2,3,4\ny\n", "Ballot: "))
+        self.assertIn("1 bad not on roll  gsu 1,2,3,4\n", desk.after("gsu 1,2,3,4\ny\n", "Ballot: "))
         self.end(desk, "q\n")
         self.assertEqual(self.lines(), ["gsu 1,2,3,4"])
 
@@ -81,14 +81,14 @@ class AtATerminal(TerminalTest):
         first, second = self.at_terminal(), self.at_terminal()
         for desk in (first, second):
             self.assertNotIn("has a ballot", desk.after(f"ada {RANKS}\n", CAST))
-        self.assertIn("1 counted  ada: ", second.after("y\n", "Ballot: "))
+        self.assertIn("1 counted  ada\n", second.after("y\n", "Ballot: "))
         # what was agreed to is another thing now, so it is asked anew
         shown = first.after("y\n", CAST)
         self.assertIn("Nothing was done: another command changed the election meanwhile. Now it is so:\n", shown)
-        self.assertIn(f"ada has a ballot: {LAKE}. It will be replaced.\n", shown)
+        self.assertIn(f"ada has a ballot, which will be replaced: {LAKE}\n", shown)
         self.assertEqual(self.lines(), [f"ada {RANKS}"])
-        self.assertIn("2 replaced  ada: ", first.after("y\n", "Ballot: "))
-        self.assertIn(f"ada has a ballot: {LAKE}. It will be replaced.\n", second.after(f"ada {OTHER_RANKS}\n", CAST))
+        self.assertIn("2 replaced  ada\n", first.after("y\n", "Ballot: "))
+        self.assertIn(f"ada has a ballot, which will be replaced: {LAKE}\n", second.after(f"ada {OTHER_RANKS}\n", CAST))
         # a ballot that is struck meanwhile changes it, too
         self.told("strike", 2, "--because", "a test")
         second.after("y\n", CAST)
@@ -101,19 +101,19 @@ class AtATerminal(TerminalTest):
         desk = self.at_terminal()
         self.assertNotIn("late", desk.after(f"ada {RANKS}\n", CAST))
         self.told("add", given=f"ben {RANKS}\n")
-        self.assertIn("2 counted  ada: ", desk.after("y\n", "Ballot: "))
+        self.assertIn("2 counted  ada\n", desk.after("y\n", "Ballot: "))
         self.assertNotIn("late", desk.after(f"cleo {RANKS}\n", CAST))
         self.told("close")
         self.assertIn("It is late, and will not count.\n", desk.after("y\n", CAST))
         self.assertEqual(self.late_lines(), [])
-        self.assertIn("3 late  cleo: ", desk.after("y\n", "Ballot: "))
+        self.assertIn("3 late  cleo\n", desk.after("y\n", "Ballot: "))
         self.end(desk, "q\n")
         self.assertEqual((self.lines(), self.late_lines()), ([f"ben {RANKS}", f"ada {RANKS}"], [f"cleo {RANKS}"]))
         desk = Terminal(self)
         self.assertIn("Note: the vote was closed at ", desk.until("; what is entered now is late."))
         desk.until("Ballot: ")
         self.assertRegex(desk.after(f"ada {OTHER_RANKS}\n", CAST), rf"\nada: {HALL}\nIt is late, and will not count\.\n")
-        self.assertIn("4 late  ada: ", self.end(desk, "y\nq\n"))
+        self.assertIn("4 late  ada\n", self.end(desk, "y\nq\n"))
 
     def test_the_end_meanwhile(self) -> None:
         """It is told once, above the reply to the first ballot after it; of a late one its reply says so."""
@@ -121,7 +121,7 @@ class AtATerminal(TerminalTest):
         self.assertNotIn("Note: ", desk.after(f"ada {RANKS}\ny\n", "Ballot: "))
         self.act("extend", {"until": "2020-12-04T18:00:00+01:00"})
         end = re.escape("Note: the announced end of the vote, Friday, 4 December 2020, 18:00 (UTC+01:00), has passed; what is entered still counts ")
-        self.assertRegex(desk.after(f"ben {RANKS}\ny\n", "Ballot: "), rf"{end}.*\n2 counted  ben: ")
+        self.assertRegex(desk.after(f"ben {RANKS}\ny\n", "Ballot: "), rf"{end}.*\n2 counted  ben\n")
         self.assertNotIn("Note: ", desk.after(f"cleo {RANKS}\ny\n", "Ballot: "))
         self.told("close")
         self.assertNotIn("Note: ", self.end(desk, f"dan {RANKS}\ny\nq\n"))
@@ -143,7 +143,7 @@ class AtATerminal(TerminalTest):
         self.told("close")
         self.told("reopen", "--because", "a bag was forgotten")
         asked = "Did this come before that close? [y/n] "
-        for answer, replies in (("y", ("1 counted  ada: ", "2 counted  ben: ")), ("n", ("3 late  ada: ", "4 late  ben: "))):
+        for answer, replies in (("y", ("1 counted  ada\n", "2 counted  ben\n")), ("n", ("3 late  ada\n", "4 late  ben\n"))):
             desk = Terminal(self)
             desk.until(asked)
             desk.after(f"{answer}\n", "Ballot: ")
@@ -155,12 +155,12 @@ class AtATerminal(TerminalTest):
         # so does a desk that was there before
         before.after(f"ada {RANKS}\n", asked)
         self.assertIn("It is late, and will not count.\n", before.after("n\n", CAST))
-        self.assertIn("5 late  ada: ", self.end(before, "y\nq\n"))
+        self.assertIn("5 late  ada\n", self.end(before, "y\nq\n"))
 
     def test_notes_at_its_head(self) -> None:
         self.act("extend", {"until": "2020-12-04T18:00:00+01:00"})
         end = "the announced end of the vote, Friday, 4 December 2020, 18:00 (UTC+01:00), has passed"
-        self.assertIn("1 counted  ada: ", self.end(self.at_terminal(f"Note: {end}; what is entered still counts until "), f"ada {RANKS}\ny\nq\n"))
+        self.assertIn("1 counted  ada\n", self.end(self.at_terminal(f"Note: {end}; what is entered still counts until "), f"ada {RANKS}\ny\nq\n"))
         self.act("announce", {"signed": True}, {"keyring": b"keys"})
         self.at_terminal("Note: in this vote letters must be signed, and a desk checks no signature: ")
 

@@ -54,6 +54,33 @@ class New(elections.ElectionTest):
             ended = self.election(word, cwd=self.scratch)
             self.assertEqual((ended.status, ended.faults.splitlines()[-1]), (2, f"debvote-election: error: there is no command {said}"))
 
+    def test_a_draft_says_what_it_lacks(self) -> None:
+        """In its own words: nothing that debvote says of the poll that it would be."""
+        lacking = {
+            "title": "what the vote is about",
+            "options": "what can be chosen",
+            "ratios": "how great a majority each option needs",
+            "default": "the default option",
+            "quorum": "the quorum",
+        }
+        *first, last = (f"{words} ({key})" for key, words in lacking.items())
+        then = "fill it in with an editor, then run debvote-election check\n"
+        of_all = f"it does not say yet {', '.join(first)} and {last}; {then}"
+        self.done("new", "one")
+        self.done("new", "--questions", "2", "two")
+        no_electors = "debvote-election: there are no electors yet; run debvote-election roll first\n"
+        ended = self.election("check", cwd=self.folder / "one")
+        self.assertEqual((ended.faults, ended.status), (f"{no_electors}debvote-election: poll.toml: {of_all}", 9))
+        faults = self.election("check", cwd=self.folder / "two").faults
+        self.assertIn(f"polls/A.toml: {of_all}debvote-election: polls/B.toml: {of_all}", faults)
+        self.assertIn("polls/title.txt: it is empty; write into it one line, what the whole vote is about", faults)
+        # one that is half filled in, with a key that is misspelt
+        self.write("one/poll.toml", elections.POLL.replace("quorum", "qorum").replace('"Further discussion"', '" "'))
+        faults = self.election("check", cwd=self.folder / "one").faults
+        self.assertIn(f"it does not say yet {lacking['default']} (default) and {lacking['quorum']} (quorum); {then}", faults)
+        self.assertIn("key qorum is not read; did you mean quorum?", faults)
+        self.assertEqual(faults.count("poll.toml: "), 2, faults)
+
     def test_commands_before_the_call(self) -> None:
         self.done("new", "spring")
         self.write("spring/lines", "ada 1,2,3,4\n")

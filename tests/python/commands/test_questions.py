@@ -72,8 +72,7 @@ class Check(QuestionsTest):
         self.write("texts/A/1.txt", "We need it.\n")
         said = self.done("check").output
         for part in (
-            "The polls are in order: 3 questions, 4 electors.\nTitle: Assembly 2026\nQuestion A: Raise the fee\nOptions:\n  1  Yes (majority ratio 1)\n",
-            "     text: 3 words from texts/A/1.txt\n  2  No (the default option)\nQuestion B: Where we meet in spring\n",
+            "The polls are in order: 3 questions, 4 electors.\nTitle: Assembly 2026\nQuestion A: Raise the fee\n  1  Yes (majority ratio 1); text: 3 words from texts/A/1.txt\n  2  No (the default option)\nQuestion B: Where we meet in spring\n",
             "A: Quorum: none\nB: Quorum: 1 vote (1Q): ",
             "Note: these names end in a letter that may be read as the label of a question: ben-b (Ben B.), a (A)\n",
         ):
@@ -131,7 +130,7 @@ class Check(QuestionsTest):
             ("polls/title.txt: it has 201 characters",): write("polls/title.txt", "x" * 201),
             ("polls/title.txt: it has the mark of a vote",): write("polls/title.txt", f"Assembly [{elections.ANY_MARK}]"),
             ("polls: only some questions are secret: B",): write("polls/B.toml", f"secret = true\n{FEE}"),
-            ("polls/B.toml: number of options",): write("polls/B.toml", FEE.replace('["Yes"]', "[]").replace("[1]", "[]")),
+            ("polls/B.toml: it does not say yet what can be chosen (options)",): write("polls/B.toml", FEE.replace('["Yes"]', "[]").replace("[1]", "[]")),
             ("polls/A.toml: the option of a motion begins with a word for no",): write("polls/A.toml", f"motion = true\n{FEE.replace('Yes', 'No fee')}"),
             ("polls/C.toml: it can't be read as TOML",): write("polls/C.toml", "title = \n"),
             ("polls/C.toml: the key `roll` is not written here",): write("polls/C.toml", f"roll = []\n{FEE}"),

@@ -34,6 +34,18 @@ class Roll(RollTest):
         self.done("roll")
         self.assertEqual(self.done("log").output, before)
 
+    def test_the_electors_are_listed_at_any_time(self) -> None:
+        listed = self.roll("Chloé,chloe@club.example", "Anna Meier,").output.partition(":\n")[2].partition("2 names")[0]
+        self.assertEqual(listed, "  chloe: Chloé chloe@club.example\n  anna-meier: Anna Meier\n")
+        self.assertEqual(self.done("status", "--electors").output, listed)
+        self.done("call")
+        self.assertEqual(self.done("status", "--electors").output, listed)
+        # with codes on the roll nobody knows whose they are
+        self.done("call", "--take-back")
+        self.write("poll.toml", "secret = true\n" + elections.POLL)
+        self.done("codes", "--on-roll")
+        self.assert_fault(self.election("status", "--electors"), 9, "--electors: codes are on the roll, and nobody knows whose they are")
+
     def test_what_is_told_of_a_list(self) -> None:
         people = "eve-dan (Eve & Dan), fay-und-gus-meier (Fay und Gus Meier), hal-ida (Hal/Ida), jan-kim (Jan+Kim), marie-et-luc (Marie et Luc)"
         of_several = ["Eve & Dan,e@club.example", "Fay und Gus Meier,", "Hal/Ida,", "Jan+Kim,", "Marie et Luc,", "Andrea Undset,", '"Ober, Anna",', "A-B,"]

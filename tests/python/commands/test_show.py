@@ -30,13 +30,15 @@ class Show(CalledTest):
             f"  envelope 1, TIME: {LAKE}",
             "  envelope 3, TIME: ada 1,2: bad rank count: 2 ranks, the poll has 4 options",
             f"  envelope 4, TIME: {HALL}",
-            f"  envelope 5, TIME: Further discussion; {behind} (struck by strike at TIME: it was pencil)",
-            f"  envelope 6, TIME: {equal} (struck by undo at TIME)",
-            f"  envelope 7, TIME: {LAKE} (late)",
+            f"  envelope 5, TIME (struck by strike at TIME: it was pencil): Further discussion; {behind}",
+            f"  envelope 6, TIME (struck by undo at TIME): {equal}",
+            f"  envelope 7, TIME (late): {LAKE}",
             f"The current ballot: {HALL}",
+            "  closed, TIME, to ada@club.example: written",
         ]
-        self.assertEqual((self.shown(), self.shown("ben")[1:]), (wanted, [f"  envelope 2, TIME: {LAKE}", f"The current ballot: {LAKE}"]))
-        self.assertEqual(self.shown("cleo"), ["cleo: Cleo cleo@club.example", "The current ballot: none"])
+        of_ben = [f"  envelope 2, TIME: {LAKE}", f"The current ballot: {LAKE}", "  closed, TIME, to ben@club.example: written"]
+        self.assertEqual((self.shown(), self.shown("ben")[1:]), (wanted, of_ben))
+        self.assertEqual(self.shown("cleo"), ["cleo: Cleo cleo@club.example", "The current ballot: none", "  closed, TIME, to cleo@club.example: written"])
         # a ballot of a letter has the time of the letter, and its place
         with self.book.act("add") as act:
             time = act.time.replace(year=2020)
@@ -50,9 +52,9 @@ class Show(CalledTest):
         self.told("desk", given=f"ada {OTHER_RANKS}\nben 1,1,1,1\ncleo {RANKS}\n")
         self.told("reopen", "--because", "they came in time")
         self.told("add", "--came-before-close", "yes", "--force", given=f"ada {OTHER_RANKS}\ncleo {RANKS}\ncleo {OTHER_RANKS}\n")
-        self.assertIn(f"  envelope 3, TIME: {HALL} (late; entered again as 6: counts)", self.shown())
+        self.assertIn(f"  envelope 3, TIME (late; entered again as 6: counts): {HALL}", self.shown())
         self.assertEqual([line for line in self.shown("ben") if "(late)" in line], [self.shown("ben")[2]])
-        self.assertIn(f"  envelope 5, TIME: {LAKE} (late; entered again as 7: replaced)", self.shown("cleo"))
+        self.assertIn(f"  envelope 5, TIME (late; entered again as 7: replaced): {LAKE}", self.shown("cleo"))
 
     def test_who_is_meant(self) -> None:
         for name in ("Ada", "ADA", " ada "):

@@ -21,7 +21,7 @@ class Undo(CalledTest):
             self.told("add", "monday")
             output = self.told("undo")
             self.assertRegex(output, rf"^Took back 3 lines \(act {act}: add of monday, .* UTC, envelopes {numbers}\)\.\n")
-            self.assertIn(f"\n  ada: {LAKE}, as before\n  cleo: no ballot is left\n", output)
+            self.assertIn(f"\n  ada, as before: {LAKE}\n  cleo: no ballot is left\n", output)
             self.assertEqual(self.lines(), [f"ada {RANKS}", f"ben {RANKS}"])
         self.told("desk", given=f"dan {RANKS}\n")
         next_one = "Next: debvote-election status; another debvote-election undo takes back the act before\n"
@@ -147,7 +147,7 @@ class AtATerminal(CalledTest):
         """It shows what would stand, and asks."""
         terminal = Terminal(self, "undo")
         shown = terminal.until("? [y/n] ")
-        self.assertRegex(shown, rf"^  ada: {LAKE}, as before\n  ben: no ballot would be left\nTake back 3 lines \(.*, envelopes 2-4\)\? ")
+        self.assertRegex(shown, rf"^  ada, as before: {LAKE}\n  ben: no ballot would be left\nTake back 3 lines \(.*, envelopes 2-4\)\? ")
         return terminal
 
     def end(self, terminal: Terminal, keys: str, status: int, *lines: str) -> str:
@@ -165,7 +165,7 @@ class AtATerminal(CalledTest):
             self.assertEqual(self.last_act(), self.before)
         self.told("desk", given=f"ada {RANKS}\n")
         terminal = Terminal(self, "undo")
-        self.assertIn(f"  ada: {HALL}, as before\n", terminal.until("? [y/n] "))
+        self.assertIn(f"  ada, as before: {HALL}\n", terminal.until("? [y/n] "))
         self.end(terminal, "y\n", 0, *lines)
         self.assertRegex(self.end(self.asked(), "y\n", 0, f"ada {RANKS}"), r"Took back 3 lines \(.*\)\.\nNext: ")
         self.assertRegex(self.end(Terminal(self, "undo", "--yes"), "", 0), r"^[^[]*  ada: no ballot is left\n[^[]*$")

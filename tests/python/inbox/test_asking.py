@@ -86,7 +86,7 @@ class Honest(BoxTest):
         (self.folder / "vote.php").write_bytes(script_of(b"x" * 32, MARK, OWNS))
         test.stopped(host.at, "it answers 403: unknown: another word", "upload vote.php of the folder call")
         (self.folder / "vote.php").write_bytes(script_of(KEY, "f" * 16, OWNS))
-        test.stopped(host.at, f"it is the box of another vote, [{'f' * 16}]")
+        test.stopped(host.at, f"it is the web box of another vote, [{'f' * 16}]")
         # an older list is told by its digest alone
         older = script_of(KEY, MARK, {"ada": OWNS["ada"]})
         (self.folder / "vote.php").write_bytes(older)
@@ -110,7 +110,7 @@ class Fetched(ElectionTest):
         records = [record("ada", "ada 1,2,3,4", number, "2026-11-28T12:00:00") for number in (1, 2)]
         self.write("box.php", FIRST + "".join(records).encode())
         said = self.done("add", "--yes", "box.php").output
-        sealed = "box.php, message {}: it is a record of the box that can't be opened, and was passed over; ask its elector to vote again\n"
+        sealed = "box.php, message {}: it is a record of the web box that can't be opened, and was passed over; ask its elector to vote again\n"
         self.assertIn(f"{sealed.format(1)}{sealed.format(2)}0 new letters; 0 came before.\n", said)
         self.assertEqual(self.rows("SELECT count(*) FROM source"), [(0,)])
 
@@ -137,7 +137,7 @@ class Fetched(ElectionTest):
         self.assertIn("0 new letters; 0 came before.\n0 ballots of letters went in; 0 letters wait.\n", said)
         self.write("cut.php", FIRST + record("ada", "ada 1,2,3,4", 1, "2026-11-28T12:00:00").encode()[:-2])
         said = self.done("add", "--yes", "cut.php").output
-        self.assertIn("cut.php, at its end: it is a record of the box that was cut off, of which nobody was told that it arrived, and was passed over; ", said)
+        self.assertIn("cut.php, at its end: it is a record of the web box that was cut off, of which nobody was told that it arrived, and was passed over; ", said)
         self.assertEqual(self.rows("SELECT count(*) FROM source"), [(0,)])
         self.done("close", "--early")
 
@@ -176,15 +176,15 @@ class Dishonest(AskingTest):
             (answered(b"<b>Fatal error</b>: x", 500), "it answers 500: <b>Fatal error</b>: x", "PHP 8.1 or later"),
             (answered(b"<?php\n// The box"), "it shows the script as a text: PHP does not run there"),
             (answered(b"\r\n<?php\n", 405), "it shows the script as a text"),
-            (answered(b"<!doctype html>" + b"x" * 9_000), "it does not answer as a box: <!doctype html>xx"),
-            (answered(b""), "it does not answer as a box: "),
-            (answered(b"\n" + good), "it does not answer as a box: box 2 "),
-            (answered(good.replace(b"box 2", b"box 1")), "it does not answer as a box: box 1 "),
-            (answered(good.replace(b"-", b"/")), "it does not answer as a box: "),
-            (answered(re.sub(rb" 20\d\d-\d\d", b" 2026-13", good)), "it does not answer as a box: "),
-            (answered(head(now, "f" * 16)), "it is the box of another vote, [ffffffffffffffff]"),
+            (answered(b"<!doctype html>" + b"x" * 9_000), "it does not answer as a web box: <!doctype html>xx"),
+            (answered(b""), "it does not answer as a web box: "),
+            (answered(b"\n" + good), "it does not answer as a web box: box 2 "),
+            (answered(good.replace(b"box 2", b"box 1")), "it does not answer as a web box: box 1 "),
+            (answered(good.replace(b"-", b"/")), "it does not answer as a web box: "),
+            (answered(re.sub(rb" 20\d\d-\d\d", b" 2026-13", good)), "it does not answer as a web box: "),
+            (answered(head(now, "f" * 16)), "it is the web box of another vote, [ffffffffffffffff]"),
             # kept, such a time would stop each later command: no difference could be added to it
-            *((answered(re.sub(rb" 20\d\d-", f" {year}-".encode(), good)), "it does not answer as a box: box 2 ") for year in ("0001", "1970", "2100", "9999")),
+            *((answered(re.sub(rb" 20\d\d-", f" {year}-".encode(), good)), "it does not answer as a web box: box 2 ") for year in ("0001", "1970", "2100", "9999")),
             (answered(good, 201), "it answers 201: box 2 "),
             # an answer that was cut off, also where its length is not told
             (answered(good + RECORD)[:-1], "its answer was cut off", "run the command again"),
@@ -279,7 +279,7 @@ class Said(unittest.TestCase):
         ):
             known = {"records": 3, "behind": 0, "gone": 0}
             first, *said = box_words(known | box, {"gone": gone})
-            self.assertEqual(first, "The box has 3 records.")
+            self.assertEqual(first, "The web box has 3 records.")
             self.assertEqual(len(said), len(notes), (box, said))
             for note, line in zip(notes, said):
                 self.assertIn(f"Note: {note}", line)

@@ -105,7 +105,7 @@ class End(boxes.BoxElectionTest):
         after = self.click("cleo", RANKS, links["cleo"]).text.split()[1]
         end = f"{self.end:%Y-%m-%dT%H:%M:%SZ}"
         self.assertEqual((word, before < end < across <= after), ("received", True), (before, end, across, after))
-        self.assert_fault(self.election("close"), 9, "the box of the web host was not asked since the end")
+        self.assert_fault(self.election("close"), 9, "the web box was not asked since the end")
         said = self.done("add", "--box", "--yes").output
         self.assertEqual(said.count(AFTER), 3, said)
         self.assertEqual(self.standing(), {"ada": RANKS, "dan": RANKS})

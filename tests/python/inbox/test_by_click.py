@@ -69,7 +69,7 @@ class CallWithBox(elections.ElectionTest):
         self.assert_fault(self.election("call", "--keyring", "x"), 9, fault)
         self.assertIn("0 * * * * XDG_STATE_HOME=", ended.output)
         self.assertIn(f"debvote-election add --folder {self.folder} --box --yes", ended.output)
-        self.assertIn("upload the files of call to https://club.example/vote/, vote.php too, then run debvote-election add --box", ended.output)
+        self.assertIn("upload the files of call to https://club.example/vote/, vote.php too; then debvote-election letters --send sends the letters, or debvote-election letters call writes them, and tries first whether the page takes ballots; enter", ended.output)
         script = self.read("call/vote.php")
         self.assertNotIn(b"vote.php", self.read("call/SHA256SUMS"))
         [(key,)] = self.rows("SELECT data FROM sealed WHERE name = 'box key'")
@@ -85,7 +85,7 @@ class CallWithBox(elections.ElectionTest):
         # a new address makes another script, a new key for signatures none
         self.write("members.csv", elections.members_of(elections.NAMES).replace("ben@club", "ben@new"))
         ended = self.done("roll", "--yes")
-        self.assertIn("Upload call/vote.php again, since these electors have new links", ended.output)
+        self.assertIn("\nNext: upload call/vote.php again, since these electors have new links; then debvote-election letters call", ended.output)
         self.assertNotEqual(self.read("call/vote.php"), script)
         before, after = script.splitlines(), self.read("call/vote.php").splitlines()
         self.assertEqual((len({*before} - {*after}), len({*after} - {*before}), len(before)), (1, 1, len(after)))
@@ -130,17 +130,17 @@ class Clicks(boxes.BoxElectionTest):
         before = self.rows("SELECT * FROM act")
         ended = self.done("add", "--box", "--look")
         self.assertIn("3 new letters; 0 came before.\n3 ballots of letters would go in; 0 letters wait.\nNothing was changed.", ended.output)
-        self.assertIn("ben (box, record 2): ", ended.output)
+        self.assertIn("ben (web box, record 2): ", ended.output)
         self.assertEqual(self.rows("SELECT * FROM act"), before)
         # letters wait for the secretary, and are not entered by what cron runs
         box = mailbox(self.of_this_vote(letter("cleo", "cleo 1,2,3,4\n", time=f"{time.strftime('%a, %d %b %Y %H:%M:%S')} +0000")))
         self.write("inbox.mbox", box)
         self.assertEqual(self.election("add", "inbox.mbox").status, 9)
         ended = self.done("add", "--box", "--yes")
-        self.assertIn("The box has 3 records.\n3 new letters; 0 came before.\n", ended.output)
+        self.assertIn("The web box has 3 records.\n3 new letters; 0 came before.\n", ended.output)
         self.assertNotIn("cleo", ended.output)
         self.assertEqual(self.standing(), {"ada": "4,3,2,1", "ben": "2,1,-,4"})
-        self.assertEqual(self.done("add", "--box", "--yes").output.splitlines()[:2], ["The box has 3 records.", "0 new letters; 3 came before."])
+        self.assertEqual(self.done("add", "--box", "--yes").output.splitlines()[:2], ["The web box has 3 records.", "0 new letters; 3 came before."])
         first, second, third = self.boxes_kept()
         self.assertEqual([(one["records"], one["gone"], one["unopened"]) for one in (first, second, third)], [(0, 0, 0), (3, 0, 0), (3, 0, 0)])
         self.assertEqual(first["list"], list_digest(self.read("call/vote.php")))
@@ -235,7 +235,7 @@ class Clicks(boxes.BoxElectionTest):
         self.assertTrue(self.read("fetched.php").startswith(FIRST))
         ended = self.done("add", "--yes", "fetched.php")
         self.assertIn("2 new letters", ended.output)
-        self.assertEqual(ended.output.count("it is in the file of the box, which others may have changed"), 2)
+        self.assertEqual(ended.output.count("it is in the file of the web box, which others may have changed"), 2)
         self.assertEqual(self.standing(), {})
         for text in self.receipts().values():
             self.assertRegex(
@@ -255,7 +255,7 @@ class Clicks(boxes.BoxElectionTest):
         other = data.removeprefix(FIRST).replace(proof_digest(self.mark(), self.place_of("ada", links["ada"])).encode(), b"2" * 64)
         self.write("fetched.php", data + other)
         said = self.done("add", "--yes", "fetched.php").output
-        self.assertIn("it is a record of the box that can't be opened, and was passed over; ask its elector to vote again\n", said)
+        self.assertIn("it is a record of the web box that can't be opened, and was passed over; ask its elector to vote again\n", said)
         self.assertIn("1 new letter; 0 came before.", said)
         self.done("held", "1", "--set-aside")
         self.done("add", "--box", "--yes")
@@ -587,7 +587,7 @@ class Clicks(boxes.BoxElectionTest):
             said = f"box 2 {mark} {list_digest(true)} {time_}Z\n"
             size = f"header('Content-Length: {len(said)}')"
             script.write_text(f"<?php {size}; echo '{said}';")
-            why = f"it does not answer as a box: {said[:20]}"
+            why = f"it does not answer as a web box: {said[:20]}"
             self.assert_fault(self.election("add", "--box", "--yes"), 9, why)
         script.write_bytes(true)
         self.assertEqual(len(self.boxes_kept()), 1)
@@ -658,11 +658,12 @@ class Clicks(boxes.BoxElectionTest):
         self.done("letters", "receipts")
         receipts = [email.message_from_bytes(file.read_bytes()) for file in (self.folder / "letters/receipts").rglob("*.eml")]
         texts = [receipt.get_payload(decode=True).decode() for receipt in receipts]  # type: ignore[union-attr]
-        # with the right line, and the page alone
+        # with the right line; the page has the link for ada alone, whose letters wait
         self.assertEqual(sum(f"{name} _,_,_,_" in text for name in ("ada", "ben") for text in texts), 2)
-        for text in (said, *texts):
-            for link in links.values():
-                self.assertNotIn(link, text.lower())
+        self.assertEqual(sorted(boxes.LINK.findall(text) for text in texts), [[], [("ada", own, links["ada"])]])
+        for link in links.values():
+            self.assertNotIn(link, said.lower())
+            self.assertEqual(sum(text.lower().count(link) for text in texts), link == links["ada"])
         self.assertTrue(any("A ballot of" in text and "came by the page of the vote, with your link" in " ".join(text.split()) for text in texts))
 
     def test_a_record_without_a_ballot_is_told_to_whose_link_it_is(self) -> None:
@@ -697,7 +698,7 @@ class Clicks(boxes.BoxElectionTest):
         self.file().write_bytes(FIRST + data)
         ended = self.done("add", "--box", "--yes")
         self.assertEqual(self.standing(), {"ada": "1,2,3,4"})
-        self.assertIn("when the box of the web host was asked and did not have it", ended.output)
+        self.assertIn("when the web box was asked and did not have it", ended.output)
 
 
 @NEEDS_PHP
@@ -708,13 +709,13 @@ class Asked(boxes.BoxElectionTest):
 
     def test_letters(self) -> None:
         self.done("call", "--to", "vote@club.example", "--at", self.host.at, "--box")
-        fault = "call: the call has a box, and says no end of the vote"
+        fault = "call: the call has a web box, and says no end of the vote"
         self.assert_fault(self.election("letters", "call"), 9, fault, "call --until TIME")
         self.done("call", *boxes.UNTIL)
         # a wrong address can be put right, as long as no letter has a link to it
         self.done("call", "--at", self.host.at.replace("http:", "https:"))
         self.done("call", "--at", self.host.at)
-        fault = "call: nobody has seen yet whether the box of the web host works, with page and links of now; nothing was written: upload the folder call, then run debvote-election add --box"
+        fault = "call: nobody has seen yet whether the web box works, with page and links of now; nothing was written: upload the folder call, then run the command again"
         self.assert_fault(self.election("letters", "call"), 9, fault)
         self.assert_fault(self.election("add", "--box"), 9, f"{self.host.at}vote.php: it answers 404", "nothing was added")
         # what is written all the same says that the page takes none, and the log why
@@ -724,7 +725,7 @@ class Asked(boxes.BoxElectionTest):
         self.assertEqual(
             {("The page takes no ballots now" in text, bool(boxes.LINK.search(text)), " _,_,_,_" in text) for text in texts}, {(True, False, True)}
         )
-        self.assertIn('"because": "The host is down."', self.done("log").output)
+        self.assertIn('"because": "The host is down."', self.done("log", "--json").output)
         self.upload()
         self.done("add", "--box")
         self.done("letters", "call", *self.forced)
@@ -733,11 +734,11 @@ class Asked(boxes.BoxElectionTest):
         # an asking of an older list is none, nor is a look
         self.write("members.csv", elections.members_of(elections.NAMES).replace("ada@club", "ada@new"))
         self.done("roll", "--yes")
-        for words in (("add", "--box"), ("add", "--box", "--look")):
+        for words, kinds in ((("add", "--box"), ("call", "reminders")), (("add", "--box", "--look"), ("reminders",))):
             self.done(*words)
             # no letter may have a link that the host does not know
-            for kind in ("call", "reminders"):
-                fault = f"{kind}: nobody has seen yet whether the box of the web host works, with page and links of now"
+            for kind in kinds:
+                fault = f"{kind}: nobody has seen yet whether the web box works, with page and links of now"
                 self.assert_fault(self.election("letters", kind), 9, fault, "upload the folder call")
             self.upload()
         self.assertEqual(json.loads(self.done("status", "--json").output)["box"]["is_present"], False)
@@ -754,11 +755,11 @@ class Asked(boxes.BoxElectionTest):
 
     def test_status_says_when_it_was_asked_last(self) -> None:
         self.call()
-        self.assertIn("\nBox of the web host: not asked yet\n", self.done("status").output)
+        self.assertIn("\nWeb box: not asked yet\n", self.done("status").output)
         for seconds in (100, 200):
             self.off(seconds)
             self.done("add", "--box")
-            said = r"Box of the web host: 0 records when it was asked last, (\S+ \S+) UTC(\S*)\n"
+            said = r"Web box: 0 records when it was asked last, (\S+ \S+) UTC(\S*)\n"
             [(found, zone)] = re.findall(said, self.done("status").output)
             self.assertEqual(zone, "+01:00")
             asked = datetime.datetime.fromisoformat(f"{found}{zone}")
@@ -789,32 +790,37 @@ class Asked(boxes.BoxElectionTest):
         # the clock of the host is behind, so that by both clocks ten minutes are past
         self.off(700)
         self.assertIn("seconds behind", self.done("add", "--box").output)
-        fault = "would be told that they have not: when the box was asked last, it was only "
+        fault = "would be told that they have not: when the web box was asked last, it was only "
         self.assert_fault(self.election("letters", "reminders", "--yes"), 9, fault)
 
     def test_close_and_after_it(self) -> None:
         links = self.begun(ada="1,2,3,4")
         self.done("add", "--box", "--yes")
-        self.assertIn("Box of the web host: 1 record when it was asked last", self.done("count", "--force").faults)
+        self.assertIn("Web box: 1 record when it was asked last", self.done("count", "--force").faults)
         self.off(700)
-        fault = "--box: the box of the web host was not asked in the last ten minutes; nothing was changed: run debvote-election add --box"
-        self.assert_fault(self.election("close", "--early"), 9, fault)
+        # by the clock of the host it was not
+        fault = "--box: the web box was not asked in the last ten minutes: when the web box was asked last, it was only "
+        self.assert_fault(self.election("close", "--early"), 9, fault, "run the command again")
         self.clock = {}
         self.done("add", "--box", "--yes")
         time.sleep(1.1)
         ended = self.done("close", "--early")
-        self.assertIn("Note: the page still takes ballots, and says that they arrived: run debvote-election add --box.", ended.output)
-        self.assertIn("\nNext: debvote-election add --box, then debvote-election count, then", self.done("status").output)
-        fault = "--box: the box of the web host was not asked since the vote was closed early"
-        for words, status in ((("count",), 9), (("letters", "closed"), 9)):
-            self.assert_fault(self.election(*words), status, fault)
+        self.assertIn("Note: the page still takes ballots, and says that they arrived: debvote-election count asks for them once more.", ended.output)
+        self.assertIn("\nNext: debvote-election count, then", self.done("status").output)
+        fault = "--box: the web box was not asked since the vote was closed early"
+        (self.web / "vote.php").rename(self.web / "away")
+        for words in (("count",), ("letters", "closed")):
+            ended = self.election(*words)
+            self.assertEqual((ended.status, ended.faults.count(fault)), (9, 1), ended)
+            self.assertIn("vote.php: it answers 404", ended.output + ended.faults)
         ended = self.election("publish")
-        self.assertIn("the box of the web host was not asked since the end: run debvote-election add --box", ended.faults)
+        self.assertIn("the web box was not asked since the end: run debvote-election add --box", ended.faults)
         self.done("letters", "closed", *self.forced)
         self.assertEqual(self.election("count", "--force").status, 0)
         self.done("publish", *self.forced)
         self.assertIn(b"Ballots may have been sent on the page of the vote that the secretary did not get.", self.read("result/index.html"))
         # a click after the close is acknowledged by the page, and waits; asked once, nothing stops
+        (self.web / "away").rename(self.web / "vote.php")
         time.sleep(1.1)
         self.click("ben", "1,2,3,4", links["ben"])
         ended = self.done("add", "--box", "--yes")
@@ -833,14 +839,11 @@ class Asked(boxes.BoxElectionTest):
         self.begun(ada="1,2,3,4")
         self.done("add", "--box", "--yes")
         self.set_clock("2099-12-04T18:00:01+01:00")
-        fault = "--box: the box of the web host was not asked since the end; nothing was changed: run debvote-election add --box; if it does not answer any more, close with --force --because TEXT (the result page says so)"
-        self.assert_fault(self.election("close"), 9, fault)
         # by the clock of the host the end has not come
-        self.done("add", "--box", "--yes")
         ended, asked = self.election("close"), str(self.boxes_kept()[-1]["time"])
         time_there = datetime.datetime.fromisoformat(asked).astimezone(BERLIN)
-        fault = f"was not asked since the end: when the box was asked last, it was only {time_there:%Y-%m-%d %H:%M:%S} UTC+01:00 by its own clock; nothing was changed: run"
-        self.assert_fault(ended, 9, fault)
+        fault = f"was not asked since the end: when the web box was asked last, it was only {time_there:%Y-%m-%d %H:%M:%S} UTC+01:00 by its own clock; act "
+        self.assert_fault(ended, 9, fault, "run the command again; if it does not answer any more, close with --force --because TEXT (the result page says so)")
         said = self.done("close", *self.forced).output
         self.assertNotIn("still takes ballots", said)
         # the last asking brought nothing
@@ -861,8 +864,10 @@ class Asked(boxes.BoxElectionTest):
         [(asked,)] = self.rows("SELECT time FROM act ORDER BY act DESC LIMIT 1")
         self.set_clock(str(asked))
         self.done("close", "--early")
-        fault = "--box: the box of the web host was not asked since the vote was closed early"
-        self.assert_fault(self.election("count"), 9, fault)
+        # that of `count` itself has this second, too
+        ended = self.election("count")
+        self.assertEqual(ended.status, 9)
+        self.assertIn("--box: the web box was not asked since the vote was closed early", ended.faults)
 
     def test_asked_after_the_end_and_then_closed(self) -> None:
         self.off(-3600)
@@ -874,12 +879,10 @@ class Asked(boxes.BoxElectionTest):
         # by the clock of the host the end has come, by that of this computer it has not
         self.done("add", "--box")
         self.clock = {}
-        fault = "--box: the box of the web host was not asked since the end; "
-        self.assert_fault(self.election("close"), 9, fault)
-        self.done("add", "--box")
-        time.sleep(1.1)
+        before = len(self.boxes_kept())
         self.done("close")
-        self.assertNotIn("the box of the web host", self.election("count").faults)
+        self.assertEqual(len(self.boxes_kept()), before + 1)
+        self.assertNotIn("the web box", self.election("count").faults)
         self.done("publish")
         self.assertNotIn(b"that the secretary did not get", self.read("result/index.html"))
 
@@ -904,7 +907,7 @@ class Pages(boxes.BoxElectionTest):
         self.call()
         (self.web / "index.html").unlink()
         self.assertIn(self.other, self.done("add", "--box").output)
-        fault = "call: nobody has seen yet whether the box of the web host works, with page and links of now"
+        fault = "call: nobody has seen yet whether the web box works, with page and links of now"
         self.assert_fault(self.election("letters", "call"), 9, fault, "upload the folder call")
         self.upload()
         self.assertNotIn("Note: the page", self.done("add", "--box").output)
@@ -914,8 +917,8 @@ class Pages(boxes.BoxElectionTest):
         self.assertFalse(self.is_present())
         for kind in ("call", "reminders"):
             self.assert_fault(self.election("letters", kind), 9, "with page and links of now")
-        fault = "--box: the page on the web host was not that of the call; nothing was changed: upload the folder call, then run debvote-election add --box; if it does not answer any more, close with --force"
-        self.assert_fault(self.election("close", "--early"), 9, fault)
+        fault = "--box: the page on the web host was not that of the call; act "
+        self.assert_fault(self.election("close", "--early"), 9, fault, "upload the folder call, then run the command again; if it does not answer any more, close with --force")
         self.upload()
         self.done("add", "--box")
         self.assertTrue(self.is_present())
@@ -1008,7 +1011,7 @@ class Moved(boxes.BoxElectionTest):
             said,
         )
         # nothing lies at the new address yet
-        self.assertIn(f"\nNext: upload the files of call to {self.host.at}, vote.php too, then run debvote-election add --box, which tries", said)
+        self.assertIn(f"\nNext: upload the files of call to {self.host.at}, vote.php too; then debvote-election letters --send", said)
         self.upload()
         # what the other host had is not missed here
         self.assertNotIn("has no more", self.done("add", "--box", "--yes").output)
@@ -1030,7 +1033,7 @@ class Moved(boxes.BoxElectionTest):
             self.assertIn(fault, self.election("roll", "--new-link", *words).faults)
         said = self.done("roll", "--new-link", "ada", "--yes").output
         self.assertIn("ada: a new link\n", said)
-        self.assertIn("Upload call/vote.php again, since these electors have new links", said)
+        self.assertIn("\nNext: upload call/vote.php again, since these electors have new links; then debvote-election letters call, for the", said)
         self.upload()
         self.done("add", "--box")
         self.done("letters", "call")
@@ -1264,7 +1267,7 @@ class Many(boxes.BoxElectionTest):
         took = list[float]()
         for new, before in ((RECORDS, 0), *[(0, RECORDS)] * 3):
             said, seconds, megabytes = self.measured("add", "--box", "--yes")
-            self.assertIn(f"The box has {RECORDS} records.\n{new} new letters; {before} came before.\n", said)
+            self.assertIn(f"The web box has {RECORDS} records.\n{new} new letters; {before} came before.\n", said)
             self.assertLess(megabytes, 200)
             took.append(seconds)
         # a processor that others use, too, is slower

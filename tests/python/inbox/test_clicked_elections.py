@@ -1,5 +1,7 @@
-"""Whole elections in which each member clicks, in a browser and on a real host: what is published is what was chosen, and neither
-the host nor, in a secret vote, anybody who reads what comes out of it learns who chose it.
+"""Whole elections in which each member clicks, in a browser and on a real host.
+
+What is published is what was chosen, and neither the host nor, in a secret vote, anybody who reads what comes out of it learns who
+chose it.
 """
 
 import datetime
@@ -358,7 +360,7 @@ class Struck(boxes.BoxElectionTest):
         self.assertEqual((answer.status, answer.word), (403, "unknown:"))
         self.click("cleo", "2,1,3,4", links["cleo"])
         self.assertIn("Note: the web host has another vote.php than the folder call", self.done("add", "--box", "--yes").output)
-        self.assert_fault(self.election("letters", "reminders"), 9, "nobody has seen yet whether the box of the web host works")
+        self.assert_fault(self.election("letters", "reminders"), 9, "nobody has seen yet whether the web box works")
         self.upload()
         self.click("ada", "4,3,2,1", links["ada"])
         self.assertNotIn("another vote.php", self.done("add", "--box", "--yes").output)

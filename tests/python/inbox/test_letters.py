@@ -55,6 +55,17 @@ class Adding(LettersTest):
         self.assertEqual(self.exported()[0], f"ada {RANKS}\ncleo {RANKS}\ncleo {OTHER}\n")
         self.assertEqual(self.numbers()["waiting"], 2)
         self.assertIn("2 letters wait", self.told("status"))
+        # of those that an earlier run has brought only their number is told
+        said = self.add(ada, ben, later, letter("eve", "hello", number=3), letter("fay", f"fay {RANKS}"))
+        self.assertEqual(said.count("no ballot found"), 1, said)
+        for words in ("für den See", "s@x.example"):
+            self.assertNotIn(words, said)
+        self.assertIn("\n     7  2026-11-23 10:00:00 UTC  eve@club.example", said)
+        self.assertIn("1 ballot of letters went in; 3 letters wait.", said)
+        self.write("inbox.mbox", mailbox(ben, letter("gus", "hello", number=4)))
+        said = self.told("add", "--look", "inbox.mbox")
+        self.assertIn("   new  2026-11-23 10:00:00 UTC  gus@club.example", said)
+        self.assertEqual((said.count("no ballot found"), "4 letters wait" in said), (1, True), said)
 
     def test_undo_is_named_where_something_can_be_taken_back(self) -> None:
         self.assertRegex(self.add(letter("ada", "hello")), r"\nNext: debvote-election held, which lists the letters that wait\n\Z")

@@ -185,7 +185,7 @@ class AtDesk(TerminalTest):
         desk.after("y\n", "Ballot: ")
         self.assertIn("`hopp` was completed to `grace-hopper`\ngrace-hopper: Abstain\n", desk.after("hopp abstain\n", CAST))
         desk.after("y\n", "Ballot: ")
-        self.assertIn("\nada has a ballot: Yes: We buy a second boat. It will be replaced.", desk.after("ada no\n", CAST))
+        self.assertIn("\nada has a ballot, which will be replaced: Yes: We buy a second boat", desk.after("ada no\n", CAST))
         desk.after("n\n", "Ballot: ")
         self.assertIn("It would be refused: Kim No", desk.after("Kim No\n", "anyway? "))
         self.end(desk, "n\nq\n")

@@ -59,7 +59,7 @@ class SecretCall(elections.ElectionTest):
         self.assertEqual((fault in text, status), (True, 9), text)
 
     def test_options_that_do_nothing_are_refused(self) -> None:
-        slips, codes = "--slips: only in a secret vote, with --box", "--codes: only in a secret vote with a box"
+        slips, codes = "--slips: only in a secret vote, with --box", "--codes: only in a secret vote with a web box"
         self.assert_fault(self.election("call", "--box", *HTTPS, "--slips", "no"), 2, slips)
         self.done("call", "--to", "vote@club.example")
         self.assert_fault(self.election("letters", "call", "--codes", "--yes"), 2, codes)

@@ -1,5 +1,6 @@
-"""No line of what is sent looks like an answer, however a mail program breaks it, so an answer that quotes it goes in; and what the
-secretary has written is named, or refused, if it does.
+"""No line of what is sent looks like an answer, so an answer that quotes it goes in.
+
+That holds however a mail program breaks a line; what the secretary has written is named, or refused, if it looks like one.
 """
 
 import dataclasses
@@ -88,14 +89,18 @@ class OfSecretary(OutTest):
             (self.folder / name).parent.mkdir(exist_ok=True, parents=True)
             self.write(name, text)
         note = "Note: these look like answers, and letters that quote one of them wait:\n"
-        self.assertIn("".join([note, *(f"  {one}\n" for one in self.named)]), self.told("check"))
+        checked = "".join([note, *(f"  {one}\n" for one in self.named)])
+        self.assertIn(checked, self.told("check"))
         for line in self.refused:
             for name, text in self.texts.items():
                 self.write(name, f"Dear all,\n{line}\n")
                 for command in ("check", "call"):
                     self.assert_refused([command], 2, f"{name}:2: `{line}` reads as a ballot")
                 self.write(name, text)
-        self.told("call", "--until", "2026-12-04 18:00", "--zone", "UTC")
+        # what is to be looked at the call says, too, and nothing else that `check` has shown
+        said = self.told("call", "--until", "2026-12-04 18:00", "--zone", "UTC")
+        self.assertTrue(said.startswith(checked), said)
+        self.assertNotIn("Options:", said)
         # an extension has the letter that is there now
         self.write("letter.txt", self.refused[0])
         self.assert_refused(["call", "--until", "2026-12-05 18:00"], 2, "letter.txt:1: ")

@@ -1,7 +1,6 @@
-"""The button that votes, on the page of a call in a browser: what is sent is on the page, at a
-press and in its order, and what is said of it is true.
+"""The button that votes, on the page of a call with a web box, in a browser.
 
-The page is the one of a call with a box.
+What is sent is on the page, at a press and in its order, and what is said of it is true.
 """
 
 import dataclasses

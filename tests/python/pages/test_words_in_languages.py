@@ -1,5 +1,7 @@
-"""Pages and letters in a language hold no word of ours in another one: in a language whose words are all marked, nothing is unmarked
-but what is no word of ours, as the names of options and electors, the commands, and what debvote itself says."""
+"""Pages and letters in a language hold no word of ours in another one.
+
+In a language whose words are all marked, nothing is unmarked but what is no word of ours, as the names of options and electors, the
+commands, and what debvote itself says."""
 
 import datetime
 import email

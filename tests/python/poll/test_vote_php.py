@@ -1,5 +1,6 @@
-"""The box of a vote on a real server of PHP: what each request is answered, what the file has then,
-and that nothing that was acknowledged is lost, whatever fails.
+"""The web box of a vote on a real server of PHP.
+
+It says what each request is answered, what the file has then, and that nothing that was acknowledged is lost, whatever fails.
 """
 
 import concurrent.futures

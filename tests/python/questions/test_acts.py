@@ -325,7 +325,7 @@ class ActsTest(QuestionsTest):
 
     def sheets(self) -> dict[str, str]:
         """While a letter waits that arrived in time, a closed vote is counted by force."""
-        found = self.election("count", "--force")
+        found = self.election("count", "--sheets", "--force")
         self.assertIn(found.status, (0, 1), found)
         parts = re.split(r"(?m)^Question ([A-Z])\n", found.output)
         return dict(zip(parts[1::2], parts[2::2], strict=True))
@@ -348,7 +348,7 @@ class ActsTest(QuestionsTest):
                     counts |= dict(one.answers)
             shown = self.done("show", name).output
             if shown != f"{name}: nothing came\n":
-                self.assertIn(f"The current ballot: {f'{one_line(name, counts)}: ' if counts else 'none'}", shown)
+                self.assertIn(f"The current ballot: {f'{one_line(name, counts)}:' if counts else 'none'}\n", shown)
 
 
 # a class for each, so that they run side by side

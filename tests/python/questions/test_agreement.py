@@ -77,7 +77,7 @@ class AgreementTest(QuestionsTest):
         found = {}
         for name in self.names:
             told = self.done("show", name).output
-            said = re.search(r"(?m)^The current ballot: (.*?)(?:: .*)?$", told)
+            said = re.search(r"(?m)^The current ballot: (.*?):?$", told)
             found[name] = said[1] if said else ""
             self.assertEqual(found[name], one_line(name, self.wanted[name]) if name in self.wanted else "none", told)
         return found

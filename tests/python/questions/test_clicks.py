@@ -50,7 +50,7 @@ class Clocks(QuestionsByBox):
         enter, why = ("held", "2", "--enter", "--yes"), "its elector may have voted since, as the clock of the web host was off"
         self.assert_fault(self.election(*enter), 9, why)
         self.done(*enter, "--force")
-        self.assertIn("The current ballot: ada A 2,1 B 1,2,3 C 1,2: ", self.done("show", "ada").output)
+        self.assertIn("The current ballot: ada A 2,1 B 1,2,3 C 1,2:\n", self.done("show", "ada").output)
 
 
 @NEEDS_PHP
@@ -96,14 +96,14 @@ class Clicks(QuestionsByBox):
         self.answer("B", "2", "1", "-")
         self.vote()
         self.done("add", "--box", "--yes")
-        fee, said = "It was read as: A (Raise the fee to 72 Euro): Yes", f"D (Where we meet): {', then '.join(PLACES[1:])}, then Nowhere."
+        fee, said = "It was read as: A (Raise the fee to 72 Euro): Yes", f"D (Where we meet): {', then '.join(PLACES[1:])}, then Nowhere"
         [told] = self.receipts().values()
         first, second = told.split("Your ballot of ")[1:]
         self.assertIn("Another ballot of yours, which was entered after it, counts instead.", first)
-        self.assertIn(f"{fee}; {said}", first)
+        self.assertIn(f"{fee} {said}", first)
         counts = "It counts unless you send a later one. It came by the page of the vote."
         self.assertIn(counts, second)
-        self.assertIn(f"{fee}; B (The chair): Mary Somerville, then Ada Lovelace; not ranked, and so behind all others: None of these; {said}", second)
+        self.assertIn(f"{fee} B (The chair): Mary Somerville, then Ada Lovelace; not ranked, and so behind all others: None of these {said}", second)
         # opened again the page has no answers: one alone is sent, and others stay
         self.open("ada")
         self.answer("A", "1,1")
@@ -113,8 +113,8 @@ class Clicks(QuestionsByBox):
         second, third = told.split("Your ballot of ")[1:]
         of_others = "These of its answers do not count; others of yours, which were entered after them, count instead"
         self.assertIn(f"{of_others}: A (Raise the fee to 72 Euro).", second)
-        self.assertIn(f"{counts} It was read as: A (Raise the fee to 72 Euro): Abstain.", third)
-        standing = f"The current ballot: ada A 1,1 B 2,1,- D {','.join(PLACES)}: "
+        self.assertIn(f"{counts} It was read as: A (Raise the fee to 72 Euro): Abstain ", third)
+        standing = f"The current ballot: ada A 1,1 B 2,1,- D {','.join(PLACES)}:\n"
         self.assertIn(standing, self.done("show", "ada").output)
 
     def shown(self, place: str) -> str:

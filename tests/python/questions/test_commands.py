@@ -25,15 +25,15 @@ class Desk(QuestionsTest):
         self.assertIn("A Raise the fee to 72 Euro\n  1 Yes, 72 Euro\n  2 No, as it is\nB The chair of the board\n  1 Ada Lovelace\n", shown)
         self.assertIn("Type a ballot as ada A 2,1 B 2,3,1 C 2,3,4,1 (the elector, then for each question that is answered its label", shown)
         shown = desk.after("Ada a: 1, 2 b) 1, 2,3\n", ASKED)
-        self.assertIn(f"ada: {YES}; {CHAIR}\nada has a ballot: {NO}. It will be replaced.\nThese earlier answers of ada stay: C (A new roof): Slate", shown)
-        self.assertIn(f"2 A replaced, B counted  ada: {YES}; {CHAIR}\n", desk.after("y\n", "Ballot: "))
+        self.assertIn(f"ada:\n  {YES}\n  {CHAIR}\nada has a ballot, which will be replaced:\n  {NO}\nThese earlier answers of ada stay:\n  C (A new roof): Slate", shown)
+        self.assertEqual(desk.after("y\n", "Ballot: "), "y\n2 A replaced, B counted  ada\nBallot: ")
         # a line that has not the form of a ballot is not asked about
         shown = desk.after("ada 1,2\n", "Ballot: ")
         self.assertRegex(shown, r"`ada 1,2` is no ballot: a ballot is a name, and for each question.*\nIt was not entered\.\nBallot: $")
         # what is refused is an envelope of its own
         shown = desk.after("ben A 1,2,3 B 1,2,3\n", ASKED)
-        self.assertIn(f"ben: {CHAIR}\nIt would be refused: ben A 1,2,3: bad rank count: 3 ranks, the poll has 2 options\n", shown)
-        self.assertIn(f"3 counted  ben: {CHAIR}\n4 bad rank count  ben A 1,2,3: ", desk.after("y\n", "Ballot: "))
+        self.assertIn(f"ben:\n  {CHAIR}\nIt would be refused: ben A 1,2,3: bad rank count: 3 ranks, the poll has 2 options\n", shown)
+        self.assertEqual(desk.after("y\n", "Ballot: "), "y\n3 counted  ben\n4 bad rank count  ben A 1,2,3\nBallot: ")
         # a part of a name is completed, as ever
         self.assertIn("`cl` was completed to `cleo`\n", desk.after("cl A 1,2\n", ASKED))
         desk.after("n\n", "Ballot: ")
@@ -54,8 +54,8 @@ class Desk(QuestionsTest):
         shown = desk.until("Ballot: ")
         self.assertIn("B The chair of the board\n  1 Ada Lovelace\n  2 Mary Somerville\n  3 None of these\nType a ballot as ada 2,3,1 (", shown)
         self.assertNotIn("new roof", shown)
-        self.assertIn(f"ada: {CHAIR}\n", desk.after("Ada: 1, 2, 3\n", ASKED))
-        self.assertIn(f"1 counted  ada: {CHAIR}\n", desk.after("y\n", "Ballot: "))
+        self.assertIn(f"ada:\n  {CHAIR}\n", desk.after("Ada: 1, 2, 3\n", ASKED))
+        self.assertIn("\n1 counted  ada\n", desk.after("y\n", "Ballot: "))
         for other in ("ada A 1,2", "ada A 1,2,3", "ada B 1,2,3"):
             self.assertIn(f"`{other}` is no ballot: ", desk.after(f"{other}\n", "Ballot: "))
         desk.type("q\n")
@@ -81,14 +81,14 @@ class Held(QuestionsTest):
         for how in (["--enter"], ["--enter", "--force"], ["--as", "ada A 2,1 B 1,2,3"], ["--as", "ada A 1,2 B 1,2,3", "--force"]):
             said = "letter 3: its elector has later answers to A; nothing was changed: enter the others: debvote-election held 3 --as 'ada B 1,2,3'"
             self.assert_refused(["held", "3", *how, "--yes"], 9, said)
-        self.assertIn("4 counted  ada: B (", self.told("held", "3", "--as", "ada B 1,2,3", "--yes"))
+        self.assertRegex(self.told("held", "3", "--as", "ada B 1,2,3", "--yes"), r": ada:\n  B \((?s:.*)\n4 counted  ada\n")
         self.assert_refused(["held", "5", "--enter", "--yes"], 9, "letter 5: its elector has voted since; nothing was changed: if this ballot must count, repeat it with --force")
-        self.assertIn("5 replaced  cleo: A (", self.told("held", "5", "--enter", "--force", "--yes"))
+        self.assertIn("\n5 replaced  cleo\n", self.told("held", "5", "--enter", "--force", "--yes"))
         self.assertEqual(self.numbers()["waiting"], 0)
         self.done("held", "4", "--wait")
         typed = ["held", "4", "--as", "ben B 1,2,3", "--yes"]
         self.assert_refused(typed, 9, "letter 4: its elector has voted since")
-        self.assertIn("6 replaced  ben: B (", self.told(*typed, "--force"))
+        self.assertIn("\n6 replaced  ben\n", self.told(*typed, "--force"))
         self.assertEqual(self.lines(), ["ada A 1,2", "ben A 2,1 B 3,2,1", "cleo A 1,2", "ada B 1,2,3", "cleo A 2,1", "ben B 1,2,3"])
 
     def test_a_letter_is_dealt_with_as_a_whole(self) -> None:
@@ -98,7 +98,7 @@ class Held(QuestionsTest):
         self.assert_refused(["held", "1", "--enter", "--yes"], 9, f"letter 1: it has 2 ballots; nothing was changed: {cure}")
         self.assert_refused(["held", "3", "--enter", "--yes"], 9, f"letter 3: it has 1 ballot, and other lines that look like answers; nothing was changed: {cure}")
         self.assert_refused(["close", "--early"], 9, "these letters arrived in time, and wait: 1, 2, 3;")
-        self.assertIn("1 counted  ben: A (", self.told("held", "2", "--enter", "--yes"))
+        self.assertIn("\n1 counted  ben\n", self.told("held", "2", "--enter", "--yes"))
         self.assert_refused(["held", "1", "--as", "ada A 1,2", "--as", "ada A 2,1 B 1,2,3", "--yes"], 9, "letter 1: 2 of these lines are ballots of ada; nothing was changed: name the one that counts")
         self.done("held", "1", "--as", "ada A 1,2", "--yes")
         self.done("held", "3", "--as", "cleo A 1,2", "--as", "cleo B 3,1,2", "--yes")
@@ -148,7 +148,7 @@ class Held(QuestionsTest):
         self.assert_refused(["held", "1", "--enter", "--yes"], 9, "letter 1: it arrived in time, and the vote is closed; nothing was changed: if it has a ballot, run debvote-election reopen")
         self.done("reopen", "--because", "x")
         self.assertIn("1 ballot of letters went in; 0 letters wait", self.told("add", "--yes", "inbox.mbox"))
-        self.assertIn("The current ballot: ada A 1,2 B 1,2,3: ", self.told("show", "ada"))
+        self.assertIn("The current ballot: ada A 1,2 B 1,2,3:\n  A (", self.told("show", "ada"))
 
     def test_a_late_line_that_would_replace_a_later_answer(self) -> None:
         """To the same question: only that needs force."""
@@ -179,7 +179,7 @@ class Sums(QuestionsTest):
         self.add_lines("ada A 1,2", "ben B 1,2,3")
         self.write("more", "ada A 2,1 B 1,2,3\ncleo A 1,2,3 B 1,2,3\nben A 1,2 B 2,1,3\nada A 1,2 B 2,1,3 C 1,2,3,4\n")
         said = self.told("add", "more")
-        self.assertIn("3 A replaced, B counted  ada: ", said)
+        self.assertIn("3 A replaced, B counted  ada:\n  A (", said)
         sums = "1 counted, 1 bad rank count, 3 replaced in part: A counted 1, A replaced 2, B counted 1, B replaced 2, C counted 1"
         self.assertIn(f"Added 5 lines ({sums}).\n", said)
         self.assertIn("This desk has entered 2 lines (1 counted, 1 replaced in part: A replaced 1, C counted 1).\n", self.told("desk", given="cleo A 1,2\ncleo A 2,1 C 1,2,3,4\n"))
@@ -192,15 +192,15 @@ class TakenAway(QuestionsTest):
         self.assertEqual(self.lines(), ["ada A 1,2", "ada A 2,1 B 1,2,3", "ada C 1,2"])
         said = self.told("undo", "--yes")
         self.assertIn("Took back 2 lines (", said)
-        self.assertIn(f"\n  ada: {YES}, as before\n", said)
+        self.assertIn(f"\n  ada, as before:\n    {YES}\n", said)
         self.assertEqual(self.lines(), ["ada A 1,2"])
-        self.assertIn(f"The current ballot: ada A 1,2: {YES}\n", self.told("show", "ada"))
+        self.assertIn(f"The current ballot: ada A 1,2:\n  {YES}\n", self.told("show", "ada"))
 
     def test_a_strike_brings_back_what_it_had_replaced(self) -> None:
         self.add_lines("ada A 1,2 B 1,2,3", "ada A 2,1")
-        self.assertIn("(A replaced)\n", self.told("show", "ada"))
+        self.assertIn(f" (A replaced):\n    {YES}\n    {CHAIR}\n", self.told("show", "ada"))
         said = self.told("strike", "2", "--because", "it was ben's", "--yes")
-        self.assertIn(f"The current ballot of ada: {YES}; {CHAIR}\n", said)
+        self.assertIn(f"The current ballot of ada:\n  {YES}\n  {CHAIR}\n", said)
 
     def test_a_letter_whose_later_answer_is_taken_away_is_judged_anew(self) -> None:
         """`strike` and `undo` name it, and the next `add` takes it whole."""
@@ -258,8 +258,8 @@ class Told(QuestionsTest):
         texts = self.letters("receipts")
         self.assertEqual(sorted(texts), ["ada", "ben"])
         not_all = "These of its answers do not count; others of yours, which were entered after them, count instead: A (Raise the fee to 72 Euro)."
-        self.assertIn(f"It counts unless you send a later one. {not_all} It was read as: {YES}; {CHAIR}.", texts["ada"])
-        self.assertIn(f"It was read as: {NO}.", texts["ada"])
+        self.assertIn(f"It counts unless you send a later one. {not_all} It was read as: {YES} {CHAIR} ", texts["ada"])
+        self.assertIn(f"It was read as: {NO} If you have not sent this", texts["ada"])
         self.assertIn("It is not a valid ballot of this vote, so it does not count. One of its answers has 2 ranks, and the question has 3 options. If you have not", texts["ben"])
 
     def test_who_has_answered_one_question_is_not_reminded(self) -> None:
@@ -278,3 +278,34 @@ class Told(QuestionsTest):
         self.assertEqual([state[key] for key in ("lines", "valid", "refused", "voters")], [4, 3, 1, 2])
         b = {"title": "The chair of the board", "stage": "called", "lines": 2, "valid": 1, "refused": 1, "voters": 1, "late": 0}
         self.assertEqual(state["questions"]["B"], b)
+
+
+class Many(QuestionsTest):
+    """Ballots of more answers than are read at once are told as they are entered, one on a line."""
+
+    names = [f"m{number:02}" for number in range(1, 15)]
+
+    def ballots(self, answers: str) -> list[str]:
+        return [f"{name} {answers}" for name in self.names]
+
+    def test_lines(self) -> None:
+        few = self.add_lines(*self.ballots("A 1,2 B 1,2,3")[:2])
+        self.assertIn(f"1 counted  m01:\n  {YES}\n  {CHAIR}\n2 counted  m02:\n", few)
+        said = self.add_lines(*self.ballots("A 2,1 B 1,2,3 C 1,2,3,4"))
+        replies = ["A replaced, B replaced, C counted"] * 2 + ["counted"] * 12
+        told = [f"{number} {reply}  {name}: A 2,1 B 1,2,3 C 1,2,3,4" for number, (reply, name) in enumerate(zip(replies, self.names), start=3)]
+        self.assertEqual(said.splitlines()[:15], [*told, "Each in words: debvote-election show NAME"])
+        self.assertIn("  A (Raise the fee to 72 Euro): No, as it is, then", self.told("show", "m01"))
+
+    def test_letters(self) -> None:
+        letters = [letter(name, f"{ballot}\n", number=number) for number, (name, ballot) in enumerate(zip(self.names, self.ballots("A 1,2 B 1,2,3 C 1,2,3,4")))]
+        said = self.add(*letters[:2])
+        self.assertIn(f"\nm01 (letter 1):\n  {YES}\n  {CHAIR}\n  C (A new roof): Slate", said)
+        self.assertIn("\n1 counted  m01\n2 counted  m02\n", said)
+        again = [letter(name, f"{ballot}\n", number=number, time=at(11)) for number, (name, ballot) in enumerate(zip(self.names, self.ballots("a: 2, 1 B 1,2,3 C 1,2,3,4")), start=20)]
+        said = self.add(*again)
+        lines = said.splitlines()
+        first = lines.index("m01 (letter 3, written `m01 a: 2, 1 B 1,2,3 C 1,2,3,4`): A 2,1 B 1,2,3 C 1,2,3,4")
+        self.assertTrue(lines[first + 13].startswith("m14 (letter 16, written"), said)
+        self.assertEqual(lines[first + 14], "Each in words: debvote-election show NAME")
+        self.assertIn("\n3 replaced  m01\n4 replaced  m02\n5 counted  m03\n", said)

@@ -107,7 +107,7 @@ class Lines(LabelsTest):
         desk.until("Ballot: ")
         desk.after("cleo 2,1\n", "Ballot: ")
         said = desk.after("cleo a 2,1 b 1,2,3\n", "Enter it?")
-        self.assertIn("A (Raise the fee to 72 Euro): No, as it is, then Yes, 72 Euro; B (The chair of the board): Ada Lovelace, then", said)
+        self.assertIn("A (Raise the fee to 72 Euro): No, as it is, then Yes, 72 Euro\n  B (The chair of the board): Ada Lovelace, then", said)
         self.assertIn("C (A new roof): Slate, then Tiles, then Straw, then As it is", said)
         self.assertIn("stay", said)
         desk.after("y\n", "Ballot: ")
@@ -143,7 +143,7 @@ class Lines(LabelsTest):
     def test_a_refused_answer_is_an_envelope_of_its_own(self) -> None:
         """The ranks of A are too many: B counts, and `undo` takes back both."""
         said = self.done("desk", given="cleo A 1,2,3 B 1,2,3\n").output
-        self.assertRegex(said, r"(?m)^\d counted  cleo: B ")
+        self.assertRegex(said, r"(?m)^\d counted  cleo:\n  B ")
         self.assertRegex(said, r"(?m)^\d bad rank count  cleo A 1,2,3")
         self.assertEqual(sorted(self.lines()), ["cleo A 1,2,3", "cleo B 1,2,3"])
         sheets = self.sheets()

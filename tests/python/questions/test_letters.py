@@ -1,5 +1,6 @@
-"""Letters with answers to several questions: one that goes in says nothing else, and each answer in it goes in; random ones, against a model of
-what may go in, and ones that somebody forged."""
+"""Letters with answers to several questions: one that goes in says nothing else, and each answer goes in.
+
+There are random ones, against a model of what may go in, and ones that somebody forged."""
 
 import dataclasses
 import os

@@ -1,4 +1,4 @@
-"""A general meeting of seven questions and 40 members, in German: five open questions in one election, two secret ones in another."""
+"""A general meeting of seven questions and 40 members, in German: five open questions in one election, two secret ones in another; and all open, in one."""
 
 import email
 import hashlib
@@ -11,6 +11,7 @@ from collections.abc import Mapping
 
 from tests.support import boxes, elections
 from tests.support.letters import letter, mailbox
+from tests.support.outgoing import MailServer
 from tests.support.questions import REFERENCE, Answers, answering, in_a_letter, one_line, poll_in, tally, tally_in
 from tests.support.web_host import NEEDS_PHP
 
@@ -34,6 +35,15 @@ SECRET = {
 }
 # these are motions, which are answered by words at a desk and on paper
 MOTIONS, WORDS = "AE", {"1,2": "ja", "2,1": "Nein", "1,1": "Enthaltung."}
+# beside them two more open questions, of which the second is a tie
+SEVEN = {
+    **OPEN,
+    "F": ("Die Hütte am See", ["Neu bauen", "Instand setzen"], [1, 1], "Verkaufen", 1),
+    "G": ("Farbe der Trikots", ["Blau", "Grün"], [1, 1], "Wie bisher", 0),
+}
+# how many commands such a meeting needs at most, and how many lines an answer has at most
+MOST_OF_SEVEN, MOST_LINES = 35, 60
+
 # who goes which way; some of them another way later
 CLICKING, WRITING, AT_DESK, ON_PAPER = MEMBERS[:14], MEMBERS[14:26], MEMBERS[26:33], MEMBERS[33:39]
 MOST_COMMANDS = 20
@@ -299,3 +309,127 @@ class Meeting(MeetingTest):
             self.assertNotIn(f"{name} ", page)
             self.assertTrue(who not in page or who in candidates, who)
         return set(alias.values())
+
+
+@NEEDS_PHP
+class Seven(MeetingTest):
+    """All that a secretary does in a meeting, by the shortest way: an extension, clicks, letters, desks, paper, a tie."""
+
+    def setUp(self) -> None:
+        super().setUp()
+        self.server = MailServer()
+        self.addCleanup(self.server.stop)
+        self.wanted: dict[str, dict[str, str]] = {}
+        self.entered: list[str] = []
+
+    def command(self, *words: object, status: int = 0, **how: object) -> elections.Ended:
+        self.commands += 1
+        ended = self.election(*words, **how)
+        self.assertEqual(ended.status, status, ended)
+        lines = (ended.output + ended.faults).splitlines()
+        self.assertLessEqual(len(lines), MOST_LINES, (words, ended))
+        return ended
+
+    def send(self, count: int) -> None:
+        """Sends what is ready: so many letters."""
+        self.server.taken.clear()
+        self.command("letters", "--send", "--server", self.server.name)
+        self.assertEqual(len(self.server.taken), count)
+
+    def ballot(self, name: str, answers: Answers | None = None) -> str:
+        given = answers or {**answers_by(self.chance, SEVEN), "G": "1,2,3" if int(name[1:]) % 2 else "2,1,3"}
+        self.wanted.setdefault(name, {}).update(given)
+        self.entered.append(one_line(name, given))
+        return self.entered[-1]
+
+    def clicks(self, names: list[str]) -> None:
+        for name in names:
+            self.click(name, self.ballot(name).partition(" ")[2], self.personal[name][1])
+
+    def called(self) -> None:
+        self.folder = self.scratch / "wahl"
+        self.command("new", "--language", "de", "--questions", len(SEVEN), self.folder, cwd=self.scratch)
+        self.write("polls/title.txt", "Mitgliederversammlung 2026\n")
+        self.write("members.csv", ROWS)
+        for label, poll in SEVEN.items():
+            self.write(f"polls/{label}.toml", poll_of(*poll) + "motion = true\n" * (label in MOTIONS))
+        self.command("roll")
+        self.command("check")
+        self.set_clock(time.strftime("%Y-%m-%dT%H:%M:%S+00:00", time.gmtime(time.time() - 3600)))
+        self.command("call", "--until", "2099-12-04 18:00", "--zone", "Europe/Berlin", "--to", "vote@club.example", "--at", self.host.at, "--box")
+        self.clock = {}
+        self.command("backup", self.scratch / "copy.db")
+        self.upload()
+        self.send(len(MEMBERS))
+        self.personal = {name: (own, link) for name, own, link in (boxes.link_in(one.data) for one in self.server.taken)}
+
+    def letters(self) -> None:
+        time.sleep(1.1)
+        letters, waiting = [], {}
+        for number, name in enumerate(MEMBERS[22:34]):
+            answers = {**answers_by(self.chance, SEVEN), "G": "1,2,3" if int(name[1:]) % 2 else "2,1,3"}
+            arrived = time.strftime("%a, %d %b %Y %H:%M:%S +0000", time.gmtime(time.time() - 20 + number))
+            subject = f"Re: Abstimmung [{self.mark()}-{self.personal[name][0]}]"
+            # two write more, and their letters wait
+            text = text_of(name, answers, number)
+            if number in (9, 11):
+                waiting[name] = answers
+                text += "\nBis zum Sommer!\n"
+            else:
+                self.ballot(name, answers)
+            letters.append(letter(name, text, time=arrived, subject=subject, number=number))
+        self.write("post.mbox", mailbox(*letters))
+        said = self.command("add", "--yes", "post.mbox").output
+        [offered] = re.findall(r"Next: debvote-election held ([0-9 ]+) --enter", said)
+        for name, answers in waiting.items():
+            self.ballot(name, answers)
+        self.command("held", *offered.split(), "--enter", "--yes")
+
+    def test_an_evening(self) -> None:
+        self.called()
+        self.clicks(MEMBERS[:11])
+        self.command("add", "--box", "--yes")
+        self.letters()
+        self.command("letters", "receipts")
+        self.send(23)
+        # an extension, whose page is uploaded, and more clicks
+        self.command("call", "--until", "2099-12-05 18:00")
+        self.upload()
+        self.send(len(MEMBERS))
+        time.sleep(1.1)
+        self.clicks(MEMBERS[11:22])
+        self.command("add", "--box", "--yes")
+        self.command("desk", given="".join(f"{in_words(self.ballot(name))}\n" for name in MEMBERS[34:]))
+        # two who clicked answer one question anew, on paper
+        self.write("papier.txt", "".join(f"{self.ballot(name, {'B': '4,3,2,1'})}\n" for name in MEMBERS[:2]))
+        self.command("add", "papier.txt")
+        self.command("status")
+        time.sleep(1.1)
+        self.command("close", "--early")
+        # a click after the close is late, and `count` asks once more
+        time.sleep(1.1)
+        self.click(MEMBERS[3], "A 2,1", self.personal[MEMBERS[3]][1])
+        ended = self.command("count", status=1)
+        self.assertEqual([line[:2] for line in ended.output.splitlines()], [f"{label} " for label in SEVEN])
+        self.assertIn("G (Farbe der Trikots): Tie: 1 2\n", ended.output)
+        self.send(len(MEMBERS))
+        self.command("publish", "--force", "--because", "Alle haben abgestimmt.", status=1)
+        self.send(len(MEMBERS))
+        casting = ("--casting", "G=Grün", "--cast-by", "Der Vorsitz", "--cast-on", time.strftime("%Y-%m-%d"))
+        self.command("publish", *casting, "--force", "--because", "Alle haben abgestimmt.", "result-2")
+        self.send(len(MEMBERS))
+        self.assertLessEqual(self.commands, MOST_OF_SEVEN)
+        self.demand_result()
+
+    def demand_result(self) -> None:
+        (self.folder / "result").rename(self.folder / "result-1")
+        (self.folder / "result-2").rename(self.folder / "result")
+        self.demand_whole()
+        for label in SEVEN:
+            counting = {name: answers[label] for name, answers in self.wanted.items() if label in answers}
+            lines = answering(label, self.entered)
+            if label != "G":
+                self.demand_count(label, MEMBERS, lines, counting)
+        sheet = self.read("result/G/sheet.txt").decode()
+        self.assertTrue(sheet.endswith("Winner: 2 Gruen by casting vote\n"), sheet)
+        self.done("log", "--check")

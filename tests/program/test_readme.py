@@ -1,0 +1,103 @@
+"""Runs the commands of README in a copy of the checkout, compares what they print with what it says, and makes its picture anew.
+
+The copy has the program where `make try` builds it. Without it, and without the kit, each command says in one line what is missing.
+"""
+
+import os
+import pathlib
+import re
+import shutil
+import struct
+import subprocess
+import sys
+import tempfile
+import unittest
+
+from tests.program import test_guides
+from tests.support import at_browser, expecting
+from tests.support.program import PROGRAM, ROOT
+
+README = ROOT / "README.md"
+
+# what the commands read of a checkout
+FILES = "Makefile crates.txt docs/READING-A-SHEET.md tests/reference.py tests/try tests/build tests/quick tests/all"
+FOLDERS = "bin examples python tests/support"
+
+# the commands that need the kit
+OF_KIT = ["make try", "make build", "make test", "tests/all"]
+
+# keeps a program as `make try` does
+KEEP = """
+import pathlib, sys
+from tests.support import unproved
+unproved.keep({unproved.CHECKED: pathlib.Path(sys.argv[1])}, unproved.sum_of_sources())
+"""
+
+SECONDS = 600
+
+
+def checkout_in(folder: pathlib.Path) -> pathlib.Path:
+    """A copy of what the commands read, with its times."""
+    copy = folder / "checkout"
+    for name in FOLDERS.split():
+        shutil.copytree(ROOT / name, copy / name, ignore=shutil.ignore_patterns("__pycache__"))
+    for name in FILES.split():
+        (copy / name).parent.mkdir(parents=True, exist_ok=True)
+        shutil.copy2(ROOT / name, copy / name)
+    return copy
+
+
+class Commands(expecting.Expecting):
+    def setUp(self) -> None:
+        super().setUp()
+        room = tempfile.TemporaryDirectory()
+        self.addCleanup(room.cleanup)
+        self.room = pathlib.Path(room.name)
+        self.copy = checkout_in(self.room)
+
+    def run_in_copy(self, command: str, path: str) -> tuple[str, int]:
+        how = {"stdout": subprocess.PIPE, "stderr": subprocess.STDOUT, "text": True, "timeout": SECONDS}
+        ended = subprocess.run(["/bin/bash", "-c", command], cwd=self.copy, env={"PATH": path}, **how)
+        return ended.stdout, ended.returncode
+
+    def test_blocks(self) -> None:
+        """Each command prints what README says. What it writes goes to a folder of this test."""
+        subprocess.run([sys.executable, "-c", KEEP, PROGRAM], cwd=self.copy, check=True, timeout=SECONDS)
+        steps = [(words, wanted) for kind, words, wanted in test_guides.steps_of(README) if kind == "command"]
+        self.expect("there are commands", [words.split()[0] for words, _ in steps][:1], ["make"])
+        for words, wanted in steps:
+            found = self.run_in_copy(words.replace("/tmp/", f"{self.room}/"), os.environ["PATH"])
+            self.expect(f"README: $ {words}", found, (wanted, 0))
+        words = 'make try ARGS="check --poll examples/plain_win/poll.toml"'
+        self.expect(words, self.run_in_copy(words, os.environ["PATH"]), ("poll ok: 4 options, 9 electors\n", 0))
+
+    def test_without_kit(self) -> None:
+        """One line says what is missing; make adds one of its own."""
+        tools = self.room / "tools"
+        tools.mkdir()
+        for name in ("env", "make", "python3"):
+            (tools / name).symlink_to(str(shutil.which(name)))
+        for command in OF_KIT:
+            said, status = self.run_in_copy(command, str(tools))
+            lines = [line for line in said.splitlines() if not line.startswith("make: ")]
+            wanted = ["rt is not in PATH: it belongs to the Rattle kit, which README names"]
+            self.expect(f"{command}, without rt", (lines, status != 0), (wanted, True))
+
+    def test_length_and_order(self) -> None:
+        """At most 60 lines and 500 words; the first block of sh is the full check."""
+        text = README.read_text()
+        self.expect("lines and words", (len(text.splitlines()) <= 60, len(text.split()) <= 500), (True, True))
+        self.expect("the first block", re.findall(r"^```sh\n(.*?)^```$", text, re.MULTILINE | re.DOTALL), ["tests/all\n"])
+        self.expect(".ci/run", (ROOT / ".ci" / "run").read_text().splitlines()[-1], "exec tests/all")
+
+
+@at_browser.NEEDS_BROWSER
+class Picture(unittest.TestCase):
+    def test_picture(self) -> None:
+        """The script makes a picture of the size of that which README shows; letters look otherwise where the fonts do."""
+        with tempfile.TemporaryDirectory() as folder:
+            made = pathlib.Path(folder, "result.png")
+            subprocess.run([ROOT / "docs" / "make-picture", made], check=True, timeout=SECONDS)
+            sizes = [struct.unpack(">8sI4sII", file.read_bytes()[:24]) for file in (made, ROOT / "docs" / "result.png")]
+        self.assertEqual(sizes[0], sizes[1])
+        self.assertEqual(sizes[0][0], b"\x89PNG\r\n\x1a\n")

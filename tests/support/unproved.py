@@ -1,0 +1,45 @@
+"""The programs that are built without proof, which are kept while nothing of the crates changes.
+
+`make try` keeps the first, with the checks of `rt try`; `make test` keeps both, once the tests of the crates have passed.
+"""
+
+import hashlib
+import pathlib
+import shutil
+from collections.abc import Mapping
+
+from tests.support import parts
+
+FOLDER = pathlib.Path("crates", "debvote", "out", "unproved")
+CHECKED, QUICK = "debvote", "quick"
+MADE_FROM = "made-from"
+
+# folders of a crate that no program is made from
+LEFT_OUT = {"must-fail", "proofs", "out"}
+
+
+def sum_of_sources() -> str:
+    """A sum of the crates and, if it is there, of the kit."""
+    whole = hashlib.sha256((parts.kit() / "KIT-ID").read_bytes() if shutil.which("rt") else b"")
+    files = (file for file in (parts.ROOT / "crates").rglob("*") if file.is_file() and not LEFT_OUT & set(file.parts))
+    for file in [parts.ROOT / "crates.txt", *sorted(files)]:
+        digest = hashlib.sha256(file.read_bytes()).hexdigest()
+        whole.update(f"{digest}  {file.relative_to(parts.ROOT)}\n".encode())
+    return whole.hexdigest()
+
+
+def are_kept(*names: str) -> bool:
+    """Whether these programs are there, and were made from what is there now."""
+    folder = parts.ROOT / FOLDER
+    is_of_today = (folder / MADE_FROM).exists() and (folder / MADE_FROM).read_text() == sum_of_sources()
+    return is_of_today and all((folder / name).exists() for name in names)
+
+
+def keep(programs: Mapping[str, pathlib.Path], made_from: str) -> None:
+    """Keeps these programs in place of all that were kept."""
+    folder = parts.ROOT / FOLDER
+    shutil.rmtree(folder, ignore_errors=True)
+    folder.mkdir(parents=True)
+    for name, program in programs.items():
+        shutil.copy(program, folder / name)
+    (folder / MADE_FROM).write_text(made_from)
