@@ -77,8 +77,10 @@ def close(election: Election, arguments: Arguments) -> None:
         from debvote_tools.commands.letters import write_ready
 
         ready = write_ready(election, "closed")
-    send = election.to_all("closed", path, is_ready=bool(ready))
-    tell(*ready, f"Next: {send}; then {election.command('count')}")
+    sending = f"{election.to_all('closed', path, is_ready=bool(ready))}; then "
+    # where nobody knows whose each code is, it is sent to all alone
+    first = "" if history.has_codes_on_roll else sending
+    tell(*ready, f"Next: {first}{election.command('count')}")
 
 
 def ask_first(election: Election, arguments: Arguments) -> None:

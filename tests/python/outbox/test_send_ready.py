@@ -115,7 +115,7 @@ class OnTheRoll(SendTest):
         self.assert_fault(ended, 9, "codes are on the roll, and nobody knows whose they are")
         said = self.done("close", "--yes").output
         self.assertNotIn("Ready: ", said)
-        self.assertIn("\nNext: send letters/closed.txt to all electors; then debvote-election count\n", said)
+        self.assertTrue(said.endswith("before you count anything.\nNext: debvote-election count\n"), said)
 
 
 class WithCodes(SendTest):
