@@ -46,6 +46,10 @@ class CalledTest(elections.ElectionTest):
         """Name and detail of each act after the call."""
         return [(act.name, act.detail) for act in self.book.acts() if act.number >= self.first_act]
 
+    def last(self, name: str) -> dict[str, Any]:
+        """The detail of the last act of this name."""
+        return [detail for one, detail in self.acts() if one == name][-1]
+
     def act(self, name: str, detail: dict[str, Any] | None = None, sealed: dict[str, bytes] | None = None) -> None:
         with self.book.act(name, detail or {}) as act:
             for key, data in (sealed or {}).items():

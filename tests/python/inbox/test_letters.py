@@ -259,7 +259,7 @@ class Adding(LettersTest):
             # none of them stops a close, and the page says that they came after the end
             self.set_clock("2026-11-26T09:00:00+00:00")
             self.assertNotIn("arrived in time", self.told("close"))
-            self.assertIn("'waiting': 0, 'after_end': ", str(self.acts()[-1][1]))
+            self.assertIn("'waiting': 0, 'after_end': ", str(self.last("close")))
             self.told("reopen", "--because", "another bag")
         # one that arrived before the first close
         self.add(letter("dan", f"Hello:\ndan {RANKS}"))
@@ -545,7 +545,7 @@ class AtTheEnd(LettersTest):
 
     def closed(self) -> tuple[object, ...]:
         """What the page tells of letters that did not go in."""
-        detail = self.acts()[-1][1]
+        detail = self.last("close")
         return detail["waiting"], detail["after_end"], detail.get("because")
 
     def test_a_letter_in_time_needs_a_reason(self) -> None:

@@ -163,7 +163,7 @@ class Held(QuestionsTest):
         self.assertEqual(self.lines(), ["ada A 2,1", "ada B 1,2,3"])
         self.done("desk", "--force", *words, given="ada A 1,2\n")
         self.done(*close)
-        self.assertEqual(self.acts()[-1][1]["replaced_in_time"], 1)
+        self.assertEqual(self.last("close")["replaced_in_time"], 1)
 
     def test_what_is_typed_has_the_form_of_a_ballot_and_only_valid_answers(self) -> None:
         self.add(letter("ada", "I say yes\n", number=1))

@@ -76,7 +76,8 @@ class OpenTest(PublishedTest):
         listed = self.sums_in("letters/closed.txt")
         names = ["polls.sha256", "A/ballots.txt", "B/ballots.txt", "C/ballots.txt", ""]
         self.assertEqual([name for _, name in listed], names)
-        self.assertEqual(listed[-1][0], self.book.last_act().digest)
+        [digest] = [act.digest for act in self.book.acts() if act.name == "close"]
+        self.assertEqual(listed[-1][0], digest)
         self.assertEqual(self.sums_in("call/polls.sha256"), SUM.findall(self.in_shell("sha256sum ?/poll.toml title.txt", "call")))
         self.assertIn("Lines in time, by question: 3 (A), 2 (B), 4 (C).", self.read("letters/closed.txt").decode())
         for label in self.polls:
