@@ -636,12 +636,14 @@ class Signed(LettersTest):
         self.assertEqual((self.exported()[0], self.numbers()["waiting"]), ("", 0))
         # nor does a copy go in while nobody can say that it is one
         said = self.while_gpgv_is_slow("add", "--yes", str(self.box(self.signed("ada"))))
-        self.assertIn("it may be a copy of a letter that was dealt with, about which gpgv did not answer in time", said)
+        self.assertIn("0 ballots of letters went in; 2 letters wait; 1 copy passed over.", said)
         self.assertEqual(self.exported()[0], "")
+        said = self.while_gpgv_is_slow("held")
+        self.assertIn("it may be a copy of a letter that was dealt with, about which gpgv did not answer in time", said)
 
     def while_gpgv_is_slow(self, *words: str) -> str:
         place = self.scratch / "slow"
-        place.mkdir()
+        place.mkdir(exist_ok=True)
         (place / "gpgv").write_text("#!/bin/sh\nexec sleep 60\n")
         (place / "gpgv").chmod(0o755)
         with mock.patch.object(signature, "SECONDS", 0.2):
