@@ -115,9 +115,8 @@ def try_refused(page, count, spoken):
     for entry in pages.sections_of(page)["Refused-lines"].all("li"):
         said, head = entry.text(), entry.one("b").text()
         numbers = list(map(int, re.findall(r"\d+", head)))
-        one, many = ({"number": numbers[0]}, {"first": numbers[0], "last": numbers[-1]})
-        wanted = spoken.say("lines {first} to {last}", **many) if numbers[1:] else spoken.say("line {number}", **one)
-        demand(head == wanted, f"the number of a refused line: {head}")
+        one, many = spoken.say("line {number}", number=numbers[0]), spoken.say("lines {first} to {last}", first=numbers[0], last=numbers[-1])
+        demand(head == (many if numbers[1:] else one), f"the number of a refused line: {head}")
         for number in range(numbers[0], numbers[-1] + 1):
             before = spoken.with_colon(head, spoken.with_colon(line_shown(count.lines[number - 1], spoken), ""))
             demand(said.startswith(before), f"the text of line {number}: {said}")

@@ -1,5 +1,5 @@
 // Seals the line of the form to the secretary, sends it to the box of the vote at a press of the button, and says what became of it,
-// never that it counts. Only the page of a vote with a box has it.
+// never that it counts. Only the page of a vote with a web box has it; names.js, fold.js and ballot.js stand before it.
 "use strict";
 
 (() => {

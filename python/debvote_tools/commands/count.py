@@ -10,17 +10,16 @@ from debvote_tools.inbox.asked import asked_words
 from debvote_tools.inbox.asking import ask_for
 from debvote_tools.inbox.stopping import Pending, pending_letters, what_stops
 from debvote_tools.poll.questions import Questions
-from debvote_tools.result.publication import kept_of, sheet_of
-from debvote_tools.result.sheet import (
+from debvote_tools.result.casting import (
     CASTING,
     Castings,
     castings_in,
-    demand_countable,
     in_shell,
     named,
     publishing,
     unneeded_words,
 )
+from debvote_tools.result.publication import demand_countable, kept_of, sheet_of
 from debvote_tools.sheet import Sheet
 
 

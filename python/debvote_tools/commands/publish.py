@@ -38,17 +38,16 @@ from debvote_tools.files import (
 from debvote_tools.inbox.stopping import Pending, pending_letters
 from debvote_tools.poll.questions import Questions
 from debvote_tools.result import folder, publication
-from debvote_tools.result.facts import Outcome, PublishedWords, QuestionFacts, VoteFacts
-from debvote_tools.result.file_names import BALLOTS, CHECKSUMS, PAGE, POLL
-from debvote_tools.result.sheet import (
+from debvote_tools.result.casting import (
     CASTING,
     Castings,
     castings_in,
-    demand_countable,
-    outcome_as_data,
     publishing,
     unneeded_words,
 )
+from debvote_tools.result.data import outcome_as_data
+from debvote_tools.result.facts import Outcome, PublishedWords, QuestionFacts, VoteFacts
+from debvote_tools.result.file_names import BALLOTS, CHECKSUMS, PAGE, POLL
 from debvote_tools.text import times
 from debvote_tools.text.language import LANGUAGES
 
@@ -105,7 +104,7 @@ def publish(election: Election, arguments: Arguments) -> int:
     """Make the folder of the result for a web site; without options, make the last one again."""
     election.demand_right_book(arguments)
     history = election.history()
-    demand_countable(election, history)
+    publication.demand_countable(election, history)
     target = pathlib.Path(arguments.target or election.path(RESULT))
     given = published_words(arguments, election.questions, election.called(history))
     demand_place(election, target, history)

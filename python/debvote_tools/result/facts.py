@@ -12,7 +12,7 @@ from typing import Any, NamedTuple
 from debvote_tools.debvote import Finding, casting_words, standing_in
 from debvote_tools.poll.questions import Questions
 from debvote_tools.poll.sealed import SealedPoll
-from debvote_tools.result.sheet import Castings
+from debvote_tools.result.casting import Castings
 from debvote_tools.result.why import Why
 from debvote_tools.sheet import Sheet
 from debvote_tools.text.language import ENGLISH, Language

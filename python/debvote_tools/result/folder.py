@@ -35,7 +35,7 @@ from debvote_tools.result import file_names
 from debvote_tools.result.facts import Doubt, Outcome, QuestionFacts, VoteFacts
 from debvote_tools.result.file_names import BALLOTS, CHECKSUMS, PAGE, POLL, RECOUNT, SHEET
 from debvote_tools.result.page import front_page_of, letter_of, page_of, pictures_of
-from debvote_tools.result.sheet import as_json, outcome_as_data, result_json, votes_csv
+from debvote_tools.result.data import as_json, outcome_as_data, result_json, votes_csv
 from debvote_tools.sheet import Sheet, sheet_in
 from debvote_tools.text.ballots import ballot_file
 

@@ -22,9 +22,9 @@ from debvote_tools.inbox.asked import is_unasked_since_end, other_pages
 from debvote_tools.inbox.lines import name_in
 from debvote_tools.inbox.stopping import BOX, LETTERS, Pending, letters_cure, what_stops
 from debvote_tools.poll.sealed import SealedPoll
+from debvote_tools.result.casting import Castings, publishing
 from debvote_tools.result.facts import Act, Doubt, PublishedWords, QuestionFacts, VoteFacts
 from debvote_tools.result.file_names import CHECKSUMS
-from debvote_tools.result.sheet import Castings, publishing
 from debvote_tools.sheet import Sheet, sheet_in
 from debvote_tools.text.ballots import ballot_file, in_normal_form
 from debvote_tools.text.language import language_of
@@ -47,6 +47,15 @@ class Kept(NamedTuple):
     refused: dict[int, str]
     counting: dict[str, str]
     late: list[bytes]
+
+
+def demand_countable(election: Election, history: History) -> None:
+    """Stops at a secret vote that is not closed: whoever sees its numbers grow sees who voted
+    what.
+    """
+    if election.questions.is_secret and not history.is_closed:
+        words = "the vote is secret, and can be counted only after the close"
+        raise Fault(None, words, f"close it first: {election.command('close')}")
 
 
 def kept_of(election: Election, history: History, labels: Iterable[str]) -> dict[str, Kept]:

@@ -7,7 +7,7 @@ import sys
 from debvote_tools.cli.faults import Fault
 from debvote_tools.poll.questions import Questions
 from debvote_tools.poll.sealed import SealedPoll
-from debvote_tools.result.sheet import castings_in
+from debvote_tools.result.casting import castings_in
 
 from tests.support import elections
 
