@@ -1,7 +1,8 @@
 """What is asked of the book, and the rows that acts add.
 
 Electors, what is sealed, envelopes and their lines, sources, and letters that came. `entered`,
-`ballot` and what is so `_now` are views of `schema.sql`, what became of envelopes those of `views.sql`.
+`ballot` and what is so `_now` are views of `schema.sql`, what became of envelopes those of
+`views.sql`.
 """
 
 import collections
