@@ -60,7 +60,7 @@ class Adding(LettersTest):
         self.assertEqual(said.count("no ballot found"), 1, said)
         for words in ("für den See", "s@x.example"):
             self.assertNotIn(words, said)
-        self.assertIn("\n     7  2026-11-23 10:00:00 UTC  eve@club.example", said)
+        self.assertIn("\n     6  2026-11-23 10:00:00 UTC  eve@club.example", said)
         self.assertIn("1 ballot of letters went in; 3 letters wait.", said)
         self.write("inbox.mbox", mailbox(ben, letter("gus", "hello", number=4)))
         said = self.told("add", "--look", "inbox.mbox")
@@ -253,8 +253,9 @@ class Adding(LettersTest):
         self.set_clock("2026-11-25T09:00:00+00:00")
         for name, day in (("ben", 24), ("cleo", 25)):
             after = letter(name, f"{name} {RANKS}", time=f"Tue, {day} Nov 2026 09:00:01 +0000")
-            for _ in range(2):
-                self.assertIn("it arrived after the vote was closed, 2026-11-24 09:00:00 UTC", self.add(after))
+            # it is told when it comes, and then as one that waits
+            told = [self.add(after), self.add(after), self.told("held")]
+            self.assertEqual(["it arrived after the vote was closed, 2026-11-24 09:00:00 UTC" in said for said in told], [True, False, True])
             self.assertEqual((self.exported()[0], self.numbers()["stopping"]), (f"ada {RANKS}\n", []))
             # none of them stops a close, and the page says that they came after the end
             self.set_clock("2026-11-26T09:00:00+00:00")
@@ -467,9 +468,10 @@ class InTime(LettersTest):
         """It is told in one line and in its receipt. If the later ballot is struck, it goes in."""
         self.add(letter("ada", f"ada {RANKS}", time="Mon, 23 Nov 2026 12:00:00 +0000"))
         older = letter("ada", f"ada {OTHER}", number=2)
-        for _ in range(2):
+        for is_new in (True, False):
             said = self.add(older)
-            self.assertIn("\nPassed over, since a later letter of its elector went in: letter 2\n0 ballots of letters went in; 0 letters wait.\n", said)
+            self.assertEqual("\nPassed over, since a later letter of its elector went in: letter 2\n" in said, is_new)
+            self.assertIn("\n0 ballots of letters went in; 0 letters wait.\n", said)
         self.assertEqual((self.numbers()["waiting"], self.numbers()["stopping"]), (0, []))
         self.told("letters", "receipts")
         [receipt] = [
@@ -634,12 +636,14 @@ class Signed(LettersTest):
         self.assertEqual((self.exported()[0], self.numbers()["waiting"]), ("", 0))
         # nor does a copy go in while nobody can say that it is one
         said = self.while_gpgv_is_slow("add", "--yes", str(self.box(self.signed("ada"))))
-        self.assertIn("it may be a copy of a letter that was dealt with, about which gpgv did not answer in time", said)
+        self.assertIn("0 ballots of letters went in; 2 letters wait; 1 copy passed over.", said)
         self.assertEqual(self.exported()[0], "")
+        said = self.while_gpgv_is_slow("held")
+        self.assertIn("it may be a copy of a letter that was dealt with, about which gpgv did not answer in time", said)
 
     def while_gpgv_is_slow(self, *words: str) -> str:
         place = self.scratch / "slow"
-        place.mkdir()
+        place.mkdir(exist_ok=True)
         (place / "gpgv").write_text("#!/bin/sh\nexec sleep 60\n")
         (place / "gpgv").chmod(0o755)
         with mock.patch.object(signature, "SECONDS", 0.2):

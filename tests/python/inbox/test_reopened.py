@@ -42,7 +42,7 @@ class Reopened(LettersTest):
         self.told("undo", "--yes")
         self.assertIn("7 counted  ben", self.add_lines(f"ben {RANKS}", words=YES))
         self.told("close")
-        self.assertNotIn("replaced_in_time", self.acts()[-1][1])
+        self.assertNotIn("replaced_in_time", self.last("close"))
         self.assertIn(f"first close (1): 1 `{BALLOT}`\n", self.reopen())
 
     def test_many_late_lines(self) -> None:
@@ -62,7 +62,7 @@ class Reopened(LettersTest):
         self.assertIn("4 replaced  ada", self.add_lines(f"ben {RANKS}", BALLOT, words=(*YES, "--force")))
         self.assertEqual(self.stands("ada"), RANKS)
         self.assertIn("\nLate lines that replaced ballots in time: 1; the result page says so.\n", self.told("close"))
-        self.assertEqual(self.acts()[-1][1]["replaced_in_time"], 1)
+        self.assertEqual(self.last("close")["replaced_in_time"], 1)
         self.reopen()
         self.assertNotIn("Late lines that replaced", self.told("close"))
         self.told("publish")
