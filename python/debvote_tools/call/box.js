@@ -1,4 +1,4 @@
-// Seals the line of the form to the secretary, sends it to the box of the vote at a press of the button, and says what became of it,
+// Seals the line of the form to the secretary, sends it to the web box at a press of the button, and says what became of it,
 // never that it counts. Only the page of a vote with a web box has it.
 "use strict";
 
