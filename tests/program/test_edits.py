@@ -54,7 +54,7 @@ def batch_of(*tried):
 
 
 def names(found):
-    return [edit.name for edit in found]
+    return sorted(edit.name for edit in found)
 
 
 # ---------------------------------------------------------------- which edits fit one check
@@ -89,6 +89,7 @@ def test_edits_of_one_body_are_apart():
             edit("a", "few + 1", "few + 2", "at_most_ten", "returns"),
         ),
         ("it can't be applied", edit("a", "many + 1", "many + 2", "one_more", "returns")),
+        ("it names no goal", edit("a", "few + 1", "few + 2", "one_more", None)),
         (
             "it changes a definition",
             edit("a", "few + 1", "few + 2", "one_more", "returns", path="specs/A.antt"),
@@ -173,17 +174,6 @@ def test_refused_by_an_answer():
         "fn apart::at_most_ten: proved", error, unchecked, "fn apart::one_more: not proved"
     )
     assert found == ["apart/caller"]
-
-
-def test_an_edit_without_goals_is_refused_at_any_of_its_function():
-    batch = batch_of(edit("called", *WRONG_CALLED), edit("caller", *WRONG_CALLER[:3], None))
-    caller = list(batch.functions)[1]
-
-    def found(*lines):
-        return edits.refused_in(batch, SEED, 1, "\n".join([*lines, "logic=not-proved", ""]))
-
-    assert found(CALLED, CALLER)[caller] == {"one_more": {"returns"}}
-    assert caller not in found(CALLED, f"fn apart::one_more: no proof: {BY_CALL}")
 
 
 def test_an_answer_that_names_what_is_gone_refuses_nothing():

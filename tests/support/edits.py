@@ -211,7 +211,7 @@ def batches_of(edits: Iterable[Edit], texts: dict[str, str]) -> tuple[list[Batch
     batches: list[Batch] = []
     alone = []
     for edit in edits:
-        if changed_by(edit, texts) is None:
+        if not edit.goals or changed_by(edit, texts) is None:
             alone.append(edit)
         elif not any(batch.take(edit) for batch in batches):
             batches.append(Batch(texts))
@@ -288,10 +288,9 @@ def goals_of_reasons(reasons: str) -> tuple[set[str], bool]:
     return goals, is_clear
 
 
-def refused_in(batch: Batch, seed: str, status: int, output: str) -> dict[Edit, Goals]:
-    """The edits of the batch that a check refused, and at which goals.
+def refused_in(batch: Batch, seed: str, status: int, output: str) -> set[Edit]:
+    """The edits of the batch that a check refused at just the goals that they name.
 
-    These are the goals that the edit names; if it names none, any of the functions that it changes.
     `seed` is what a check of the crate as it is has said.
     """
     open_in, unclear = open_goals(status, output)
@@ -300,8 +299,5 @@ def refused_in(batch: Batch, seed: str, status: int, output: str) -> dict[Edit, 
     found: dict[Edit, Goals] = {edit: {} for edit in batch.functions}
     for function, goals in open_in.items():
         found[batch.owner(function)][function] = goals
-    for function in unclear:
-        found[batch.owner(function)] = {}
-    return {
-        edit: goals for edit, goals in found.items() if goals and goals == (edit.goals or goals)
-    }
+    unsure = {batch.owner(function) for function in unclear}
+    return {edit for edit in batch.functions if found[edit] == edit.goals and edit not in unsure}
