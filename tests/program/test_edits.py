@@ -1,5 +1,6 @@
 """tests/edits: which edits are tried in one check, and that none changes what is said of others."""
 
+import dataclasses
 import importlib.machinery
 import importlib.util
 import pathlib
@@ -43,7 +44,7 @@ RIGHT_CALLER = ("few + 1", "1 + few", "one_more", "returns")
 
 
 def edit(name, old, new, function, goal, folder=pathlib.Path("crates/apart"), path="src/lib.rt"):
-    goals = {function: frozenset([goal])} if goal else {}
+    goals = frozenset([f"{goal} of {function}"] if goal else [])
     return edits.Edit(folder / "must-fail" / f"{name}.edit", ((path, old, new),), goals)
 
 
@@ -131,7 +132,7 @@ def test_edits_of_the_crates():
             lines = file.read_text().splitlines()
             assert len(read.pairs) == sum(line.startswith("old: ") for line in lines) > 0, file
             named = [line for line in lines if line.startswith("#")]
-            assert sorted(edits.lines_of(read.goals)) == sorted(named), file
+            assert {f"{edits.REFUSED_AT}{goal}" for goal in read.goals} == set(named), file
             assert not read.goals or edits.changed_by(read, texts), file
     assert found > 400
 
@@ -142,6 +143,7 @@ CALLED = (
     "fn apart::at_most_ten: no proof: expected answers in ./proofs/at_most_ten/Answers.antt; "
     "`search` did not prove `returns-then-number-le10-clause-kept`"
 )
+GONE = "./proofs/two_more/Answers.antt:8:23: error: `returns`: it has no field `few`"
 BY_CALL = "it calls `apart::at_most_ten`, which is not proved"
 CALLER = (
     "fn apart::one_more: no proof: expected answers in ./proofs/one_more/Answers.antt; "
@@ -159,6 +161,8 @@ def test_refused_at_its_goal():
     assert refused(CALLED, "fn apart::one_more: proved") == ["apart/called"]
     # that it calls what is not proved is no fault of its own
     assert refused(CALLED, f"fn apart::one_more: no proof: {BY_CALL}") == ["apart/called"]
+    in_cycle = f"in `apart::more`, of this cycle of calls: {BY_CALL}"
+    assert refused(CALLED, f"fn apart::one_more: no proof: {in_cycle}") == ["apart/called"]
     assert refused("fn apart::at_most_ten: proved", CALLER) == ["apart/caller"]
     assert refused("fn apart::at_most_ten: proved, may wait", CALLER) == ["apart/caller"]
 
@@ -187,6 +191,15 @@ def test_another_goal_refuses_nothing():
         == []
     )
     assert refused("fn apart::at_most_ten: proved", f"{CALLER} and `overflow_add`") == []
+
+
+def test_some_of_its_goals_are_enough():
+    """Others may wait for the proof of a function that another edit changes."""
+    caller = edit("caller", *WRONG_CALLER)
+    both = dataclasses.replace(caller, goals=caller.goals | {"overflow_add of one_more"})
+    lines = "\n".join([CALLED, f"{CALLER}; {BY_CALL}", "logic=not-proved", ""])
+    found = edits.refused_in(batch_of(edit("called", *WRONG_CALLED), both), SEED, 1, lines)
+    assert names(found) == ["apart/called", "apart/caller"]
 
 
 @pytest.mark.parametrize(
@@ -227,6 +240,11 @@ def test_what_is_unclear_refuses_nothing(line):
         (
             "a function is open that no edit names",
             [CALLED, CALLER, CALLER.replace("one_more", "two_more")],
+            {},
+        ),
+        (
+            "an answer of a function that no edit changes names what is gone",
+            [CALLED, CALLER, GONE, "fn apart::two_more: not proved"],
             {},
         ),
     ],
