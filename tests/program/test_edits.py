@@ -71,13 +71,22 @@ def test_edits_of_one_body_are_apart():
         edit("called", *WRONG_CALLED),
         edit("other", *RIGHT_CALLED),
         edit("caller", *WRONG_CALLER),
+        edit("third", *RIGHT_CALLED),
+        edit("next", *RIGHT_CALLER),
     ]
     batches, alone = edits.batches_of(tried, {"src/lib.rt": SOURCE})
     assert [names(batch.functions) for batch in batches] == [
         ["apart/called", "apart/caller"],
-        ["apart/other"],
+        ["apart/next", "apart/other"],
     ]
-    assert alone == []
+    # a batch of one is what the kit's gate tries
+    assert names(alone) == ["apart/third"]
+
+
+def test_edits_that_name_no_goal_are_alone():
+    tried = [edit("called", *WRONG_CALLED), edit("caller", *WRONG_CALLER[:3], None)]
+    batches, alone = edits.batches_of(tried, {"src/lib.rt": SOURCE})
+    assert (batches, names(alone)) == ([], ["apart/called", "apart/caller"])
 
 
 @pytest.mark.parametrize(
@@ -90,7 +99,6 @@ def test_edits_of_one_body_are_apart():
             edit("a", "few + 1", "few + 2", "at_most_ten", "returns"),
         ),
         ("it can't be applied", edit("a", "many + 1", "many + 2", "one_more", "returns")),
-        ("it names no goal", edit("a", "few + 1", "few + 2", "one_more", None)),
         (
             "it changes a definition",
             edit("a", "few + 1", "few + 2", "one_more", "returns", path="specs/A.antt"),
@@ -98,20 +106,19 @@ def test_edits_of_one_body_are_apart():
     ],
 )
 def test_alone(why, tried):
-    assert edits.batches_of([tried], {"src/lib.rt": SOURCE}) == ([], [tried]), why
+    assert edits.changed_by(tried, {"src/lib.rt": SOURCE}) is None, why
 
 
 def test_functions_that_call_themselves_are_alone():
     tried = edit("caller", *WRONG_CALLER)
     source = SOURCE.replace("pub fn one_more", "#[cycle(more)]\n#[inline]\npub fn one_more")
-    assert edits.batches_of([tried], {"src/lib.rt": source}) == ([], [tried])
+    assert edits.changed_by(tried, {"src/lib.rt": source}) is None
 
 
 def test_the_empty_body_of_a_law_hides_no_function():
     law = "pub fn law()\n    ensures { 1 ≤ 2 }\n{}\n\n"
     source = SOURCE.replace("/// One more", f"{law}/// One more")
-    batches, alone = edits.batches_of([edit("caller", *WRONG_CALLER)], {"src/lib.rt": source})
-    assert (len(batches), alone) == (1, [])
+    assert edits.changed_by(edit("caller", *WRONG_CALLER), {"src/lib.rt": source})
 
 
 def test_names_of_functions():

@@ -200,7 +200,7 @@ def does_match(names: Iterable[re.Pattern[str]], function: str) -> bool:
 
 
 def batches_of(edits: Iterable[Edit], texts: dict[str, str]) -> tuple[list[Batch], list[Edit]]:
-    """The batches for the edits of a crate with these texts, and the edits that are tried alone."""
+    """The batches for edits of a crate with these texts, and the edits that are tried alone."""
     batches: list[Batch] = []
     alone = []
     for edit in edits:
@@ -209,7 +209,9 @@ def batches_of(edits: Iterable[Edit], texts: dict[str, str]) -> tuple[list[Batch
         elif not any(batch.take(edit) for batch in batches):
             batches.append(Batch(texts))
             batches[-1].take(edit)
-    return batches, alone
+    for batch in batches:
+        alone += batch.functions if len(batch.functions) == 1 else []
+    return [batch for batch in batches if len(batch.functions) > 1], alone
 
 
 # ---------------------------------------------------------------- what the prover says
