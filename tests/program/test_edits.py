@@ -122,9 +122,15 @@ def test_the_empty_body_of_a_law_hides_no_function():
 
 
 def test_names_of_functions():
-    texts = edits.texts_of(ROOT / "crates" / "vote_tray")
+    texts = {"src/lines/ends.rt": SOURCE}
+    texts |= edits.texts_of(ROOT / "crates" / "vote_tray")
     found = [body.name for path, text in texts.items() for body in edits.bodies_of(path, text)]
-    for name in ("Tray::try_take", "TrayFaultFromAllocError::from"):
+    for name in (
+        "Tray::try_take",
+        "TrayFaultFromAllocError::from",
+        "lines::ends::one_more",
+        "lines::ends::fn::one_more::filter+FnMut::call_mut",
+    ):
         assert len([pattern for pattern in found if pattern.fullmatch(name)]) == 1
 
 

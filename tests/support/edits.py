@@ -107,6 +107,8 @@ def bodies_of(path: str, text: str) -> Iterator[Body]:
     """The bodies in a file as `rt fmt` lays it out, but those of functions that call themselves."""
     parts = pathlib.PurePath(path).with_suffix("").parts[1:]
     module = "".join(f"{part}::" for part in parts if part not in ("lib", "main", "mod"))
+    # its closures have `fn::` before its name
+    module += "(?:fn::)?"
     lines = text.split("\n")
     owner = module
     is_in_cycle = False
