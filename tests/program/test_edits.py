@@ -115,6 +115,13 @@ def test_functions_that_call_themselves_are_alone():
     assert edits.changed_by(tried, {"src/lib.rt": source}) is None
 
 
+def test_bodies_of_a_trait_are_alone():
+    trait = "pub trait Few {\n    fn few(&self) -> u8\n    {\n        3\n    }\n}\n\n"
+    source = {"src/lib.rt": SOURCE.replace("/// One more", f"{trait}/// One more")}
+    assert edits.changed_by(edit("few", "        3", "        4", "few", None), source) is None
+    assert edits.changed_by(edit("caller", *WRONG_CALLER), source)
+
+
 def test_the_empty_body_of_a_law_hides_no_function():
     law = "pub fn law()\n    ensures { 1 ≤ 2 }\n{}\n\n"
     source = SOURCE.replace("/// One more", f"{law}/// One more")

@@ -14,9 +14,10 @@ from collections.abc import Iterable, Iterator
 EDITS_LEFT = "== the edits that are left"
 
 REFUSED_AT = "# refused at "
-# how `rt fmt` lays out the head of a function, but a `const fn`, which constants may call, and of
-# an impl, with its type
+# how `rt fmt` lays out the head of a function, but a `const fn`, which constants may call, of a
+# trait, and of an impl, with its type
 HEAD = re.compile(r"( *)(?:pub(?:\([^)]*\))? )?(?:unsafe )?fn (\w+)")
+TRAIT = re.compile(r"(?:pub(?:\([^)]*\))? )?(?:unsafe )?trait ")
 IMPL = re.compile(r"impl(?:<.*?>)? (?:.* for )?&?(\w+)")
 # what the prover says of a function, and what it may say of one that is not proved
 FUNCTION = re.compile(r"fn \w+?::(\S+): (.*)")
@@ -104,25 +105,30 @@ class Body(typing.NamedTuple):
 
 
 def bodies_of(path: str, text: str) -> Iterator[Body]:
-    """The bodies in a file as `rt fmt` lays it out, but those of functions that call themselves."""
+    """The bodies in a file as `rt fmt` lays it out, of which each has a proof of its own.
+
+    So none of a trait, which types may take over, and none of functions that call themselves.
+    """
     parts = pathlib.PurePath(path).with_suffix("").parts[1:]
     module = "".join(f"{part}::" for part in parts if part not in ("lib", "main", "mod"))
     # its closures have `fn::` before its name
     module += "(?:fn::)?"
     lines = text.split("\n")
-    owner = module
+    owner: str | None = module
     is_in_cycle = False
     for number, line in enumerate(lines):
         if found := IMPL.match(line):
             # the prover names the module of the type, which may be another
             owner = rf"(?:\w+::)*{found[1]}\w*::"
+        elif TRAIT.match(line):
+            owner = None
         elif line == "}":
             owner = module
         if line.lstrip().startswith("#["):
             is_in_cycle = is_in_cycle or "#[cycle(" in line
             continue
         head = HEAD.match(line)
-        if head and not is_in_cycle:
+        if head and owner and not is_in_cycle:
             first = opening_brace(lines, number, head[1])
             # what is in a function is named after it
             name = re.compile(rf"{owner}{head[2]}(?:::.*)?")
