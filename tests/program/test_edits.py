@@ -184,7 +184,19 @@ def test_refused_at_its_goal():
     in_cycle = f"in `apart::more`, of this cycle of calls: {BY_CALL}"
     assert refused(CALLED, f"fn apart::one_more: no proof: {in_cycle}") == ["apart/called"]
     assert refused("fn apart::at_most_ten: proved", CALLER) == ["apart/caller"]
-    assert refused("fn apart::at_most_ten: proved, may wait", CALLER) == ["apart/caller"]
+
+
+def test_what_is_proved_otherwise_is_so_in_the_seed():
+    """A function may wait, and a closure is proved where its requires is met."""
+    lines = [
+        "fn apart::waits: proved, may wait",
+        "fn apart::fn::waits::lock: proved where its callers give what it asks",
+    ]
+    seed = "\n".join([*lines, SEED])
+    output = "\n".join([*lines, CALLED, CALLER, "logic=not-proved", ""])
+    batch = batch_of(edit("called", *WRONG_CALLED), edit("caller", *WRONG_CALLER))
+    found = edits.refused_in(batch, seed, 1, output)
+    assert names(found) == ["apart/called", "apart/caller"]
 
 
 def test_refused_by_an_answer():
@@ -246,6 +258,7 @@ def test_what_is_unclear_refuses_nothing(line):
         ),
         ("it was killed", [CALLED], {"status": -9, "last": "fn apart::one_more: proved"}),
         ("a function has no line", [CALLED], {}),
+        ("a function may wait now", [CALLED, "fn apart::one_more: proved, may wait"], {}),
         ("the front end found an error", ["error[E0308]: mismatched types", CALLED, CALLER], {}),
         (
             "a clause could not be read",

@@ -19,9 +19,10 @@ REFUSED_AT = "# refused at "
 HEAD = re.compile(r"( *)(?:pub(?:\([^)]*\))? )?(?:unsafe )?fn (\w+)")
 TRAIT = re.compile(r"(?:pub(?:\([^)]*\))? )?(?:unsafe )?trait ")
 IMPL = re.compile(r"impl(?:<.*?>)? (?:.* for )?&?(\w+)")
-# what the prover says of a function, and what it may say of one that is not proved
+# what the prover says of a function, of one that is proved or of a closure that requires something,
+# and what it may say of one that is not proved
 FUNCTION = re.compile(r"fn \w+?::(\S+): (.*)")
-PROVED = re.compile(r"proved(?:, may [a-z]+)*")
+PROVED = re.compile(r"proved(?: where its callers give what it asks)?(?:, may [a-z]+)*")
 OPEN = re.compile(r"`search` did not prove (.*)")
 CALLS = re.compile(
     r"(?:in `\S+`, of this cycle of calls: )?"
@@ -223,10 +224,10 @@ def batches_of(edits: Iterable[Edit], texts: dict[str, str]) -> tuple[list[Batch
 
 
 # ---------------------------------------------------------------- what the prover says
-def functions_in(output: str) -> set[str]:
-    """The functions that have a line in the output, but those that drop a value."""
+def functions_in(output: str) -> dict[str, str]:
+    """What the output says of each function, but of those that drop a value."""
     found = (FUNCTION.fullmatch(line) for line in output.splitlines())
-    return {line[1] for line in found if line and not DROPS.fullmatch(line[1])}
+    return {line[1]: line[2] for line in found if line and not DROPS.fullmatch(line[1])}
 
 
 def faults_in(status: int, output: str) -> dict[str, set[str]]:
@@ -299,8 +300,12 @@ def refused_in(batch: Batch, seed: str, status: int, output: str) -> set[Edit]:
     `seed` is what a check of the crate as it is has said.
     """
     faults = faults_in(status, output)
-    if lost := functions_in(seed) - functions_in(output):
-        raise Void(f"the function {min(lost)} has no line")
+    said = functions_in(output)
+    for function, was in functions_in(seed).items():
+        if function not in said:
+            raise Void(f"the function {function} has no line")
+        if PROVED.fullmatch(said[function]) and said[function] != was:
+            raise Void(f"the function {function} was {was}, and is {said[function]}")
     found: dict[Edit, set[str]] = {edit: set() for edit in batch.functions}
     for function, goals in faults.items():
         found[batch.owner(function)] |= words_of(function, goals)
