@@ -113,6 +113,10 @@ def test_functions_that_call_themselves_are_alone():
     tried = edit("caller", *WRONG_CALLER)
     source = SOURCE.replace("pub fn one_more", "#[cycle(more)]\n#[inline]\npub fn one_more")
     assert edits.changed_by(tried, {"src/lib.rt": source}) is None
+    source = SOURCE.replace("let few = at_most_ten(", "let few = one_more(")
+    assert edits.changed_by(tried, {"src/lib.rt": source}) is None
+    source = SOURCE.replace("let few = at_most_ten(", "let few = number.one_more(")
+    assert edits.changed_by(tried, {"src/lib.rt": source})
 
 
 def test_bodies_of_a_trait_are_alone():

@@ -131,11 +131,18 @@ def bodies_of(path: str, text: str) -> Iterator[Body]:
         head = HEAD.match(line)
         if head and owner and not is_in_cycle:
             first = opening_brace(lines, number, head[1])
+            last = None if first is None else lines.index(f"{head[1]}}}", first)
             # what is in a function is named after it
             name = re.compile(rf"{owner}{head[2]}(?:::.*)?")
-            if first is not None:
-                yield Body(first, lines.index(f"{head[1]}}}", first), name)
+            call = rf"{'' if owner == module else '(?:self[.]|Self::)'}{head[2]}"
+            if last and not does_call(lines[first + 1 : last], call):
+                yield Body(first, last, name)
         is_in_cycle = False
+
+
+def does_call(body: list[str], name: str) -> bool:
+    call = re.compile(rf"(?<![\w.:]){name}\(")
+    return any(call.search(line) for line in body)
 
 
 def opening_brace(lines: list[str], number: int, indent: str) -> int | None:
