@@ -1,5 +1,6 @@
 """tests/edits: which edits are tried in one check, and that none changes what is said of others."""
 
+import dataclasses
 import importlib.machinery
 import importlib.util
 import pathlib
@@ -43,7 +44,7 @@ RIGHT_CALLER = ("few + 1", "1 + few", "one_more", "returns")
 
 
 def edit(name, old, new, function, goal, folder=pathlib.Path("crates/apart"), path="src/lib.rt"):
-    goals = {function: frozenset([goal])} if goal else {}
+    goals = frozenset([f"{goal} of {function}"] if goal else [])
     return edits.Edit(folder / "must-fail" / f"{name}.edit", ((path, old, new),), goals)
 
 
@@ -54,7 +55,7 @@ def batch_of(*tried):
 
 
 def names(found):
-    return [edit.name for edit in found]
+    return sorted(edit.name for edit in found)
 
 
 # ---------------------------------------------------------------- which edits fit one check
@@ -70,13 +71,22 @@ def test_edits_of_one_body_are_apart():
         edit("called", *WRONG_CALLED),
         edit("other", *RIGHT_CALLED),
         edit("caller", *WRONG_CALLER),
+        edit("third", *RIGHT_CALLED),
+        edit("next", *RIGHT_CALLER),
     ]
     batches, alone = edits.batches_of(tried, {"src/lib.rt": SOURCE})
     assert [names(batch.functions) for batch in batches] == [
         ["apart/called", "apart/caller"],
-        ["apart/other"],
+        ["apart/next", "apart/other"],
     ]
-    assert alone == []
+    # a batch of one is what the kit's gate tries
+    assert names(alone) == ["apart/third"]
+
+
+def test_edits_that_name_no_goal_are_alone():
+    tried = [edit("called", *WRONG_CALLED), edit("caller", *WRONG_CALLER[:3], None)]
+    batches, alone = edits.batches_of(tried, {"src/lib.rt": SOURCE})
+    assert (batches, names(alone)) == ([], ["apart/called", "apart/caller"])
 
 
 @pytest.mark.parametrize(
@@ -96,26 +106,42 @@ def test_edits_of_one_body_are_apart():
     ],
 )
 def test_alone(why, tried):
-    assert edits.batches_of([tried], {"src/lib.rt": SOURCE}) == ([], [tried]), why
+    assert edits.changed_by(tried, {"src/lib.rt": SOURCE}) is None, why
 
 
 def test_functions_that_call_themselves_are_alone():
     tried = edit("caller", *WRONG_CALLER)
     source = SOURCE.replace("pub fn one_more", "#[cycle(more)]\n#[inline]\npub fn one_more")
-    assert edits.batches_of([tried], {"src/lib.rt": source}) == ([], [tried])
+    assert edits.changed_by(tried, {"src/lib.rt": source}) is None
+    source = SOURCE.replace("let few = at_most_ten(", "let few = one_more(")
+    assert edits.changed_by(tried, {"src/lib.rt": source}) is None
+    source = SOURCE.replace("let few = at_most_ten(", "let few = number.one_more(")
+    assert edits.changed_by(tried, {"src/lib.rt": source})
+
+
+def test_bodies_of_a_trait_are_alone():
+    trait = "pub trait Few {\n    fn few(&self) -> u8\n    {\n        3\n    }\n}\n\n"
+    source = {"src/lib.rt": SOURCE.replace("/// One more", f"{trait}/// One more")}
+    assert edits.changed_by(edit("few", "        3", "        4", "few", None), source) is None
+    assert edits.changed_by(edit("caller", *WRONG_CALLER), source)
 
 
 def test_the_empty_body_of_a_law_hides_no_function():
     law = "pub fn law()\n    ensures { 1 ≤ 2 }\n{}\n\n"
     source = SOURCE.replace("/// One more", f"{law}/// One more")
-    batches, alone = edits.batches_of([edit("caller", *WRONG_CALLER)], {"src/lib.rt": source})
-    assert (len(batches), alone) == (1, [])
+    assert edits.changed_by(edit("caller", *WRONG_CALLER), {"src/lib.rt": source})
 
 
 def test_names_of_functions():
-    texts = edits.texts_of(ROOT / "crates" / "vote_tray")
+    texts = {"src/lines/ends.rt": SOURCE}
+    texts |= edits.texts_of(ROOT / "crates" / "vote_tray")
     found = [body.name for path, text in texts.items() for body in edits.bodies_of(path, text)]
-    for name in ("Tray::try_take", "TrayFaultFromAllocError::from"):
+    for name in (
+        "Tray::try_take",
+        "TrayFaultFromAllocError::from",
+        "lines::ends::one_more",
+        "lines::ends::fn::one_more::filter+FnMut::call_mut",
+    ):
         assert len([pattern for pattern in found if pattern.fullmatch(name)]) == 1
 
 
@@ -130,7 +156,7 @@ def test_edits_of_the_crates():
             lines = file.read_text().splitlines()
             assert len(read.pairs) == sum(line.startswith("old: ") for line in lines) > 0, file
             named = [line for line in lines if line.startswith("#")]
-            assert sorted(edits.lines_of(read.goals)) == sorted(named), file
+            assert {f"{edits.REFUSED_AT}{goal}" for goal in read.goals} == set(named), file
             assert not read.goals or edits.changed_by(read, texts), file
     assert found > 400
 
@@ -141,6 +167,7 @@ CALLED = (
     "fn apart::at_most_ten: no proof: expected answers in ./proofs/at_most_ten/Answers.antt; "
     "`search` did not prove `returns-then-number-le10-clause-kept`"
 )
+GONE = "./proofs/two_more/Answers.antt:8:23: error: `returns`: it has no field `few`"
 BY_CALL = "it calls `apart::at_most_ten`, which is not proved"
 CALLER = (
     "fn apart::one_more: no proof: expected answers in ./proofs/one_more/Answers.antt; "
@@ -158,8 +185,22 @@ def test_refused_at_its_goal():
     assert refused(CALLED, "fn apart::one_more: proved") == ["apart/called"]
     # that it calls what is not proved is no fault of its own
     assert refused(CALLED, f"fn apart::one_more: no proof: {BY_CALL}") == ["apart/called"]
+    in_cycle = f"in `apart::more`, of this cycle of calls: {BY_CALL}"
+    assert refused(CALLED, f"fn apart::one_more: no proof: {in_cycle}") == ["apart/called"]
     assert refused("fn apart::at_most_ten: proved", CALLER) == ["apart/caller"]
-    assert refused("fn apart::at_most_ten: proved, may wait", CALLER) == ["apart/caller"]
+
+
+def test_what_is_proved_otherwise_is_so_in_the_seed():
+    """A function may wait, and a closure is proved where its requires is met."""
+    lines = [
+        "fn apart::waits: proved, may wait",
+        "fn apart::fn::waits::lock: proved where its callers give what it asks",
+    ]
+    seed = "\n".join([*lines, SEED])
+    output = "\n".join([*lines, CALLED, CALLER, "logic=not-proved", ""])
+    batch = batch_of(edit("called", *WRONG_CALLED), edit("caller", *WRONG_CALLER))
+    found = edits.refused_in(batch, seed, 1, output)
+    assert names(found) == ["apart/called", "apart/caller"]
 
 
 def test_refused_by_an_answer():
@@ -175,17 +216,6 @@ def test_refused_by_an_answer():
     assert found == ["apart/caller"]
 
 
-def test_an_edit_without_goals_is_refused_at_any_of_its_function():
-    batch = batch_of(edit("called", *WRONG_CALLED), edit("caller", *WRONG_CALLER[:3], None))
-    caller = list(batch.functions)[1]
-
-    def found(*lines):
-        return edits.refused_in(batch, SEED, 1, "\n".join([*lines, "logic=not-proved", ""]))
-
-    assert found(CALLED, CALLER)[caller] == {"one_more": {"returns"}}
-    assert caller not in found(CALLED, f"fn apart::one_more: no proof: {BY_CALL}")
-
-
 def test_an_answer_that_names_what_is_gone_refuses_nothing():
     error = "./proofs/one_more/Answers.antt:8:23: error: `returns`: it has no field `few`"
     assert refused(CALLED, error, "fn apart::one_more: not proved") == ["apart/called"]
@@ -197,6 +227,15 @@ def test_another_goal_refuses_nothing():
         == []
     )
     assert refused("fn apart::at_most_ten: proved", f"{CALLER} and `overflow_add`") == []
+
+
+def test_some_of_its_goals_are_enough():
+    """Others may wait for the proof of a function that another edit changes."""
+    caller = edit("caller", *WRONG_CALLER)
+    both = dataclasses.replace(caller, goals=caller.goals | {"overflow_add of one_more"})
+    lines = "\n".join([CALLED, f"{CALLER}; {BY_CALL}", "logic=not-proved", ""])
+    found = edits.refused_in(batch_of(edit("called", *WRONG_CALLED), both), SEED, 1, lines)
+    assert names(found) == ["apart/called", "apart/caller"]
 
 
 @pytest.mark.parametrize(
@@ -223,6 +262,7 @@ def test_what_is_unclear_refuses_nothing(line):
         ),
         ("it was killed", [CALLED], {"status": -9, "last": "fn apart::one_more: proved"}),
         ("a function has no line", [CALLED], {}),
+        ("a function may wait now", [CALLED, "fn apart::one_more: proved, may wait"], {}),
         ("the front end found an error", ["error[E0308]: mismatched types", CALLED, CALLER], {}),
         (
             "a clause could not be read",
@@ -237,6 +277,11 @@ def test_what_is_unclear_refuses_nothing(line):
         (
             "a function is open that no edit names",
             [CALLED, CALLER, CALLER.replace("one_more", "two_more")],
+            {},
+        ),
+        (
+            "an answer of a function that no edit changes names what is gone",
+            [CALLED, CALLER, GONE, "fn apart::two_more: not proved"],
             {},
         ),
     ],

@@ -13,16 +13,23 @@ from collections.abc import Iterable, Iterator
 # what `tests/edits` prints once `rt ci` has ended
 EDITS_LEFT = "== the edits that are left"
 
-REFUSED_AT = re.compile(r"# refused at (\S+) of (\S+)")
-# how `rt fmt` lays out the head of a function, but a `const fn`, which constants may call, and of
-# an impl, with its type
+REFUSED_AT = "# refused at "
+# how `rt fmt` lays out the head of a function, but a `const fn`, which constants may call, of a
+# trait, and of an impl, with its type
 HEAD = re.compile(r"( *)(?:pub(?:\([^)]*\))? )?(?:unsafe )?fn (\w+)")
+TRAIT = re.compile(r"(?:pub(?:\([^)]*\))? )?(?:unsafe )?trait ")
 IMPL = re.compile(r"impl(?:<.*?>)? (?:.* for )?&?(\w+)")
-# what the prover says of a function, and what it may say of one that is not proved
+# what the prover says of a function, of one that is proved or of a closure that requires something,
+# and what it may say of one that is not proved
 FUNCTION = re.compile(r"fn \w+?::(\S+): (.*)")
-PROVED = re.compile(r"proved(?:, may [a-z]+)*")
+PROVED = re.compile(r"proved(?: where its callers give what it asks)?(?:, may [a-z]+)*")
 OPEN = re.compile(r"`search` did not prove (.*)")
-CALLS = re.compile(r"it (?:calls|passes the block) `.*, which (?:is|are) not proved")
+CALLS = re.compile(
+    r"(?:in `\S+`, of this cycle of calls: )?"
+    r"it (?:calls|passes the block) `.*, which (?:is|are) not proved"
+)
+# stands for a goal where the prover says something unknown
+UNREAD = "?"
 NO_GOAL = re.compile(rf"not proved|expected answers in \S+|{CALLS.pattern}")
 GOAL = re.compile(r"`([^`]+)`")
 # an error, of which those in proofs name their goal, and what it says of a name that is gone
@@ -33,8 +40,8 @@ UNCHECKED = re.compile(r"\d+ declarations? that depends? on `.*`, which was reje
 # these functions come and go with the uses of their type
 DROPS = re.compile(r".*\+Destruct::drop")
 
-# the goals that are open, by their function
-Goals = dict[str, frozenset[str]]
+# open goals, each as 'GOAL of FUNCTION'
+Goals = frozenset[str]
 
 
 class Void(Exception):
@@ -58,42 +65,30 @@ def read_edit(file: pathlib.Path) -> Edit:
     """Reads an edit: after a line 'file: PATH' come pairs of lines 'old: TEXT' and 'new: TEXT'."""
     path = old = ""
     pairs: list[tuple[str, str, str]] = []
-    goals: dict[str, set[str]] = collections.defaultdict(set)
+    goals = set()
     for line in file.read_text().splitlines():
         key, _, text = line.partition(":")
-        if found := REFUSED_AT.fullmatch(line):
-            goals[found[2]].add(found[1])
+        if line.startswith(REFUSED_AT):
+            goals.add(line.removeprefix(REFUSED_AT))
         elif key == "file":
             path = text.strip()
         elif key == "old":
             old = text.removeprefix(" ")
         elif key == "new":
             pairs.append((path, old, text.removeprefix(" ")))
-    return Edit(file, tuple(pairs), frozen(goals))
+    return Edit(file, tuple(pairs), frozenset(goals))
 
 
-def frozen(goals: dict[str, set[str]]) -> Goals:
-    return {function: frozenset(names) for function, names in goals.items() if names}
-
-
-def lines_of(goals: Goals) -> list[str]:
-    """The lines that say in an edit at which goals it is refused."""
-    return [
-        f"# refused at {goal} of {function}"
-        for function in sorted(goals)
-        for goal in sorted(goals[function])
-    ]
-
-
-def words_of(goals: Goals) -> str:
-    return ", ".join(line.removeprefix("# refused at ") for line in lines_of(goals))
+def function_of(goal: str) -> str:
+    return goal.rpartition(" of ")[2]
 
 
 def record(edit: Edit, goals: Goals) -> None:
     """Writes into the edit at which goals it is refused."""
     lines = edit.file.read_text().splitlines()
-    kept = [line for line in lines if not REFUSED_AT.fullmatch(line)]
-    edit.file.write_text("\n".join([*kept, *lines_of(goals), ""]))
+    kept = [line for line in lines if not line.startswith(REFUSED_AT)]
+    named = [f"{REFUSED_AT}{goal}" for goal in sorted(goals)]
+    edit.file.write_text("\n".join([*kept, *named, ""]))
 
 
 # ---------------------------------------------------------------- which edits fit one check
@@ -111,29 +106,43 @@ class Body(typing.NamedTuple):
 
 
 def bodies_of(path: str, text: str) -> Iterator[Body]:
-    """The bodies in a file as `rt fmt` lays it out, but those of functions that call themselves."""
+    """The bodies in a file as `rt fmt` lays it out, of which each has a proof of its own.
+
+    So none of a trait, which types may take over, and none of functions that call themselves.
+    """
     parts = pathlib.PurePath(path).with_suffix("").parts[1:]
     module = "".join(f"{part}::" for part in parts if part not in ("lib", "main", "mod"))
+    # its closures have `fn::` before its name
+    module += "(?:fn::)?"
     lines = text.split("\n")
-    owner = module
+    owner: str | None = module
     is_in_cycle = False
     for number, line in enumerate(lines):
         if found := IMPL.match(line):
             # the prover names the module of the type, which may be another
             owner = rf"(?:\w+::)*{found[1]}\w*::"
+        elif TRAIT.match(line):
+            owner = None
         elif line == "}":
             owner = module
         if line.lstrip().startswith("#["):
             is_in_cycle = is_in_cycle or "#[cycle(" in line
             continue
         head = HEAD.match(line)
-        if head and not is_in_cycle:
+        if head and owner and not is_in_cycle:
             first = opening_brace(lines, number, head[1])
+            last = None if first is None else lines.index(f"{head[1]}}}", first)
             # what is in a function is named after it
             name = re.compile(rf"{owner}{head[2]}(?:::.*)?")
-            if first is not None:
-                yield Body(first, lines.index(f"{head[1]}}}", first), name)
+            call = rf"{'' if owner == module else '(?:self[.]|Self::)'}{head[2]}"
+            if last and not does_call(lines[first + 1 : last], call):
+                yield Body(first, last, name)
         is_in_cycle = False
+
+
+def does_call(body: list[str], name: str) -> bool:
+    call = re.compile(rf"(?<![\w.:]){name}\(")
+    return any(call.search(line) for line in body)
 
 
 def opening_brace(lines: list[str], number: int, indent: str) -> int | None:
@@ -171,7 +180,7 @@ def changed_by(
         # a function may be in another
         functions.add(max(around, key=lambda body: body.first).name)
         found[path] = text.replace(old, new)
-    if not all(does_match(functions, function) for function in edit.goals):
+    if not all(does_match(functions, function_of(goal)) for goal in edit.goals):
         return None
     return found, functions
 
@@ -196,7 +205,7 @@ class Batch:
         """The edit that changes this function."""
         owners = [edit for edit, names in self.functions.items() if does_match(names, function)]
         if len(owners) > 1:
-            owners = [edit for edit in owners if function in edit.goals]
+            owners = [edit for edit in owners if function in map(function_of, edit.goals)]
         if len(owners) != 1:
             raise Void(f"{function} is not proved, which {len(owners)} edits change")
         return owners[0]
@@ -207,58 +216,59 @@ def does_match(names: Iterable[re.Pattern[str]], function: str) -> bool:
 
 
 def batches_of(edits: Iterable[Edit], texts: dict[str, str]) -> tuple[list[Batch], list[Edit]]:
-    """The batches for the edits of a crate with these texts, and the edits that are tried alone."""
+    """The batches for edits of a crate with these texts, and the edits that are tried alone."""
     batches: list[Batch] = []
     alone = []
     for edit in edits:
-        if changed_by(edit, texts) is None:
+        if not edit.goals or changed_by(edit, texts) is None:
             alone.append(edit)
         elif not any(batch.take(edit) for batch in batches):
             batches.append(Batch(texts))
             batches[-1].take(edit)
-    return batches, alone
+    for batch in batches:
+        alone += batch.functions if len(batch.functions) == 1 else []
+    return [batch for batch in batches if len(batch.functions) > 1], alone
 
 
 # ---------------------------------------------------------------- what the prover says
-def functions_in(output: str) -> set[str]:
-    """The functions that have a line in the output, but those that drop a value."""
+def functions_in(output: str) -> dict[str, str]:
+    """What the output says of each function, but of those that drop a value."""
     found = (FUNCTION.fullmatch(line) for line in output.splitlines())
-    return {line[1] for line in found if line and not DROPS.fullmatch(line[1])}
+    return {line[1]: line[2] for line in found if line and not DROPS.fullmatch(line[1])}
 
 
-def open_goals(status: int, output: str) -> tuple[Goals, set[str]]:
-    """The goals that a check left open, and the functions of which it says something else.
+def faults_in(status: int, output: str) -> dict[str, set[str]]:
+    """The functions that have a fault of their own, and which goals are open in each.
 
-    A function that only calls one that is not proved is in neither.
+    That a function calls one that is not proved is no fault of its own. Of what this can't read the
+    goal is UNREAD.
     """
     lines = output.rstrip("\n").split("\n")
     if status != 1 or lines[-1] != "logic=not-proved":
         raise Void(f"the check ended with status {status} and the line {lines[-1]!r}")
-    goals = goals_of_errors(lines)
-    explained = set(goals)
-    refused = set()
-    unclear = set()
+    faults = faults_of_answers(lines)
+    not_proved = set()
     for line in lines:
         found = FUNCTION.fullmatch(line)
         if found and not PROVED.fullmatch(found[2]):
-            function = found[1]
-            refused.add(function)
-            named, is_clear = goals_of_reasons(found[2])
-            goals[function] |= named
-            is_explained = goals[function] or function in explained or CALLS.search(line)
-            if not is_clear or not is_explained:
-                unclear.add(function)
-    if strays := goals.keys() - refused:
+            function, reasons = found.groups()
+            not_proved.add(function)
+            goals = goals_of_reasons(reasons)
+            if not goals and function not in faults and not CALLS.search(reasons):
+                goals = {UNREAD}
+            if goals:
+                faults[function] |= goals
+    if strays := faults.keys() - not_proved:
         raise Void(f"an error is in the proof of {min(strays)}, but no line says so of it")
-    return frozen(goals), unclear
+    return faults
 
 
-def goals_of_errors(lines: list[str]) -> dict[str, set[str]]:
-    """The goals whose proofs by hand have errors, by the function.
+def faults_of_answers(lines: list[str]) -> dict[str, set[str]]:
+    """The functions whose proofs by hand have errors, and which goals are open by these.
 
     An error that names what is gone says little of the contract, and opens no goal.
     """
-    goals: dict[str, set[str]] = collections.defaultdict(set)
+    faults: dict[str, set[str]] = collections.defaultdict(set)
     for line in lines:
         error = ERROR.match(line)
         if error is None:
@@ -269,39 +279,41 @@ def goals_of_errors(lines: list[str]) -> dict[str, set[str]]:
         is_unchecked = UNCHECKED.fullmatch(error[3])
         if folder != "proofs" or not error[2] and not is_unchecked:
             raise Void(line)
-        of_function = goals["::".join(function)]
+        goals = faults["::".join(function)]
         if not is_unchecked and not ONLY_A_NAME.search(error[3]):
-            of_function.add(error[2])
-    return goals
+            goals.add(error[2])
+    return faults
 
 
-def goals_of_reasons(reasons: str) -> tuple[set[str], bool]:
-    """The goals in the prover's line about a function, and whether it says nothing else of it."""
-    goals: set[str] = set()
-    is_clear = True
+def goals_of_reasons(reasons: str) -> set[str]:
+    """The open goals in the prover's line about a function that is not proved."""
+    goals = set()
     for reason in reasons.removeprefix("no proof: ").split("; "):
         found = OPEN.fullmatch(reason)
         if found:
             goals.update(GOAL.findall(found[1]))
         elif not NO_GOAL.fullmatch(reason):
-            is_clear = False
-    return goals, is_clear
+            goals.add(UNREAD)
+    return goals
 
 
-def refused_in(batch: Batch, seed: str, status: int, output: str) -> dict[Edit, Goals]:
-    """The edits of the batch that a check refused, and at which goals.
+def words_of(function: str, goals: set[str]) -> set[str]:
+    return {f"{goal} of {function}" for goal in goals}
 
-    These are the goals that the edit names; if it names none, any of the functions that it changes.
+
+def refused_in(batch: Batch, seed: str, status: int, output: str) -> set[Edit]:
+    """The edits of the batch that a check refused: at goals that they name, and at no others.
+
     `seed` is what a check of the crate as it is has said.
     """
-    open_in, unclear = open_goals(status, output)
-    if lost := functions_in(seed) - functions_in(output):
-        raise Void(f"the function {min(lost)} has no line")
-    found: dict[Edit, Goals] = {edit: {} for edit in batch.functions}
-    for function, goals in open_in.items():
-        found[batch.owner(function)][function] = goals
-    for function in unclear:
-        found[batch.owner(function)] = {}
-    return {
-        edit: goals for edit, goals in found.items() if goals and goals == (edit.goals or goals)
-    }
+    faults = faults_in(status, output)
+    said = functions_in(output)
+    for function, was in functions_in(seed).items():
+        if function not in said:
+            raise Void(f"the function {function} has no line")
+        if PROVED.fullmatch(said[function]) and said[function] != was:
+            raise Void(f"the function {function} was {was}, and is {said[function]}")
+    found: dict[Edit, set[str]] = {edit: set() for edit in batch.functions}
+    for function, goals in faults.items():
+        found[batch.owner(function)] |= words_of(function, goals)
+    return {edit for edit, goals in found.items() if goals and goals <= edit.goals}

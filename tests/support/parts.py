@@ -25,8 +25,16 @@ SKIPPED = re.compile(r"skipped: (.*?)(?: \((\d+)\))?")
 # how each part, and rt ci, begin the line of a failure
 FAILED = re.compile(r"(rt: )?FAILED\b")
 WIDTH = 300
+# the most memory that a check of a crate takes, in kilobytes
+MEMORY = 4_000_000
 # what `rt try --test` says
 COUNT_OF_TRY = re.compile(r"test result: \w+\. (\d+) passed; (\d+) failed;.*")
+
+
+def free_memory() -> int:
+    """The memory that is free, in kilobytes."""
+    found = re.search(r"MemAvailable:\s+(\d+)", pathlib.Path("/proc/meminfo").read_text())
+    return int(found[1])
 
 
 def kit() -> pathlib.Path:
