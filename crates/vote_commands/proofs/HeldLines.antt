@@ -3,10 +3,10 @@ use Rattle.std.proofs.Common.{◌≡◌, List, subst, sym}
 use Rattle.vote_poll.specs.PollContent.{PollContent}
 use Rattle.vote_steps.specs.Boxes.{BoxState}
 use Rattle.vote_steps.specs.HeldLines.{HoldsLines}
-use Rattle.vote_desks.specs.Audit.{IsAudited, IsAuditedFor}
+use Rattle.vote_audit.specs.Audit.{IsAudited, IsAuditedFor}
 use Rattle.vote_desks_box.specs.Desks.{SealedState}
 use Rattle.vote_desks_box.specs.declared.Slip.{Slip}
-use Rattle.vote_sheet.specs.Texts.{Text}
+use Rattle.vote_poll_text.specs.Texts.{Text}
 use Rattle.vote_commands.specs.Counting.{IsCountedIn}
 use Rattle.vote_commands.specs.Inputs.{Inputs}
 use Rattle.vote_commands.specs.TakenVotes.{AreTaken}

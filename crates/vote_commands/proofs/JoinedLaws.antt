@@ -11,7 +11,7 @@ use Rattle.std.proofs.lemmas.Slice.Eq.{bytes_eq-Decides, ends_is}
 use Rattle.vote_poll_text.specs.Lines.{line_feed, lines_of}
 use Rattle.vote_commands.specs.Joined.{AreParts, EndsALine, InputsArePartedAtSeparator, IsJoined, LacksSeparator, PartsAreUnique, begins_line, is_separator_at, joined_parts, parts_at}
 use Rattle.vote_commands.proofs.FirstPlace.{first_or_none, first_place, no_place}
-use Rattle.vote_sheet.specs.Texts.{Text}
+use Rattle.vote_poll_text.specs.Texts.{Text}
 
 -- the line between the poll and the ballots
 abbrev separator : Text

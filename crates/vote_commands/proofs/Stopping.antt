@@ -9,9 +9,9 @@ use Rattle.vote_poll_keys.specs.declared.fault.PollFault.TheVariants as poll_fau
 use Rattle.vote_poll_text.specs.Lines.{HasTooManyLines, lines_of}
 use Rattle.vote_poll_text.specs.declared.lines.LinesFault.{LinesFault}
 use Rattle.vote_poll_text.specs.declared.lines.LinesFault.TheVariants as lines_fault
-use Rattle.vote_desks.specs.declared.VoteFault.{VoteFault}
-use Rattle.vote_desks.specs.declared.VoteFault.TheVariants as vote
-use Rattle.vote_sheet.specs.Texts.{Text}
+use Rattle.vote_audit.specs.declared.VoteFault.{VoteFault}
+use Rattle.vote_audit.specs.declared.VoteFault.TheVariants as vote
+use Rattle.vote_poll_text.specs.Texts.{Text}
 use Rattle.vote_commands.specs.Counting.{NamesNoOption, StopsCount}
 use Rattle.vote_commands.specs.Inputs.{Inputs}
 use Rattle.vote_commands.specs.Reading.{AsksForNoVotes, GivesNoLines, GivesNoPoll}

@@ -4,10 +4,10 @@ use Rattle.std.specs.Prelude.{All, IfOk}
 use Rattle.vote_poll_text.specs.Lines.{HasTooManyLines, lines_of}
 use Rattle.vote_poll.specs.PollContent.{PollContent}
 use Rattle.vote_desks_box.specs.Slips.{Rises}
-use Rattle.vote_desks.specs.Audit.{IsAuditedFor}
-use Rattle.vote_desks.specs.declared.Audited.{Audited}
-use Rattle.vote_desks.specs.declared.VoteFault.{VoteFault}
-use Rattle.vote_sheet.specs.Texts.{Text}
+use Rattle.vote_audit.specs.Audit.{IsAuditedFor}
+use Rattle.vote_audit.specs.declared.Audited.{Audited}
+use Rattle.vote_audit.specs.declared.VoteFault.{VoteFault}
+use Rattle.vote_poll_text.specs.Texts.{Text}
 use Rattle.vote_commands.specs.Inputs.{Inputs}
 use Rattle.vote_commands.specs.TakenVotes.{AreBallotsTaken}
 use Rattle.vote_commands.specs.TakingVotes.{AreVotesTaken}

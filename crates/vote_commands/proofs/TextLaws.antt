@@ -10,7 +10,7 @@ use Rattle.vote_sheet.specs.Picture.{PictureExists, PictureIsUnique, picture_tex
 use Rattle.vote_sheet.specs.SheetOf.{SheetExists, SheetIsUnique}
 use Rattle.vote_sheet.specs.Standing.{standing_text}
 use Rattle.vote_sheet.specs.Steps.{StepsAreDetermined, StepsExist, check_text}
-use Rattle.vote_sheet.specs.Texts.{Text}
+use Rattle.vote_poll_text.specs.Texts.{Text}
 use Rattle.vote_sheet.specs.Verify.{VerificationsAreDetermined, VerificationsExist}
 use Rattle.vote_request.specs.declared.Listing.{Listing}
 use Rattle.vote_request.specs.declared.Listing.TheVariants.{Standing, Steps}

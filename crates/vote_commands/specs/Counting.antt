@@ -10,11 +10,11 @@ use Rattle.vote_poll.specs.PollContent.{PollContent, option_count}
 use Rattle.vote_poll.specs.PollFile.{poll_in}
 use Rattle.vote_desks_box.specs.Desks.{SealedState}
 use Rattle.vote_desks_box.specs.Slips.{Rises}
-use Rattle.vote_desks.specs.Audit.{IsAuditedFor}
-use Rattle.vote_desks.specs.declared.VoteFault.TheVariants as vote
+use Rattle.vote_audit.specs.Audit.{IsAuditedFor}
+use Rattle.vote_audit.specs.declared.VoteFault.TheVariants as vote
 use Rattle.vote_sheet.specs.Picture.{IsPictureAndDecision}
 use Rattle.vote_sheet.specs.SheetOf.{IsSheetAndDecision}
-use Rattle.vote_sheet.specs.Texts.{Text}
+use Rattle.vote_poll_text.specs.Texts.{Text}
 use Rattle.vote_sheet.specs.Verify.{AreVerificationWords, IsVerification}
 use Rattle.vote_sheet.specs.declared.Verification.{Verification}
 use Rattle.vote_sheet.specs.declared.Verification.TheVariants as verification

@@ -8,9 +8,9 @@ use Rattle.vote_poll_keys.specs.Keys.{document}
 use Rattle.vote_poll.specs.PollFile.{poll_in}
 use Rattle.vote_poll.specs.declared.PollFault.{PollFault}
 use Rattle.vote_explain_ballots.specs.Explained.{IsExplained}
-use Rattle.vote_sheet.specs.LastBallots.{refused_count}
+use Rattle.vote_steps.specs.LastBallots.{refused_count}
 use Rattle.vote_sheet.specs.Steps.{check_text}
-use Rattle.vote_sheet.specs.Texts.{Text}
+use Rattle.vote_poll_text.specs.Texts.{Text}
 use Rattle.vote_commands.specs.Runs.{GoesThrough, Runs, StopsAtLines, Tells}
 use Rattle.vote_commands.specs.TextAndEnd.{TextAndEnd}
 use Rattle.vote_commands.specs.declared.fault.Ended.{Ended}

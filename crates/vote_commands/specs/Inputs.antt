@@ -1,7 +1,7 @@
 -- What a run that counts is given.
 use Rattle.std.specs.Prelude.{ℕ, Option, option_copied}
 use Rattle.std.proofs.Common.{Bor}
-use Rattle.vote_sheet.specs.Texts.{Text}
+use Rattle.vote_poll_text.specs.Texts.{Text}
 
 -- the bytes of a poll file and of a ballot file, the number of desks, and the option that the casting vote names, if there is one
 pub record Inputs : Type 0 where

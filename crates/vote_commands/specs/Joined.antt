@@ -3,7 +3,7 @@ use Rattle.std.specs.Prelude.{◌≡◌, ◌≢◌, ◌⊎◌, ℕ, ◌-◌, ◌
 use Rattle.std.specs.List.{All, range_with_len}
 use Rattle.std.specs.Str.{bytes_eq}
 use Rattle.vote_poll_text.specs.Lines.{line_feed, lines_of}
-use Rattle.vote_sheet.specs.Texts.{Text}
+use Rattle.vote_poll_text.specs.Texts.{Text}
 
 -- none of the lines of the text is `%%`
 abbrev pub LacksSeparator : Text → Type 0

@@ -3,7 +3,7 @@ use Rattle.std.specs.Prelude.{◌≡◌, Ok}
 use Rattle.std.proofs.Common.{Bor}
 use Rattle.vote_poll.specs.PollContent.{PollContent}
 use Rattle.vote_poll.specs.PollFile.{poll_in}
-use Rattle.vote_sheet.specs.Texts.{Text}
+use Rattle.vote_poll_text.specs.Texts.{Text}
 use Rattle.vote_request.specs.declared.Listing.{Listing}
 use Rattle.vote_request.specs.declared.Purpose.{Purpose}
 use Rattle.vote_commands.specs.Counting.{IsCountFor}

@@ -3,7 +3,7 @@ use Rattle.std.specs.Prelude.{◌≡◌, Option, None, option_copied, Result, If
 use Rattle.std.proofs.Common.{Bor}
 use Rattle.std.specs.Result.{result_err}
 use Rattle.vote_poll.specs.PollFile.{poll_in}
-use Rattle.vote_sheet.specs.Texts.{Text}
+use Rattle.vote_poll_text.specs.Texts.{Text}
 use Rattle.vote_commands.specs.Counting.{IsCountFor, IsCountedIn, StopsCount}
 use Rattle.vote_commands.specs.Explaining.{Explains}
 use Rattle.vote_commands.specs.Inputs.{Inputs, inputs_at}

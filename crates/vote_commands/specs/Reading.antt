@@ -4,7 +4,7 @@ use Rattle.vote_poll.specs.PollContent.{PollContent}
 use Rattle.vote_poll.specs.PollFile.{poll_in}
 use Rattle.vote_poll.specs.declared.PollFault.{PollFault}
 use Rattle.vote_poll_text.specs.Lines.{HasTooManyLines}
-use Rattle.vote_sheet.specs.Texts.{Text}
+use Rattle.vote_poll_text.specs.Texts.{Text}
 use Rattle.vote_commands.specs.Counting.{NamesNoOption}
 use Rattle.vote_commands.specs.Inputs.{Inputs}
 use Rattle.vote_commands.specs.declared.fault.RunFault.{RunFault}

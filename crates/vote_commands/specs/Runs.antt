@@ -9,7 +9,7 @@ use Rattle.vote_poll_text.specs.Lines.{HasTooManyLines, lines_of}
 use Rattle.vote_files.specs.Device.{AppendsPrefix}
 use Rattle.vote_sheet.specs.Steps.{IsStepsText, check_text}
 use Rattle.vote_sheet.specs.Standing.{standing_text}
-use Rattle.vote_sheet.specs.Texts.{Text}
+use Rattle.vote_poll_text.specs.Texts.{Text}
 use Rattle.vote_request.specs.declared.Listing.{Listing}
 use Rattle.vote_request.specs.declared.Listing.TheVariants as listing
 use Rattle.vote_commands.specs.TextAndEnd.{TextAndEnd}

@@ -2,7 +2,7 @@
 use Rattle.std.specs.Prelude.{ℕ, Result, Ok, Err}
 use Rattle.vote_poll_keys.specs.declared.fault.PollFault.TheVariants as poll_fault
 use Rattle.vote_desks_box.specs.declared.DeskFault.TheVariants as desk
-use Rattle.vote_desks.specs.declared.VoteFault.TheVariants as vote
+use Rattle.vote_audit.specs.declared.VoteFault.TheVariants as vote
 use Rattle.vote_files.specs.declared.ReadFault.{ReadFault}
 use Rattle.vote_files.specs.declared.ReadFault.TheVariants as read
 use Rattle.vote_commands.specs.declared.fault.InputFile.{InputFile}

@@ -5,9 +5,9 @@ use Rattle.vote_poll.specs.Options.{IsOption}
 use Rattle.vote_poll.specs.PollContent.{PollContent, option_count}
 use Rattle.vote_poll.specs.PollFile.{poll_in}
 use Rattle.vote_desks_box.specs.Slips.{Rises}
-use Rattle.vote_desks.specs.Audit.{IsAudited}
-use Rattle.vote_desks.specs.declared.Audited.{Audited}
-use Rattle.vote_sheet.specs.Texts.{Text}
+use Rattle.vote_audit.specs.Audit.{IsAudited}
+use Rattle.vote_audit.specs.declared.Audited.{Audited}
+use Rattle.vote_poll_text.specs.Texts.{Text}
 use Rattle.vote_commands.specs.Counting.{IsNamed, StopsCount}
 use Rattle.vote_commands.specs.Inputs.{Inputs}
 use Rattle.vote_commands.specs.Runs.{Stops}

@@ -4,11 +4,11 @@ use Rattle.std.proofs.Common.{Bor}
 use Rattle.vote_poll.specs.PollContent.{PollContent}
 use Rattle.vote_steps.specs.Desks.{AreDesks}
 use Rattle.vote_desks_box.specs.Slips.{Rises}
-use Rattle.vote_desks.specs.Audit.{IsAuditedFor}
-use Rattle.vote_desks.specs.Faults.{AreSheetsOf, CanStopVotes, IsFoundIn, IsOfDesk}
-use Rattle.vote_desks.specs.declared.Audited.{Audited}
-use Rattle.vote_desks.specs.declared.VoteFault.{VoteFault}
-use Rattle.vote_sheet.specs.Texts.{Text}
+use Rattle.vote_audit.specs.Audit.{IsAuditedFor}
+use Rattle.vote_audit.specs.Faults.{AreSheetsOf, CanStopVotes, IsFoundIn, IsOfDesk}
+use Rattle.vote_audit.specs.declared.Audited.{Audited}
+use Rattle.vote_audit.specs.declared.VoteFault.{VoteFault}
+use Rattle.vote_poll_text.specs.Texts.{Text}
 
 -- which results such a call may have for a poll, its lines and a number of desks, by its own contract
 abbrev pub Taking : Type 1

@@ -5,10 +5,10 @@ use Rattle.vote_poll_keys.specs.declared.fault.PollFault.{PollFault}
 use Rattle.vote_poll_keys.specs.declared.fault.PollFault.TheVariants as poll_fault
 use Rattle.vote_poll_text.specs.declared.lines.LinesFault.{LinesFault}
 use Rattle.vote_poll_text.specs.declared.lines.LinesFault.TheVariants as lines_fault
-use Rattle.vote_desks.specs.Words as votes
-use Rattle.vote_desks.specs.declared.VoteFault.{VoteFault}
-use Rattle.vote_desks.specs.declared.VoteFault.TheVariants as vote_fault
-use Rattle.vote_sheet.specs.Texts.{Text}
+use Rattle.vote_audit.specs.Words as votes
+use Rattle.vote_audit.specs.declared.VoteFault.{VoteFault}
+use Rattle.vote_audit.specs.declared.VoteFault.TheVariants as vote_fault
+use Rattle.vote_poll_text.specs.Texts.{Text}
 use Rattle.vote_commands.specs.declared.fault.InputFault.{InputFault}
 use Rattle.vote_commands.specs.declared.fault.InputFault.TheVariants as input
 use Rattle.vote_commands.specs.declared.fault.InputFile.{InputFile}

@@ -3,11 +3,11 @@
 ghost use Rattle.std.specs.Prelude.{IfOk, IfSome, string_bytes};
 ghost use Rattle.vote_poll.specs.Options.{IsOption};
 ghost use Rattle.vote_poll.specs.PollContent.{option_count};
-ghost use Rattle.vote_desks.specs.Audit.{IsAudited};
+ghost use Rattle.vote_audit.specs.Audit.{IsAudited};
 ghost use Rattle.vote_sheet.specs.SheetOf.{IsSheet};
 
 use std::alloc::{AllocError, Global};
-use vote_desks::Audited;
+use vote_audit::Audited;
 use vote_poll::{Lines, Poll};
 use vote_sheet::sheet_of_box;
 

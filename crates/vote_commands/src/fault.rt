@@ -6,7 +6,8 @@ ghost use Rattle.vote_commands.specs.Status.{fault_status, status, unread};
 use std::alloc::AllocError;
 use std::fmt;
 use thiserror::Error;
-use vote_desks::{DeskFault, VoteFault};
+use vote_audit::VoteFault;
+use vote_desks_box::DeskFault;
 use vote_files::{DeviceFault, ReadFault};
 use vote_poll::{LinesFault, PollFault};
 

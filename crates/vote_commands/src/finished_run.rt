@@ -4,7 +4,7 @@ ghost use Rattle.std.specs.Prelude.{◌≡◌};
 ghost use Rattle.vote_commands.specs.Performing.{TellsNoBox};
 
 use crate::fault::{Ended, RunFault};
-use vote_desks::AuditWitness;
+use vote_audit::AuditWitness;
 
 /// How a run ended and, if a count came to its end, the witness of the box in which its votes were audited.
 #[derive(Drop)]

@@ -12,7 +12,7 @@
 //! - [`perform`] does the run that a [`LoadedRequest`] asks for, and [`perform_on`] does it on a writer of std. Both return how the
 //!   run ended ([`FinishedRun`]). [`perform_listing`] does the run of a listing.
 //! - No run here may wait. One that counts takes its votes by a call that it is given, at most once, and it returns if that call does.
-//!   The call promises that a box which it returns is audited, as [`take_votes`](vote_desks::take_votes) does. Votes stop a run only by
+//!   The call promises that a box which it returns is audited, as `take_votes` of `vote_desks` does. Votes stop a run only by
 //!   a fault that this call may return.
 //! - [`sheet`] returns the result sheet of an audited box, for callers of the library.
 //! - [`status`] and [`fault_status`] return the exit status of a run, from how it ended ([`Ended`]) or why it did not

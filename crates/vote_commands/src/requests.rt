@@ -15,7 +15,7 @@ use crate::listing::print_listing;
 use crate::votes::CountInputs;
 use std::alloc::Global;
 use std::io::Write;
-use vote_desks::{Audited, VoteFault};
+use vote_audit::{Audited, VoteFault};
 use vote_files::{Sink, WriterSink};
 use vote_poll::{Lines, Poll};
 use vote_request::{Listing, Request};

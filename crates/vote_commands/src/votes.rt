@@ -12,7 +12,7 @@ use crate::fault::RunFault;
 use crate::reading::{lines_of_file, poll_of_file};
 use std::alloc::Global;
 use std::marker::Model;
-use vote_desks::{Audited, VoteFault};
+use vote_audit::{Audited, VoteFault};
 use vote_poll::{Lines, Poll};
 
 /// The inputs of a run that counts.

@@ -23,7 +23,7 @@ use Rattle.vote_count.proofs.RoundLemmas.{rounds_more, rounds_same}
 use Rattle.vote_count.proofs.Rows.{row_of_pair}
 use Rattle.vote_count.proofs.Schulze.{kept_option}
 use Rattle.vote_count.proofs.Sizes.{pair_count_at, pair_count_lt, pair_count_some, row_of_mark}
-use Rattle.vote_count.proofs.Squares.{le_double_square, square_is}
+use Rattle.vote_poll.proofs.Squares.{le_double_square, square_is}
 use Rattle.vote_count.proofs.Tests.{Test, all_three, at_most, both, defeat, either, implied, kept, known, like, marked, negated, of_each, quorum, weaker}
 
 -- ---- lists with an entry for each of n options

@@ -1,7 +1,6 @@
 pub mod Cells
 pub mod Closure
 pub mod Rows
-pub mod Squares
 pub mod RoundLemmas
 pub mod Sizes
 pub mod LawLemmas

@@ -1,14 +1,10 @@
 -- The rules of the count, from Appendix A of the Constitution, Vote Counting, and for the quorum from section 4.2; that a majority can be worded as more than its ratio is this project's own. A set of options is a fact about an option, and a list of defeats is a fact about two options.
-use Rattle.std.specs.Prelude.{◌≡◌, ℕ, ◌*◌, ◌^◌, ◌<◌, ◌≤◌, ◌≢◌, ◌⊎◌, ◌↔◌, List, [], ◌∷◌, ◌++◌, ⊤}
+use Rattle.std.specs.Prelude.{◌≡◌, ℕ, ◌*◌, ◌<◌, ◌≤◌, ◌≢◌, ◌⊎◌, ◌↔◌, List, [], ◌∷◌, ◌++◌, ⊤}
 use Rattle.vote_poll.specs.PollContent.{PollContent, elector_count, option_count, ratio_of}
+use Rattle.vote_poll.specs.Quorum.{IsAtLeastTimesQ}
 use Rattle.vote_poll.specs.declared.wording.Wording.{Wording}
 use Rattle.vote_poll.specs.declared.wording.Wording.TheVariants.{AtLeast, MoreThan}
 use Rattle.vote_count.specs.Votes.{Votes, votes}
-
--- `n` votes are at least this multiple of Q, which is half of the square root of the number of electors. Both sides are doubled and squared, so nothing is rounded.
--- 4.2.7: "Q is half of the square root of the number of current Developers." "Q and K need not be integers and are not rounded."
-abbrev pub IsAtLeastTimesQ : ℕ → ℕ → ℕ → Type 0
-IsAtLeastTimesQ multiple electors n = multiple ^ 2 * electors ≤ (2 * n) ^ 2
 
 -- `n` votes are at least the quorum R of A.5.2: the poll's multiple of Q
 abbrev pub MeetsQuorum : PollContent → ℕ → Type 0
@@ -17,10 +13,6 @@ MeetsQuorum poll n = IsAtLeastTimesQ poll.quorum_multiple (elector_count poll) n
 -- `n` are the fewest votes that meet the quorum
 abbrev pub IsQuorum : PollContent → ℕ → Type 0
 IsQuorum poll n = MeetsQuorum poll n × ((m : ℕ) → MeetsQuorum poll m → n ≤ m)
-
--- the same for any multiple of Q
-abbrev pub AreTimesQ : ℕ → ℕ → ℕ → Type 0
-AreTimesQ multiple electors n = IsAtLeastTimesQ multiple electors n × ((m : ℕ) → IsAtLeastTimesQ multiple electors m → n ≤ m)
 
 -- These numbers of votes, for an option and for the default, are a majority of this ratio. In the Constitution's wording the first is at least the ratio times the second, and strictly greater than the second; in the other wording the first is greater than the ratio times the second.
 -- A.5.3: "An option A defeats the default option D by a majority ratio N, if V(A,D) is greater or equal to N * V(D,A) and V(A,D) is strictly greater than V(D,A)."

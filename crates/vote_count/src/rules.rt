@@ -2,29 +2,12 @@
 ghost use Rattle.std.specs.Prelude.{◌≡◌, ℕ, ◌≤◌, ◌<◌, ◌↔◌, ◌⊎◌, IsTrue, IfSome};
 ghost use Rattle.vote_poll.specs.Options.{IsOption};
 ghost use Rattle.vote_poll.specs.PollContent.{option_count};
-ghost use Rattle.vote_count.specs.Rules.{AreTimesQ, MeetsQuorum, IsQuorum, MeetsMajority, IsKept, IsAhead, AreAhead, InSchwartzSet, IsWeaker, AreWeakest, votes_for};
+ghost use Rattle.vote_count.specs.Rules.{MeetsQuorum, IsQuorum, MeetsMajority, IsKept, IsAhead, AreAhead, InSchwartzSet, IsWeaker, AreWeakest, votes_for};
 ghost use Rattle.vote_count.specs.Weakest.{IsWeakerOf, IsOneWeakest, IsNoStronger, AreOptions, AreBetween};
 ghost use Rattle.vote_count.specs.Sets.{In, Pairs};
-ghost use Rattle.vote_poll.specs.declared.TheConstants.{MAX_ELECTORS};
 
 use crate::{Defeats, Matrix, OptionSet};
-use vote_poll::{MAX_OPTIONS, Poll, Wording};
-
-/// The fewest votes that are at least this multiple of Q (section 4.2). Q is half of the square root of
-/// the number of electors, and is not rounded. With a multiple of 0 the result is 0.
-pub fn times_q(multiple: u8, electors: usize) -> u64
-    requires multiple { multiple ≤ 10 }
-    requires electors { electors ≤ MAX_ELECTORS }
-    ensures { AreTimesQ multiple electors result }
-{
-    let times = u64::from(multiple);
-    let bound = times * times * electors as u64;
-    let mut votes: u64 = 0;
-    while 2 * votes * (2 * votes) < bound {
-        votes += 1;
-    }
-    votes
-}
+use vote_poll::{MAX_OPTIONS, Poll, Wording, times_q};
 
 /// The fewest votes that meet the quorum of a poll (section 4.2): its multiple of Q.
 pub fn quorum_votes(poll: &Poll) -> u64
@@ -34,18 +17,7 @@ pub fn quorum_votes(poll: &Poll) -> u64
 }
 
 /// Whether the votes of an option over the default option meet the quorum (section 4.2; Appendix A,
-/// Vote Counting). The option is not the default option. For callers of the library; the program does
-/// not call it.
-pub fn meets_quorum(poll: &Poll, matrix: &Matrix, option: u8) -> bool
-    requires options { matrix.now.options ≡ option_count poll.now }
-    requires first { 1 ≤ option }
-    requires below_default { option < option_count poll.now }
-    ensures { IsTrue result ↔ MeetsQuorum poll.now (votes_for poll.now matrix.now option) }
-{
-    has_quorum(poll, matrix, option, quorum_votes(poll))
-}
-
-// The same. `quorum` is the fewest votes that meet the quorum.
+/// Vote Counting). `quorum` is the fewest votes that meet it. The option is not the default option.
 pub(crate) fn has_quorum(poll: &Poll, matrix: &Matrix, option: u8, quorum: u64) -> bool
     requires options { matrix.now.options ≡ option_count poll.now }
     requires first { 1 ≤ option }

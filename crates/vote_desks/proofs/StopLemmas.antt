@@ -9,14 +9,14 @@ use Rattle.vote_steps.specs.Boxes.{IsLegal}
 use Rattle.vote_steps.specs.HeldLines.{HasSizes}
 use Rattle.vote_desks_box.specs.declared.Slip.{Slip}
 use Rattle.vote_desks_box.specs.Desks.{SealedState}
-use Rattle.vote_desks.specs.declared.fault.AuditFault.TheVariants.{SizeDiffers, CountDiffers, StepDiffers, SlipDiffers, ClosedEarly}
-use Rattle.vote_desks.specs.declared.fault.VoteFault.{VoteFault}
-use Rattle.vote_desks.specs.declared.fault.VoteFault.TheVariants.{Memory, Thread, Gate, Enter, Desk, Audit}
+use Rattle.vote_audit.specs.declared.fault.AuditFault.TheVariants.{SizeDiffers, CountDiffers, StepDiffers, SlipDiffers, ClosedEarly}
+use Rattle.vote_audit.specs.declared.fault.VoteFault.{VoteFault}
+use Rattle.vote_audit.specs.declared.fault.VoteFault.TheVariants.{Memory, Thread, Gate, Enter, Desk, Audit}
 use Rattle.vote_desks.specs.declared.worker_result.Stop.{Stop}
 use Rattle.vote_desks.specs.declared.worker_result.Stop.TheVariants.{Barred, Refused}
 use Rattle.vote_desks_box.specs.declared.EnterFault.{EnterFault}
 use Rattle.vote_desks_box.specs.declared.EnterFault.TheVariants.{StampUsed}
-use Rattle.vote_desks.specs.Faults.{CanStopAudit, CanStopCasts, CanStopVotes, IsOfDesk, IsAuditFaultOf, IsFoundIn}
+use Rattle.vote_audit.specs.Faults.{CanStopAudit, CanStopCasts, CanStopVotes, IsOfDesk, IsAuditFaultOf, IsFoundIn}
 use Rattle.vote_desks.specs.Stops.{IsBarredBy, stop_fault, IsLeastStop}
 use Rattle.vote_desks_box.proofs.Ranges.{at_range}
 

@@ -4,8 +4,8 @@ use Rattle.vote_desks_box.specs.declared.EnterFault.{EnterFault}
 use Rattle.vote_desks_box.specs.declared.EnterFault.TheVariants.{StampUsed}
 use Rattle.vote_desks.specs.declared.worker_result.Stop.{Stop}
 use Rattle.vote_desks.specs.declared.worker_result.Stop.TheVariants.{Barred, Refused}
-use Rattle.vote_desks.specs.declared.fault.VoteFault.{VoteFault}
-use Rattle.vote_desks.specs.declared.fault.VoteFault.TheVariants.{Memory, Gate, Enter}
+use Rattle.vote_audit.specs.declared.fault.VoteFault.{VoteFault}
+use Rattle.vote_audit.specs.declared.fault.VoteFault.TheVariants.{Memory, Gate, Enter}
 
 -- a cast was refused only because its stamp was used
 abbrev pub IsRefusedAsUsed : Option Stop → Type 0

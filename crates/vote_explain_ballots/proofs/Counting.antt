@@ -2,7 +2,7 @@
 use Rattle.vote_explain_ballots.proofs.Words.{◌≡◌, ◌+◌, ◌-◌, ◌∙◌, ℕ, zero, suc, List, [], ◌∷◌, length, drop, take, refl, ap, Bool, not, arith, filter, enumerate_from, flat_map, nat_tests, common_steps, PollContent, last_in_time, is_ballot}
 use Rattle.vote_explain_ballots.proofs.Words.{readings, Reading, Text, EachRefusalIsListed, refusal_of}
 use Rattle.std.proofs.lemmas.List.Sums.{length-filter}
-use Rattle.vote_sheet.specs.LastBallots.{readings_in_time}
+use Rattle.vote_steps.specs.LastBallots.{readings_in_time}
 
 abbrev is_no_ballot : Reading → Bool
 is_no_ballot read = not (is_ballot read)

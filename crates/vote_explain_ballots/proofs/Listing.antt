@@ -3,7 +3,7 @@ use Rattle.vote_explain_ballots.proofs.Words.{◌≡◌, ◌+◌, ◌++◌, ◌�
 use Rattle.vote_explain_ballots.proofs.Words.{length-enumerate_from, get_or_from_slice_get, slice_get_within, PollContent, last_in_time, reading, is_valid, Text, AreLinesFor, Adding, IsRemark, IsIfText, IsLineHint, IsRemarked, SaysRefusal, finding}
 use Rattle.vote_explain_ballots.proofs.Words.{finding_head, Refusal, if_refusing, refusal, refusal_by, refusal_of, refusing_reply}
 use Rattle.vote_poll_text.specs.Lines.{line_feed}
-use Rattle.vote_explain_poll.specs.Hints.{IsExcerpt}
+use Rattle.vote_hints.specs.Hints.{IsExcerpt}
 use Rattle.vote_steps.specs.declared.Reply.{Reply}
 
 -- words were added, and then a remark

@@ -11,17 +11,16 @@ pub use Rattle.std.proofs.lemmas.List.Elements.{All-map, All-nil, All-push, All-
 pub use Rattle.std.proofs.lemmas.List.Folds.{flat_map-map, list_any_at, list_any_more}
 pub use Rattle.std.proofs.lemmas.List.FromFn.{get_or-enumerate_from, length-enumerate_from}
 pub use Rattle.std.proofs.lemmas.Option.{get_or_from_slice_get, slice_get_within}
-pub use Rattle.vote_poll_text.specs.Names.{is_printable, is_voter_byte, is_within}
+pub use Rattle.vote_poll_text.specs.Names.{is_voter_byte, is_within}
 pub use Rattle.vote_poll_text.specs.Shown.{shown}
 pub use Rattle.vote_poll.specs.PollContent.{PollContent, last_in_time}
 pub use Rattle.vote_poll.specs.Readings.{IsReading, ballot_in, is_ballot, is_space, rank_in, reading, reading_of, readings}
 pub use Rattle.vote_poll.specs.declared.reading.Reading.{Reading}
 pub use Rattle.vote_steps.specs.History.{before_close, is_closed, is_valid, reply_to}
-pub use Rattle.vote_sheet.specs.Texts.{Text}
-pub use Rattle.vote_explain_poll.specs.Findings.{AreLinesFor}
-pub use Rattle.vote_explain_poll.specs.Hints.{Adding}
+pub use Rattle.vote_poll_text.specs.Texts.{Text}
+pub use Rattle.vote_hints.specs.Hints.{Adding, AreLinesFor}
 pub use Rattle.vote_explain_ballots.specs.Explained.{IsIfText, IsLineHint, IsRemarked, IsStrangerHint, SaysRefusal, finding, finding_head, parted, question, stranger_words, turned_rank}
 pub use Rattle.vote_explain_ballots.specs.Places.{IsColumn, IsExit, IsLinePrefix, IsPartAfter, has_byte, may_end, next_part}
 pub use Rattle.vote_explain_ballots.specs.Refusals.{AreReplies, EachRefusalIsListed, Refusal, RefusedAsBySteps, if_refusing, refusal, refusal_by, refusal_of, refusals, refusing_reply, reply_to_cast}
-pub use Rattle.vote_explain_ballots.specs.Tables.{is_even, is_head, is_of_ranks, is_rank, is_sign, words_of}
+pub use Rattle.vote_explain_ballots.specs.Tables.{is_even, is_head, is_of_ranks, is_sign, words_of}
 pub use Rattle.vote_explain_ballots.specs.Remarks.{IsNearest, IsRemark, edits_between, edits_from, is_title}

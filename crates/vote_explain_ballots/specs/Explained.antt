@@ -11,14 +11,14 @@ use Rattle.vote_poll_text.specs.Shown.{shown}
 use Rattle.vote_steps.specs.declared.Reply.{Reply}
 use Rattle.vote_steps.specs.declared.Reply.TheVariants.{BadLine, Late}
 use Rattle.vote_steps.specs.declared.Totals.{Totals}
-use Rattle.vote_sheet.specs.LastBallots.{refused_count, valid_count, voter_count}
-use Rattle.vote_sheet.specs.Steps.{reply_words}
-use Rattle.vote_sheet.specs.Texts.{Text, line}
-use Rattle.vote_explain_poll.specs.Findings.{AreLinesFor}
-use Rattle.vote_explain_poll.specs.Hints.{IsExcerpt}
+use Rattle.vote_steps.specs.LastBallots.{refused_count, valid_count, voter_count}
+use Rattle.vote_steps.specs.ReplyWords.{reply_words}
+use Rattle.vote_poll_text.specs.Texts.{Text, line}
+use Rattle.vote_hints.specs.Hints.{AreLinesFor, IsExcerpt}
+use Rattle.vote_hints.specs.declared.TheConstants.{MAX_SHOWN}
 use Rattle.vote_explain_ballots.specs.Places.{IsExit, place_words}
 use Rattle.vote_explain_ballots.specs.Remarks.{IsFileText, IsNearest, IsRemark, can_be_ballots}
-use Rattle.vote_explain_ballots.specs.declared.TheConstants.{MOST_REMARK, MOST_SHOWN}
+use Rattle.vote_explain_ballots.specs.declared.TheConstants.{MOST_REMARK}
 use Rattle.vote_explain_ballots.specs.Tables.{table_text}
 use Rattle.vote_explain_ballots.specs.Refusals.{Refusal, refusals}
 use Rattle.vote_explain_ballots.specs.declared.places.Exit.{Exit}
@@ -49,11 +49,11 @@ rank_count_words ranks options = concat (decimal ranks ∷ (if ranks == 1 then c
 abbrev pub question : List Text → Text
 question [] = []
 question (name ∷ others) =
-    codes "; did you mean " ++ shown MOST_SHOWN name ++ flat_map (λ other. codes " or " ++ shown MOST_SHOWN other) others ++ codes "?"
+    codes "; did you mean " ++ shown MAX_SHOWN name ++ flat_map (λ other. codes " or " ++ shown MAX_SHOWN other) others ++ codes "?"
 
 -- a name that is not on the roll, and the names on it that are suggested
 abbrev pub stranger_words : Text → List Text → Text
-stranger_words name near = shown MOST_SHOWN name ++ codes " is not on the roll" ++ question near
+stranger_words name near = shown MAX_SHOWN name ++ codes " is not on the roll" ++ question near
 
 -- a name that is not on the roll, the names on it that are suggested, and a remark on their ballots
 abbrev pub IsStrangerHint : List Text → Text → Text → Type 0
@@ -98,7 +98,7 @@ turned_rank options option = if option == options then 1 else option + 1
 -- the first elector, who ranks the last option first: with the numbers as ranks, who takes them for an order of choice sees no fault
 abbrev pub own_ballot : PollContent → Text
 own_ballot poll =
-    shown MOST_SHOWN (slice_index_or poll.roll 0 []) ++ flat_map (λ option. parted (codes ",") option.0 ++ decimal (turned_rank (option_count poll) option.0)) (enumerate_from 1 poll.options)
+    shown MAX_SHOWN (slice_index_or poll.roll 0 []) ++ flat_map (λ option. parted (codes ",") option.0 ++ decimal (turned_rank (option_count poll) option.0)) (enumerate_from 1 poll.options)
 
 -- the options in their order, each with its number
 abbrev pub own_options : PollContent → Text

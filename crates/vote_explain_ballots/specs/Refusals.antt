@@ -12,8 +12,8 @@ use Rattle.vote_steps.specs.declared.Reply.{Reply}
 use Rattle.vote_steps.specs.declared.Reply.TheVariants.{BadLine, Late}
 use Rattle.vote_steps.specs.declared.Step.{Step}
 use Rattle.vote_steps.specs.declared.Step.TheVariants.{Cast, Close}
-use Rattle.vote_sheet.specs.LastBallots.{refused_count}
-use Rattle.vote_sheet.specs.Texts.{Text}
+use Rattle.vote_steps.specs.LastBallots.{refused_count}
+use Rattle.vote_poll_text.specs.Texts.{Text}
 
 -- a line that is refused: the number of its envelope, from 1, its bytes, and its reply
 pub record Refusal : Type 0 where

@@ -4,8 +4,9 @@ use Rattle.std.specs.Prelude.{◌≡◌, ℕ, ◌+◌, ◌==◌, ◌≤◌, ◌�
 use Rattle.std.specs.List.{All, Contains, list_all, list_any, starts_with}
 use Rattle.vote_poll_text.specs.Lines.{line_feed}
 use Rattle.vote_poll_text.specs.Names.{is_printable}
-use Rattle.vote_explain_poll.specs.Syntax.{file_kind, unmarked}
-use Rattle.vote_explain_ballots.specs.declared.TheConstants.{MOST_EDITS, MOST_REMARK, MOST_SHOWN}
+use Rattle.vote_hints.specs.FileKinds.{file_kind, unmarked}
+use Rattle.vote_hints.specs.declared.TheConstants.{MAX_EDITS}
+use Rattle.vote_explain_ballots.specs.declared.TheConstants.{MOST_REMARK}
 
 -- the line begins as that of the title of a poll, perhaps behind a byte-order mark
 abbrev pub is_title : List ℕ → Bool
@@ -24,11 +25,9 @@ pub record IsRemark (text : List ℕ) : Type 0 where
 abbrev pub IsFileText : List ℕ → Type 0
 IsFileText text = (text ≡ []) ⊎ ((remark : List ℕ) × IsRemark remark × (text ≡ codes "the ballot file " ++ (remark ++ line_feed)))
 
--- the limits, as docs/FORMATS.md writes them
-pub record LimitsAreAsWritten : Type 0 where
-  pub edits : MOST_EDITS ≡ 2
-  pub shown : MOST_SHOWN ≡ 60
-  pub remark : MOST_REMARK ≡ 600
+-- the limit of a remark, as docs/FORMATS.md writes it
+abbrev pub LimitsAreAsWritten : Type 0
+LimitsAreAsWritten = MOST_REMARK ≡ 600
 
 -- ---- names
 -- How many edits lead from one name to another, each of which adds, leaves out or changes a byte: from a name that begins with this byte,
@@ -44,5 +43,5 @@ edits_between (byte ∷ name) other = edits_from byte (edits_between name) other
 -- the other name stands on the roll, a few edits lead to it, and fewer lead to none on the roll
 pub record IsNearest (name : List ℕ) (roll : List (List ℕ)) (other : List ℕ) : Type 0 where
   pub is_there : Contains roll other
-  pub few : edits_between name other ≤ MOST_EDITS
+  pub few : edits_between name other ≤ MAX_EDITS
   pub least : All (λ another. edits_between name other ≤ edits_between name another) roll

@@ -6,8 +6,8 @@ use Rattle.std.specs.Str.{byte}
 use Rattle.vote_poll.specs.Names.{place_of}
 use Rattle.vote_poll.specs.PollContent.{PollContent, option_count}
 use Rattle.vote_poll_text.specs.Names.{is_within}
-use Rattle.vote_explain_poll.specs.Syntax.{unmarked}
-use Rattle.vote_sheet.specs.Texts.{Text, line}
+use Rattle.vote_hints.specs.FileKinds.{unmarked}
+use Rattle.vote_poll_text.specs.Texts.{Text, line}
 
 -- a comma, a semicolon or a tab
 abbrev pub is_column_sign : ℕ → Bool

@@ -4,15 +4,16 @@ ghost use Rattle.vote_poll.specs.PollContent.{last_in_time};
 ghost use Rattle.vote_poll.specs.Readings.{is_ballot, reading};
 ghost use Rattle.vote_poll_text.specs.Adding.{Adds};
 ghost use Rattle.vote_steps.specs.HeldLines.{HoldsLines};
-ghost use Rattle.vote_sheet.specs.LastBallots.{refused_count};
+ghost use Rattle.vote_steps.specs.LastBallots.{refused_count};
 ghost use Rattle.vote_explain_ballots.specs.Explained.{AreTotals, IsExplained, counted_text, example_text, has_bad_line, numbers_text, order_words, own_ballot, own_options, parted, turned_rank, warnings_text};
 ghost use Rattle.vote_explain_ballots.specs.Refusals.{EachRefusalIsListed, RefusedAsBySteps};
 
+use crate::MOST_REMARK;
 use crate::findings::Findings;
 use crate::tables::push_table;
 use crate::whole_file::push_file_text;
-use crate::{MOST_REMARK, MOST_SHOWN};
 use std::alloc::{AllocError, Global};
+use vote_hints::MAX_SHOWN;
 use vote_poll::{Lines, Poll, Reading, push_shown, read_line};
 use vote_steps::laws::lines_are_counted;
 use vote_steps::{BallotBox, Step, Totals, cast_all};
@@ -69,7 +70,7 @@ fn own_ballot(alloc: Global, poll: &Poll) -> Result<(String, String), AllocError
     ensures { IfOk result (λ own. (string_bytes own.0 ≡ own_ballot poll.now) × (string_bytes own.1 ≡ own_options poll.now)) }
 {
     let (mut ballot, mut options) = (String::new(alloc), String::new(alloc));
-    push_shown(&mut ballot, first_elector(poll), MOST_SHOWN)?;
+    push_shown(&mut ballot, first_elector(poll), MAX_SHOWN)?;
     for before in 0..poll.options() {
         push_parted(&mut ballot, ",", before + 1)?;
         write!(ballot, "{}", turned_rank(poll.options(), before + 1))?;

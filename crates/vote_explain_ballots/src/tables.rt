@@ -5,7 +5,7 @@ ghost use Rattle.vote_poll_text.specs.Adding.{Adds};
 ghost use Rattle.vote_explain_ballots.specs.Tables.{first_word, has_columns, has_each_rank, has_few_ranks, has_heads, is_column_sign, is_even, is_head, is_head_sign, is_of_ranks, is_parted_by, is_rank, is_sign, later_words, looks_like_table, may_be_head, names_no_elector, number_of, table_text, words_of};
 
 use std::alloc::{AllocError, Global};
-use vote_explain_poll::unmarked;
+use vote_hints::unmarked;
 use vote_poll::{Lines, MAX_OPTIONS, Poll};
 
 /// Whether a byte is a sign that parts columns.

@@ -5,13 +5,13 @@
 ghost use Rattle.std.specs.Prelude.{◌≡◌, IfOk, IsTrue};
 ghost use Rattle.std.specs.List.{list_all, list_any};
 ghost use Rattle.vote_poll_text.specs.Names.{is_printable};
-ghost use Rattle.vote_explain_poll.specs.Hints.{Tells};
+ghost use Rattle.vote_hints.specs.Hints.{Tells};
 ghost use Rattle.vote_explain_ballots.specs.Remarks.{IsFileText, IsRemark, can_be_ballots, is_title};
 
 use crate::findings::is_of_bad_shape;
 use crate::{MARK, MOST_REMARK};
 use std::alloc::{AllocError, Global};
-use vote_explain_poll::{file_kind, unmarked};
+use vote_hints::{file_kind, unmarked};
 use vote_poll::Lines;
 use vote_poll_text::{is_printable, push_mending};
 use vote_steps::Step;

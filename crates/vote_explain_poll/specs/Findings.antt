@@ -1,21 +1,21 @@
 -- The text of all that is wrong with a poll file: a line for each fault, and then one for each key that is not read. What a line says
 -- after the words of its fault is a hint; what after the path of its key, a remark.
-use Rattle.std.specs.Prelude.{◌≡◌, ℕ, ◌==◌, ◌||◌, Bool, true, false, nat_lt, List, [], ◌∷◌, ◌++◌, Result, Ok, Err, codes, decimal, length, option_map, unwrap_or}
+use Rattle.std.specs.Prelude.{◌≡◌, ◌⊎◌, ℕ, ◌==◌, ◌||◌, Bool, true, false, nat_lt, List, [], ◌∷◌, ◌++◌, Result, Ok, Err, codes, decimal, length, option_map, unwrap_or}
 use Rattle.std.specs.List.{concat}
 use Rattle.toml.specs.Data.{Members}
 use Rattle.vote_poll_text.specs.Lines.{line_feed}
 use Rattle.vote_poll_text.specs.Shown.{shown}
 use Rattle.vote_poll.specs.PollFaults.{faults_in}
 use Rattle.vote_poll.specs.declared.TheConstants.{MAX_ELECTORS, MAX_QUORUM_MULTIPLE}
-use Rattle.vote_count.specs.Rules.{AreTimesQ}
+use Rattle.vote_poll.specs.Quorum.{AreTimesQ}
 use Rattle.vote_poll_keys.specs.KeyFaults.{FoundKeys, found_in}
 use Rattle.vote_poll_keys.specs.FaultWords.{fault_words}
 use Rattle.vote_poll_keys.specs.declared.fault.PollFault.{PollFault}
 use Rattle.vote_poll_keys.specs.declared.fault.PollFault.TheVariants as fault
 use Rattle.vote_poll_keys.specs.declared.fault.PollKey.TheVariants as key
-use Rattle.vote_explain_poll.specs.Hints.{IsHintLine, IsLineShown, hint_line}
+use Rattle.vote_hints.specs.Hints.{AreLinesFor, IsExcerpt, IsHintLine, hint_line}
 use Rattle.vote_explain_poll.specs.UnreadKeys.{IsKeyRemark, KeyPlace, path_of, unread_in}
-use Rattle.vote_explain_poll.specs.declared.TheConstants.{MAX_SHOWN}
+use Rattle.vote_hints.specs.declared.TheConstants.{MAX_SHOWN}
 use Rattle.vote_explain_poll.specs.Syntax.{IsSyntaxFinding}
 
 -- ---- what is said of a quorum
@@ -52,6 +52,10 @@ IsSaidOfFault electors (fault.Key key.Quorum) words = EndsWithQuorum electors wo
 IsSaidOfFault electors other words = Unit {0}
 
 -- ---- lines
+-- nothing, or an excerpt of a file
+abbrev pub IsLineShown : List ℕ → Type 0
+IsLineShown text = (text ≡ []) ⊎ IsExcerpt text
+
 -- the line of a fault, whose words are a hint, and the line of the file, if its key is there
 abbrev pub SaysFault : ℕ → PollFault → List ℕ → Type 0
 SaysFault electors e text =
@@ -63,11 +67,6 @@ key_head path = codes "poll: key " ++ shown MAX_SHOWN path ++ codes " is not rea
 
 abbrev pub SaysKey : Members → KeyPlace → List ℕ → Type 0
 SaysKey file place line = (remark : List ℕ) × IsKeyRemark file place.name remark × (line ≡ key_head (path_of place) ++ remark ++ line_feed)
-
--- a line that says each of these, in their order
-abbrev pub AreLinesFor : {X : Type 0} → (X → List ℕ → Type 0) → List X → List ℕ → Type 0
-AreLinesFor Says [] text = text ≡ []
-AreLinesFor Says (x ∷ xs) text = (line : List ℕ) × (rest : List ℕ) × Says x line × AreLinesFor Says xs rest × (text ≡ line ++ rest)
 
 -- the findings of a table with these faults
 abbrev pub AreFindings : List PollFault → Members → List ℕ → Type 0

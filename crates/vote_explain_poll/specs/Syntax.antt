@@ -1,11 +1,12 @@
 -- What is said of a poll file that is no TOML, by the place of an error in it: how many bytes stand before the error.
-use Rattle.std.specs.Prelude.{◌≡◌, ◌⊎◌, ℕ, ◌+◌, ◌-◌, ◌≤◌, not, Bool, List, [], ◌++◌, Option, Some, None, count_by, drop, filter, length, slice_index_or, take, codes, decimal, ◌==◌, ◌&&◌, ◌||◌, false, if◌then◌else◌, ◌∷◌, nat_eq}
-use Rattle.std.specs.List.{Contains, list_any, slice_split, starts_with}
+use Rattle.std.specs.Prelude.{◌≡◌, ◌⊎◌, ℕ, ◌+◌, ◌-◌, ◌≤◌, not, Bool, List, [], ◌++◌, Option, Some, None, count_by, filter, length, slice_index_or, take, codes, decimal, ◌==◌, ◌||◌}
+use Rattle.std.specs.List.{Contains, slice_split}
 use Rattle.std.specs.Str.{byte}
 use Rattle.vote_poll_text.specs.Lines.{feed_count, parts_of}
-use Rattle.vote_poll_text.specs.Names.{is_printable, is_within}
+use Rattle.vote_poll_text.specs.Names.{is_within}
 use Rattle.vote_poll.specs.BallotLine.{IsBallotText}
-use Rattle.vote_explain_poll.specs.Hints.{IsHintLine}
+use Rattle.vote_hints.specs.FileKinds.{file_kind, unmarked}
+use Rattle.vote_hints.specs.Hints.{IsHintLine}
 
 -- the first line of a text, and what stands after its last line feed
 abbrev pub first_line : List ℕ → List ℕ
@@ -41,29 +42,6 @@ pub record IsPlaceFinding (text finding : List ℕ) : Type 0 where
   pub mark : List ℕ
   pub is_mark : IsHintLine mark
   pub is_text : finding ≡ place_words (take place text) ++ hint ++ line ++ mark
-
--- of the first two bytes one is printable, and the other is a zero
-abbrev pub begins_as_utf_16 : List ℕ → Bool
-begins_as_utf_16 (a ∷ b ∷ rest) = (is_printable a && b == 0) || (a == 0 && is_printable b)
-begins_as_utf_16 other = false
-
--- What the file is with whose sign the text begins, or that has a zero among its first bytes. The sign of UTF-32 may begin with that of UTF-16.
-abbrev pub file_kind : List ℕ → Option (List ℕ)
-file_kind text =
-    let begins : List ℕ → Bool = starts_with nat_eq text in
-    if begins (0xFF ∷ 0xFE ∷ 0 ∷ 0 ∷ []) || begins (0 ∷ 0 ∷ 0xFE ∷ 0xFF ∷ []) then Some (codes "UTF-32")
-    else if begins (0xFF ∷ 0xFE ∷ []) || begins (0xFE ∷ 0xFF ∷ []) then Some (codes "UTF-16")
-    else if begins (codes "PK" ++ 3 ∷ 4 ∷ []) then Some (codes "a ZIP file, as of word processors and spreadsheets")
-    else if begins (codes "%PDF") then Some (codes "a PDF file")
-    else if begins (codes "{\\rtf") then Some (codes "an RTF file")
-    else if begins (0xD0 ∷ 0xCF ∷ 0x11 ∷ 0xE0 ∷ []) then Some (codes "an old Word or Excel file")
-    else if begins_as_utf_16 text then Some (codes "UTF-16")
-    else if list_any (λ b. b == 0) (take 16 text) then Some (codes "no text")
-    else None
-
--- the text without a byte-order mark at its beginning
-abbrev pub unmarked : List ℕ → List ℕ
-unmarked text = if starts_with nat_eq text (0xEF ∷ 0xBB ∷ 0xBF ∷ []) then drop 3 text else text
 
 -- the lines of the text that are not empty, without a mark; a carriage return ends a line as a line feed does
 abbrev pub full_lines : List ℕ → List (List ℕ)

@@ -4,20 +4,18 @@ ghost use Rattle.toml.specs.View.{table_view};
 ghost use Rattle.vote_poll_text.specs.Adding.{Adds};
 ghost use Rattle.vote_poll_keys.specs.FoundView.{found_view};
 ghost use Rattle.vote_explain_poll.specs.Findings.{IsSaidOfFault, IsSaidOfQuorum, SaysFault, SaysKey, size_of_roll, votes_needed, what_a_quorum_is};
-ghost use Rattle.vote_explain_poll.specs.Hints.{Tells};
+ghost use Rattle.vote_hints.specs.Hints.{Tells};
 ghost use Rattle.vote_explain_poll.specs.UnreadKeys.{IsKeyRemark};
 
-use crate::characters::push_character;
 use crate::near::near_key;
 use crate::structure::{structure_of, texts_at};
 use crate::syntax::{first_line, line_begins, push_line_at};
 use crate::unread::UnreadKey;
-use crate::{MAX_SHOWN, push_hint_line};
 use indexmap::IndexMap;
 use std::alloc::{AllocError, Global};
 use toml::{Table, Value};
-use vote_count::times_q;
-use vote_poll::{MAX_ELECTORS, MAX_OPTIONS, MAX_QUORUM_MULTIPLE, MAX_RATIO, parse_ratio};
+use vote_hints::{MAX_SHOWN, push_character, push_hint_line};
+use vote_poll::{MAX_ELECTORS, MAX_OPTIONS, MAX_QUORUM_MULTIPLE, MAX_RATIO, parse_ratio, times_q};
 use vote_poll_keys::{FoundKeys, PollFault, PollKey, value_at};
 use vote_poll_text::{
     MAX_LINES, MAX_OPTION_NAME, MAX_TITLE, MAX_VOTER_NAME, is_voter_byte, push_shown,

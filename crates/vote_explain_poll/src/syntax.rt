@@ -4,15 +4,14 @@
 //! finds the error no contract says.
 ghost use Rattle.std.specs.Prelude.{◌≡◌, ◌≤◌, ◌++◌, IfOk, codes, decimal, length, string_bytes, take};
 ghost use Rattle.vote_poll_text.specs.Adding.{Adds};
-ghost use Rattle.vote_explain_poll.specs.Hints.{IsExcerpt, IsLineShown, Tells};
+ghost use Rattle.vote_hints.specs.Hints.{IsExcerpt, Tells};
+ghost use Rattle.vote_explain_poll.specs.Findings.{IsLineShown};
 ghost use Rattle.vote_explain_poll.specs.Syntax.{IsPlaceFinding, IsSyntaxFinding, begins_character, column_number, first_line, last_line, line_number};
 
-use crate::characters::push_character;
-use crate::excerpts::push_excerpt;
-use crate::file_kinds::{begins_as_ballots, file_kind};
+use crate::full_lines::begins_as_ballots;
 use crate::structure::{definition, structure_of};
-use crate::{MAX_SHOWN, push_hint_line};
 use std::alloc::{AllocError, Global};
+use vote_hints::{MAX_SHOWN, file_kind, push_character, push_excerpt, push_hint_line};
 use vote_poll_text::{count_feeds, push_mending, push_shown, split_at_feed};
 
 /// A place in a text.

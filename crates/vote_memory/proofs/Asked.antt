@@ -11,7 +11,7 @@ use Rattle.vote_command_line.specs.CommandLine.{debvote_command}
 use Rattle.vote_command_line.specs.ParsedArgs.{HasText, NamedRequest}
 use Rattle.vote_command_line.specs.Words.{AreArgsOf}
 use Rattle.vote_files.specs.Sources.{FileReading, HasRead}
-use Rattle.vote_sheet.specs.Texts.{Text}
+use Rattle.vote_poll_text.specs.Texts.{Text}
 use Rattle.vote_program.specs.FileReadings.{read_whole}
 use Rattle.vote_program.specs.Outputs.{OutputState, Written}
 use Rattle.vote_program.specs.SheetOfFiles.{AskForSheet, IsSheetOfFiles, WritesTheSheet}

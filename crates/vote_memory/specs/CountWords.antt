@@ -1,6 +1,6 @@
 -- The words of a count.
 use Rattle.std.specs.Prelude.{Bool, true, false, List, [], ◌∷◌, codes}
-use Rattle.vote_sheet.specs.Texts.{Text}
+use Rattle.vote_poll_text.specs.Texts.{Text}
 
 -- a casting vote for the option `B`, if there is one
 abbrev pub casting_words : Bool → List Text

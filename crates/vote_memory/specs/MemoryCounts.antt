@@ -1,6 +1,6 @@
 -- What a count of two files in memory writes.
 use Rattle.std.specs.Prelude.{◌≡◌, ◌⊎◌, ◌++◌, [], ◌∷◌, Option, codes}
-use Rattle.vote_sheet.specs.Texts.{Text}
+use Rattle.vote_poll_text.specs.Texts.{Text}
 use Rattle.vote_program.specs.FileReadings.{read_whole}
 use Rattle.vote_program.specs.SheetOfFiles.{IsSheetOfFiles}
 use Rattle.vote_memory.specs.declared.count.MemoryCount.{MemoryCount}

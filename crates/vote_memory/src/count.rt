@@ -10,7 +10,7 @@ use crate::files::MemoryFiles;
 use crate::input::NoInput;
 use crate::words::words_of_count;
 use std::alloc::{AllocError, Global};
-use vote_desks::{Audited, VoteFault};
+use vote_audit::{Audited, VoteFault};
 use vote_files::WriterSink;
 use vote_poll::{Lines, Poll};
 use vote_program::answer;

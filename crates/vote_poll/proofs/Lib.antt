@@ -15,3 +15,4 @@ mod ReadingLaws
 mod SeenLaws
 pub mod OptionLaws
 pub mod MeantPolls
+pub mod Squares

@@ -4,6 +4,7 @@ pub mod Options
 pub mod Ranks
 pub mod Names
 pub mod PollContent
+pub mod Quorum
 pub mod PollValues
 pub mod PollFile
 pub mod Meant

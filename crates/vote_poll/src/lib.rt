@@ -39,6 +39,7 @@ mod faults;
 mod names;
 mod poll;
 mod poll_file;
+mod quorum;
 mod rank_key;
 mod ranks;
 mod reading;
@@ -48,6 +49,7 @@ pub use faults::{parse_ratio, push_faults};
 pub use names::names_are_distinct;
 pub use poll::Poll;
 pub use poll_file::{first_fault_is_told, polls_keep_the_limits};
+pub use quorum::times_q;
 pub use ranks::Ranks;
 pub use reading::{
     LineFault, Reading, each_line_is_read, is_ballot_line, is_reading, read_line,

@@ -1,7 +1,7 @@
 -- Words that ask for a sheet make one request: the count of these files with this casting vote. They have no fault but want of memory.
 use Rattle.std.proofs.Common.{◌≡◌, ◌≢◌, ◌∙◌, ℕ, ap, arith, Bor, List, Option, Some, inl, inr, subst, sym}
 use Rattle.std.specs.Prelude.{codes, option_copied, slice_index, unwrap_or}
-use Rattle.vote_sheet.specs.Texts.{Text}
+use Rattle.vote_poll_text.specs.Texts.{Text}
 use Rattle.vote_request.specs.declared.Listing.TheVariants as listing
 use Rattle.vote_request.specs.declared.Purpose.TheVariants as purpose
 use Rattle.vote_request.specs.declared.Request.TheVariants as request

@@ -5,10 +5,10 @@ use Rattle.vote_poll.specs.PollContent.{PollContent}
 use Rattle.vote_poll.specs.PollFile.{poll_in}
 use Rattle.vote_poll.specs.declared.PollFault.{PollFault}
 use Rattle.vote_desks_box.specs.declared.DeskFault.TheVariants as desk
-use Rattle.vote_desks.specs.declared.VoteFault.{VoteFault}
-use Rattle.vote_desks.specs.declared.VoteFault.TheVariants as vote
+use Rattle.vote_audit.specs.declared.VoteFault.{VoteFault}
+use Rattle.vote_audit.specs.declared.VoteFault.TheVariants as vote
 use Rattle.vote_sheet.specs.SheetOf.{IsSheet, SheetIsUnique}
-use Rattle.vote_sheet.specs.Texts.{Text}
+use Rattle.vote_poll_text.specs.Texts.{Text}
 use Rattle.vote_request.specs.declared.Purpose.TheVariants as purpose
 use Rattle.vote_commands.specs.Counting.{IsCountFor, casting_option, ended_by_decision}
 use Rattle.vote_commands.specs.Inputs.{Inputs}

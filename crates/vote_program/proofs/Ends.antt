@@ -11,8 +11,8 @@ use Rattle.vote_poll.specs.PollContent.{PollContent}
 use Rattle.vote_poll.specs.PollFile.{poll_in}
 use Rattle.vote_poll_keys.specs.declared.fault.PollFault.{PollFault}
 use Rattle.vote_poll_keys.specs.declared.fault.PollFault.TheVariants as poll_fault
-use Rattle.vote_desks.specs.declared.VoteFault.{VoteFault}
-use Rattle.vote_sheet.specs.Texts.{Text}
+use Rattle.vote_audit.specs.declared.VoteFault.{VoteFault}
+use Rattle.vote_poll_text.specs.Texts.{Text}
 use Rattle.vote_request.specs.declared.Purpose.TheVariants as purpose
 use Rattle.vote_request.specs.declared.Request.TheVariants as request
 use Rattle.vote_command_line.specs.ParsedArgs.{NamedRequest}

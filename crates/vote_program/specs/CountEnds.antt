@@ -5,9 +5,9 @@ use Rattle.vote_poll.specs.PollContent.{PollContent}
 use Rattle.vote_poll.specs.PollFile.{poll_in}
 use Rattle.vote_poll.specs.declared.PollFault.{PollFault}
 use Rattle.vote_count.specs.declared.Decision.{Decision}
-use Rattle.vote_desks.specs.declared.VoteFault.{VoteFault}
+use Rattle.vote_audit.specs.declared.VoteFault.{VoteFault}
 use Rattle.vote_sheet.specs.SheetOf.{IsSheetAndDecision}
-use Rattle.vote_sheet.specs.Texts.{Text}
+use Rattle.vote_poll_text.specs.Texts.{Text}
 use Rattle.vote_commands.specs.Counting.{NamesNoOption, casting_option, ended_by_decision}
 use Rattle.vote_commands.specs.Status.{fault_status, status}
 use Rattle.vote_commands.specs.TakingVotes.{StopsVotes, Taking}

@@ -1,6 +1,6 @@
 -- What the program writes on standard error: nothing where a run comes to its end, and else its fault line.
 use Rattle.std.specs.Prelude.{◌⊎◌, ◌++◌, Bool, true, false, Result, Ok, Err, codes, string_bytes}
-use Rattle.vote_sheet.specs.Texts.{Text}
+use Rattle.vote_poll_text.specs.Texts.{Text}
 use Rattle.vote_command_line.specs.declared.ArgsFault.{ArgsFault}
 use Rattle.vote_command_line.specs.declared.ArgsFault.TheVariants as args
 use Rattle.vote_commands.specs.Words.{fault_words}

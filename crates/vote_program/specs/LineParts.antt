@@ -1,7 +1,7 @@
 -- The parts of a fault line, after `debvote: `.
 use Rattle.std.specs.Prelude.{◌≤◌, ℕ, [], ◌++◌, Option, Some, None, decimal, length}
 use Rattle.std.proofs.Common.{Bor}
-use Rattle.vote_sheet.specs.Texts.{Text}
+use Rattle.vote_poll_text.specs.Texts.{Text}
 
 -- the digits of a number, if there is one
 abbrev pub number_text : Option ℕ → Text

@@ -2,7 +2,7 @@
 use Rattle.std.specs.Prelude.{◌≡◌, ◌<◌, ℕ, Bool, true, Option}
 use Rattle.std.specs.Io.KnownBytes.{Appends}
 use Rattle.vote_files.specs.Device.{AppendsPrefix}
-use Rattle.vote_sheet.specs.Texts.{Text}
+use Rattle.vote_poll_text.specs.Texts.{Text}
 
 -- what an output holds, if its bytes are known; how often it has failed; and whether it has passed on all that it took
 pub record OutputState : Type 0 where

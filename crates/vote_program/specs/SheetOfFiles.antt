@@ -7,7 +7,7 @@ use Rattle.vote_poll.specs.PollContent.{PollContent}
 use Rattle.vote_poll.specs.PollFile.{poll_in}
 use Rattle.vote_count.specs.declared.Decision.{Decision}
 use Rattle.vote_sheet.specs.SheetOf.{IsSheetAndDecision}
-use Rattle.vote_sheet.specs.Texts.{Text}
+use Rattle.vote_poll_text.specs.Texts.{Text}
 use Rattle.vote_request.specs.declared.Purpose.TheVariants as purpose
 use Rattle.vote_request.specs.declared.Request.TheVariants as request
 use Rattle.vote_command_line.specs.Words.{AreArgsOf}

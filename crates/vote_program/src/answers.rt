@@ -13,9 +13,9 @@ ghost use Rattle.vote_program.specs.SheetOfFiles.{WritesTheSheet};
 use crate::exit_status::{args_status, report, say};
 use crate::request_run::{carry_out, print_joined};
 use std::alloc::{AllocError, Global};
+use vote_audit::{Audited, VoteFault};
 use vote_command_line::{ArgsFault, parse_args};
 use vote_commands::RunFault;
-use vote_desks::{Audited, VoteFault};
 use vote_files::{Sink, Sources, StandardInput, write_text};
 use vote_poll::{Lines, Poll};
 

@@ -3,15 +3,16 @@
 ghost use Rattle.std.specs.Prelude.{◌≡◌, ◌+◌, ◌++◌, ◌<◌, ◌≤◌, length};
 ghost use Rattle.std.specs.Fmt.InlineText.{inline_text};
 ghost use Rattle.vote_poll_keys.specs.FaultWords as poll;
-ghost use Rattle.vote_desks.specs.Words as votes;
+ghost use Rattle.vote_audit.specs.Words as votes;
 ghost use Rattle.vote_commands.specs.Words.{fault_words, file_words};
 ghost use Rattle.vote_program.specs.Errors.{fault_line};
 ghost use Rattle.vote_program.specs.LineParts.{AreShort, line_text, number_text};
 
 use itoa::Buffer;
 use std::fmt::InlineText;
+use vote_audit::VoteFault;
 use vote_commands::{InputFault, InputFile, RunFault};
-use vote_desks::{DeskFault, VoteFault};
+use vote_desks_box::DeskFault;
 use vote_poll::PollFault;
 
 /// More bytes than a line has.

@@ -6,8 +6,8 @@ ghost use Rattle.std.specs.Prelude.{◌≡◌};
 ghost use Rattle.vote_program.specs.CountLaws.{CountsAskForSheet, KnownEndsAreKept, KnownSheetsAreWritten, StoppedCountsEndSo};
 
 use crate::inputs::{BALLOTS_LIMIT, JOINED_LIMIT, POLL_LIMIT, SHEET_LIMIT};
+use vote_audit::{Audited, VoteFault};
 use vote_commands::laws::commands_have_one_text;
-use vote_desks::{Audited, VoteFault};
 use vote_poll::{Lines, Poll};
 use vote_sheet::sheet_is_unique;
 

@@ -11,9 +11,9 @@ ghost use Rattle.vote_program.specs.RequestEnds.{EndsJoined, EndsRequest, IsRequ
 use crate::inputs::{Inputs, read_inputs, read_joined};
 use crate::loaded_request::with_bytes;
 use std::alloc::Global;
+use vote_audit::{Audited, VoteFault};
 use vote_command_line::NamedRequest;
 use vote_commands::{FinishedRun, RunFault, perform, perform_listing, split_joined};
-use vote_desks::{Audited, VoteFault};
 use vote_files::{Sink, Sources, StandardInput};
 use vote_poll::{Lines, Poll};
 use vote_request::Listing;

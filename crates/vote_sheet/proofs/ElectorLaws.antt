@@ -14,7 +14,7 @@ use Rattle.vote_count.specs.Votes.{votes}
 use Rattle.vote_steps.specs.History.{ranks_read}
 use Rattle.vote_steps.specs.Recasts.{last_ballot}
 use Rattle.vote_sheet.specs.ElectorLaws.{AreSameOrNoBallots, IsBallotFrom, IsWithinOne, OneBallotMovesEachCountByOne, OnlyTheLastBallotCounts, RefusedLinesAreOnlyCounted, RefusedLinesHaveNoInfluence}
-use Rattle.vote_sheet.specs.LastBallots.{last_valid_ballots, readings_in_time, voter_count, votes_for}
+use Rattle.vote_steps.specs.LastBallots.{last_valid_ballots, readings_in_time, voter_count, votes_for}
 use Rattle.vote_sheet.specs.Sheet.{Text}
 use Rattle.vote_sheet.proofs.ElectorSums.{entry_count, valid-refused}
 use Rattle.vote_sheet.proofs.SameSheets.{from_last_ballots, same_sheets_here}

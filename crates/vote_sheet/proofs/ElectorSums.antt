@@ -12,9 +12,9 @@ use Rattle.vote_poll.specs.declared.Reading.TheVariants.{Bad, Ballot}
 use Rattle.vote_count.specs.Ballots.{entry_prefers}
 use Rattle.vote_steps.specs.Recasts.{last_ballot}
 use Rattle.vote_sheet.specs.ElectorLaws.{NobodyCountsTwice}
-use Rattle.vote_sheet.specs.LastBallots.{last_valid_ballots, readings_in_time, refused_count, valid_count}
+use Rattle.vote_steps.specs.LastBallots.{last_valid_ballots, readings_in_time, refused_count, valid_count}
 use Rattle.vote_sheet.specs.Sheet.{Text}
-use Rattle.vote_sheet.proofs.Holding.{count-not, taken_and_left}
+use Rattle.vote_steps.proofs.Holding.{count-not, taken_and_left}
 use Rattle.vote_count.proofs.Counts.{count-cons, one, one_at_most}
 use Rattle.vote_sheet.proofs.StandingLemmas.{Entry, bad_hits, ballots_of, hits, hits_once, no_lines, one_line_more}
 

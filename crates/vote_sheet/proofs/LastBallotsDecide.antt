@@ -7,7 +7,7 @@ use Rattle.std.proofs.lemmas.Option.{same_Some, slice_get-get_or}
 use Rattle.vote_poll.specs.PollContent.{PollContent, elector_count, option_count}
 use Rattle.vote_steps.specs.Recasts.{last_ballot}
 use Rattle.vote_sheet.specs.ElectorLaws.{BallotsThatOrderAlikeCountAlike, HaveLastBallotsAlike, IsOneToOne, OnlyLastBallotsDecide, OrderAlike}
-use Rattle.vote_sheet.specs.LastBallots.{last_valid_ballots, readings_in_time, refused_count, valid_count}
+use Rattle.vote_steps.specs.LastBallots.{last_valid_ballots, readings_in_time, refused_count, valid_count}
 use Rattle.vote_sheet.specs.Sheet.{Sheet, Text, count_text, head_text, last_text, line, options_text, sheet_text, totals_text}
 use Rattle.vote_sheet.specs.SheetOf.{IsSheet, IsSheetOf, SheetIsUnique}
 use Rattle.vote_sheet.specs.Standing.{StandingHasTheSameSheet, StandingSaysTheSame}

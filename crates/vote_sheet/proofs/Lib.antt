@@ -1,4 +1,3 @@
-pub mod Holding
 pub mod Padding
 pub mod Texts
 pub mod Uniqueness

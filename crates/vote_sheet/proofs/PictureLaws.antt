@@ -12,7 +12,7 @@ use Rattle.vote_count.specs.Laws.{AreSameOutcomes, DecisionsAreDetermined, HaveS
 use Rattle.vote_sheet.specs.Picture.{PictureExists, PictureIsUnique, decided_style, dropped_style, edge_line, edge_lines, edges_by, label_text, node_lines, node_of, picture_text, quoted, removal_text, removing_round, style_text}
 use Rattle.vote_sheet.specs.Sheet.{Sheet, each, line, name_of, when}
 use Rattle.vote_sheet.specs.SheetOf.{IsSheetOf, SheetExists}
-use Rattle.vote_sheet.specs.Texts.{Text}
+use Rattle.vote_poll_text.specs.Texts.{Text}
 use Rattle.vote_sheet.proofs.Uniqueness.{each_same, final_same, same_has, same_pair}
 
 -- ---- options

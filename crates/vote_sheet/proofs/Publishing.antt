@@ -26,7 +26,7 @@ use Rattle.vote_poll_text.specs.declared.TheConstants.{MAX_VOTER_NAME}
 use Rattle.vote_steps.specs.History.{ranks_read}
 use Rattle.vote_steps.specs.Recasts.{last_ballot}
 use Rattle.vote_sheet.specs.ElectorLaws.{BallotsThatOrderAlikeCountAlike, HaveLastBallotsAlike, OrderAlike}
-use Rattle.vote_sheet.specs.LastBallots.{last_valid_ballots, readings_in_time, valid_count, voter_count}
+use Rattle.vote_steps.specs.LastBallots.{last_valid_ballots, readings_in_time, valid_count, voter_count}
 use Rattle.vote_sheet.specs.Publishing.{ArePublished, KeepsTheOrder, PublishedFilesHaveTheSameSheet, PublishedFilesSayTheSame, other_names, renamed_lines}
 use Rattle.vote_sheet.specs.Sheet.{Text}
 use Rattle.vote_sheet.specs.Standing.{ballot_line, ballot_lines}

@@ -15,10 +15,10 @@ use Rattle.vote_count.specs.Ballots.{entry_prefers}
 use Rattle.vote_steps.specs.History.{ranks_read}
 use Rattle.vote_steps.specs.Recasts.{last_ballot}
 use Rattle.vote_sheet.specs.ElectorLaws.{HaveSameSheets, IsOneToOne, NamesDoNotMatter, OrderAlike, ReadAlike}
-use Rattle.vote_sheet.specs.LastBallots.{last_valid_ballots, readings_in_time}
+use Rattle.vote_steps.specs.LastBallots.{last_valid_ballots, readings_in_time}
 use Rattle.vote_sheet.specs.Sheet.{Text}
 use Rattle.vote_sheet.proofs.ElectorLaws.{no_ballot}
-use Rattle.vote_sheet.proofs.Holding.{count-not}
+use Rattle.vote_steps.proofs.Holding.{count-not}
 use Rattle.vote_sheet.proofs.SameSheets.{CountTheSame, VoteTheSame, same_sheets_there}
 use Rattle.vote_count.proofs.Counts.{count-cons, one}
 use Rattle.vote_sheet.proofs.StandingLemmas.{EachLineIsRead, Entry}

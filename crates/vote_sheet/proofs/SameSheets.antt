@@ -11,7 +11,7 @@ use Rattle.vote_count.specs.Rules.{MeetsMajority, PairwiseDefeats}
 use Rattle.vote_count.specs.Sets.{Pairs}
 use Rattle.vote_count.specs.Votes.{Votes, votes}
 use Rattle.vote_sheet.specs.ElectorLaws.{HaveSameSheets}
-use Rattle.vote_sheet.specs.LastBallots.{last_valid_ballots, refused_count, valid_count, voter_count, votes_for}
+use Rattle.vote_steps.specs.LastBallots.{last_valid_ballots, refused_count, valid_count, voter_count, votes_for}
 use Rattle.vote_sheet.specs.Sheet.{Sheet, Text, count_text, head_text, options_text, sheet_text, totals_text}
 use Rattle.vote_sheet.specs.SheetOf.{IsSheetOf}
 use Rattle.vote_sheet.proofs.ElectorSums.{valid-refused}

@@ -9,7 +9,7 @@ use Rattle.vote_poll.proofs.OptionLaws.{at_option-in}
 use Rattle.vote_count.specs.Laws.{DecisionsExist, OutcomesExist, QuorumsExist}
 use Rattle.vote_count.specs.Rounds.{final_set}
 use Rattle.vote_count.specs.Votes.{Votes, votes}
-use Rattle.vote_sheet.specs.LastBallots.{refused_count, valid_count, voter_count, votes_for}
+use Rattle.vote_steps.specs.LastBallots.{refused_count, valid_count, voter_count, votes_for}
 use Rattle.vote_sheet.specs.Sheet.{Sheet, Text, sheet_text}
 use Rattle.vote_sheet.specs.SheetOf.{SheetExists}
 

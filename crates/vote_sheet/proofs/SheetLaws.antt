@@ -10,7 +10,7 @@ use Rattle.vote_count.specs.Laws.{CondorcetWinnersWin, FinalSetIsOne, FinalSetIs
 use Rattle.vote_count.specs.Rounds.{HasCause, IsDecision, cause_of, final_set}
 use Rattle.vote_count.specs.Rules.{IsKept}
 use Rattle.vote_count.specs.Votes.{Votes, votes}
-use Rattle.vote_sheet.specs.LastBallots.{last_valid_ballots, votes_for}
+use Rattle.vote_steps.specs.LastBallots.{last_valid_ballots, votes_for}
 use Rattle.vote_sheet.specs.Sheet.{Sheet, Text}
 use Rattle.vote_sheet.specs.SheetLaws.{CondorcetWinnersAreNamed, IsLeft, IsNotDropped, LikedOptionsStay, LikedWinnersStay, UnanimityRules}
 use Rattle.vote_sheet.specs.SheetOf.{IsSheetOf}

@@ -24,7 +24,7 @@ use Rattle.vote_count.proofs.Counts.{count-cons, one}
 use Rattle.vote_poll_text.specs.declared.TheConstants.{MAX_VOTER_NAME}
 use Rattle.vote_steps.specs.History.{ranks_read}
 use Rattle.vote_steps.specs.Recasts.{last_ballot}
-use Rattle.vote_sheet.specs.LastBallots.{last_valid_ballots, readings_in_time, voter_count}
+use Rattle.vote_steps.specs.LastBallots.{last_valid_ballots, readings_in_time, voter_count}
 use Rattle.vote_sheet.specs.Standing.{SaysTheSame, StandingSaysTheSame, ballot_line, ballot_lines, standing_text}
 
 abbrev pub EachLineIsRead : Type 0

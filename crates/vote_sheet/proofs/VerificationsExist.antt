@@ -5,7 +5,7 @@ use Rattle.std.specs.Cmp.Lexicographic.{bytes_decides}
 use Rattle.std.proofs.lemmas.Bool.{cases_Bool, cases_lt, true≢false}
 use Rattle.vote_poll.specs.PollContent.{PollContent, option_count}
 use Rattle.vote_sheet.specs.SheetOf.{IsSheet, SheetExists, SheetIsUnique}
-use Rattle.vote_sheet.specs.Texts.{Text}
+use Rattle.vote_poll_text.specs.Texts.{Text}
 use Rattle.vote_sheet.specs.Verify.{AreVerificationWords, IsCasting, IsFound, IsVerification, VerificationsExist, common_lines, difference_text, verified_text}
 use Rattle.vote_sheet.specs.declared.verify.Found.{Found}
 use Rattle.vote_sheet.specs.declared.verify.Found.TheVariants.{Closest, Same}

@@ -3,7 +3,7 @@ use Rattle.std.proofs.Common.{◌≡◌, ℕ, ◌<◌, ◌⊎◌, List, Option, 
 use Rattle.std.proofs.lemmas.Bool.{cases_lt}
 use Rattle.vote_poll.specs.PollContent.{PollContent}
 use Rattle.vote_sheet.specs.SheetOf.{IsSheet, SheetIsUnique}
-use Rattle.vote_sheet.specs.Texts.{Text}
+use Rattle.vote_poll_text.specs.Texts.{Text}
 use Rattle.vote_sheet.specs.Verify.{AgreesLongest, AreVerificationWords, ComesBefore, IsVerification, VerificationsAreDetermined, difference_text}
 use Rattle.vote_sheet.specs.declared.verify.Verification.{Verification}
 use Rattle.vote_sheet.specs.declared.verify.Verification.TheVariants.{Matches, MatchesCasting, Differs}

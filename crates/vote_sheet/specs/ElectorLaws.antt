@@ -8,7 +8,7 @@ use Rattle.vote_poll.specs.declared.Reading.{Reading}
 use Rattle.vote_poll.specs.declared.Reading.TheVariants.{Bad, Ballot}
 use Rattle.vote_count.specs.Ballots.{EachTwo, entry_prefers}
 use Rattle.vote_count.specs.Votes.{votes}
-use Rattle.vote_sheet.specs.LastBallots.{last_valid_ballots, readings_in_time}
+use Rattle.vote_steps.specs.LastBallots.{last_valid_ballots, readings_in_time}
 use Rattle.vote_sheet.specs.Sheet.{Sheet, Text}
 use Rattle.vote_sheet.specs.SheetOf.{IsSheet, IsSheetOf}
 use Rattle.vote_sheet.specs.Standing.{AreSameFromVoters}

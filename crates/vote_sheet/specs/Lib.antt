@@ -1,5 +1,3 @@
-pub mod Texts
-pub mod LastBallots
 pub mod Steps
 pub mod Sheet
 pub mod SheetOf

@@ -13,7 +13,7 @@ use Rattle.vote_poll.specs.PollContent.{PollContent}
 use Rattle.vote_poll.specs.PollFile.{poll_in}
 use Rattle.vote_sheet.specs.Sheet.{Sheet, cause_name, each, name_of, when}
 use Rattle.vote_sheet.specs.SheetOf.{IsSheetOf}
-use Rattle.vote_sheet.specs.Texts.{Text, line}
+use Rattle.vote_poll_text.specs.Texts.{Text, line}
 
 -- a byte within quotes: a quote and a backslash have a backslash before them
 unfoldable pub quoted_byte : ℕ → Text

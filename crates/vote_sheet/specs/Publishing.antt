@@ -6,10 +6,10 @@ use Rattle.vote_poll.specs.Options.{IsOption}
 use Rattle.vote_poll.specs.Ranks.{rank_of}
 use Rattle.vote_poll.specs.PollContent.{IsPoll, PollContent, elector_count}
 use Rattle.vote_sheet.specs.ElectorLaws.{DifferInNamesAndLastEnvelope, IsOneToOne, OrderAlike}
-use Rattle.vote_sheet.specs.LastBallots.{last_valid_ballots, refused_count, valid_count, voter_count}
+use Rattle.vote_steps.specs.LastBallots.{last_valid_ballots, refused_count, valid_count, voter_count}
 use Rattle.vote_sheet.specs.SheetOf.{IsSheet}
 use Rattle.vote_sheet.specs.Standing.{AreSameFromVoters, ballot_lines, voter_at}
-use Rattle.vote_sheet.specs.Texts.{Text}
+use Rattle.vote_poll_text.specs.Texts.{Text}
 
 -- ---- how ranks are written
 

@@ -13,7 +13,7 @@ use Rattle.vote_count.specs.declared.Cause.{Cause}
 use Rattle.vote_count.specs.declared.Cause.TheVariants.{Quorum, Majority}
 use Rattle.vote_count.specs.declared.Decision.{Decision}
 use Rattle.vote_count.specs.declared.Decision.TheVariants.{Winner, Tie, CastingOutside}
-pub use Rattle.vote_sheet.specs.Texts.{Text, line}
+pub use Rattle.vote_poll_text.specs.Texts.{Text, line}
 
 -- What a sheet says that its poll does not. Options are numbered from 1, and the last is the default.
 pub record Sheet : Type 0 where

@@ -7,7 +7,7 @@ use Rattle.vote_count.specs.declared.Decision.TheVariants.{Winner}
 use Rattle.vote_count.specs.Laws.{IsRaisedEntry, IsUnanimous}
 use Rattle.vote_count.specs.Rounds.{cause_of, final_set}
 use Rattle.vote_count.specs.Sets.{In}
-use Rattle.vote_sheet.specs.LastBallots.{last_valid_ballots, votes_for}
+use Rattle.vote_steps.specs.LastBallots.{last_valid_ballots, votes_for}
 use Rattle.vote_sheet.specs.Sheet.{Sheet, Text}
 use Rattle.vote_sheet.specs.SheetOf.{IsSheetOf}
 

@@ -8,7 +8,7 @@ use Rattle.vote_count.specs.Votes.{votes}
 use Rattle.vote_count.specs.Rules.{IsQuorum}
 use Rattle.vote_count.specs.Rounds.{IsDecision, IsOutcome, final_set}
 use Rattle.vote_count.specs.declared.Decision.{Decision}
-use Rattle.vote_sheet.specs.LastBallots.{refused_count, valid_count, voter_count, votes_for}
+use Rattle.vote_steps.specs.LastBallots.{refused_count, valid_count, voter_count, votes_for}
 use Rattle.vote_sheet.specs.Sheet.{Sheet, Text, sheet_text}
 
 -- the sheet has the least number of votes that meets the quorum, the numbers of valid and refused lines and of voters, the votes over each elector's last valid ballot, and their outcome and decision

@@ -3,9 +3,9 @@ use Rattle.std.specs.Prelude.{◌≡◌, ℕ, List, [], ◌∷◌, ◌++◌, len
 use Rattle.vote_poll.specs.BallotLine.{line_text}
 use Rattle.vote_poll_text.specs.Lines.{AreLines, text_of_lines}
 use Rattle.vote_poll.specs.PollContent.{PollContent}
-use Rattle.vote_sheet.specs.LastBallots.{last_valid_ballots, refused_count, valid_count, voter_count}
+use Rattle.vote_steps.specs.LastBallots.{last_valid_ballots, refused_count, valid_count, voter_count}
 use Rattle.vote_sheet.specs.SheetOf.{IsSheet}
-use Rattle.vote_sheet.specs.Texts.{Text}
+use Rattle.vote_poll_text.specs.Texts.{Text}
 
 -- the name at this index of the roll
 abbrev pub voter_at : PollContent → ℕ → Text

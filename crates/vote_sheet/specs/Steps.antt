@@ -2,25 +2,13 @@
 use Rattle.std.specs.Prelude.{◌≡◌, List, [], ◌∷◌, codes, decimal}
 use Rattle.std.specs.List.{flat_map}
 use Rattle.vote_poll.specs.PollContent.{PollContent, elector_count, option_count}
-use Rattle.vote_poll.specs.declared.LineFault.TheVariants.{Shape, RankCount, Roll}
 use Rattle.vote_poll.specs.Readings.{readings}
-use Rattle.vote_steps.specs.declared.Reply.{Reply}
-use Rattle.vote_steps.specs.declared.Reply.TheVariants.{BoxClosed, Late, BadLine, Superseded, Replaced, Counted}
 use Rattle.vote_steps.specs.declared.Step.{Step}
 use Rattle.vote_steps.specs.declared.Step.TheVariants.{Cast, Close}
 use Rattle.vote_steps.specs.Boxes.{BoxState}
 use Rattle.vote_steps.specs.HeldLines.{AreCastInOrder, HoldsLines}
-use Rattle.vote_sheet.specs.Texts.{Text, line}
-
-abbrev pub reply_words : Reply → Text
-reply_words Counted = codes "counted"
-reply_words Replaced = codes "replaced"
-reply_words Superseded = codes "superseded"
-reply_words (BadLine Shape) = codes "bad shape"
-reply_words (BadLine RankCount) = codes "bad rank count"
-reply_words (BadLine Roll) = codes "bad not on roll"
-reply_words Late = codes "late"
-reply_words BoxClosed = codes "closed"
+use Rattle.vote_steps.specs.ReplyWords.{reply_words}
+use Rattle.vote_poll_text.specs.Texts.{Text, line}
 
 -- the line of a cast: the number of its envelope and the words of its reply; a close has no line
 unfoldable pub step_line : Step → Text

@@ -10,7 +10,7 @@ use Rattle.vote_poll.specs.PollFile.{poll_in}
 use Rattle.vote_sheet.specs.Counted.{IsLastLine}
 use Rattle.vote_sheet.specs.Sheet.{name_of}
 use Rattle.vote_sheet.specs.SheetOf.{IsSheet}
-use Rattle.vote_sheet.specs.Texts.{Text, line}
+use Rattle.vote_poll_text.specs.Texts.{Text, line}
 use Rattle.vote_sheet.specs.declared.TheConstants.{MAX_SHOWN_OF_LINE}
 use Rattle.vote_sheet.specs.declared.sheet.Count.{Count}
 use Rattle.vote_sheet.specs.declared.verify.Found.{Found}

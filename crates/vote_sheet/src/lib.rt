@@ -10,7 +10,7 @@
 //! - [`verify_sheet`] compares a text with the sheets of a box, without a casting vote and with each ([`Verification`]).
 //! - [`standing_text`] returns the ballots that stand, as a ballot file.
 //! - [`picture_of_box`] returns what the sheet of the same box says, as a graph in the language of Graphviz.
-//! - [`check_text`] returns the line for a valid poll, and [`reply_words`] the words of a reply.
+//! - [`check_text`] returns the line for a valid poll.
 //! - The functions of [`laws`] state laws of the count in terms of what people see: ballot files, and the winner that a sheet
 //!   names. They also state what an elector can rely on: the sheet knows no names and counts nobody twice, and refused and outdated
 //!   lines have no influence on it. The published files of a secret vote say the same as the received files.
@@ -30,7 +30,7 @@ mod verify;
 pub use picture::{picture_exists, picture_is_unique, picture_of_box};
 pub use sheet::{sheet_exists, sheet_is_unique, sheet_of_box};
 pub use standing::standing_text;
-pub use steps::{check_text, reply_words, steps_are_determined, steps_exist, steps_text};
+pub use steps::{check_text, steps_are_determined, steps_exist, steps_text};
 pub use verify::{Verification, verify_sheet};
 
 /// The maximum number of bytes of a line that [`verify_sheet`] shows.

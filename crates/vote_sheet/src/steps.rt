@@ -2,28 +2,12 @@
 
 ghost use Rattle.std.specs.Prelude.{◌≡◌, IfOk, string_bytes};
 ghost use Rattle.vote_poll_text.specs.Adding.{Adds};
-ghost use Rattle.vote_sheet.specs.Steps.{IsStepsText, StepsAreDetermined, StepsExist, check_text, reply_words, step_line, step_lines};
+ghost use Rattle.vote_sheet.specs.Steps.{IsStepsText, StepsAreDetermined, StepsExist, check_text, step_line, step_lines};
 
 use std::alloc::{AllocError, Global};
-use vote_poll::{LineFault, Lines, Poll};
+use vote_poll::{Lines, Poll};
 use vote_steps::laws::{lines_can_be_cast, order_leaves_no_choice};
-use vote_steps::{Reply, Step, cast_all};
-
-/// The words of a reply, as `steps` writes them.
-pub fn reply_words(reply: Reply) -> &'static str
-    ensures { result.now ≡ reply_words reply }
-{
-    match reply {
-        Reply::Counted => "counted",
-        Reply::Replaced => "replaced",
-        Reply::Superseded => "superseded",
-        Reply::BadLine(LineFault::Shape) => "bad shape",
-        Reply::BadLine(LineFault::RankCount) => "bad rank count",
-        Reply::BadLine(LineFault::Roll) => "bad not on roll",
-        Reply::Late => "late",
-        Reply::BoxClosed => "closed",
-    }
-}
+use vote_steps::{Step, cast_all, reply_words};
 
 /// Appends the line of a step.
 #[tactic(auto, unfolding(crate::specs::Steps::step_line))]

@@ -6,5 +6,6 @@ pub mod KeepingLemmas
 pub mod RecastLemmas
 pub mod StandingLemmas
 pub mod LineLemmas
+pub mod Holding
 pub mod CastLemmas
 pub mod Examples

@@ -7,6 +7,8 @@ pub mod Recasts
 pub mod Laws
 pub mod HeldLines
 pub mod Standing
+pub mod LastBallots
+pub mod ReplyWords
 -- the values that contracts see of types, and definitions for the parts of private functions
 pub mod PackedReadings
 pub mod Keeping

@@ -35,7 +35,7 @@ mod step;
 pub use ballot_box::{AlreadyClosed, BallotBox, StepFault, Totals};
 pub use casting::cast_all;
 pub use packed_reading::PackedReading;
-pub use step::{Received, Reply, Step};
+pub use step::{Received, Reply, Step, reply_words};
 
 /// The most desks at which envelopes are cast. Desks are numbered from 1.
 pub const MAX_DESKS: u8 = 8;

@@ -1,4 +1,7 @@
 //! The steps of a ballot box, and the replies to its casts.
+ghost use Rattle.std.specs.Prelude.{◌≡◌};
+ghost use Rattle.vote_steps.specs.ReplyWords.{reply_words};
+
 use crate::packed_reading::PackedReading;
 use vote_poll::{LineFault, Ranks};
 
@@ -19,6 +22,22 @@ pub enum Reply {
     Late,
     /// The box was closed before. The line does not count, whatever it says.
     BoxClosed,
+}
+
+/// The words of a reply, as `steps` writes them.
+pub fn reply_words(reply: Reply) -> &'static str
+    ensures { result.now ≡ reply_words reply }
+{
+    match reply {
+        Reply::Counted => "counted",
+        Reply::Replaced => "replaced",
+        Reply::Superseded => "superseded",
+        Reply::BadLine(LineFault::Shape) => "bad shape",
+        Reply::BadLine(LineFault::RankCount) => "bad rank count",
+        Reply::BadLine(LineFault::Roll) => "bad not on roll",
+        Reply::Late => "late",
+        Reply::BoxClosed => "closed",
+    }
 }
 
 /// One step of a ballot box. The steps of a box are numbered from 1.

@@ -1,7 +1,7 @@
 use Rattle.std.proofs.Common.{◌≡◌, ◌∙◌, ap, arith, length, subst, sym, rules, take, drop}
 use Rattle.std.proofs.lemmas.List.{take_rest}
 use Rattle.vote_commands.specs.Joined.{AreParts, is_separator_at, joined_parts, parts_at}
-use Rattle.vote_sheet.specs.Texts.{Text}
+use Rattle.vote_poll_text.specs.Texts.{Text}
 use Rattle.vote_commands.proofs.FirstPlace.{first_place, no_place}
 use Rattle.vote_commands.proofs.JoinedLaws.{inputs_are_parted}
 use Rattle.vote_commands.proofs.joined.split_joined.Goals as goal

@@ -2,7 +2,7 @@ use Rattle.std.proofs.Common.{◌≡◌, arith, rules}
 use Rattle.std.proofs.lemmas.Bool.{leb-true, le-leb}
 use Rattle.vote_poll.specs.PollContent.{option_count}
 use Rattle.vote_count.specs.Votes.{votes}
-use Rattle.vote_count.proofs.Squares.{double_square_le}
+use Rattle.vote_poll.proofs.Squares.{double_square_le}
 use Rattle.vote_count.proofs.rules.has_quorum.Goals as goal
 
 pub returns : goal.returns

@@ -1,5 +1,5 @@
 use Rattle.std.proofs.Common.{Some, length, ap, ◌∙◌, subst, sym, arith}
-use Rattle.vote_desks.specs.Faults.{CanStopCasts, IsOfDesk}
+use Rattle.vote_audit.specs.Faults.{CanStopCasts, IsOfDesk}
 use Rattle.vote_desks.specs.Stops.{IsBarredBy, stop_fault}
 use Rattle.vote_desks_box.proofs.Ranges.{at_range}
 use Rattle.vote_desks.proofs.StopLemmas.{least_stop, can_stop, of_desk}

@@ -1,6 +1,6 @@
 use Rattle.std.proofs.Common.{◌≡◌, ◌∙◌, IfOk, IfErr, length, ap, subst}
 use Rattle.vote_desks_box.specs.Desks.{AreSlipsInOrder, SharedState}
-use Rattle.vote_desks.specs.Faults.{AreSheetsOf, IsOfDesk}
+use Rattle.vote_audit.specs.Faults.{AreSheetsOf, IsOfDesk}
 use Rattle.std.proofs.lemmas.Result.{IfErr-weaker}
 use Rattle.vote_desks.proofs.BackLemmas.{gathered_long, gathered_rise}
 use Rattle.vote_desks.proofs.StopLemmas.{found_in_such, stops_votes}

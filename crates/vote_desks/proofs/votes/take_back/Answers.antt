@@ -4,7 +4,7 @@ use Rattle.std.specs.List.{All, range_with_len}
 use Rattle.std.proofs.lemmas.List.Elements.{All-map, recursion_from_All}
 use Rattle.std.proofs.lemmas.Result.{IfErr-weaker}
 use Rattle.vote_desks.specs.declared.worker_result.Stop.{Stop}
-use Rattle.vote_desks.specs.Faults.{IsOfDesk}
+use Rattle.vote_audit.specs.Faults.{IsOfDesk}
 use Rattle.vote_desks.specs.Stops.{IsBarredBy}
 use Rattle.vote_desks.specs.Work.{HasCastAll}
 use Rattle.vote_desks_box.proofs.Ranges.{length_range}

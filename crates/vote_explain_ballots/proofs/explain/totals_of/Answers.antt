@@ -1,5 +1,5 @@
 use Rattle.vote_explain_ballots.proofs.Words.{◌∙◌, ap, rules}
-use Rattle.vote_sheet.proofs.Holding.{refused_are}
+use Rattle.vote_steps.proofs.Holding.{refused_are}
 use Rattle.vote_explain_ballots.proofs.explain.totals_of.Goals as goal
 
 pub returns : goal.returns

@@ -1,5 +1,5 @@
 use Rattle.vote_explain_poll.proofs.Words.{refl, sym, table_view, SaysKey}
-use Rattle.vote_explain_poll.proofs.Lines.{one_more}
+use Rattle.vote_hints.proofs.Lines.{one_more}
 use Rattle.vote_explain_poll.proofs.explain.findings_of.Goals as goal
 
 pub loop-fault-preserved : goal.loop-fault-preserved

@@ -2,7 +2,7 @@ use Rattle.vote_explain_poll.proofs.Words.{◌≡◌, ◌++◌, List, ℕ, appen
 use Rattle.vote_poll_keys.specs.FaultWords.{fault_words}
 use Rattle.vote_explain_poll.specs.Findings.{IsSaidOfFault, size_of_roll}
 use Rattle.vote_poll_keys.specs.FoundView.{found_view}
-use Rattle.vote_explain_poll.proofs.HintLaws.{hint_line_is}
+use Rattle.vote_hints.proofs.HintLaws.{hint_line_is}
 use Rattle.vote_explain_poll.proofs.findings.push_fault_line.Goals as goal
 
 pieces : (a b c d line t0 t1 t2 t3 : List ℕ) → t1 ≡ t0 ++ (a ++ b ++ c) → t2 ≡ t1 ++ d → t3 ≡ t2 ++ line → t3 ≡ t0 ++ (a ++ b ++ c ++ d ++ line)

@@ -1,5 +1,5 @@
 use Rattle.std.proofs.Common.{◌≡◌, ◌++◌, append_assoc, codes, string_bytes}
-use Rattle.vote_sheet.specs.Texts.{Text}
+use Rattle.vote_poll_text.specs.Texts.{Text}
 use Rattle.vote_sheet.specs.Picture.{graph_head, graph_style, quoted}
 use Rattle.vote_sheet.proofs.picture.push_graph_head.Goals as goal
 

@@ -1,6 +1,6 @@
 use Rattle.std.proofs.Common.{ap, ◌∙◌, arith}
 use Rattle.vote_steps.specs.declared.Totals.{Totals}
-use Rattle.vote_sheet.proofs.Holding.{refused_are, valid_are, voters_are, votes_are}
+use Rattle.vote_steps.proofs.Holding.{refused_are, valid_are, voters_are, votes_are}
 use Rattle.vote_sheet.proofs.sheet.count_of_box.Goals as goal
 
 pub returns-clause-sheets : goal.returns-clause-sheets

@@ -8,7 +8,7 @@ use Rattle.vote_poll.specs.PollContent.{elector_count}
 use Rattle.vote_poll.specs.Readings.{readings}
 use Rattle.vote_count.specs.Ballots.{IsBallotOf}
 use Rattle.vote_steps.specs.Recasts.{last_ballot}
-use Rattle.vote_sheet.specs.LastBallots.{last_valid_ballots, readings_in_time}
+use Rattle.vote_steps.specs.LastBallots.{last_valid_ballots, readings_in_time}
 use Rattle.vote_sheet.specs.Standing.{ballot_line, ballot_lines}
 use Rattle.vote_sheet.proofs.BallotTexts.{one_ballot_more}
 use Rattle.vote_sheet.proofs.standing.standing_text.Goals as goal

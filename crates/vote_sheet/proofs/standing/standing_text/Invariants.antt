@@ -1,6 +1,6 @@
 use Rattle.std.proofs.Common.{◌≡◌, ◌++◌, drop, string_bytes}
 use Rattle.vote_poll_text.specs.Lines.{text_of_lines}
-use Rattle.vote_sheet.specs.LastBallots.{last_valid_ballots}
+use Rattle.vote_steps.specs.LastBallots.{last_valid_ballots}
 use Rattle.vote_sheet.specs.Standing.{ballot_lines, standing_text}
 use Rattle.vote_sheet.proofs.standing.standing_text.Given as goal
 

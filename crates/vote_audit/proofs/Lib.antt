@@ -1,0 +1,4 @@
+pub mod AuditLemmas
+pub mod StretchLemmas
+pub mod CountLemmas
+pub mod SlipLemmas

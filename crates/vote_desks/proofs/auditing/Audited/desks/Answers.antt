@@ -1,5 +1,0 @@
-use Rattle.std.proofs.Common.{rules}
-use Rattle.vote_desks.proofs.auditing.Audited.desks.Goals as goal
-
-pub returns : goal.returns
-returns c = search rules

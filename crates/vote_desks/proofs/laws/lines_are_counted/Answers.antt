@@ -1,4 +1,0 @@
-use Rattle.vote_desks.proofs.laws.lines_are_counted.Goals as goal
-
-pub returns : goal.returns
-returns c poll lines b sheets audited = c.lines_are_counted.ensures poll lines b audited.holds

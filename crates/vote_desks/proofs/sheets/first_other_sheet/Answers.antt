@@ -1,5 +1,0 @@
-use Rattle.std.proofs.Common.{rules}
-use Rattle.vote_desks.proofs.sheets.first_other_sheet.Goals as goal
-
-pub returns : goal.returns
-returns c = search rules

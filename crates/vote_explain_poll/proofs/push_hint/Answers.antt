@@ -1,5 +1,0 @@
-use Rattle.vote_explain_poll.proofs.HintLaws.{hint_of}
-use Rattle.vote_explain_poll.proofs.push_hint.Goals as goal
-
-pub returns-clause-hint : goal.returns-clause-hint
-returns-clause-hint c = (_, hint_of c.args.words.now, c.in_ok-push_shown.ensures)

@@ -1,5 +1,0 @@
-use Rattle.std.proofs.Common.{rules}
-use Rattle.vote_sheet.proofs.steps.reply_words.Goals as goal
-
-pub returns-in-Late : goal.returns-in-Late
-returns-in-Late c = search rules
