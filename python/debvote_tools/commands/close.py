@@ -2,7 +2,7 @@
 
 import dataclasses
 import datetime
-from collections.abc import Mapping
+from collections.abc import Iterator, Mapping
 
 from debvote_tools.book import queries
 from debvote_tools.book.book import Detail, DoneAct
@@ -53,11 +53,7 @@ def close(election: Election, arguments: Arguments) -> None:
     fixed = fixed_by(act)
     if is_new:
         tell_closed(act)
-        if act.detail["early"] and history.announced("box"):
-            count = election.command("count")
-            tell(
-                f"Note: the page still takes ballots, and says that they arrived: {count} asks for them once more."
-            )
+        tell(*still_taking_words(election, history))
     else:
         tell(
             f"The vote was closed at {act_time(act.time)}, with {lines_in_words(fixed)} in time. Nothing was changed."
@@ -81,6 +77,13 @@ def close(election: Election, arguments: Arguments) -> None:
     # where nobody knows whose each code is, it is sent to all alone
     first = "" if history.has_codes_on_roll else sending
     tell(*ready, f"Next: {first}{election.command('count')}")
+
+
+def still_taking_words(election: Election, history: History) -> Iterator[str]:
+    """A note on the page of the call, which knows nothing of an early close."""
+    if history.closes[-1].detail["early"] and history.announced("box"):
+        count = election.command("count")
+        yield f"Note: the page still takes ballots, and says that they arrived: {count} asks for them once more."
 
 
 def ask_first(election: Election, arguments: Arguments) -> None:
