@@ -34,7 +34,10 @@ CHOOSE = """((name, ranks) => {
   const field = document.getElementById("Name");
   if (name !== null && field) tell(field, name);
   [...document.querySelectorAll(".rank")].forEach((rank, place) => {
-    for (const button of rank.querySelectorAll("input")) button.checked = button.value === ranks[place];
+    const buttons = [...rank.querySelectorAll("input")];
+    // nobody chooses what is chosen
+    if (buttons.length ? buttons.every((button) => button.checked === (button.value === ranks[place])) : rank.value === ranks[place]) return;
+    for (const button of buttons) button.checked = button.value === ranks[place];
     tell(rank, ranks[place]);
   });
   const words = [...document.querySelectorAll("#Ballot li:has(> bdi)")].filter((part) => !part.closest("#Lines"));

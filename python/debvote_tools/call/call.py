@@ -144,7 +144,7 @@ class CallData:
         return box.page_of(self.box_key, self.questions.mark)
 
     @property
-    def seal(self) -> str:
+    def public_key(self) -> str:
         """The key to which this page seals ballots."""
         from debvote_tools.call.sealed_ballots import key_pair
 

@@ -21,7 +21,7 @@ $list = file_get_contents(__FILE__, offset: __COMPILER_HALT_OFFSET__ + 1);
 [$mark, $word, $page] = explode(' ', strtok($list, "\n"));
 if (preg_match('/\A(?:box=)?ask ([0-9a-f]{64})\n\z/', $body, $found)) {
     if (hash('sha256', $found[1]) !== $word) answer(403, 'unknown: another word');
-    [, $whole, $time] = opened($word);
+    [, $whole, $time] = locked($word);
     answer(200, "box 2 $mark " . hash('sha256', $list) . gmdate(' ' . ISO, $time), substr($whole, strlen(HEAD)));
 }
 if (!preg_match(BALLOT, $body, $found)) answer(400, 'bad: no ballot');
@@ -30,7 +30,7 @@ if ($shown !== $page) answer(409, 'old: another page');
 $proof = hash('sha256', $proof);
 if (!str_contains($list, "\n$proof\n")) answer(403, 'unknown: no such link');
 $rest = " +0000\nX-Proof: $proof\nFrom: box@page.invalid\nSubject: [$mark]\nMessage-ID: <$id@page.invalid>\n\n$sealed" . END;
-answer(200, 'received ' . gmdate(ISO, kept($proof, $id, $rest, ...opened($word))));
+answer(200, 'received ' . gmdate(ISO, kept($proof, $id, $rest, ...locked($word))));
 
 function answer(int $status, string $line, string $records = ''): never
 {
@@ -41,7 +41,7 @@ function answer(int $status, string $line, string $records = ''): never
 }
 
 // The file, locked until it is closed, its whole records, and the time. Of what was cut off nobody was told.
-function opened(string $word): array
+function locked(string $word): array
 {
     $file = fopen(__DIR__ . '/box-' . substr($word, 0, 32) . '.php', 'c+b');
     if (!$file || !flock($file, LOCK_EX)) answer(503, 'lost: no file to lock');

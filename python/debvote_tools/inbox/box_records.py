@@ -2,8 +2,9 @@
 
 What becomes of them is decided elsewhere.
 
-A record that an elector's page sealed is a letter, with line and link where the seal stood. All
-others wait for nobody: whoever writes into the files of the web host can make them.
+A record that an elector's page sealed is a letter: its line stands where the sealed text stood, and
+the third part of its link beside it (`OfBox`). All others wait for nobody: whoever writes into the
+files of the web host can make them.
 """
 
 import collections

@@ -367,7 +367,7 @@ class Clicks(RealBoxTest):
 
     def demand_refused_as_old(self) -> None:
         self.choose("1234")
-        # the words are those of poll/test_box.py
+        # the words are those of call/test_box.py
         self.assertEqual(self.sent(), WORDS["old"])
         self.assertEqual((self.state()["button"], self.records()), (True, []))
 

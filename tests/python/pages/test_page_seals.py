@@ -14,9 +14,9 @@ from debvote_tools.call.box import page_of, personal_link, script_of
 from debvote_tools.poll.questions import LABELS
 from debvote_tools.text.rendering import resources
 
+from tests.python.call import test_sealed_ballots as vector
 from tests.python.pages.test_box_page import CALL, EMPTY, LINKS, MARK, NOW, OWNS, PLACES, WORDS
 from tests.python.pages.test_box_page import BoxPageTest, RealBoxTest, page_with_box
-from tests.python.poll import test_sealed_ballots as vector
 from tests.support import sealing
 from tests.support.calls import SECRET
 from tests.support.web_host import KEY, NEEDS_PHP, STRACE, Host, Liar, answered, passed_on, request_of
@@ -98,7 +98,7 @@ class Browser(BoxPageTest):
         for what, before, after in (
             ("mark", CALL.questions.mark, vector.MARK),
             ("page", CALL.page, page_of(vector.KEY, vector.MARK)),
-            ("seal", CALL.seal, sealing.key_pair(vector.KEY, vector.MARK)[0]),
+            ("seal", CALL.public_key, sealing.key_pair(vector.KEY, vector.MARK)[0]),
         ):
             self.assertEqual(page.count(f'data-{what}="{before}"'), 1, what)
             page = page.replace(f'data-{what}="{before}"', f'data-{what}="{after}"')
