@@ -65,11 +65,12 @@ class Commands(expecting.Expecting):
         subprocess.run([sys.executable, "-c", KEEP, PROGRAM], cwd=self.copy, check=True, timeout=SECONDS)
         steps = [(words, wanted) for kind, words, wanted in test_guides.steps_of(README) if kind == "command"]
         self.expect("there are commands", [words.split()[0] for words, _ in steps][:1], ["make"])
+        path = os.pathsep.join([os.environ["PATH"], str(test_guides.tools_in(self.room))])
         for words, wanted in steps:
-            found = self.run_in_copy(words.replace("/tmp/", f"{self.room}/"), os.environ["PATH"])
+            found = self.run_in_copy(words.replace("/tmp/", f"{self.room}/"), path)
             self.expect(f"README: $ {words}", found, (wanted, 0))
         words = 'make try ARGS="check --poll examples/plain_win/poll.toml"'
-        self.expect(words, self.run_in_copy(words, os.environ["PATH"]), ("poll ok: 4 options, 9 electors\n", 0))
+        self.expect(words, self.run_in_copy(words, path), ("poll ok: 4 options, 9 electors\n", 0))
 
     def test_without_kit(self) -> None:
         """One line says what is missing; make adds one of its own."""
