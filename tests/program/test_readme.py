@@ -23,8 +23,10 @@ README = ROOT / "README.md"
 FILES = "Makefile crates.txt docs/READING-A-SHEET.md tests/reference.py tests/try tests/build tests/quick tests/all"
 FOLDERS = "bin examples python tests/support"
 
-# the commands that need the kit
+# the commands that need the kit, other programs that do, and what they say without it
 OF_KIT = ["make try", "make build", "make test", "tests/all"]
+OF_TESTS = ["tests/edits", "tests/layout", "tests/one-edit vote_steps cast_leaves_no_mark", "tests/refused-memory", "tests/unproved file"]
+NO_KIT = "rt is not in PATH: it belongs to the Rattle kit, which README names"
 
 # keeps a program as `make try` does
 KEEP = """
@@ -34,6 +36,7 @@ unproved.keep({unproved.CHECKED: pathlib.Path(sys.argv[1])}, unproved.sum_of_sou
 """
 
 SECONDS = 600
+OUTPUT = {"stdout": subprocess.PIPE, "stderr": subprocess.STDOUT, "text": True, "timeout": SECONDS}
 
 
 def checkout_in(folder: pathlib.Path) -> pathlib.Path:
@@ -56,8 +59,7 @@ class Commands(expecting.Expecting):
         self.copy = checkout_in(self.room)
 
     def run_in_copy(self, command: str, path: str) -> tuple[str, int]:
-        how = {"stdout": subprocess.PIPE, "stderr": subprocess.STDOUT, "text": True, "timeout": SECONDS}
-        ended = subprocess.run(["/bin/bash", "-c", command], cwd=self.copy, env={"PATH": path}, **how)
+        ended = subprocess.run(["/bin/bash", "-c", command], cwd=self.copy, env={"PATH": path}, **OUTPUT)
         return ended.stdout, ended.returncode
 
     def test_blocks(self) -> None:
@@ -81,8 +83,13 @@ class Commands(expecting.Expecting):
         for command in OF_KIT:
             said, status = self.run_in_copy(command, str(tools))
             lines = [line for line in said.splitlines() if not line.startswith("make: ")]
-            wanted = ["rt is not in PATH: it belongs to the Rattle kit, which README names"]
-            self.expect(f"{command}, without rt", (lines, status != 0), (wanted, True))
+            self.expect(f"{command}, without rt", (lines, status != 0), ([NO_KIT], True))
+
+    def test_tools_without_kit(self) -> None:
+        """So do the programs of the tests that need the kit, and that no command of README runs."""
+        for words in OF_TESTS:
+            ended = subprocess.run(words.split(), cwd=ROOT, env={"PATH": str(self.room)}, **OUTPUT)
+            self.expect(f"{words}, without rt", (ended.stdout, ended.returncode), (f"{NO_KIT}\n", 1))
 
     def test_length_and_order(self) -> None:
         """At most 60 lines and 500 words; the first block of sh is the full check."""

@@ -12,6 +12,8 @@ import re
 import subprocess
 from collections.abc import Iterable
 
+from tests.support import debian
+
 ROOT = pathlib.Path(__file__).resolve().parent.parent.parent
 
 # as many tests at once as there are processors; modules as Python itself compiles them, since few have a bare `assert`
@@ -38,7 +40,8 @@ def free_memory() -> int:
 
 
 def kit() -> pathlib.Path:
-    """The folder of the kit."""
+    """The folder of the kit. Ends the program if it is missing."""
+    debian.demand_kit()
     return pathlib.Path(subprocess.run(["rt", "doc"], capture_output=True, text=True, check=True).stdout.strip()).parent
 
 
