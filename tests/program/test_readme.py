@@ -91,6 +91,23 @@ class Commands(expecting.Expecting):
             ended = subprocess.run(words.split(), cwd=ROOT, env={"PATH": str(self.room)}, **OUTPUT)
             self.expect(f"{words}, without rt", (ended.stdout, ended.returncode), (f"{NO_KIT}\n", 1))
 
+    def test_without_packages(self) -> None:
+        """The programs in Python say which package is missing, and do nothing."""
+        new, example = self.room / "result", ROOT / "examples" / "plain_win"
+        publish = [ROOT / "bin" / "debvote-publish", "--poll", example / "poll.toml", "--ballots", example / "ballots", new]
+        runs = [
+            ("jinja2", publish, "python3-jinja2 is not installed; nothing was changed: install it\n"),
+            ("jinja2", [ROOT / "bin" / "debvote-election", "roll"], "python3-jinja2 is not installed; nothing was changed: install it\n"),
+            ("babel", [*publish, "--language", "de"], "python3-babel is not installed, which reads translations: install it\n"),
+        ]
+        for module, words, wanted in runs:
+            missing = self.room / module
+            missing.mkdir(exist_ok=True)
+            (missing / f"{module}.py").write_text("raise ModuleNotFoundError\n")
+            path = os.pathsep.join([str(PROGRAM.parent), os.environ["PATH"]])
+            ended = subprocess.run(words, env={"PATH": path, "PYTHONPATH": str(missing)}, **OUTPUT)
+            self.expect(f"{words}, without {module}", (ended.stdout, ended.returncode, new.exists()), (wanted, 1, False))
+
     def test_length_and_order(self) -> None:
         """At most 60 lines and 500 words; the first block of sh is the full check."""
         text = README.read_text()
