@@ -24,8 +24,8 @@ PYTEST_WAITING = f"/usr/bin/python3 -m pytest -q --assert=plain -n {PROCESSORS +
 
 COUNT = re.compile(r"(\d+) passed, (\d+) failed")
 SKIPPED = re.compile(r"skipped: (.*?)(?: \((\d+)\))?")
-# how each part, and rt ci, begin the line of a failure
-FAILED = re.compile(r"(rt: )?FAILED\b")
+# how each part, rt ci and rt try begin the line of a failure
+FAILED = re.compile(r"(rt: )?FAILED\b|test \S+ \.\.\. FAILED\b")
 WIDTH = 300
 # the most memory that a check of a crate takes, in kilobytes
 MEMORY = 4_000_000
