@@ -70,14 +70,20 @@ def shell_text(steps):
             yield f"{name}\nstatus=$?; printf '{MARK}'; (exit $status)\n"
 
 
-def path_in(folder):
-    """Where a reader has the programs."""
+def tools_in(folder):
+    """A folder for the PATH of a reader, with the stand-in if Graphviz is not installed."""
     tools = folder / "tools"
     tools.mkdir()
     if shutil.which("dot") is None:
         print("dot is not installed: a stand-in draws an empty picture")
         (tools / "dot").write_text(DOT)
         (tools / "dot").chmod(0o755)
+    return tools
+
+
+def path_in(folder):
+    """Where a reader has the programs."""
+    tools = tools_in(folder)
     return os.pathsep.join(map(str, [PROGRAM.parent, ROOT / "bin", tools, os.environ["PATH"]]))
 
 

@@ -23,8 +23,10 @@ README = ROOT / "README.md"
 FILES = "Makefile crates.txt docs/READING-A-SHEET.md tests/reference.py tests/try tests/build tests/quick tests/all"
 FOLDERS = "bin examples python tests/support"
 
-# the commands that need the kit
+# the commands that need the kit, other programs that do, and what they say without it
 OF_KIT = ["make try", "make build", "make test", "tests/all"]
+OF_TESTS = ["tests/edits", "tests/layout", "tests/one-edit vote_steps cast_leaves_no_mark", "tests/refused-memory", "tests/unproved file"]
+NO_KIT = "rt is not in PATH: it belongs to the Rattle kit, which README names"
 
 # keeps a program as `make try` does
 KEEP = """
@@ -34,6 +36,7 @@ unproved.keep({unproved.CHECKED: pathlib.Path(sys.argv[1])}, unproved.sum_of_sou
 """
 
 SECONDS = 600
+OUTPUT = {"stdout": subprocess.PIPE, "stderr": subprocess.STDOUT, "text": True, "timeout": SECONDS}
 
 
 def checkout_in(folder: pathlib.Path) -> pathlib.Path:
@@ -56,8 +59,7 @@ class Commands(expecting.Expecting):
         self.copy = checkout_in(self.room)
 
     def run_in_copy(self, command: str, path: str) -> tuple[str, int]:
-        how = {"stdout": subprocess.PIPE, "stderr": subprocess.STDOUT, "text": True, "timeout": SECONDS}
-        ended = subprocess.run(["/bin/bash", "-c", command], cwd=self.copy, env={"PATH": path}, **how)
+        ended = subprocess.run(["/bin/bash", "-c", command], cwd=self.copy, env={"PATH": path}, **OUTPUT)
         return ended.stdout, ended.returncode
 
     def test_blocks(self) -> None:
@@ -65,11 +67,12 @@ class Commands(expecting.Expecting):
         subprocess.run([sys.executable, "-c", KEEP, PROGRAM], cwd=self.copy, check=True, timeout=SECONDS)
         steps = [(words, wanted) for kind, words, wanted in test_guides.steps_of(README) if kind == "command"]
         self.expect("there are commands", [words.split()[0] for words, _ in steps][:1], ["make"])
+        path = os.pathsep.join([os.environ["PATH"], str(test_guides.tools_in(self.room))])
         for words, wanted in steps:
-            found = self.run_in_copy(words.replace("/tmp/", f"{self.room}/"), os.environ["PATH"])
+            found = self.run_in_copy(words.replace("/tmp/", f"{self.room}/"), path)
             self.expect(f"README: $ {words}", found, (wanted, 0))
         words = 'make try ARGS="check --poll examples/plain_win/poll.toml"'
-        self.expect(words, self.run_in_copy(words, os.environ["PATH"]), ("poll ok: 4 options, 9 electors\n", 0))
+        self.expect(words, self.run_in_copy(words, path), ("poll ok: 4 options, 9 electors\n", 0))
 
     def test_without_kit(self) -> None:
         """One line says what is missing; make adds one of its own."""
@@ -80,8 +83,30 @@ class Commands(expecting.Expecting):
         for command in OF_KIT:
             said, status = self.run_in_copy(command, str(tools))
             lines = [line for line in said.splitlines() if not line.startswith("make: ")]
-            wanted = ["rt is not in PATH: it belongs to the Rattle kit, which README names"]
-            self.expect(f"{command}, without rt", (lines, status != 0), (wanted, True))
+            self.expect(f"{command}, without rt", (lines, status != 0), ([NO_KIT], True))
+
+    def test_tools_without_kit(self) -> None:
+        """So do the programs of the tests that need the kit, and that no command of README runs."""
+        for words in OF_TESTS:
+            ended = subprocess.run(words.split(), cwd=ROOT, env={"PATH": str(self.room)}, **OUTPUT)
+            self.expect(f"{words}, without rt", (ended.stdout, ended.returncode), (f"{NO_KIT}\n", 1))
+
+    def test_without_packages(self) -> None:
+        """The programs in Python say which package is missing, and do nothing."""
+        new, example = self.room / "result", ROOT / "examples" / "plain_win"
+        publish = [ROOT / "bin" / "debvote-publish", "--poll", example / "poll.toml", "--ballots", example / "ballots", new]
+        runs = [
+            ("jinja2", publish, "python3-jinja2 is not installed; nothing was changed: install it\n"),
+            ("jinja2", [ROOT / "bin" / "debvote-election", "roll"], "python3-jinja2 is not installed; nothing was changed: install it\n"),
+            ("babel", [*publish, "--language", "de"], "python3-babel is not installed, which reads translations: install it\n"),
+        ]
+        for module, words, wanted in runs:
+            missing = self.room / module
+            missing.mkdir(exist_ok=True)
+            (missing / f"{module}.py").write_text("raise ModuleNotFoundError\n")
+            path = os.pathsep.join([str(PROGRAM.parent), os.environ["PATH"]])
+            ended = subprocess.run(words, env={"PATH": path, "PYTHONPATH": str(missing)}, **OUTPUT)
+            self.expect(f"{words}, without {module}", (ended.stdout, ended.returncode, new.exists()), (wanted, 1, False))
 
     def test_length_and_order(self) -> None:
         """At most 60 lines and 500 words; the first block of sh is the full check."""

@@ -12,6 +12,8 @@ import re
 import subprocess
 from collections.abc import Iterable
 
+from tests.support import debian
+
 ROOT = pathlib.Path(__file__).resolve().parent.parent.parent
 
 # as many tests at once as there are processors; modules as Python itself compiles them, since few have a bare `assert`
@@ -22,8 +24,8 @@ PYTEST_WAITING = f"/usr/bin/python3 -m pytest -q --assert=plain -n {PROCESSORS +
 
 COUNT = re.compile(r"(\d+) passed, (\d+) failed")
 SKIPPED = re.compile(r"skipped: (.*?)(?: \((\d+)\))?")
-# how each part, and rt ci, begin the line of a failure
-FAILED = re.compile(r"(rt: )?FAILED\b")
+# how each part, rt ci and rt try begin the line of a failure
+FAILED = re.compile(r"(rt: )?FAILED\b|test \S+ \.\.\. FAILED\b")
 WIDTH = 300
 # the most memory that a check of a crate takes, in kilobytes
 MEMORY = 4_000_000
@@ -38,7 +40,8 @@ def free_memory() -> int:
 
 
 def kit() -> pathlib.Path:
-    """The folder of the kit."""
+    """The folder of the kit. Ends the program if it is missing."""
+    debian.demand_kit()
     return pathlib.Path(subprocess.run(["rt", "doc"], capture_output=True, text=True, check=True).stdout.strip()).parent
 
 

@@ -1,6 +1,8 @@
 """`roll` and `check`: the electors that the book gets, what they are called, and what is said of list and poll."""
 
+import importlib.util
 import json
+import unittest
 
 from debvote_tools.files import TABLE_LIMIT
 
@@ -170,6 +172,7 @@ class WithFiles(RollTest):
         self.done("call")
         self.assertEqual(self.read(name), made)
 
+    @unittest.skipUnless(importlib.util.find_spec("cryptography"), "python3-cryptography is not installed")
     def test_the_script(self) -> None:
         self.done("call", "--until", "2099-12-04 18:00", "--to", "vote@club.example", "--at", "https://club.example/", "--box")
         self.demand_made("call/vote.php")
