@@ -95,18 +95,19 @@ class Commands(expecting.Expecting):
         """The programs in Python say which package is missing, and do nothing."""
         new, example = self.room / "result", ROOT / "examples" / "plain_win"
         publish = [ROOT / "bin" / "debvote-publish", "--poll", example / "poll.toml", "--ballots", example / "ballots", new]
+        nothing = "is not installed; nothing was changed: install it"
         runs = [
-            ("jinja2", publish, "python3-jinja2 is not installed; nothing was changed: install it\n"),
-            ("jinja2", [ROOT / "bin" / "debvote-election", "roll"], "python3-jinja2 is not installed; nothing was changed: install it\n"),
-            ("babel", [*publish, "--language", "de"], "python3-babel is not installed, which reads translations: install it\n"),
+            ("jinja2", publish, f"debvote-publish: python3-jinja2 {nothing}\n"),
+            ("jinja2", [ROOT / "bin" / "debvote-election", "roll"], f"debvote-election: python3-jinja2 {nothing}\n"),
+            ("babel", [*publish, "--language", "de"], "debvote-publish: python3-babel is not installed; nothing was published: install it\n"),
         ]
         for module, words, wanted in runs:
             missing = self.room / module
             missing.mkdir(exist_ok=True)
-            (missing / f"{module}.py").write_text("raise ModuleNotFoundError\n")
+            (missing / f"{module}.py").write_text(f"raise ModuleNotFoundError(name={module!r})\n")
             path = os.pathsep.join([str(PROGRAM.parent), os.environ["PATH"]])
             ended = subprocess.run(words, env={"PATH": path, "PYTHONPATH": str(missing)}, **OUTPUT)
-            self.expect(f"{words}, without {module}", (ended.stdout, ended.returncode, new.exists()), (wanted, 1, False))
+            self.expect(f"{words}, without {module}", (ended.stdout, ended.returncode, new.exists()), (wanted, 127, False))
 
     def test_length_and_order(self) -> None:
         """At most 60 lines and 500 words; the first block of sh is the full check."""

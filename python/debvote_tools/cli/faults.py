@@ -85,6 +85,11 @@ def kept_in(faults: list[Fault]) -> Iterator[None]:
         faults.append(fault)
 
 
+def not_installed(error: ModuleNotFoundError) -> Fault:
+    """A package of Debian that is missing."""
+    return Fault(None, f"python3-{error.name} is not installed", "install it", Status.NOT_FOUND)
+
+
 def other_format(what: str) -> Fault:
     cure = "install debvote and these programs from one package"
     return Fault(None, f"{what} has an unknown format", cure, Status.BAD_SHEET, None)

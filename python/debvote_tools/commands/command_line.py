@@ -10,7 +10,7 @@ from collections.abc import Sequence
 from typing import Any
 
 from debvote_tools.cli import arguments, console
-from debvote_tools.cli.faults import Fault, Status
+from debvote_tools.cli.faults import Fault, Status, not_installed
 from debvote_tools.election import Election
 
 PROGRAM = "debvote-election"
@@ -85,7 +85,10 @@ def main(program_folder: pathlib.Path, typed: Sequence[str] | None = None) -> in
     # of `add`
     gc.disable()
     typed = sys.argv[1:] if typed is None else typed
-    namespace = parser(typed).parse_args(typed)
+    try:
+        namespace = parser(typed).parse_args(typed)
+    except ModuleNotFoundError as error:
+        return console.failed(PROGRAM, not_installed(error).words, Status.NOT_FOUND)
     signal.signal(signal.SIGINT, signal.default_int_handler)
     election = Election(getattr(namespace, "folder", None), program_folder)
     try:
@@ -123,6 +126,8 @@ def run(election: Election, namespace: argparse.Namespace) -> int:
         return int(namespace.run(election, options) or Status.DONE)
     except (Fault, OSError):
         raise
+    except ModuleNotFoundError as error:
+        raise not_installed(error) from None
     except Exception:
         election.demand_undamaged()
         raise

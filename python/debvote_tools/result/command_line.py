@@ -10,7 +10,7 @@ from typing import Any
 from debvote_tools.call.secret import ON_PUBLIC_ROLL
 from debvote_tools.cli import console
 from debvote_tools.cli.arguments import Options, add_arguments, add_version, option, positional
-from debvote_tools.cli.faults import Fault, Status, other_format
+from debvote_tools.cli.faults import Fault, Status, not_installed, other_format
 from debvote_tools.debvote import Debvote
 from debvote_tools.files import BALLOTS_LIMIT, POLL_LIMIT, read_at_most, sha256_of
 from debvote_tools.poll.plain_names import bad_options, bad_title
@@ -68,6 +68,9 @@ def main(program_folder: pathlib.Path, given: Sequence[str] | None = None) -> in
             new.take_place(target_folder)
     except Fault as fault:
         return console.failed(PROGRAM, fault.after("", "published").words, fault.status)
+    except ModuleNotFoundError as error:
+        words = not_installed(error).after("", "published").words
+        return console.failed(PROGRAM, words, Status.NOT_FOUND)
     except OSError as error:
         words = f"the folder can't be made ({error}): name a place where you can write"
         return console.failed(PROGRAM, words, Status.BAD_OUTPUT)

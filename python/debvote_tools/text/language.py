@@ -104,12 +104,8 @@ def language_of(code: str) -> Language:
 
 def catalog_of(po: bytes) -> gettext.GNUTranslations:
     """The translations of a `.po` file. Babel is read only here: it takes a while."""
-    try:
-        from babel.messages import mofile, pofile
-    except ModuleNotFoundError:
-        raise SystemExit(
-            "python3-babel is not installed, which reads translations: install it"
-        ) from None
+    from babel.messages import mofile, pofile
+
     compiled = io.BytesIO()
     mofile.write_mo(compiled, pofile.read_po(io.BytesIO(po)))
     compiled.seek(0)

@@ -15,12 +15,8 @@ import re
 import textwrap
 from collections.abc import Callable
 
-try:
-    import jinja2
-    from markupsafe import Markup
-except ModuleNotFoundError:
-    # no fault is told yet: programs import this before they read what they are to do
-    raise SystemExit("python3-jinja2 is not installed; nothing was changed: install it") from None
+import jinja2
+from markupsafe import Markup
 
 from debvote_tools.text.language import ENGLISH, Language, marked
 from debvote_tools.text.motions import WORDS
