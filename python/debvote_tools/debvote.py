@@ -70,7 +70,7 @@ class Debvote:
             raise Fault(
                 "debvote",
                 "the program is neither beside this one nor in the PATH",
-                "install the package debvote",
+                "run make build in a checkout, or install the package debvote",
                 Status.NOT_FOUND,
                 None,
             )
