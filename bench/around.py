@@ -159,7 +159,7 @@ def large_election(folder: pathlib.Path, path: str) -> Iterator[tuple[str, float
     yield "a desk with one ballot", one, 0.5
     all_others = measured([ELECTION, "desk"], room, path, given="".join(others))
     yield "each further ballot of a desk", (all_others - one) / (len(others) - 1), 0.1
-    for name, words, most in [("status", ["status"], 1), ("close", ["close"], 2), ("publish", ["publish"], 6)]:
+    for name, words, most in [("status", ["status"], 1), ("close", ["close"], 2.5), ("publish", ["publish"], 6)]:
         # 1: a tie
         yield name, measured([ELECTION, *words], room, path, (0, 1)), most
 
@@ -250,15 +250,15 @@ def many_letters(folder: pathlib.Path, path: str) -> Iterator[tuple[str, float, 
         ("status, after these", ["status"], 1),
         ("add, 10,000 that quote", ["add", "--yes", "inbox"], 20),
         ("add, all of them again", ["add", "--yes", "inbox"], 6),
-        ("held, of 1,000", ["held"], 4),
-        ("letters, 10,000 receipts", ["letters", "receipts"], 18),
+        ("held, of 1,000", ["held"], 2.7),
+        ("letters, 10,000 receipts", ["letters", "receipts"], 14),
         ("letters, 1,000 reminders", ["letters", "reminders"], 7),
-        ("undo, 9,000 lines", ["undo", "--yes"], 4),
+        ("undo, 9,000 lines", ["undo", "--yes"], 3.5),
     ]:
         yield name, measured([ELECTION, *words], room, path), most
     demand_entered(room, LETTERS - LETTERS // 10)
     close = ["close", "--yes", "--force", "--because", "so be it"]
-    yield "close, with 10,000 letters", measured([ELECTION, *close], room, path), 18
+    yield "close, with 10,000 letters", measured([ELECTION, *close], room, path), 10
     room = folder / "plain"
     election_by_letters(room, path, is_quoting=False)
     yield "add, 10,000 plain letters", measured([ELECTION, "add", "--yes", "inbox"], room, path), 10
