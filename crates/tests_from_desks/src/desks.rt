@@ -227,7 +227,7 @@ const REFUSED_CASTS: [Deed; 7] = [
     Deed::Cast(0, 0, ANN, Err(EnterFault::StampRange)),
     Deed::Cast(0, 3, ANN, Err(EnterFault::StampRange)),
     Deed::Cast(0, 2, BOB, Ok(Reply::Counted)),
-    Deed::Cast(0, 2, BOB, Err(EnterFault::SheetFull)),
+    Deed::Cast(0, 2, BOB, Err(EnterFault::DeskFull)),
 ];
 
 #[test]
@@ -323,8 +323,8 @@ const LATE: [Deed; 2] = [
     Deed::Cast(0, 1, ANN, Ok(Reply::Counted)),
 ];
 
-/// The audit's fault in a sealed box by itself, without the sheets of its desks.
-fn found_without_sheets<R: Threads + Abort + Sync>(
+/// The audit's fault in a sealed box by itself, without the slips of its desks.
+fn found_without_slips<R: Threads + Abort + Sync>(
     rt: &R,
     poll: &Poll,
     lines: &Lines<'_>,
@@ -335,8 +335,8 @@ fn found_without_sheets<R: Threads + Abort + Sync>(
     compare(rt, poll, lines, ballot_box, &[]).err()
 }
 
-/// The audit's fault in a sealed box with the sheets of its desks.
-fn found_with_sheets<R: Threads + Sync>(
+/// The audit's fault in a sealed box with the slips of its desks.
+fn found_with_slips<R: Threads + Sync>(
     rt: &R,
     poll: &Poll,
     lines: &Lines<'_>,
@@ -345,15 +345,15 @@ fn found_with_sheets<R: Threads + Sync>(
     audit(rt, poll, lines, sealed).err()
 }
 
-/// The audit's faults in a sealed box with the sheets of its desks and without them.
+/// The audit's faults in a sealed box with the slips of its desks and without them.
 fn found_in<R: Threads + Abort + Sync>(
     rt: &R,
     poll: &Poll,
     lines: &Lines<'_>,
     sealed: Sealed,
 ) -> (Option<AuditFault>, Option<AuditFault>) {
-    let without = found_without_sheets(rt, poll, lines, &sealed);
-    (found_with_sheets(rt, poll, lines, sealed), without)
+    let without = found_without_slips(rt, poll, lines, &sealed);
+    (found_with_slips(rt, poll, lines, sealed), without)
 }
 
 /// Does the deeds at one desk of a box for the poll in a text, and returns the audit's faults for a poll and its lines.
@@ -383,8 +383,8 @@ fn found_by<R: Threads + Wait + Abort + Sync>(
     found
 }
 
-/// Does the deeds at one desk of a box for a poll, and returns the audit's faults for another poll and two lines, with the sheet of
-/// the desk and without it.
+/// Does the deeds at one desk of a box for a poll, and returns the audit's faults for another poll and two lines, with the slips of
+/// the desk and without them.
 fn found_after<R: Threads + Wait + Abort + Sync>(
     rt: &R,
     alloc: Global,
@@ -408,7 +408,7 @@ const SLIP: Option<AuditFault> = Some(AuditFault::SlipDiffers(1, 1));
 
 const CLOSE: Option<AuditFault> = Some(AuditFault::ClosedEarly(2));
 
-/// The poll of a box, what is done at it, the poll that it is audited for, and the audit's faults with the sheet and without it.
+/// The poll of a box, what is done at it, the poll that it is audited for, and the audit's faults with the slips and without them.
 const AUDITS: &[(&str, &[Deed], &str, Option<AuditFault>, Option<AuditFault>)] = &[
     (TWO_ELECTORS, &BOTH, TWO_ELECTORS, None, SLIP),
     (FIRST_IS_LAST, &LATE, FIRST_IS_LAST, None, SLIP),

@@ -18,9 +18,9 @@ use Rattle.vote_steps.specs.Boxes.{BoxState, IsLegal, MayFollow}
 use Rattle.vote_steps.specs.Recasts.{HasOwnReading}
 use Rattle.vote_steps.proofs.HistoryLemmas.{casts_before}
 use Rattle.vote_desks_box.specs.Slips.{slips_from}
-use Rattle.vote_desks_box.specs.Desks.{sheet_at}
+use Rattle.vote_desks_box.specs.Desks.{slips_at}
 use Rattle.vote_audit.specs.Comparing.{HasDesk, HasEnvelope}
-use Rattle.vote_audit.specs.Audit.{HasOwnReadings, HasSlips, IsAudited, DiffersFirst, PartAt, SheetDiffers, IsEarlyClose, IsFaultOf}
+use Rattle.vote_audit.specs.Audit.{HasOwnReadings, HasSlips, IsAudited, DiffersFirst, PartAt, SlipDiffersFirst, IsEarlyClose, IsFaultOf}
 
 -- lists
 
@@ -104,42 +104,42 @@ no_step poll lines steps n h own =
 
 -- the first slip that differs
 
-one_place : (sheet other : List Slip) (p q : ℕ) → PartAt sheet other p → PartAt sheet other q → p ≡ q
-one_place sheet other p q h g =
+one_place : (slips other : List Slip) (p q : ℕ) → PartAt slips other p → PartAt slips other q → p ≡ q
+one_place slips other p q h g =
     let hp = h.place_is in
     let gq = g.place_is in
     ⊎_elim
     (λ (lt : h.before < g.before).
-    absurd (h.differ (sym (slice_get-take g.before h.before sheet lt) ∙ ap (λ xs. slice_get xs h.before) g.so_far ∙ slice_get-take g.before h.before other lt)))
+    absurd (h.differ (sym (slice_get-take g.before h.before slips lt) ∙ ap (λ xs. slice_get xs h.before) g.so_far ∙ slice_get-take g.before h.before other lt)))
     (λ (ge : g.before ≤ h.before).
     ⊎_elim
     (λ (lt : g.before < h.before).
-    absurd (g.differ (sym (slice_get-take h.before g.before sheet lt) ∙ ap (λ xs. slice_get xs g.before) h.so_far ∙ slice_get-take h.before g.before other lt)))
+    absurd (g.differ (sym (slice_get-take h.before g.before slips lt) ∙ ap (λ xs. slice_get xs g.before) h.so_far ∙ slice_get-take h.before g.before other lt)))
     (λ (le : h.before ≤ g.before). omega arith)
     (cases_lt g.before h.before))
     (cases_lt h.before g.before)
 
-no_part : (sheet other : List Slip) (p : ℕ) → PartAt sheet other p → sheet ≡ other → ⊥
-no_part sheet other p h same = h.differ (ap (λ xs. slice_get xs h.before) same)
+no_part : (slips other : List Slip) (p : ℕ) → PartAt slips other p → slips ≡ other → ⊥
+no_part slips other p h same = h.differ (ap (λ xs. slice_get xs h.before) same)
 
-one_desk : (steps : List Step) (sheets : List (List Slip)) (d p e q : ℕ) → SheetDiffers steps sheets d p → SheetDiffers steps sheets e q → d ≡ e
-one_desk steps sheets d p e q h g =
+one_desk : (steps : List Step) (slips_by_desk : List (List Slip)) (d p e q : ℕ) → SlipDiffersFirst steps slips_by_desk d p → SlipDiffersFirst steps slips_by_desk e q → d ≡ e
+one_desk steps slips_by_desk d p e q h g =
     ⊎_elim
-    (λ (lt : d < e). absurd (no_part (sheet_at sheets d) (slips_from 1 steps d) p h.part (g.others d h.is_desk.0 lt)))
+    (λ (lt : d < e). absurd (no_part (slips_at slips_by_desk d) (slips_from 1 steps d) p h.part (g.others d h.is_desk.0 lt)))
     (λ (ge : e ≤ d).
     ⊎_elim
-    (λ (lt : e < d). absurd (no_part (sheet_at sheets e) (slips_from 1 steps e) q g.part (h.others e g.is_desk.0 lt)))
+    (λ (lt : e < d). absurd (no_part (slips_at slips_by_desk e) (slips_from 1 steps e) q g.part (h.others e g.is_desk.0 lt)))
     (λ (le : d ≤ e). omega arith)
     (cases_lt e d))
     (cases_lt d e)
 
-one_slip : (steps : List Step) (sheets : List (List Slip)) (d p e q : ℕ) → SheetDiffers steps sheets d p → SheetDiffers steps sheets e q → p ≡ q
-one_slip steps sheets d p e q h g =
-    let P : ℕ → Type 0 = λ k. PartAt (sheet_at sheets k) (slips_from 1 steps k) p in
-    one_place (sheet_at sheets e) (slips_from 1 steps e) p q (subst P (one_desk steps sheets d p e q h g) h.part) g.part
+one_slip : (steps : List Step) (slips_by_desk : List (List Slip)) (d p e q : ℕ) → SlipDiffersFirst steps slips_by_desk d p → SlipDiffersFirst steps slips_by_desk e q → p ≡ q
+one_slip steps slips_by_desk d p e q h g =
+    let P : ℕ → Type 0 = λ k. PartAt (slips_at slips_by_desk k) (slips_from 1 steps k) p in
+    one_place (slips_at slips_by_desk e) (slips_from 1 steps e) p q (subst P (one_desk steps slips_by_desk d p e q h g) h.part) g.part
 
-no_slip : (steps : List Step) (sheets : List (List Slip)) (d p : ℕ) → SheetDiffers steps sheets d p → HasSlips steps sheets → ⊥
-no_slip steps sheets d p h all = no_part (sheet_at sheets d) (slips_from 1 steps d) p h.part (all d h.is_desk.0 h.is_desk.1)
+no_slip : (steps : List Step) (slips_by_desk : List (List Slip)) (d p : ℕ) → SlipDiffersFirst steps slips_by_desk d p → HasSlips steps slips_by_desk → ⊥
+no_slip steps slips_by_desk d p h all = no_part (slips_at slips_by_desk d) (slips_from 1 steps d) p h.part (all d h.is_desk.0 h.is_desk.1)
 
 -- the close
 
@@ -180,55 +180,55 @@ not_early steps n h last =
 
 -- no two answers are true
 
-pub sound : (poll : PollContent) (lines : List (List ℕ)) (b : BoxState) (sheets : List (List Slip)) (f : AuditFault) → IsAudited poll lines b sheets → IsFaultOf poll lines b sheets f → ⊥
-sound poll lines b sheets SizeDiffers a h = h a.holds.sizes
-sound poll lines b sheets CountDiffers a h = h.1 (casts_before b.steps a.holds.closed_last ∙ a.holds.casts)
-sound poll lines b sheets (StepDiffers n) a h = no_step poll lines b.steps n h.2 a.holds.own_readings
-sound poll lines b sheets (SlipDiffers d p) a h = no_slip b.steps sheets d p h.3 a.sheets_are
-sound poll lines b sheets (ClosedEarly n) a h = not_early b.steps n h.4 a.holds.closed_last
+pub sound : (poll : PollContent) (lines : List (List ℕ)) (b : BoxState) (slips_by_desk : List (List Slip)) (f : AuditFault) → IsAudited poll lines b slips_by_desk → IsFaultOf poll lines b slips_by_desk f → ⊥
+sound poll lines b slips_by_desk SizeDiffers a h = h a.holds.sizes
+sound poll lines b slips_by_desk CountDiffers a h = h.1 (casts_before b.steps a.holds.closed_last ∙ a.holds.casts)
+sound poll lines b slips_by_desk (StepDiffers n) a h = no_step poll lines b.steps n h.2 a.holds.own_readings
+sound poll lines b slips_by_desk (SlipDiffers d p) a h = no_slip b.steps slips_by_desk d p h.3 a.slips_are
+sound poll lines b slips_by_desk (ClosedEarly n) a h = not_early b.steps n h.4 a.holds.closed_last
 
-one_fault : (poll : PollContent) (lines : List (List ℕ)) (b : BoxState) (sheets : List (List Slip)) (f g : AuditFault) → IsFaultOf poll lines b sheets f → IsFaultOf poll lines b sheets g → f ≡ g
-one_fault poll lines b sheets SizeDiffers SizeDiffers h k = refl
-one_fault poll lines b sheets SizeDiffers CountDiffers h k = absurd (h k.0)
-one_fault poll lines b sheets SizeDiffers (StepDiffers m) h k = absurd (h k.0)
-one_fault poll lines b sheets SizeDiffers (SlipDiffers e q) h k = absurd (h k.0)
-one_fault poll lines b sheets SizeDiffers (ClosedEarly m) h k = absurd (h k.0)
-one_fault poll lines b sheets CountDiffers SizeDiffers h k = absurd (k h.0)
-one_fault poll lines b sheets CountDiffers CountDiffers h k = refl
-one_fault poll lines b sheets CountDiffers (StepDiffers m) h k = absurd (h.1 k.1)
-one_fault poll lines b sheets CountDiffers (SlipDiffers e q) h k = absurd (h.1 k.1)
-one_fault poll lines b sheets CountDiffers (ClosedEarly m) h k = absurd (h.1 k.1)
-one_fault poll lines b sheets (StepDiffers n) SizeDiffers h k = absurd (k h.0)
-one_fault poll lines b sheets (StepDiffers n) CountDiffers h k = absurd (k.1 h.1)
-one_fault poll lines b sheets (StepDiffers n) (StepDiffers m) h k = ap StepDiffers (one_step poll lines b.steps n m h.2 k.2)
-one_fault poll lines b sheets (StepDiffers n) (SlipDiffers e q) h k = absurd (no_step poll lines b.steps n h.2 k.2)
-one_fault poll lines b sheets (StepDiffers n) (ClosedEarly m) h k = absurd (no_step poll lines b.steps n h.2 k.2)
-one_fault poll lines b sheets (SlipDiffers d p) SizeDiffers h k = absurd (k h.0)
-one_fault poll lines b sheets (SlipDiffers d p) CountDiffers h k = absurd (k.1 h.1)
-one_fault poll lines b sheets (SlipDiffers d p) (StepDiffers m) h k = absurd (no_step poll lines b.steps m k.2 h.2)
-one_fault poll lines b sheets (SlipDiffers d p) (SlipDiffers e q) h k = ap (λ i. SlipDiffers i p) (one_desk b.steps sheets d p e q h.3 k.3) ∙ ap (SlipDiffers e) (one_slip b.steps sheets d p e q h.3 k.3)
-one_fault poll lines b sheets (SlipDiffers d p) (ClosedEarly m) h k = absurd (no_slip b.steps sheets d p h.3 k.3)
-one_fault poll lines b sheets (ClosedEarly n) SizeDiffers h k = absurd (k h.0)
-one_fault poll lines b sheets (ClosedEarly n) CountDiffers h k = absurd (k.1 h.1)
-one_fault poll lines b sheets (ClosedEarly n) (StepDiffers m) h k = absurd (no_step poll lines b.steps m k.2 h.2)
-one_fault poll lines b sheets (ClosedEarly n) (SlipDiffers e q) h k = absurd (no_slip b.steps sheets e q k.3 h.3)
-one_fault poll lines b sheets (ClosedEarly n) (ClosedEarly m) h k = ap ClosedEarly (h.4.0 ∙ sym k.4.0)
+one_fault : (poll : PollContent) (lines : List (List ℕ)) (b : BoxState) (slips_by_desk : List (List Slip)) (f g : AuditFault) → IsFaultOf poll lines b slips_by_desk f → IsFaultOf poll lines b slips_by_desk g → f ≡ g
+one_fault poll lines b slips_by_desk SizeDiffers SizeDiffers h k = refl
+one_fault poll lines b slips_by_desk SizeDiffers CountDiffers h k = absurd (h k.0)
+one_fault poll lines b slips_by_desk SizeDiffers (StepDiffers m) h k = absurd (h k.0)
+one_fault poll lines b slips_by_desk SizeDiffers (SlipDiffers e q) h k = absurd (h k.0)
+one_fault poll lines b slips_by_desk SizeDiffers (ClosedEarly m) h k = absurd (h k.0)
+one_fault poll lines b slips_by_desk CountDiffers SizeDiffers h k = absurd (k h.0)
+one_fault poll lines b slips_by_desk CountDiffers CountDiffers h k = refl
+one_fault poll lines b slips_by_desk CountDiffers (StepDiffers m) h k = absurd (h.1 k.1)
+one_fault poll lines b slips_by_desk CountDiffers (SlipDiffers e q) h k = absurd (h.1 k.1)
+one_fault poll lines b slips_by_desk CountDiffers (ClosedEarly m) h k = absurd (h.1 k.1)
+one_fault poll lines b slips_by_desk (StepDiffers n) SizeDiffers h k = absurd (k h.0)
+one_fault poll lines b slips_by_desk (StepDiffers n) CountDiffers h k = absurd (k.1 h.1)
+one_fault poll lines b slips_by_desk (StepDiffers n) (StepDiffers m) h k = ap StepDiffers (one_step poll lines b.steps n m h.2 k.2)
+one_fault poll lines b slips_by_desk (StepDiffers n) (SlipDiffers e q) h k = absurd (no_step poll lines b.steps n h.2 k.2)
+one_fault poll lines b slips_by_desk (StepDiffers n) (ClosedEarly m) h k = absurd (no_step poll lines b.steps n h.2 k.2)
+one_fault poll lines b slips_by_desk (SlipDiffers d p) SizeDiffers h k = absurd (k h.0)
+one_fault poll lines b slips_by_desk (SlipDiffers d p) CountDiffers h k = absurd (k.1 h.1)
+one_fault poll lines b slips_by_desk (SlipDiffers d p) (StepDiffers m) h k = absurd (no_step poll lines b.steps m k.2 h.2)
+one_fault poll lines b slips_by_desk (SlipDiffers d p) (SlipDiffers e q) h k = ap (λ i. SlipDiffers i p) (one_desk b.steps slips_by_desk d p e q h.3 k.3) ∙ ap (SlipDiffers e) (one_slip b.steps slips_by_desk d p e q h.3 k.3)
+one_fault poll lines b slips_by_desk (SlipDiffers d p) (ClosedEarly m) h k = absurd (no_slip b.steps slips_by_desk d p h.3 k.3)
+one_fault poll lines b slips_by_desk (ClosedEarly n) SizeDiffers h k = absurd (k h.0)
+one_fault poll lines b slips_by_desk (ClosedEarly n) CountDiffers h k = absurd (k.1 h.1)
+one_fault poll lines b slips_by_desk (ClosedEarly n) (StepDiffers m) h k = absurd (no_step poll lines b.steps m k.2 h.2)
+one_fault poll lines b slips_by_desk (ClosedEarly n) (SlipDiffers e q) h k = absurd (no_slip b.steps slips_by_desk e q k.3 h.3)
+one_fault poll lines b slips_by_desk (ClosedEarly n) (ClosedEarly m) h k = ap ClosedEarly (h.4.0 ∙ sym k.4.0)
 
 -- what each answer of an audit means
 abbrev pub Found : PollContent → List (List ℕ) → BoxState → List (List Slip) → Result (Unit {0}) AuditFault → Type 0
-Found poll lines b sheets answer = MatchResult answer (λ _. IsAudited poll lines b sheets) (IsFaultOf poll lines b sheets)
+Found poll lines b slips_by_desk answer = MatchResult answer (λ _. IsAudited poll lines b slips_by_desk) (IsFaultOf poll lines b slips_by_desk)
 
-pub ok_exact : (poll : PollContent) (lines : List (List ℕ)) (b : BoxState) (sheets : List (List Slip)) (answer : Result (Unit {0}) AuditFault) → Found poll lines b sheets answer
-    → IsOk answer ↔ IsAudited poll lines b sheets
-ok_exact poll lines b sheets (Ok u) h = (λ _. h, λ _. refl)
-ok_exact poll lines b sheets (Err f) h = (λ e. absurd (let e' : false ≡ true = e in cc), λ a. absurd (sound poll lines b sheets f a h))
+pub ok_exact : (poll : PollContent) (lines : List (List ℕ)) (b : BoxState) (slips_by_desk : List (List Slip)) (answer : Result (Unit {0}) AuditFault) → Found poll lines b slips_by_desk answer
+    → IsOk answer ↔ IsAudited poll lines b slips_by_desk
+ok_exact poll lines b slips_by_desk (Ok u) h = (λ _. h, λ _. refl)
+ok_exact poll lines b slips_by_desk (Err f) h = (λ e. absurd (let e' : false ≡ true = e in cc), λ a. absurd (sound poll lines b slips_by_desk f a h))
 
-pub fault_exact : (poll : PollContent) (lines : List (List ℕ)) (b : BoxState) (sheets : List (List Slip)) (answer : Result (Unit {0}) AuditFault) → Found poll lines b sheets answer
-    → (fault : AuditFault) → (answer ≡ Err fault) ↔ IsFaultOf poll lines b sheets fault
-fault_exact poll lines b sheets (Ok u) h fault = (λ e. absurd (cc), λ f. absurd (sound poll lines b sheets fault h f))
-fault_exact poll lines b sheets (Err f) h fault =
-    let P : AuditFault → Type 0 = λ g. IsFaultOf poll lines b sheets g in
-    (λ e. subst P (let same : f ≡ fault = cc in same) h, λ g. ap Err (one_fault poll lines b sheets f fault h g))
+pub fault_exact : (poll : PollContent) (lines : List (List ℕ)) (b : BoxState) (slips_by_desk : List (List Slip)) (answer : Result (Unit {0}) AuditFault) → Found poll lines b slips_by_desk answer
+    → (fault : AuditFault) → (answer ≡ Err fault) ↔ IsFaultOf poll lines b slips_by_desk fault
+fault_exact poll lines b slips_by_desk (Ok u) h fault = (λ e. absurd (cc), λ f. absurd (sound poll lines b slips_by_desk fault h f))
+fault_exact poll lines b slips_by_desk (Err f) h fault =
+    let P : AuditFault → Type 0 = λ g. IsFaultOf poll lines b slips_by_desk g in
+    (λ e. subst P (let same : f ≡ fault = cc in same) h, λ g. ap Err (one_fault poll lines b slips_by_desk f fault h g))
 
 -- in a closed history the close has an index
 pub close_found : (steps : List Step) → position is_close steps ≡ None → is_closed steps ≡ true → ⊥

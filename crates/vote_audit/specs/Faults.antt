@@ -55,13 +55,13 @@ IsAuditFaultOf poll lines s Thread = ⊥
 IsAuditFaultOf poll lines s (Gate desk) = ⊥
 IsAuditFaultOf poll lines s (Enter desk fault) = ⊥
 IsAuditFaultOf poll lines s (Desk fault) = ⊥
-IsAuditFaultOf poll lines s (Audit fault) = IsFaultOf poll lines s.ballot_box s.sheets fault
+IsAuditFaultOf poll lines s (Audit fault) = IsFaultOf poll lines s.ballot_box s.slips_by_desk fault
 
--- there is a sheet for each of this many desks, and the stamps on each sheet rise
-abbrev pub AreSheetsOf : ℕ → List (List Slip) → Type 0
-AreSheetsOf desks sheets = (length sheets ≡ desks) × All Rises sheets
+-- there is a list of slips for each of this many desks, and the stamps in each list rise
+abbrev pub AreSlipsOf : ℕ → List (List Slip) → Type 0
+AreSlipsOf desks slips_by_desk = (length slips_by_desk ≡ desks) × All Rises slips_by_desk
 
 -- if the fault is an audit's, there is a legal box, with slips of this kind, in which the audit finds it
 abbrev pub IsFoundIn : (List (List Slip) → Type 0) → PollContent → List (List ℕ) → VoteFault → Type 0
-IsFoundIn Are poll lines (Audit fault) = (s : SealedState) × Are s.sheets × IsLegal s.ballot_box × IsFaultOf poll lines s.ballot_box s.sheets fault
+IsFoundIn Are poll lines (Audit fault) = (s : SealedState) × Are s.slips_by_desk × IsLegal s.ballot_box × IsFaultOf poll lines s.ballot_box s.slips_by_desk fault
 IsFoundIn Are poll lines other = Unit {0}

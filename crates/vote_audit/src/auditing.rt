@@ -5,12 +5,12 @@ ghost use Rattle.vote_poll.specs.Readings.{readings};
 ghost use Rattle.vote_steps.specs.History.{is_cast, is_close, is_closed};
 ghost use Rattle.vote_steps.specs.Recasts.{HasOwnReading};
 ghost use Rattle.vote_steps.specs.HeldLines.{HasSizes};
-ghost use Rattle.vote_desks_box.specs.Desks.{sheet_at, slips_on};
+ghost use Rattle.vote_desks_box.specs.Desks.{slips_at, slips_on};
 ghost use Rattle.vote_audit.specs.Comparing.{HasEnvelope};
 ghost use Rattle.vote_audit.specs.Audit.{FindsFault, FindsReading, IsAudited};
 
 use crate::fault::AuditFault;
-use crate::sheets::first_other_sheet;
+use crate::slips::first_other_slip;
 use std::marker::Model;
 use std::snapshot::Snapshot;
 use std::thread;
@@ -121,7 +121,7 @@ fn close_place(ballot_box: &BallotBox) -> Option<usize>
     steps.iter().position(|step| matches!(step, Step::Close))
 }
 
-/// Compares a closed box, and the sheets of its desks, with the lines. The sheet of desk `d` has
+/// Compares a closed box, and the slips of its desks, with the lines. The slips of desk `d` have
 /// index `d - 1`.
 ///
 /// Each line is read once, and there is one pass over the steps for each kind of fault. Nothing is
@@ -131,12 +131,12 @@ pub fn compare<R: Threads + Sync>(
     poll: &Poll,
     lines: &Lines<'_>,
     ballot_box: &BallotBox,
-    sheets: &[Vec<Slip>],
+    slips_by_desk: &[Vec<Slip>],
 ) -> Result<(), AuditFault>
     requires closed { IsTrue (is_closed ballot_box.now.steps) }
-    requires sheets { length sheets.now ≤ MAX_DESKS }
-    ensures ok { IsOk result ↔ IsAudited poll.now lines.now ballot_box.now (slips_on sheets.now) }
-    ensures fault { FindsFault result poll.now lines.now ballot_box.now (slips_on sheets.now) }
+    requires slips_by_desk { length slips_by_desk.now ≤ MAX_DESKS }
+    ensures ok { IsOk result ↔ IsAudited poll.now lines.now ballot_box.now (slips_on slips_by_desk.now) }
+    ensures fault { FindsFault result poll.now lines.now ballot_box.now (slips_on slips_by_desk.now) }
 {
     if !has_sizes(poll, lines, ballot_box) {
         return Err(AuditFault::SizeDiffers);
@@ -145,10 +145,10 @@ pub fn compare<R: Threads + Sync>(
     if count_casts(ballot_box) != lines.len() {
         return Err(AuditFault::CountDiffers);
     }
-    if let Some(number) = first_other_reading_by(rt, poll, lines, steps, sheets.len()) {
+    if let Some(number) = first_other_reading_by(rt, poll, lines, steps, slips_by_desk.len()) {
         return Err(AuditFault::StepDiffers(number));
     }
-    if let Some((desk, place)) = first_other_sheet(steps, sheets) {
+    if let Some((desk, place)) = first_other_slip(steps, slips_by_desk) {
         return Err(AuditFault::SlipDiffers(desk, place));
     }
     match close_place(ballot_box) {
@@ -183,19 +183,19 @@ impl Audited {
     ///
     /// For callers of the library; the program does not call it.
     pub fn desks(&self) -> u8
-        ensures { result ≡ length self.now.sheets }
+        ensures { result ≡ length self.now.slips_by_desk }
     {
         self.sealed.desks()
     }
 
-    /// The sheet of the desk with this number, from 1.
+    /// The slips of the desk with this number, from 1.
     ///
     /// For callers of the library; the program does not call it.
-    pub fn sheet_of(&self, desk: u8) -> &[Slip]
-        requires { (1 ≤ desk) × (desk ≤ length self.now.sheets) }
-        ensures { result.now ≡ sheet_at self.now.sheets desk }
+    pub fn slips_at(&self, desk: u8) -> &[Slip]
+        requires { (1 ≤ desk) × (desk ≤ length self.now.slips_by_desk) }
+        ensures { result.now ≡ slips_at self.now.slips_by_desk desk }
     {
-        self.sealed.sheet_of(desk)
+        self.sealed.slips_at(desk)
     }
 
     /// A witness that shows which box was audited, after the box is gone.
@@ -208,7 +208,7 @@ impl Audited {
     }
 }
 
-/// The witness of an audit. Contracts see the box and the sheets that were audited. A witness has
+/// The witness of an audit. Contracts see the box and the slips that were audited. A witness has
 /// no bytes, and only `Audited::witness` makes one, so a function that returns a witness has had an
 /// audit made.
 #[derive(Drop)]
@@ -224,7 +224,7 @@ impl Model for AuditWitness {
     ghost view = { λ w. w.seen.value };
 }
 
-/// Compares a sealed box and its sheets with the lines, as `compare` does. On a fault the sealed
+/// Compares a sealed box and its slips with the lines, as `compare` does. On a fault the sealed
 /// box is dropped.
 pub fn audit<R: Threads + Sync>(
     rt: &R,
@@ -233,10 +233,10 @@ pub fn audit<R: Threads + Sync>(
     sealed: Sealed,
 ) -> Result<Audited, AuditFault>
     ensures same { IfOk result (λ audited. audited ≡ sealed) }
-    ensures ok { IsOk result ↔ IsAudited poll.now lines.now sealed.ballot_box sealed.sheets }
-    ensures fault { FindsFault result poll.now lines.now sealed.ballot_box sealed.sheets }
+    ensures ok { IsOk result ↔ IsAudited poll.now lines.now sealed.ballot_box sealed.slips_by_desk }
+    ensures fault { FindsFault result poll.now lines.now sealed.ballot_box sealed.slips_by_desk }
 {
-    match compare(rt, poll, lines, sealed.ballot_box(), sealed.sheets()) {
+    match compare(rt, poll, lines, sealed.ballot_box(), sealed.slips_by_desk()) {
         Ok(()) => Ok(Audited { sealed }),
         Err(fault) => Err(fault),
     }

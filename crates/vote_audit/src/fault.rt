@@ -23,7 +23,7 @@ pub enum AuditFault {
     StepDiffers(u64),
     /// This desk is the lowest whose slips are not those of its casts, and this is the first slip
     /// where the two differ.
-    #[error("the sheet of desk {0} differs from its casts at slip {1}")]
+    #[error("the slips of desk {0} differ from its casts at slip {1}")]
     SlipDiffers(u8, u64),
     /// This step is the close, and it is not the last.
     #[error("step {0} is the close, and it is not the last")]

@@ -13,7 +13,7 @@
 mod auditing;
 mod fault;
 pub mod laws;
-mod sheets;
+mod slips;
 
 pub use auditing::{AuditWitness, Audited, audit, compare};
 pub use fault::{AuditFault, VoteFault};

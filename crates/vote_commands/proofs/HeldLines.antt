@@ -13,8 +13,8 @@ use Rattle.vote_commands.specs.TakenVotes.{AreTaken}
 use Rattle.vote_commands.specs.declared.votes.TakenVotes.{TakenVotes}
 
 -- a box that equals the audited box holds the lines
-pub audited_holds : (poll : PollContent) (lines : List Text) (b audited : BoxState) (sheets : List (List Slip)) → b ≡ audited → IsAudited poll lines audited sheets → HoldsLines poll lines b
-audited_holds poll lines b audited sheets same by = subst (λ box. HoldsLines poll lines box) (sym same) by.holds
+pub audited_holds : (poll : PollContent) (lines : List Text) (b audited : BoxState) (slips_by_desk : List (List Slip)) → b ≡ audited → IsAudited poll lines audited slips_by_desk → HoldsLines poll lines b
+audited_holds poll lines b audited slips_by_desk same by = subst (λ box. HoldsLines poll lines box) (sym same) by.holds
 
 -- the box in which the votes of the inputs were counted, by its witness
 pub counted_in : (inputs : Inputs) (taken : TakenVotes) (sealed : SealedState) → sealed ≡ taken.audited → AreTaken inputs taken → IsCountedIn inputs sealed

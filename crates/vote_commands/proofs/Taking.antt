@@ -21,6 +21,6 @@ ballots_taken poll given inputs lines taken audited same split few votes is =
       lines = split;
       few = few;
       audited = subst (λ (r : Result Audited VoteFault). IfOk r (IsAuditedFor poll lines)) is votes.audited;
-      desks = subst (λ (r : Result Audited VoteFault). IfOk r (λ (sealed : Audited). length sealed.sheets ≡ given.desks)) is votes.sheets;
-      rising = subst (λ (r : Result Audited VoteFault). IfOk r (λ (sealed : Audited). All Rises sealed.sheets)) is votes.rising;
+      desks = subst (λ (r : Result Audited VoteFault). IfOk r (λ (sealed : Audited). length sealed.slips_by_desk ≡ given.desks)) is votes.slips;
+      rising = subst (λ (r : Result Audited VoteFault). IfOk r (λ (sealed : Audited). All Rises sealed.slips_by_desk)) is votes.rising;
     } in subst (λ (of : Inputs). AreBallotsTaken poll of (lines, audited)) same of_given

@@ -68,13 +68,13 @@ ended_by_verification verification.Differs = ended.Differs
 ended_by_verification verification.Matches = ended.Done
 ended_by_verification (verification.MatchesCasting option) = ended.Done
 
--- this is an audited box of the inputs' lines, with a sheet for each of their desks, and the stamps on each sheet rise
+-- this is an audited box of the inputs' lines, with a list of slips for each of their desks, and the stamps in each list rise
 pub record IsCountedIn (inputs : Inputs) (sealed : SealedState) : Type 0 where
   pub poll : PollContent
   pub meant : poll_in inputs.poll ≡ Ok poll
   pub audited : IsAuditedFor poll (lines_of inputs.ballots) sealed
-  pub desks : length sealed.sheets ≡ inputs.desks
-  pub rising : All Rises sealed.sheets
+  pub desks : length sealed.slips_by_desk ≡ inputs.desks
+  pub rising : All Rises sealed.slips_by_desk
 
 -- the text and the end of a count for this purpose, of the poll, the lines and the option of the casting vote
 abbrev pub IsMade : Purpose (Bor Text) → PollContent → List Text → Option ℕ → TextAndEnd → Type 0

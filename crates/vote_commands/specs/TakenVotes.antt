@@ -18,16 +18,16 @@ use Rattle.vote_commands.specs.declared.votes.TakenVotes.{TakenVotes}
 
 -- the box is audited for its poll and its lines, and the casting vote is for an option of the poll
 pub record CanBeCounted (taken : TakenVotes) : Type 0 where
-  pub audited : IsAudited taken.poll taken.lines taken.audited.ballot_box taken.audited.sheets
+  pub audited : IsAudited taken.poll taken.lines taken.audited.ballot_box taken.audited.slips_by_desk
   pub range : IfSome taken.casting (IsOption (option_count taken.poll))
 
--- the lines of the inputs, and a box that is audited for them and this poll, with a sheet for each desk; the stamps on each sheet rise
+-- the lines of the inputs, and a box that is audited for them and this poll, with a list of slips for each desk; the stamps in each list rise
 pub record AreBallotsTaken (poll : PollContent) (inputs : Inputs) (taken : List Text × Audited) : Type 0 where
   pub lines : taken.0 ≡ lines_of inputs.ballots
   pub few : ¬ HasTooManyLines inputs.ballots
-  pub audited : IsAudited poll taken.0 taken.1.ballot_box taken.1.sheets
-  pub desks : length taken.1.sheets ≡ inputs.desks
-  pub rising : All Rises taken.1.sheets
+  pub audited : IsAudited poll taken.0 taken.1.ballot_box taken.1.slips_by_desk
+  pub desks : length taken.1.slips_by_desk ≡ inputs.desks
+  pub rising : All Rises taken.1.slips_by_desk
 
 -- the poll of the inputs, its option that the casting vote names, and the ballots that were taken
 pub record AreTaken (inputs : Inputs) (taken : TakenVotes) : Type 0 where

@@ -5,7 +5,7 @@ use Rattle.vote_poll.specs.PollContent.{PollContent}
 use Rattle.vote_steps.specs.Desks.{AreDesks}
 use Rattle.vote_desks_box.specs.Slips.{Rises}
 use Rattle.vote_audit.specs.Audit.{IsAuditedFor}
-use Rattle.vote_audit.specs.Faults.{AreSheetsOf, CanStopVotes, IsFoundIn, IsOfDesk}
+use Rattle.vote_audit.specs.Faults.{AreSlipsOf, CanStopVotes, IsFoundIn, IsOfDesk}
 use Rattle.vote_audit.specs.declared.Audited.{Audited}
 use Rattle.vote_audit.specs.declared.VoteFault.{VoteFault}
 use Rattle.vote_poll_text.specs.Texts.{Text}
@@ -18,11 +18,11 @@ Taking = Bor PollContent → Bor (List Text) → ℕ → Result Audited VoteFaul
 abbrev pub TakesNone : Taking
 TakesNone poll lines desks taken = ⊥
 
--- if the votes are taken, the box is audited for the poll and its lines, with a sheet for each desk, and the stamps on each sheet rise
+-- if the votes are taken, the box is audited for the poll and its lines, with a list of slips for each desk, and the stamps in each list rise
 pub record AreVotesTaken (poll : PollContent) (lines : List Text) (desks : ℕ) (taken : Result Audited VoteFault) : Type 0 where
   pub audited : IfOk taken (IsAuditedFor poll lines)
-  pub sheets : IfOk taken (λ audited. length audited.sheets ≡ desks)
-  pub rising : IfOk taken (λ audited. All Rises audited.sheets)
+  pub slips : IfOk taken (λ audited. length audited.slips_by_desk ≡ desks)
+  pub rising : IfOk taken (λ audited. All Rises audited.slips_by_desk)
 
 -- a call that may be made at any number of desks, and promises this
 pub record TakesVotes (pre : Bor PollContent → Bor (List Text) → ℕ → Type 0) (Takes : Taking) : Type 0 where
@@ -39,5 +39,5 @@ StopsVotes Takes poll lines desks fault =
 pub record AreTakenAtDesks (bars : ℕ → Bool) (poll : PollContent) (lines : List Text) (desks : ℕ) (taken : Result Audited VoteFault) : Type 0 where
   pub votes : AreVotesTaken poll lines desks taken
   pub fault : IfErr taken (CanStopVotes bars)
-  pub found : IfErr taken (IsFoundIn (AreSheetsOf desks) poll lines)
+  pub found : IfErr taken (IsFoundIn (AreSlipsOf desks) poll lines)
   pub desk : IfErr taken (IsOfDesk desks)

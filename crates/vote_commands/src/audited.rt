@@ -22,7 +22,7 @@ pub fn sheet(
     audited: &Audited,
     casting: Option<u8>,
 ) -> Result<String, AllocError>
-    requires audited { IsAudited poll.now lines.now audited.now.ballot_box audited.now.sheets }
+    requires audited { IsAudited poll.now lines.now audited.now.ballot_box audited.now.slips_by_desk }
     requires casting { IfSome casting (IsOption (option_count poll.now)) }
     ensures { IfOk result (λ text. IsSheet poll.now lines.now casting (string_bytes text)) }
 {

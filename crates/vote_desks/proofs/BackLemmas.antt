@@ -95,11 +95,11 @@ pub fresh_numbers : (lines n m : ℕ) → map (λ (d : DeskState). d.number) (ma
 fresh_numbers lines n zero = refl
 fresh_numbers lines n (suc m) = ap (λ ks. n ∷ ks) (fresh_numbers lines (n + 1) m)
 
--- numbering the sheets does not change how many slips they have
-pub sum_numbered : (n : ℕ) (sheets : List (List Slip)) → sum_by (λ (at : ℕ × List Slip). length at.1) (enumerate_from n sheets) ≡ sum_by length sheets
+-- numbering the lists of slips does not change how many slips they have
+pub sum_numbered : (n : ℕ) (slips_by_desk : List (List Slip)) → sum_by (λ (at : ℕ × List Slip). length at.1) (enumerate_from n slips_by_desk) ≡ sum_by length slips_by_desk
 sum_numbered n [] = refl
-sum_numbered n (sheet ∷ sheets) =
-    omega (arith, sum_by-cons (λ (at : ℕ × List Slip). length at.1) (n, sheet) (enumerate_from (n + 1) sheets), sum_by-cons {X = List Slip} length sheet sheets, sum_numbered (n + 1) sheets)
+sum_numbered n (slips ∷ slips_by_desk) =
+    omega (arith, sum_by-cons (λ (at : ℕ × List Slip). length at.1) (n, slips) (enumerate_from (n + 1) slips_by_desk), sum_by-cons {X = List Slip} length slips slips_by_desk, sum_numbered (n + 1) slips_by_desk)
 
 pub sum_paired : (desks : List DeskState) → sum_by (λ (at : ℕ × List Slip). length at.1) (map {B = ℕ × List Slip} (λ (d : DeskState). (d.number, d.slips)) desks) ≡ sum_by (λ (d : DeskState). length d.slips) desks
 sum_paired [] = refl
@@ -111,10 +111,10 @@ sum_paired (desk ∷ desks) =
       sum_paired desks,
     )
 
--- all sheets rise, with numbers or without
-pub rise_numbered : (n : ℕ) (sheets : List (List Slip)) → AllByRecursion (λ (at : ℕ × List Slip). Rises at.1) (enumerate_from n sheets) → AllByRecursion Rises sheets
+-- all lists of slips rise, with numbers or without
+pub rise_numbered : (n : ℕ) (slips_by_desk : List (List Slip)) → AllByRecursion (λ (at : ℕ × List Slip). Rises at.1) (enumerate_from n slips_by_desk) → AllByRecursion Rises slips_by_desk
 rise_numbered n [] h = tt
-rise_numbered n (sheet ∷ sheets) h = (h.0, rise_numbered (n + 1) sheets h.1)
+rise_numbered n (slips ∷ slips_by_desk) h = (h.0, rise_numbered (n + 1) slips_by_desk h.1)
 
 pub rise_paired : (desks : List DeskState) → AllByRecursion (λ (d : DeskState). Rises d.slips) desks
     → AllByRecursion (λ (at : ℕ × List Slip). Rises at.1) (map {B = ℕ × List Slip} (λ (d : DeskState). (d.number, d.slips)) desks)
@@ -124,22 +124,22 @@ rise_paired (desk ∷ desks) h = (h.0, rise_paired desks h.1)
 abbrev pub paired : List DeskState → List (ℕ × List Slip)
 paired desks = map {B = ℕ × List Slip} (λ (d : DeskState). (d.number, d.slips)) desks
 
--- the gathered sheets are those of the desks
-pub gathered_count : (desks : List DeskState) (sheets : List (List Slip)) → IsPermutation (paired desks) (enumerate_from 1 sheets) → sum_by length sheets ≡ sum_by (λ (d : DeskState). length d.slips) desks
-gathered_count desks sheets same =
-    sym (sum_numbered 1 sheets) ∙ sum_by-IsPermutation (λ (at : ℕ × List Slip). length at.1) (paired desks) (enumerate_from 1 sheets) same ∙ sum_paired desks
+-- the gathered slips are those of the desks
+pub gathered_count : (desks : List DeskState) (slips_by_desk : List (List Slip)) → IsPermutation (paired desks) (enumerate_from 1 slips_by_desk) → sum_by length slips_by_desk ≡ sum_by (λ (d : DeskState). length d.slips) desks
+gathered_count desks slips_by_desk same =
+    sym (sum_numbered 1 slips_by_desk) ∙ sum_by-IsPermutation (λ (at : ℕ × List Slip). length at.1) (paired desks) (enumerate_from 1 slips_by_desk) same ∙ sum_paired desks
 
-pub gathered_rise : (desks : List DeskState) (sheets : List (List Slip)) → IsPermutation (paired desks) (enumerate_from 1 sheets) → All (λ (d : DeskState). Rises d.slips) desks → All Rises sheets
-gathered_rise desks sheets same rising =
+pub gathered_rise : (desks : List DeskState) (slips_by_desk : List (List Slip)) → IsPermutation (paired desks) (enumerate_from 1 slips_by_desk) → All (λ (d : DeskState). Rises d.slips) desks → All Rises slips_by_desk
+gathered_rise desks slips_by_desk same rising =
     let P : ℕ × List Slip → Type 0 = λ at. Rises at.1 in
     let before : All P (paired desks) = All-from_recursion P (paired desks) (rise_paired desks (recursion_from_All (λ (d : DeskState). Rises d.slips) desks rising)) in
-    let after : All P (enumerate_from 1 sheets) = All-permutation P (paired desks) (enumerate_from 1 sheets) same before in
-    All-from_recursion Rises sheets (rise_numbered 1 sheets (recursion_from_All P (enumerate_from 1 sheets) after))
+    let after : All P (enumerate_from 1 slips_by_desk) = All-permutation P (paired desks) (enumerate_from 1 slips_by_desk) same before in
+    All-from_recursion Rises slips_by_desk (rise_numbered 1 slips_by_desk (recursion_from_All P (enumerate_from 1 slips_by_desk) after))
 
-pub gathered_long : (desks : List DeskState) (sheets : List (List Slip)) (count : ℕ) → IsPermutation (paired desks) (enumerate_from 1 sheets) → numbers_of desks ≡ range_with_len 1 count → length sheets ≡ count
-gathered_long desks sheets count same numbered =
-    sym (length-enumerate_from 1 sheets)
-    ∙ length_permutation (paired desks) (enumerate_from 1 sheets) same
+pub gathered_long : (desks : List DeskState) (slips_by_desk : List (List Slip)) (count : ℕ) → IsPermutation (paired desks) (enumerate_from 1 slips_by_desk) → numbers_of desks ≡ range_with_len 1 count → length slips_by_desk ≡ count
+gathered_long desks slips_by_desk count same numbered =
+    sym (length-enumerate_from 1 slips_by_desk)
+    ∙ length_permutation (paired desks) (enumerate_from 1 slips_by_desk) same
     ∙ length-map desks (λ (d : DeskState). (d.number, d.slips))
     ∙ sym (length-map desks (λ (d : DeskState). d.number))
     ∙ ap length numbered

@@ -96,7 +96,7 @@ audit_of_desk desks poll lines s (Audit fault) found = tt
 
 -- IsFoundIn holds for a fault that an audit finds in a legal box
 pub found_in : (Are : List (List Slip) → Type 0) (poll : PollContent) (lines : List (List ℕ)) (s : SealedState) (fault : VoteFault)
-    → Are s.sheets → IsLegal s.ballot_box → IsAuditFaultOf poll lines s fault → IsFoundIn Are poll lines fault
+    → Are s.slips_by_desk → IsLegal s.ballot_box → IsAuditFaultOf poll lines s fault → IsFoundIn Are poll lines fault
 found_in Are poll lines s Memory are legal found = tt
 found_in Are poll lines s Thread are legal found = tt
 found_in Are poll lines s (Gate desk) are legal found = tt
@@ -105,10 +105,10 @@ found_in Are poll lines s (Desk fault) are legal found = tt
 found_in Are poll lines s (Audit fault) are legal found = (s, are, legal, found)
 
 pub found_in_such : (Are Such : List (List Slip) → Type 0) (poll : PollContent) (lines : List (List ℕ)) (fault : VoteFault)
-    → ((sheets : List (List Slip)) → Are sheets → Such sheets) → IsFoundIn Are poll lines fault → IsFoundIn Such poll lines fault
+    → ((slips_by_desk : List (List Slip)) → Are slips_by_desk → Such slips_by_desk) → IsFoundIn Are poll lines fault → IsFoundIn Such poll lines fault
 found_in_such Are Such poll lines Memory weaker found = tt
 found_in_such Are Such poll lines Thread weaker found = tt
 found_in_such Are Such poll lines (Gate desk) weaker found = tt
 found_in_such Are Such poll lines (Enter desk fault) weaker found = tt
 found_in_such Are Such poll lines (Desk fault) weaker found = tt
-found_in_such Are Such poll lines (Audit fault) weaker found = (found.0, weaker found.0.sheets found.1, found.2, found.3)
+found_in_such Are Such poll lines (Audit fault) weaker found = (found.0, weaker found.0.slips_by_desk found.1, found.2, found.3)

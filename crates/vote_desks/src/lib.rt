@@ -1,6 +1,6 @@
 //! Workers that take the votes of all lines at the desks of one box.
 //!
-//! The box, its desks and their sheets are from [`vote_desks_box`], the audit from `vote_audit`; the
+//! The box, its desks and their slips are from [`vote_desks_box`], the audit from `vote_audit`; the
 //! public names of both are also exported here. `take_votes` does everything: it opens the desks,
 //! serves each by a worker in a thread of its own, joins the workers, gathers the desks and audits
 //! the box.
@@ -11,8 +11,9 @@
 //! envelopes at once, and then casts them one by one.
 //!
 //! **What is promised.** A box that `take_votes` returns is audited for the poll and the lines, and
-//! the stamps on each sheet rise. `take_votes` reports that a gate stopped the votes only for a desk
-//! that the gate may stop, and an audit's fault only if the audit finds it in a legal box.
+//! the stamps of each desk's slips rise. `take_votes` reports that a gate stopped the votes only
+//! for a desk that the gate may stop, and an audit's fault only if the audit finds it in a legal
+//! box.
 //!
 //! **What is not promised.** That two threads run at the same time, that a waiting call ever
 //! continues, fairness among desks, which desk casts which line, or in what order. That a call

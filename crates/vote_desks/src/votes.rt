@@ -14,7 +14,7 @@ ghost use Rattle.vote_desks_box.specs.Desks.{AreSlipsInOrder, fresh_desks};
 ghost use Rattle.vote_audit.specs.Audit.{IsAuditedFor};
 ghost use Rattle.vote_desks.specs.Back.{AreAllHandedIn, AreBackFrom, casts_at};
 ghost use Rattle.vote_desks.specs.Stops.{stop_fault, IsLeastStop, StopsWorkers};
-ghost use Rattle.vote_audit.specs.Faults.{AreSheetsOf, CanStopAudit, CanStopCasts, CanStopVotes, IsOfDesk, IsAuditFaultOf, IsFoundIn};
+ghost use Rattle.vote_audit.specs.Faults.{AreSlipsOf, CanStopAudit, CanStopCasts, CanStopVotes, IsOfDesk, IsAuditFaultOf, IsFoundIn};
 ghost use Rattle.vote_desks.specs.Work.{new_passes, tray_and_parts};
 ghost use Rattle.vote_desks.specs.Workers.{AreBarredBy, numbers_back, numbers_of, pairs_back, parts_back, stops_back};
 
@@ -211,8 +211,8 @@ fn gather_and_audit<VL: Tally, RL: Tally, R: Threads + Sync>(
     requires rising { All (λ desk. Rises desk.slips) desks.items }
     requires cast { casts_at desks.items ≡ length lines.now }
     ensures audited { IfOk result (IsAuditedFor poll.now lines.now) }
-    ensures desks { IfOk result (λ audited. length audited.sheets ≡ shared.desks) }
-    ensures rising { IfOk result (λ audited. All Rises audited.sheets) }
+    ensures desks { IfOk result (λ audited. length audited.slips_by_desk ≡ shared.desks) }
+    ensures rising { IfOk result (λ audited. All Rises audited.slips_by_desk) }
     ensures fault { IfErr result CanStopAudit }
     ensures found { IfErr result (IsFoundIn (AreSlipsInOrder desks) poll.now lines.now) }
     ensures desk { IfErr result (IsOfDesk shared.desks) }
@@ -253,10 +253,10 @@ fn serve<
     requires refused_desks { (RL.parts ≡ desks) × (RL.desks ≡ desks) }
     requires opened { VL.opened ≡ box_of poll.now (length lines.now) [] }
     ensures audited { IfOk result (IsAuditedFor poll.now lines.now) }
-    ensures desks { IfOk result (λ audited. length audited.sheets ≡ desks) }
-    ensures rising { IfOk result (λ audited. All Rises audited.sheets) }
+    ensures desks { IfOk result (λ audited. length audited.slips_by_desk ≡ desks) }
+    ensures rising { IfOk result (λ audited. All Rises audited.slips_by_desk) }
     ensures fault { IfErr result (CanStopVotes G.bars) }
-    ensures found { IfErr result (IsFoundIn (AreSheetsOf desks) poll.now lines.now) }
+    ensures found { IfErr result (IsFoundIn (AreSlipsOf desks) poll.now lines.now) }
     ensures desk { IfErr result (IsOfDesk desks) }
 {
     let limit = lines.len() as u32;
@@ -284,10 +284,10 @@ pub fn take_votes<G: Gate + Sync, R: Threads + Wait + Sync>(
 ) -> Result<Audited, VoteFault>
     requires { AreDesks desks }
     ensures audited { IfOk result (IsAuditedFor poll.now lines.now) }
-    ensures desks { IfOk result (λ audited. length audited.sheets ≡ desks) }
-    ensures rising { IfOk result (λ audited. All Rises audited.sheets) }
+    ensures desks { IfOk result (λ audited. length audited.slips_by_desk ≡ desks) }
+    ensures rising { IfOk result (λ audited. All Rises audited.slips_by_desk) }
     ensures fault { IfErr result (CanStopVotes G.bars) }
-    ensures found { IfErr result (IsFoundIn (AreSheetsOf desks) poll.now lines.now) }
+    ensures found { IfErr result (IsFoundIn (AreSlipsOf desks) poll.now lines.now) }
     ensures desk { IfErr result (IsOfDesk desks) }
 {
     serve::<Brand, Brand, G, R>(

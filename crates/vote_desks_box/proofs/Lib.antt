@@ -2,4 +2,4 @@ pub mod ClosingLemmas
 pub mod Fronts
 pub mod Ranges
 pub mod Numbered
-pub mod SheetSums
+pub mod SlipSums

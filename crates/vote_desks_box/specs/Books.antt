@@ -15,17 +15,17 @@ valid_at desks = sum_by (λ desk. desk.valid_share) desks.items
 abbrev pub refused_at : {Z : Type 0} → Vec DeskState Z → ℕ
 refused_at desks = sum_by (λ desk. desk.refused_share) desks.items
 
--- the number of slips of valid lines on all these sheets
+-- the number of slips of valid lines in all these lists
 abbrev pub valid_on : {Z : Type 0} → List (Vec Slip Z) → ℕ
-valid_on sheets = sum_by valid_slips (slips_on sheets)
+valid_on slips_by_desk = sum_by valid_slips (slips_on slips_by_desk)
 
--- the number of slips of refused lines on all these sheets
+-- the number of slips of refused lines in all these lists
 abbrev pub refused_on : {Z : Type 0} → List (Vec Slip Z) → ℕ
-refused_on sheets = sum_by refused_slips (slips_on sheets)
+refused_on slips_by_desk = sum_by refused_slips (slips_on slips_by_desk)
 
--- the box counts as many valid and as many refused lines as the desks' shares add up to, and as their sheets have slips for
-pub record MeetsBooks {Z : Type 0} (desks : Vec DeskState Z) (b : BoxState) (sheets : List (List Slip)) : Type 0 where
+-- the box counts as many valid and as many refused lines as the desks' shares add up to, and as the desks have slips for
+pub record MeetsBooks {Z : Type 0} (desks : Vec DeskState Z) (b : BoxState) (slips_by_desk : List (List Slip)) : Type 0 where
   pub valid_shares : valid_at desks ≡ valid b.last_in_time b.steps
   pub refused_shares : refused_at desks ≡ refused b.last_in_time b.steps
-  pub valid_on_sheets : sum_by valid_slips sheets ≡ valid b.last_in_time b.steps
-  pub refused_on_sheets : sum_by refused_slips sheets ≡ refused b.last_in_time b.steps
+  pub valid_on_slips : sum_by valid_slips slips_by_desk ≡ valid b.last_in_time b.steps
+  pub refused_on_slips : sum_by refused_slips slips_by_desk ≡ refused b.last_in_time b.steps

@@ -99,11 +99,11 @@ standing_in b voter = standing_ranks b.last_in_time b.steps voter
 -- a box whose desks have handed in their slips; desk d has index d - 1
 pub record SealedState : Type 0 where
   pub ballot_box : BoxState
-  pub sheets : List (List Slip)
+  pub slips_by_desk : List (List Slip)
 
 -- there are as many slips as casts
 abbrev pub HasSlipsForCasts : SealedState → Type 0
-HasSlipsForCasts s = sum_by length s.sheets ≡ count_by is_cast s.ballot_box.steps
+HasSlipsForCasts s = sum_by length s.slips_by_desk ≡ count_by is_cast s.ballot_box.steps
 
 -- the slips of these desks, in their order
 abbrev pub slips_of : {Z : Type 0} → Vec DeskState Z → List (List Slip)
@@ -111,7 +111,7 @@ slips_of desks = map (λ desk. desk.slips) desks.items
 
 -- the lists of slips, in their order
 abbrev pub slips_on : {Z : Type 0} → List (Vec Slip Z) → List (List Slip)
-slips_on sheets = map vec_items sheets
+slips_on slips_by_desk = map vec_items slips_by_desk
 
 -- the slips of these desks are appended to those before
 abbrev pub AddsSlips : {Y Z : Type 0} → Vec DeskState Y → List (Vec Slip Z) → List (Vec Slip Z) → Type 0
@@ -119,12 +119,12 @@ AddsSlips desks before after = slips_on after ≡ slips_on before ++ slips_of de
 
 -- these are the slips of desks 1, 2 and so on, in this order; the desks may come in any order
 abbrev pub AreSlipsInOrder : {Z : Type 0} → Vec DeskState Z → List (List Slip) → Type 0
-AreSlipsInOrder desks sheets = IsPermutation (map (λ desk. (desk.number, desk.slips)) desks.items) (enumerate_from 1 sheets)
+AreSlipsInOrder desks slips_by_desk = IsPermutation (map (λ desk. (desk.number, desk.slips)) desks.items) (enumerate_from 1 slips_by_desk)
 
 -- these are desks 1 to this number, each once, in any order
 abbrev pub AreAllDesks : {Z : Type 0} → Vec DeskState Z → ℕ → Type 0
 AreAllDesks desks count = IsPermutation (map (λ desk. desk.number) desks.items) (range_with_len 1 count)
 
 -- the slips of a desk, numbered from 1; empty if it handed in none
-abbrev pub sheet_at : List (List Slip) → ℕ → List Slip
-sheet_at sheets desk = unwrap_or (slice_get sheets (desk - 1)) []
+abbrev pub slips_at : List (List Slip) → ℕ → List Slip
+slips_at slips_by_desk desk = unwrap_or (slice_get slips_by_desk (desk - 1)) []

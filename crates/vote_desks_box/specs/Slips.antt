@@ -19,16 +19,16 @@ slips_from number (step ∷ steps) desk = cons_option (slip_of desk number step)
 
 -- the number of slips that say that the line is a valid ballot
 abbrev pub valid_slips : List Slip → ℕ
-valid_slips sheet = count_by (λ slip. is_valid slip.reply) sheet
+valid_slips slips = count_by (λ slip. is_valid slip.reply) slips
 
 -- the number of slips that say that the line is not a valid ballot, that it was late, or that it came after the close
 abbrev pub refused_slips : List Slip → ℕ
-refused_slips sheet = count_by (λ slip. not (is_valid slip.reply)) sheet
+refused_slips slips = count_by (λ slip. not (is_valid slip.reply)) slips
 
 -- the stamps of these slips, in their order
 abbrev pub stamps_of : List Slip → List ℕ
-stamps_of sheet = map (λ slip. slip.stamp) sheet
+stamps_of slips = map (λ slip. slip.stamp) slips
 
 -- the stamps of these slips increase: the envelopes were cast in the order of their stamps
 abbrev pub Rises : List Slip → Type 0
-Rises sheet = IsStrictlyIncreasing (stamps_of sheet)
+Rises slips = IsStrictlyIncreasing (stamps_of slips)

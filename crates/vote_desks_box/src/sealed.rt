@@ -3,7 +3,7 @@ ghost use Rattle.std.specs.Prelude.{◌≡◌, ◌+◌, ◌≤◌, ◌<◌, ◌�
 ghost use Rattle.std.specs.List.{range_with_len};
 ghost use Rattle.vote_steps.specs.Boxes.{IsLegal};
 ghost use Rattle.vote_steps.specs.History.{is_closed};
-ghost use Rattle.vote_desks_box.specs.Desks.{AddsSlips, AreAllDesks, AreSlipsInOrder, HasSlipsForCasts, IsLater, sheet_at, slips_of, slips_on};
+ghost use Rattle.vote_desks_box.specs.Desks.{AddsSlips, AreAllDesks, AreSlipsInOrder, HasSlipsForCasts, IsLater, slips_at, slips_of, slips_on};
 ghost use Rattle.vote_desks_box.specs.Books.{MeetsBooks, refused_at, refused_on, valid_at, valid_on};
 
 use crate::desk::{Desk, Held, Tally};
@@ -20,7 +20,7 @@ use vote_steps::{BallotBox, MAX_DESKS};
 #[derive(Drop)]
 pub struct Sealed {
     pub(crate) ballot_box: BallotBox,
-    pub(crate) sheets: Vec<Vec<Slip>>,
+    pub(crate) slips_by_desk: Vec<Vec<Slip>>,
 }
 
 impl Model for Sealed {
@@ -33,11 +33,11 @@ impl Model for Sealed {
 
     ghost view = { λ s. record {
       ballot_box = s.ballot_box;
-      sheets = map vec_items s.sheets.items;
+      slips_by_desk = map vec_items s.slips_by_desk.items;
     } };
 
     ghost invariant = { λ s. IsTrue (is_closed s.ballot_box.steps)
-        × (vec_len s.sheets ≤ MAX_DESKS) };
+        × (vec_len s.slips_by_desk ≤ MAX_DESKS) };
 }
 
 impl Sealed {
@@ -50,56 +50,56 @@ impl Sealed {
     }
 
     /// The slips of all desks. Desk `d` has index `d - 1`.
-    pub fn sheets(&self) -> &[Vec<Slip>]
-        ensures sheets { slips_on result.now ≡ self.now.sheets }
+    pub fn slips_by_desk(&self) -> &[Vec<Slip>]
+        ensures slips_by_desk { slips_on result.now ≡ self.now.slips_by_desk }
         ensures few { length result.now ≤ MAX_DESKS }
     {
-        self.sheets.as_slice()
+        self.slips_by_desk.as_slice()
     }
 
     /// The number of desks.
     ///
     /// For callers of the library; the program does not call it.
     pub fn desks(&self) -> u8
-        ensures { result ≡ length self.now.sheets }
+        ensures { result ≡ length self.now.slips_by_desk }
     {
-        self.sheets.len() as u8
+        self.slips_by_desk.len() as u8
     }
 
     /// The slips of the desk with this number, from 1.
     ///
     /// For callers of the library; the program does not call it.
-    pub fn sheet_of(&self, desk: u8) -> &[Slip]
-        requires { (1 ≤ desk) × (desk ≤ length self.now.sheets) }
-        ensures { result.now ≡ sheet_at self.now.sheets desk }
+    pub fn slips_at(&self, desk: u8) -> &[Slip]
+        requires { (1 ≤ desk) × (desk ≤ length self.now.slips_by_desk) }
+        ensures { result.now ≡ slips_at self.now.slips_by_desk desk }
     {
-        self.sheets[usize::from(desk) - 1].as_slice()
+        self.slips_by_desk[usize::from(desk) - 1].as_slice()
     }
 }
 
 /// Merges the shares of these desks into `valid` and `refused`, and appends their slips to
-/// `sheets`.
+/// `slips_by_desk`.
 fn merge_each<VL: Tally, RL: Tally>(
     desks: &mut Vec<Desk<VL, RL>>,
     valid: &mut Share<VL>,
     refused: &mut Share<RL>,
-    sheets: &mut Vec<Vec<Slip>>,
+    slips_by_desk: &mut Vec<Vec<Slip>>,
 ) -> Result<(), AllocError>
-    requires valid { valid.old.amount ≡ valid_on sheets.old.items }
-    requires refused { refused.old.amount ≡ refused_on sheets.old.items }
+    requires valid { valid.old.amount ≡ valid_on slips_by_desk.old.items }
+    requires refused { refused.old.amount ≡ refused_on slips_by_desk.old.items }
     ensures valid_cut { OnOk result (valid.new.parts ≡ valid.old.parts + vec_len desks.old) }
     ensures refused_cut { OnOk result (refused.new.parts ≡ refused.old.parts + vec_len desks.old) }
     ensures valid { OnOk result (valid.new.amount ≡ valid.old.amount + valid_at desks.old) }
     ensures refused { OnOk result (refused.new.amount ≡ refused.old.amount + refused_at desks.old) }
-    ensures valid_slips { OnOk result (valid.new.amount ≡ valid_on sheets.new.items) }
-    ensures refused_slips { OnOk result (refused.new.amount ≡ refused_on sheets.new.items) }
-    ensures sheets { OnOk result (AddsSlips desks.old sheets.old.items sheets.new.items) }
+    ensures valid_slips { OnOk result (valid.new.amount ≡ valid_on slips_by_desk.new.items) }
+    ensures refused_slips { OnOk result (refused.new.amount ≡ refused_on slips_by_desk.new.items) }
+    ensures slips_by_desk { OnOk result (AddsSlips desks.old slips_by_desk.old.items slips_by_desk.new.items) }
 {
     while !desks.is_empty() {
         let next = desks.remove(0);
         valid.merge(next.valid_share);
         refused.merge(next.refused_share);
-        sheets.push(next.slips)?;
+        slips_by_desk.push(next.slips)?;
     }
     Ok(())
 }
@@ -113,12 +113,12 @@ fn meet<VL: Tally, RL: Tally>(
     requires some { 0 < vec_len desks }
     requires valid { vec_len desks ≡ VL.parts }
     requires refused { vec_len desks ≡ RL.parts }
-    ensures sheets { IfOk result (λ sheets. slips_on sheets.items ≡ slips_of desks) }
+    ensures slips_by_desk { IfOk result (λ slips_by_desk. slips_on slips_by_desk.items ≡ slips_of desks) }
     ensures books { IfOk result (λ all. MeetsBooks desks held.old.ballot_box (slips_on all.items)) }
     ensures held { held.new ≡ held.old }
 {
     let mut desks = desks;
-    let mut sheets = Vec::new(alloc);
+    let mut slips_by_desk = Vec::new(alloc);
     let Desk {
         number: _,
         limit: _,
@@ -126,16 +126,16 @@ fn meet<VL: Tally, RL: Tally>(
         mut valid_share,
         mut refused_share,
     } = desks.remove(0);
-    sheets.push(slips)?;
+    slips_by_desk.push(slips)?;
     merge_each(
         &mut desks,
         &mut valid_share,
         &mut refused_share,
-        &mut sheets,
+        &mut slips_by_desk,
     )?;
     held.valid_book.audit(&mut valid_share);
     held.refused_book.audit(&mut refused_share);
-    Ok(sheets)
+    Ok(slips_by_desk)
 }
 
 /// Closes the box if it is open, and shows that the shares of all desks together equal the books.
@@ -150,18 +150,21 @@ fn seal<VL: Tally, RL: Tally>(
     ensures legal { IfOk result (λ s. IsLegal s.ballot_box) }
     ensures opened { IfOk result (λ s. IsLater VL.opened s.ballot_box) }
     ensures closed { IfOk result (λ s. IsTrue (is_closed s.ballot_box.steps)) }
-    ensures sheets { IfOk result (λ s. s.sheets ≡ slips_of desks) }
-    ensures books { IfOk result (λ s. MeetsBooks desks s.ballot_box s.sheets) }
+    ensures slips_by_desk { IfOk result (λ s. s.slips_by_desk ≡ slips_of desks) }
+    ensures books { IfOk result (λ s. MeetsBooks desks s.ballot_box s.slips_by_desk) }
 {
     let mut held = held;
     let _ = close(&mut held);
-    let sheets = meet(alloc, &mut held, desks)?;
+    let slips_by_desk = meet(alloc, &mut held, desks)?;
     let Held {
         ballot_box,
         valid_book: _,
         refused_book: _,
     } = held;
-    Ok(Sealed { ballot_box, sheets })
+    Ok(Sealed {
+        ballot_box,
+        slips_by_desk,
+    })
 }
 
 /// Whether the desks have the numbers 1 to `opened`, in order.
@@ -194,9 +197,9 @@ pub fn gather<VL: Tally, RL: Tally>(
     ensures legal { IfOk result (λ s. IsLegal s.ballot_box) }
     ensures opened { IfOk result (λ s. IsLater shared.opened s.ballot_box) }
     ensures closed { IfOk result (λ s. IsTrue (is_closed s.ballot_box.steps)) }
-    ensures sheets { IfOk result (λ s. AreSlipsInOrder desks s.sheets) }
-    ensures desks { IfOk result (λ s. length s.sheets ≡ shared.desks) }
-    ensures books { IfOk result (λ s. MeetsBooks desks s.ballot_box s.sheets) }
+    ensures slips_by_desk { IfOk result (λ s. AreSlipsInOrder desks s.slips_by_desk) }
+    ensures desks { IfOk result (λ s. length s.slips_by_desk ≡ shared.desks) }
+    ensures books { IfOk result (λ s. MeetsBooks desks s.ballot_box s.slips_by_desk) }
     ensures casts { IfOk result HasSlipsForCasts }
     ensures missing { (result ≡ Err DeskFault.MissingDesk) ↔ ¬ AreAllDesks desks shared.desks }
 {

@@ -11,9 +11,9 @@ ghost use Rattle.vote_explain_ballots.specs.Remarks.{IsFileText, IsRemark, can_b
 use crate::findings::is_of_bad_shape;
 use crate::{MARK, MOST_REMARK};
 use std::alloc::{AllocError, Global};
-use vote_hints::{file_kind, unmarked};
+use vote_hints::{file_kind, push_mending, unmarked};
 use vote_poll::Lines;
-use vote_poll_text::{is_printable, push_mending};
+use vote_poll_text::is_printable;
 use vote_steps::Step;
 
 /// The most bytes of a file's name in a command.

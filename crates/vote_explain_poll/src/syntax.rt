@@ -11,8 +11,10 @@ ghost use Rattle.vote_explain_poll.specs.Syntax.{IsPlaceFinding, IsSyntaxFinding
 use crate::full_lines::begins_as_ballots;
 use crate::structure::{definition, structure_of};
 use std::alloc::{AllocError, Global};
-use vote_hints::{MAX_SHOWN, file_kind, push_character, push_excerpt, push_hint_line};
-use vote_poll_text::{count_feeds, push_mending, push_shown, split_at_feed};
+use vote_hints::{
+    MAX_SHOWN, file_kind, push_character, push_excerpt, push_hint_line, push_mending,
+};
+use vote_poll_text::{count_feeds, push_shown, split_at_feed};
 
 /// A place in a text.
 #[derive(Clone, Copy, Drop)]

@@ -1,3 +1,4 @@
 -- what the contracts of public calls say
 pub mod Hints
 pub mod FileKinds
+pub mod Commands

@@ -4,6 +4,8 @@
 //!   [`push_hint_line`] adds one, and [`push_character`] names a character by one.
 //! - [`push_excerpt`] adds a line of a file, and a mark below a place in it.
 //! - [`file_kind`] says what a file is that is no plain text, and [`unmarked`] leaves out a byte-order mark.
+//! - [`push_mending`] appends how to mend a file, with a shell command if single quotes can hold the file's name. `specs/Commands.antt`
+//!   says which words.
 #![tactic(auto)]
 
 ghost use Rattle.std.specs.Prelude.{◌/◌};
@@ -12,10 +14,12 @@ ghost use Rattle.vote_poll_text.specs.Shown.{shown};
 ghost use Rattle.vote_hints.specs.Hints.{IsHint, IsHintLine, LimitsAreAsWritten, Tells, hint_line};
 
 mod characters;
+mod commands;
 mod excerpts;
 mod file_kinds;
 
 pub use characters::push_character;
+pub use commands::push_mending;
 pub use excerpts::push_excerpt;
 pub use file_kinds::{file_kind, unmarked};
 use std::alloc::AllocError;

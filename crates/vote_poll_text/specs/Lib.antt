@@ -5,5 +5,4 @@ pub mod Limits
 pub mod Lines
 pub mod FaultWords
 pub mod Names
-pub mod Commands
 pub mod Shown

@@ -6,7 +6,6 @@
 //!   explain its faults judge names by the same calls.
 //! - [`push_shown`]: appends bytes of a file to a text. A byte that is not printable ASCII appears as its number, in the digits of
 //!   [`hex_digit`].
-//! - [`push_mending`]: appends how to mend a file, with a shell command if single quotes can hold the file's name.
 //!
 //! Lines are numbered from 0: the line at index `i` is the envelope with stamp `i + 1`. All texts are bytes, and names are compared
 //! byte for byte.
@@ -16,19 +15,16 @@
 //!   long.
 //! - Whether a text is a name depends only on its length and its bytes (`specs/Names.antt`).
 //! - The shown form of a text has no line feed (`specs/Shown.antt`).
-//! - `specs/Commands.antt` says which words are appended for a command.
 //!
 //! The formats of the two files are this project's own.
 #![tactic(auto)]
 
 ghost use Rattle.vote_poll_text.specs.Limits.{LimitsAreAsWritten};
 
-mod commands;
 mod lines;
 mod names;
 mod shown;
 
-pub use commands::push_mending;
 pub use lines::{
     Lines, LinesFault, MAX_LINES, count_feeds, lines_are_unique, split_at_feed, without_last_feed,
 };

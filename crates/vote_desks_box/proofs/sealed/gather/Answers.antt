@@ -1,4 +1,4 @@
--- If all desks are there, their shares are the books, and the sealed box has the sheet of each desk; otherwise a desk is missing.
+-- If all desks are there, their shares are the books, and the sealed box has the slips of each desk; otherwise a desk is missing.
 use Rattle.std.proofs.Common.{◌≡◌, ℕ, List, Result, Ok, Err, map, length, refl, sym, ap, ◌∙◌, subst, arith, rules}
 use Rattle.std.proofs.lemmas.Bool.{false≢true}
 use Rattle.std.proofs.lemmas.Grind.{common_steps, elements, moves, pieces}
@@ -11,7 +11,7 @@ use Rattle.vote_desks_box.specs.declared.fault.DeskFault.TheVariants.{MissingDes
 use Rattle.vote_desks_box.specs.declared.slip.Slip.{Slip}
 use Rattle.vote_desks_box.specs.Desks.{DeskState, SealedState, SharedState}
 use Rattle.vote_desks_box.proofs.Ranges.{numbered, length_range}
-use Rattle.vote_desks_box.proofs.SheetSums.{all_slips}
+use Rattle.vote_desks_box.proofs.SlipSums.{all_slips}
 use Rattle.vote_desks_box.proofs.Numbered.{numbers_of_sorted}
 use Rattle.vote_desks_box.proofs.sealed.gather.Goals as goal
 
@@ -57,14 +57,14 @@ seal-requires-clause-refused g c =
     let numbers : map (λ (d : DeskState). d.number) sorted ≡ range_with_len 1 c.shared.inside.desks = ap (map (λ (d : DeskState). d.number)) (sym c.deref.ensures.value) ∙ c.are_complete.ensures.0 c.if-not-are_complete.false in
     c.sort_unstable_by_key.new.self.ok.0 ∙ length_range (λ (d : DeskState). d.number) 1 c.shared.inside.desks sorted numbers ∙ c.shared.invariant.3 ∙ c.requires.refused
 
-pub returns-in-Ok-clause-sheets : goal.returns-in-Ok-clause-sheets
-returns-in-Ok-clause-sheets g c =
+pub returns-in-Ok-clause-slips_by_desk : goal.returns-in-Ok-clause-slips_by_desk
+returns-in-Ok-clause-slips_by_desk g c =
     let came : List DeskState = c.args.desks.items in
     let sorted : List DeskState = c.sort_unstable_by_key.new.self.items in
     let f : DeskState → ℕ × List Slip = λ d. (d.number, d.slips) in
     let numbers : map (λ (d : DeskState). d.number) sorted ≡ range_with_len 1 c.shared.inside.desks = ap (map (λ (d : DeskState). d.number)) (sym c.deref.ensures.value) ∙ c.are_complete.ensures.0 c.if-not-are_complete.false in
-    let in_order : map f sorted ≡ enumerate_from 1 c.in-Ok.sealed.sheets =
-    numbered (λ d. d.number) (λ d. d.slips) 1 c.shared.inside.desks sorted numbers ∙ ap (enumerate_from 1) (sym c.in-Ok.ensures.sheets) in
+    let in_order : map f sorted ≡ enumerate_from 1 c.in-Ok.sealed.slips_by_desk =
+    numbered (λ d. d.number) (λ d. d.slips) 1 c.shared.inside.desks sorted numbers ∙ ap (enumerate_from 1) (sym c.in-Ok.ensures.slips_by_desk) in
     let P : List (ℕ × List Slip) → Type 0 = λ xs. IsPermutation (map f came) xs in
     subst P in_order (IsPermutation-map f came sorted c.sort_unstable_by_key.ensures.permutation)
 
@@ -72,11 +72,11 @@ pub returns-in-Ok-clause-desks : goal.returns-in-Ok-clause-desks
 returns-in-Ok-clause-desks g c =
     let sorted : List DeskState = c.sort_unstable_by_key.new.self.items in
     let numbers : map (λ (d : DeskState). d.number) sorted ≡ range_with_len 1 c.shared.inside.desks = ap (map (λ (d : DeskState). d.number)) (sym c.deref.ensures.value) ∙ c.are_complete.ensures.0 c.if-not-are_complete.false in
-    ap length c.in-Ok.ensures.sheets ∙ length-map sorted (λ (d : DeskState). d.slips) ∙ length_range (λ (d : DeskState). d.number) 1 c.shared.inside.desks sorted numbers ∙ ap (λ (s : SharedState). s.desks) c.shared.view_is
+    ap length c.in-Ok.ensures.slips_by_desk ∙ length-map sorted (λ (d : DeskState). d.slips) ∙ length_range (λ (d : DeskState). d.number) 1 c.shared.inside.desks sorted numbers ∙ ap (λ (s : SharedState). s.desks) c.shared.view_is
 
 pub returns-in-Ok-clause-casts : goal.returns-in-Ok-clause-casts
 returns-in-Ok-clause-casts g c =
-    omega (arith, all_slips c.in-Ok.sealed.sheets, c.each_cast_is_counted.ensures c.in-Ok.sealed.ballot_box.last_in_time c.in-Ok.sealed.ballot_box.steps, c.in-Ok.ensures.books.valid_on_sheets, c.in-Ok.ensures.books.refused_on_sheets)
+    omega (arith, all_slips c.in-Ok.sealed.slips_by_desk, c.each_cast_is_counted.ensures c.in-Ok.sealed.ballot_box.last_in_time c.in-Ok.sealed.ballot_box.steps, c.in-Ok.ensures.books.valid_on_slips, c.in-Ok.ensures.books.refused_on_slips)
 
 pub returns-in-Ok-clause-missing : goal.returns-in-Ok-clause-missing
 returns-in-Ok-clause-missing g c =

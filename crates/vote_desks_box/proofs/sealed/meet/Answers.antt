@@ -30,6 +30,6 @@ returns-clause-books g c =
     record {
       valid_shares = in_all (λ d. d.valid_share) all others c.remove.result _ _ _ first (ap (λ (d : DeskState). d.valid_share) c.slips.view_is) c.in_ok-merge_each.ensures.valid valid_is;
       refused_shares = in_all (λ d. d.refused_share) all others c.remove.result _ _ _ first (ap (λ (d : DeskState). d.refused_share) c.slips.view_is) c.in_ok-merge_each.ensures.refused refused_is;
-      valid_on_sheets = sym c.in_ok-merge_each.ensures.valid_slips ∙ valid_is;
-      refused_on_sheets = sym c.in_ok-merge_each.ensures.refused_slips ∙ refused_is;
+      valid_on_slips = sym c.in_ok-merge_each.ensures.valid_slips ∙ valid_is;
+      refused_on_slips = sym c.in_ok-merge_each.ensures.refused_slips ∙ refused_is;
     }

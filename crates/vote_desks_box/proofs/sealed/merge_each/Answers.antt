@@ -21,12 +21,12 @@ returns-clause-refused g c =
     let none : left.items ≡ [] = nil_from_length left.items (sym left.ok.0 ∙ eqb-true _ 0 (sym c.is_empty.ensures ∙ c.loop-desks-test.false)) in
     omega (arith, c.loop-desks.invariant.refused, ap (sum_by (λ (d : DeskState). d.refused_share)) none)
 
-pub returns-clause-sheets : goal.returns-clause-sheets
-returns-clause-sheets g c =
+pub returns-clause-slips_by_desk : goal.returns-clause-slips_by_desk
+returns-clause-slips_by_desk g c =
     let left = c.loop-desks.desks in
     let none : left.items ≡ [] = nil_from_length left.items (sym left.ok.0 ∙ eqb-true _ 0 (sym c.is_empty.ensures ∙ c.loop-desks-test.false)) in
-    let sheets = map vec_items c.loop-desks.sheets.items in
-    sym (append-nil sheets) ∙ ap (λ (ds : List DeskState). sheets ++ map (λ (d : DeskState). d.slips) ds) (sym none) ∙ c.loop-desks.invariant.sheets
+    let slips_by_desk = map vec_items c.loop-desks.slips_by_desk.items in
+    sym (append-nil slips_by_desk) ∙ ap (λ (ds : List DeskState). slips_by_desk ++ map (λ (d : DeskState). d.slips) ds) (sym none) ∙ c.loop-desks.invariant.slips_by_desk
 
 -- the first desk's share moves to the merged amount
 merged : (f : DeskState → ℕ) (left rest : List DeskState) (desk : DeskState) (old new mine total : ℕ)
@@ -65,8 +65,8 @@ loop-desks-preserved g c =
       refused_parts = omega (arith, kept.refused_parts, refused.parts, its.1);
       valid = merged (λ d. d.valid_share) left rest desk _ _ _ _ first valid.amount (ap (λ (d : DeskState). d.valid_share) is) kept.valid;
       refused = merged (λ d. d.refused_share) left rest desk _ _ _ _ first refused.amount (ap (λ (d : DeskState). d.refused_share) is) kept.refused;
-      valid_slips = counted valid_slips vec_items c.loop-desks.sheets.items c.push.new.self.items c.next.inside.slips _ _ _ pushed valid.amount its.2 kept.valid_slips;
-      refused_slips = counted refused_slips vec_items c.loop-desks.sheets.items c.push.new.self.items c.next.inside.slips _ _ _ pushed refused.amount its.3 kept.refused_slips;
-      sheets = taken vec_items c.loop-desks.sheets.items c.push.new.self.items c.next.inside.slips (map (λ (d : DeskState). d.slips) left) (map (λ (d : DeskState). d.slips) rest) _ desk.slips
-          (ap (map (λ (d : DeskState). d.slips)) first) pushed (ap (λ (d : DeskState). d.slips) is) kept.sheets;
+      valid_slips = counted valid_slips vec_items c.loop-desks.slips_by_desk.items c.push.new.self.items c.next.inside.slips _ _ _ pushed valid.amount its.2 kept.valid_slips;
+      refused_slips = counted refused_slips vec_items c.loop-desks.slips_by_desk.items c.push.new.self.items c.next.inside.slips _ _ _ pushed refused.amount its.3 kept.refused_slips;
+      slips_by_desk = taken vec_items c.loop-desks.slips_by_desk.items c.push.new.self.items c.next.inside.slips (map (λ (d : DeskState). d.slips) left) (map (λ (d : DeskState). d.slips) rest) _ desk.slips
+          (ap (map (λ (d : DeskState). d.slips)) first) pushed (ap (λ (d : DeskState). d.slips) is) kept.slips_by_desk;
     }

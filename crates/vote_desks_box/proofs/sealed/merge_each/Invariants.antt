@@ -9,9 +9,9 @@ invariant-loop-desks g l = record {
   refused_parts : l.refused.parts + vec_len l.desks ≡ l.initial.refused.parts + vec_len l.initial.desks;
   valid : l.valid.amount + sum_by (λ (d : DeskState). d.valid_share) l.desks.items ≡ l.initial.valid.amount + sum_by (λ (d : DeskState). d.valid_share) l.initial.desks.items;
   refused : l.refused.amount + sum_by (λ (d : DeskState). d.refused_share) l.desks.items ≡ l.initial.refused.amount + sum_by (λ (d : DeskState). d.refused_share) l.initial.desks.items;
-  valid_slips : l.valid.amount ≡ sum_by valid_slips (map vec_items l.sheets.items);
-  refused_slips : l.refused.amount ≡ sum_by refused_slips (map vec_items l.sheets.items);
-  sheets : map vec_items l.sheets.items ++ map (λ (d : DeskState). d.slips) l.desks.items ≡ map vec_items l.initial.sheets.items ++ map (λ (d : DeskState). d.slips) l.initial.desks.items;
+  valid_slips : l.valid.amount ≡ sum_by valid_slips (map vec_items l.slips_by_desk.items);
+  refused_slips : l.refused.amount ≡ sum_by refused_slips (map vec_items l.slips_by_desk.items);
+  slips_by_desk : map vec_items l.slips_by_desk.items ++ map (λ (d : DeskState). d.slips) l.desks.items ≡ map vec_items l.initial.slips_by_desk.items ++ map (λ (d : DeskState). d.slips) l.initial.desks.items;
 }
 
 abbrev pub decreases-loop-desks : goal.decreases-loop-desks

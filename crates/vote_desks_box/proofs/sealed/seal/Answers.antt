@@ -7,15 +7,15 @@ use Rattle.vote_desks_box.proofs.sealed.seal.Goals as goal
 
 pub returns-clause-books : goal.returns-clause-books
 returns-clause-books g c =
-    subst (λ (b : BoxState). MeetsBooks c.args.desks b (map vec_items c.in_ok-sheets.sheets.items)) (sym (ap (λ (h : HeldState). h.ballot_box) (c.held.view_is ∙ c.in_ok-sheets.ensures.held))) c.in_ok-sheets.ensures.books
+    subst (λ (b : BoxState). MeetsBooks c.args.desks b (map vec_items c.in_ok-slips_by_desk.slips_by_desk.items)) (sym (ap (λ (h : HeldState). h.ballot_box) (c.held.view_is ∙ c.in_ok-slips_by_desk.ensures.held))) c.in_ok-slips_by_desk.ensures.books
 
 pub returns-clause-legal : goal.returns-clause-legal
 returns-clause-legal g c =
-    subst IsLegal (sym (ap (λ (h : HeldState). h.ballot_box) (c.held.view_is ∙ c.in_ok-sheets.ensures.held))) c.close.ensures.legal
+    subst IsLegal (sym (ap (λ (h : HeldState). h.ballot_box) (c.held.view_is ∙ c.in_ok-slips_by_desk.ensures.held))) c.close.ensures.legal
 
 pub returns-clause-opened : goal.returns-clause-opened
 returns-clause-opened g c = c.held.invariant.0
 
 pub returns-clause-closed : goal.returns-clause-closed
 returns-clause-closed g c =
-    subst (λ (b : BoxState). IsTrue (is_closed b.steps)) (sym (ap (λ (h : HeldState). h.ballot_box) (c.held.view_is ∙ c.in_ok-sheets.ensures.held))) c.close.ensures.closed
+    subst (λ (b : BoxState). IsTrue (is_closed b.steps)) (sym (ap (λ (h : HeldState). h.ballot_box) (c.held.view_is ∙ c.in_ok-slips_by_desk.ensures.held))) c.close.ensures.closed

@@ -3,10 +3,10 @@
 ghost use Rattle.std.specs.Prelude.{◌≡◌, not, option_copied};
 ghost use Rattle.std.specs.List.{list_any};
 ghost use Rattle.vote_poll_text.specs.Adding.{Adds};
-ghost use Rattle.vote_poll_text.specs.Commands.{command_text, is_plain, is_tellable, mending_text, shell_word};
+ghost use Rattle.vote_hints.specs.Commands.{command_text, is_plain, is_tellable, mending_text, shell_word};
 
-use crate::names::is_printable;
 use std::alloc::AllocError;
+use vote_poll_text::is_printable;
 
 /// Whether a shell takes a byte as it is, without quotes.
 fn is_plain(byte: u8) -> bool
