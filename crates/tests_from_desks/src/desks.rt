@@ -227,7 +227,7 @@ const REFUSED_CASTS: [Deed; 7] = [
     Deed::Cast(0, 0, ANN, Err(EnterFault::StampRange)),
     Deed::Cast(0, 3, ANN, Err(EnterFault::StampRange)),
     Deed::Cast(0, 2, BOB, Ok(Reply::Counted)),
-    Deed::Cast(0, 2, BOB, Err(EnterFault::DeskFull)),
+    Deed::Cast(0, 2, BOB, Err(EnterFault::SheetFull)),
 ];
 
 #[test]

@@ -230,8 +230,8 @@ fn assert_all_told(rt: &impl Abort, gate: &Turnstile, envelopes: u32, audited: &
     let all = u64::from(envelopes);
     assert!(rt; audited.desks() == 2);
     assert_same(rt, gate.counts(), (all, all));
-    gate.assert_told(rt, 1, audited.slips_at(1));
-    gate.assert_told(rt, 2, audited.slips_at(2));
+    gate.assert_told(rt, 1, audited.sheet_of(1));
+    gate.assert_told(rt, 2, audited.sheet_of(2));
 }
 
 /// Takes this many lines at two desks through a gate, asserts the reports that the gate got, and returns the envelope that was cast

@@ -191,11 +191,11 @@ impl Audited {
     /// The slips of the desk with this number, from 1.
     ///
     /// For callers of the library; the program does not call it.
-    pub fn slips_at(&self, desk: u8) -> &[Slip]
+    pub fn sheet_of(&self, desk: u8) -> &[Slip]
         requires { (1 ≤ desk) × (desk ≤ length self.now.slips_by_desk) }
         ensures { result.now ≡ slips_at self.now.slips_by_desk desk }
     {
-        self.sealed.slips_at(desk)
+        self.sealed.sheet_of(desk)
     }
 
     /// A witness that shows which box was audited, after the box is gone.

@@ -5,7 +5,7 @@
 //! list of them. In a [`RunningMatrix`] a ballot can also be exchanged for another.
 //!
 //! [`outcome`] counts a matrix by the rules of a poll. It drops the options that miss the quorum or
-//! their majority ([`quorum_votes`], [`meets_majority`], [`standing_options`]) and
+//! their majority ([`quorum_votes`], [`meets_quorum`], [`meets_majority`], [`standing_options`]) and
 //! lists the defeats among the others ([`Defeats`]). Then come the rounds. Each finds the transitive
 //! defeats of the list ([`reach`]), the Schwartz set of these ([`schwartz`]), and the [`weakest`]
 //! defeats within it. It removes them from the list, and the next round begins, until there are no
@@ -51,6 +51,6 @@ pub use laws::{
 pub use options::{OptionSet, Word};
 pub use pairs::{Defeats, reach};
 pub use rounds::{Cause, Decision, Round, Verdict, decide, outcome};
-pub use rules::{meets_majority, quorum_votes, schwartz, standing_options, weakest};
+pub use rules::{meets_majority, meets_quorum, quorum_votes, schwartz, standing_options, weakest};
 pub use running_matrix::RunningMatrix;
 pub use tally::{Matrix, recount};

@@ -17,7 +17,18 @@ pub fn quorum_votes(poll: &Poll) -> u64
 }
 
 /// Whether the votes of an option over the default option meet the quorum (section 4.2; Appendix A,
-/// Vote Counting). `quorum` is the fewest votes that meet it. The option is not the default option.
+/// Vote Counting). The option is not the default option. For callers of the library; the program does
+/// not call it.
+pub fn meets_quorum(poll: &Poll, matrix: &Matrix, option: u8) -> bool
+    requires options { matrix.now.options ≡ option_count poll.now }
+    requires first { 1 ≤ option }
+    requires below_default { option < option_count poll.now }
+    ensures { IsTrue result ↔ MeetsQuorum poll.now (votes_for poll.now matrix.now option) }
+{
+    has_quorum(poll, matrix, option, quorum_votes(poll))
+}
+
+// The same. `quorum` is the fewest votes that meet the quorum.
 pub(crate) fn has_quorum(poll: &Poll, matrix: &Matrix, option: u8, quorum: u64) -> bool
     requires options { matrix.now.options ≡ option_count poll.now }
     requires first { 1 ≤ option }

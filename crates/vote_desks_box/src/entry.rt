@@ -1,7 +1,7 @@
 //! Enters an envelope at a desk.
 ghost use Rattle.std.specs.Prelude.{◌≡◌, ◌≢◌, ◌+◌, ◌<◌, ◌↔◌, Err, IsTrue, IfOk, OnErr, OnOk};
 ghost use Rattle.vote_steps.specs.Boxes.{HasUsed, IsLegal, IsOutOfRange};
-ghost use Rattle.vote_desks_box.specs.declared.fault.EnterFault.TheVariants.{Sizes, DeskFull, StampRange, StampUsed};
+ghost use Rattle.vote_desks_box.specs.declared.fault.EnterFault.TheVariants.{Sizes, SheetFull, StampRange, StampUsed};
 ghost use Rattle.vote_desks_box.specs.Desks.{FitsBox, HasRoom, IsLater, next_slip, refused_by, valid_by, with_cast, with_slip};
 ghost use Rattle.vote_desks_box.specs.Entering.{LacksRoom, NoStamp, WasUsed};
 
@@ -26,7 +26,7 @@ pub fn enter<VL: Tally, RL: Tally>(
     ensures legal { OnOk result (IsLegal held.old.ballot_box) }
 
     ensures sizes { (result ≡ Err Sizes) ↔ ¬ FitsBox held.old.ballot_box reading }
-    ensures full { (result ≡ Err DeskFull) ↔ LacksRoom held.old.ballot_box desk.old reading }
+    ensures full { (result ≡ Err SheetFull) ↔ LacksRoom held.old.ballot_box desk.old reading }
     ensures range { (result ≡ Err StampRange) ↔ NoStamp held.old.ballot_box desk.old stamp reading }
     ensures used { (result ≡ Err StampUsed) ↔ WasUsed held.old.ballot_box desk.old stamp reading }
     ensures err { OnErr result ((held.new ≡ held.old) × (desk.new ≡ desk.old)) }
@@ -35,7 +35,7 @@ pub fn enter<VL: Tally, RL: Tally>(
         return Err(EnterFault::Sizes);
     }
     if desk.slips.len() >= desk.limit as usize {
-        return Err(EnterFault::DeskFull);
+        return Err(EnterFault::SheetFull);
     }
     cast_and_note(held, desk, stamp, reading)
 }
@@ -54,7 +54,7 @@ fn cast_and_note<VL: Tally, RL: Tally>(
     ensures slip { IfOk result (λ slip. slip ≡ next_slip held.old.ballot_box stamp reading) }
     ensures noted { IfOk result (λ slip. desk.new ≡ with_slip desk.old slip) }
     ensures legal { OnOk result (IsLegal held.old.ballot_box) }
-    ensures tested { (result ≢ Err Sizes) × (result ≢ Err DeskFull) }
+    ensures tested { (result ≢ Err Sizes) × (result ≢ Err SheetFull) }
     ensures range { (result ≡ Err StampRange) ↔ IsOutOfRange held.old.ballot_box stamp }
     ensures used { (result ≡ Err StampUsed) ↔ HasUsed held.old.ballot_box stamp }
     ensures err { OnErr result ((held.new ≡ held.old) × (desk.new ≡ desk.old)) }

@@ -14,7 +14,7 @@ pub enum EnterFault {
     Sizes,
     /// The desk has as many slips as its limit.
     #[error("the desk has as many slips as its limit")]
-    DeskFull,
+    SheetFull,
     /// The stamp is 0, or above the limit of the box.
     #[error("the stamp is not from 1 to the limit of the box")]
     StampRange,

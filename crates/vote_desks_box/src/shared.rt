@@ -3,7 +3,7 @@ ghost use Rattle.std.specs.Prelude.{◌≡◌, ◌+◌, ◌≤◌, ◌↔◌, []
 ghost use Rattle.vote_steps.specs.History.{is_closed};
 ghost use Rattle.vote_steps.specs.Boxes.{IsLegal, box_of};
 ghost use Rattle.vote_steps.specs.Desks.{AreDesks};
-ghost use Rattle.vote_desks_box.specs.declared.fault.EnterFault.TheVariants.{Sizes, DeskFull, StampRange};
+ghost use Rattle.vote_desks_box.specs.declared.fault.EnterFault.TheVariants.{Sizes, SheetFull, StampRange};
 ghost use Rattle.vote_desks_box.specs.Answering.{CanClose, CanNote, CanStand};
 ghost use Rattle.vote_desks_box.specs.Desks.{FitsBox, IsLater, fresh_desk, fresh_desks, shared_for, standing_in, with_close, with_slip};
 ghost use Rattle.vote_desks_box.specs.Entering.{LacksRoom, NoStamp};
@@ -146,7 +146,7 @@ impl<VL: Tally, RL: Tally> SharedBox<VL, RL> {
         ensures stamp { IfOk result (λ slip. slip.stamp ≡ stamp) }
         ensures slip { IfOk result (CanNote self.now.opened stamp reading) }
         ensures sizes { (result ≡ Err Sizes) ↔ ¬ FitsBox self.now.opened reading }
-        ensures full { (result ≡ Err DeskFull) ↔ LacksRoom self.now.opened desk.old reading }
+        ensures full { (result ≡ Err SheetFull) ↔ LacksRoom self.now.opened desk.old reading }
         ensures range { (result ≡ Err StampRange) ↔ NoStamp self.now.opened desk.old stamp reading }
         ensures err { OnErr result (desk.new ≡ desk.old) }
     {

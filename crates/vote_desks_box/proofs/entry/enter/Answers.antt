@@ -1,17 +1,17 @@
 -- By the order of the tests: a fault comes only if no earlier test fails, and of two different faults one call returns one.
 use Rattle.std.proofs.Common.{◌≡◌, ◌<◌, ◌≤◌, Result, Err, length, refl, ◌∙◌, subst, arith}
 use Rattle.vote_desks_box.specs.declared.fault.EnterFault.{EnterFault}
-use Rattle.vote_desks_box.specs.declared.fault.EnterFault.TheVariants.{DeskFull, StampRange, StampUsed}
+use Rattle.vote_desks_box.specs.declared.fault.EnterFault.TheVariants.{SheetFull, StampRange, StampUsed}
 use Rattle.vote_desks_box.specs.declared.slip.Slip.{Slip}
 use Rattle.vote_desks_box.specs.Desks.{DeskState, FitsBox, HasRoom, HeldState}
 use Rattle.vote_desks_box.proofs.entry.enter.Given.{Over}
 use Rattle.vote_desks_box.proofs.entry.enter.Goals as goal
 
 -- on its own: among the facts of the function `cc` would not find it
-no_range : ◌≡◌ {A = Result Slip EnterFault} (Err DeskFull) (Err StampRange) → ⊥
+no_range : ◌≡◌ {A = Result Slip EnterFault} (Err SheetFull) (Err StampRange) → ⊥
 no_range e = cc
 
-no_used : ◌≡◌ {A = Result Slip EnterFault} (Err DeskFull) (Err StampUsed) → ⊥
+no_used : ◌≡◌ {A = Result Slip EnterFault} (Err SheetFull) (Err StampUsed) → ⊥
 no_used e = cc
 
 no_room : (g : Over) (c : goal.Then-len-desk g) → ¬ HasRoom c.args.desk.now

@@ -7,7 +7,7 @@ use Rattle.vote_steps.specs.Boxes.{BoxState, IsLegal}
 use Rattle.vote_desks_box.specs.Answering.{CanNote}
 use Rattle.vote_desks_box.specs.declared.fault.EnterFault.{EnterFault}
 use Rattle.vote_desks_box.specs.declared.slip.Slip.{Slip}
-use Rattle.vote_desks_box.specs.declared.fault.EnterFault.TheVariants.{Sizes, DeskFull, StampRange}
+use Rattle.vote_desks_box.specs.declared.fault.EnterFault.TheVariants.{Sizes, SheetFull, StampRange}
 use Rattle.vote_desks_box.specs.Desks.{FitsBox, HasRoom, IsLater, SharedState, next_slip}
 use Rattle.vote_desks_box.proofs.shared.SharedBox.cast.Given.{Over}
 use Rattle.vote_desks_box.proofs.shared.SharedBox.cast.Goals as goal
@@ -39,7 +39,7 @@ pub returns-clause-sizes : goal.returns-clause-sizes
 returns-clause-sizes g c = subst (λ (b : BoxState). (c.enter.result ≡ Err Sizes) ↔ ¬ FitsBox b c.args.reading) (later g c) c.enter.ensures.sizes
 
 pub returns-clause-full : goal.returns-clause-full
-returns-clause-full g c = subst (λ (b : BoxState). (c.enter.result ≡ Err DeskFull) ↔ (FitsBox b c.args.reading × ¬ HasRoom c.args.desk.now)) (later g c) c.enter.ensures.full
+returns-clause-full g c = subst (λ (b : BoxState). (c.enter.result ≡ Err SheetFull) ↔ (FitsBox b c.args.reading × ¬ HasRoom c.args.desk.now)) (later g c) c.enter.ensures.full
 
 pub returns-clause-range : goal.returns-clause-range
 returns-clause-range g c =

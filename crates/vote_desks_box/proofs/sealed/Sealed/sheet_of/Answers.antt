@@ -4,7 +4,7 @@ use Rattle.std.specs.Option.{option_map}
 use Rattle.std.proofs.lemmas.List.{length-map}
 use Rattle.std.proofs.lemmas.Option.{slice_get-map, slice_get_read}
 use Rattle.vote_desks_box.specs.Desks.{SealedState}
-use Rattle.vote_desks_box.proofs.sealed.Sealed.slips_at.Goals as goal
+use Rattle.vote_desks_box.proofs.sealed.Sealed.sheet_of.Goals as goal
 
 pub returns : goal.returns
 returns c =
