@@ -360,6 +360,7 @@ def opened(book: Book, raw: RawLetter) -> RawLetter:
             line, elector, link, own, third, sent = inside.groups() if inside else [""] * 6
             true = personal_link(key, elector, own)
             if (link, proof) == (true, proof_digest(mark, true)):
+                # for people who read the letter: the program has these values beside it
                 fields = f"X-Link: {third}\nX-Sealed: {raw.digest}\nX-Sent: {sent}\n"
                 data = f"{head}{fields}{rest}{line}\n-- \n".encode()
                 return dataclasses.replace(

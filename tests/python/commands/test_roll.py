@@ -1,4 +1,4 @@
-"""`roll` and `check`: the electors that the book gets, what they are called, and what is said of list and poll."""
+"""`roll`, `check` and `status --electors`: the electors that the book gets, what they are called, and what is said of list and poll."""
 
 import importlib.util
 import json
