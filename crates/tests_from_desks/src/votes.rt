@@ -309,7 +309,7 @@ struct Lookout {
 
 impl Gate for Lookout {
     fn before(&self, _desk: u8, _stamp: u32) -> bool {
-        if self.asked.fetch_add(1, SeqCst) == 0 && reaches_by(&self.asked, 2, 10_000_000) {
+        if self.asked.fetch_add(1, SeqCst) == 0 && reaches_by(&self.asked, 2, 50_000_000) {
             self.meanwhile.store(1, SeqCst);
         }
         true
