@@ -13,19 +13,6 @@ pub own_in_both : (poll : PollContent) (lines : List (List ℕ)) (steps front ba
 own_in_both poll lines steps front back whole f b =
     subst (HasOwnReadings poll lines) (sym whole) (All-append (HasOwnReading (readings poll lines)) front back f b)
 
-pub differs_in_front : (poll : PollContent) (lines : List (List ℕ)) (steps front back : List Step) (number : ℕ) → steps ≡ front ++ back
-    → DiffersFirst poll lines front number → DiffersFirst poll lines steps number
-differs_in_front poll lines steps front back number whole h =
-    record {
-      before = h.before;
-      step = h.step;
-      after = h.after ++ back;
-      here = whole ∙ ap (λ xs. xs ++ back) h.here ∙ append_assoc h.before (h.step ∷ h.after) back;
-      number_is = h.number_is;
-      so_far = h.so_far;
-      differs = h.differs;
-    }
-
 pub differs_in_back : (poll : PollContent) (lines : List (List ℕ)) (steps front back : List Step) (number : ℕ) → steps ≡ front ++ back
     → HasOwnReadings poll lines front → DiffersFirst poll lines back number → DiffersFirst poll lines steps (number + length front)
 differs_in_back poll lines steps front back number whole f h =

@@ -1,20 +1,10 @@
 -- A search for the first element that passes a test, and whether there is one.
-use Rattle.std.proofs.Common.{◌≡◌, ◌+◌, ◌<◌, ◌≤◌, ℕ, List, [], ◌∷◌, length, take, get_or, Bool, true, false, cond, Some, None, arith, refl, ap, sym, ◌∙◌, inl, inr, nat_lt, suc}
+use Rattle.std.proofs.Common.{◌≡◌, ◌+◌, ◌<◌, ◌≤◌, ℕ, List, [], ◌∷◌, length, take, get_or, Bool, true, false, Some, None, arith, refl, ap, sym, ◌∙◌, inl, inr}
 use Rattle.std.specs.List.{position, position_or_len, list_any}
-use Rattle.std.specs.Option.{is_some}
 use Rattle.std.proofs.lemmas.Bool.{cases_Bool, lt-ltb, le-ltb}
-use Rattle.std.proofs.lemmas.Bool.Decides.{nat_tests}
 use Rattle.std.proofs.lemmas.List.{get_or-take, length-take-le, take_all}
 use Rattle.std.proofs.lemmas.List.Folds.{list_any_at, list_any_more}
 use Rattle.std.proofs.lemmas.List.Sums.{position_or_len_is}
-
-one_more : (a b : ℕ) (t : Bool) → nat_lt a b ≡ t → nat_lt (1 + a) (suc b) ≡ t
-one_more a b true h = grind (arith, nat_tests)
-one_more a b false h = grind (arith, nat_tests)
-
-chosen : (b : Bool) (n : ℕ) → is_some (cond b (Some n) None) ≡ b
-chosen true n = refl
-chosen false n = refl
 
 module _ {X : Type 0} (p : X → Bool) where
   -- none of the first elements passes
@@ -45,14 +35,3 @@ module _ {X : Type 0} (p : X → Bool) where
 
   pub found-nowhere : (xs : List X) (i : ℕ) → length xs ≤ i → list_any p (take i xs) ≡ false → position p xs ≡ None
   found-nowhere xs i past none = missing xs (ap (list_any p) (sym (take_all i xs past)) ∙ none)
-
-  is_within : (xs : List X) → nat_lt (position_or_len p xs) (length xs) ≡ list_any p xs
-  is_within [] = refl
-  is_within (x ∷ xs) = elim (cases_Bool (p x)) [
-    | inl here ↦ rw here (lt-ltb 0 (length (x ∷ xs)) (omega arith))
-    | inr other ↦ rw other (one_more (position_or_len p xs) (length xs) (list_any p xs) (is_within xs))
-  ]
-
-  -- the search finds an element exactly when there is one
-  pub is_some-position : (xs : List X) → is_some (position p xs) ≡ list_any p xs
-  is_some-position xs = chosen (nat_lt (position_or_len p xs) (length xs)) (position_or_len p xs) ∙ is_within xs

@@ -1,5 +1,5 @@
 -- Names, and look-ups of a name.
-use Rattle.std.proofs.Common.{◌≡◌, ◌<◌, ◌≤◌, ◌==◌, ℕ, Bool, true, not, List, [], ◌∷◌, map, refl, sym, length, get_or, Option, Some, None, IfSome, nat_lt, false, arith}
+use Rattle.std.proofs.Common.{◌≡◌, ◌<◌, ◌≤◌, ℕ, Bool, true, not, List, [], ◌∷◌, map, refl, sym, length, get_or, Option, Some, None, IfSome, nat_lt, false, arith}
 use Rattle.std.specs.Prelude.{IsTrue}
 use Rattle.std.specs.List.{position, position_or_len, prefix_len, All, AllPass, list_all}
 use Rattle.std.proofs.lemmas.List.Sums.{position_or_len_is}
@@ -21,12 +21,6 @@ use Rattle.vote_poll_text.specs.declared.TheConstants.{MAX_VOTER_NAME}
 
 pub within_bounds : (low high n : ℕ) → is_within low high n ≡ true → (low ≤ n) × (n ≤ high)
 within_bounds low high n h = (grind (arith, nat_tests), grind (arith, nat_tests))
-
-pub within_from : (low high n : ℕ) → low ≤ n → n ≤ high → is_within low high n ≡ true
-within_from low high n least most = grind (arith, nat_tests)
-
-pub some_names : {X : Type 0} (names : List X) (is_empty : Bool) → is_empty ≡ (length names == 0) → is_empty ≡ false → 1 ≤ length names
-some_names names is_empty is some = grind (arith, nat_tests)
 
 prefix_len-map : {X Y : Type 0} (p : Y → Bool) (f : X → Y) (xs : List X) → prefix_len p (map f xs) ≡ prefix_len (λ x. p (f x)) xs
 prefix_len-map p f [] = refl

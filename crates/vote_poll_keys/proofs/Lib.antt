@@ -1,3 +1,2 @@
-pub mod Gives
 mod KeyLaws
 pub mod KeysLaws
