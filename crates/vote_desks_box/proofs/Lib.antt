@@ -1,5 +1,5 @@
 pub mod ClosingLemmas
-pub mod Fronts
+pub mod Merging
 pub mod Ranges
 pub mod Numbered
 pub mod SlipSums

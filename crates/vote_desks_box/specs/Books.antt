@@ -5,7 +5,7 @@ use Rattle.vote_steps.specs.Boxes.{BoxState}
 use Rattle.vote_steps.specs.History.{valid, refused}
 use Rattle.vote_desks_box.specs.declared.slip.Slip.{Slip}
 use Rattle.vote_desks_box.specs.Slips.{valid_slips, refused_slips}
-use Rattle.vote_desks_box.specs.Desks.{DeskState, slips_on}
+use Rattle.vote_desks_box.specs.Desks.{DeskState}
 
 -- the sum of these desks' shares of the book of valid lines
 abbrev pub valid_at : {Z : Type 0} → Vec DeskState Z → ℕ
@@ -14,14 +14,6 @@ valid_at desks = sum_by (λ desk. desk.valid_share) desks.items
 -- the sum of these desks' shares of the book of refused lines
 abbrev pub refused_at : {Z : Type 0} → Vec DeskState Z → ℕ
 refused_at desks = sum_by (λ desk. desk.refused_share) desks.items
-
--- the number of slips of valid lines in all these lists
-abbrev pub valid_on : {Z : Type 0} → List (Vec Slip Z) → ℕ
-valid_on slips_by_desk = sum_by valid_slips (slips_on slips_by_desk)
-
--- the number of slips of refused lines in all these lists
-abbrev pub refused_on : {Z : Type 0} → List (Vec Slip Z) → ℕ
-refused_on slips_by_desk = sum_by refused_slips (slips_on slips_by_desk)
 
 -- the box counts as many valid and as many refused lines as the desks' shares add up to, and as the desks have slips for
 pub record MeetsBooks {Z : Type 0} (desks : Vec DeskState Z) (b : BoxState) (slips_by_desk : List (List Slip)) : Type 0 where

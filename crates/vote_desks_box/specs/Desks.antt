@@ -113,10 +113,6 @@ slips_of desks = map (λ desk. desk.slips) desks.items
 abbrev pub slips_on : {Z : Type 0} → List (Vec Slip Z) → List (List Slip)
 slips_on slips_by_desk = map vec_items slips_by_desk
 
--- the slips of these desks are appended to those before
-abbrev pub AddsSlips : {Y Z : Type 0} → Vec DeskState Y → List (Vec Slip Z) → List (Vec Slip Z) → Type 0
-AddsSlips desks before after = slips_on after ≡ slips_on before ++ slips_of desks
-
 -- these are the slips of desks 1, 2 and so on, in this order; the desks may come in any order
 abbrev pub AreSlipsInOrder : {Z : Type 0} → Vec DeskState Z → List (List Slip) → Type 0
 AreSlipsInOrder desks slips_by_desk = IsPermutation (map (λ desk. (desk.number, desk.slips)) desks.items) (enumerate_from 1 slips_by_desk)

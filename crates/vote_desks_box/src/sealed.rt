@@ -1,10 +1,11 @@
 //! Gathers the desks and their slips, and closes the box.
-ghost use Rattle.std.specs.Prelude.{◌≡◌, ◌+◌, ◌≤◌, ◌<◌, ◌↔◌, Err, length, map, IsTrue, IfOk, OnOk, vec_len};
+ghost use Rattle.std.specs.Prelude.{◌≡◌, ◌≤◌, ◌<◌, ◌↔◌, Err, length, map, IsTrue, IfOk, vec_len};
+ghost use Rattle.std.specs.Bool.{OnTrue};
 ghost use Rattle.std.specs.List.{range_with_len};
 ghost use Rattle.vote_steps.specs.Boxes.{IsLegal};
 ghost use Rattle.vote_steps.specs.History.{is_closed};
-ghost use Rattle.vote_desks_box.specs.Desks.{AddsSlips, AreAllDesks, AreSlipsInOrder, HasSlipsForCasts, IsLater, slips_at, slips_of, slips_on};
-ghost use Rattle.vote_desks_box.specs.Books.{MeetsBooks, refused_at, refused_on, valid_at, valid_on};
+ghost use Rattle.vote_desks_box.specs.Desks.{AreAllDesks, AreSlipsInOrder, HasSlipsForCasts, IsLater, slips_at, slips_of, slips_on};
+ghost use Rattle.vote_desks_box.specs.Books.{MeetsBooks};
 
 use crate::desk::{Desk, Held, Tally};
 use crate::fault::DeskFault;
@@ -12,7 +13,6 @@ use crate::shared::{SharedBox, close};
 use crate::slip::Slip;
 use std::alloc::{AllocError, Global};
 use std::marker::Model;
-use std::sync::ledger::Share;
 use vote_steps::laws::each_cast_is_counted;
 use vote_steps::{BallotBox, MAX_DESKS};
 
@@ -77,33 +77,6 @@ impl Sealed {
     }
 }
 
-/// Merges the shares of these desks into `valid` and `refused`, and appends their slips to
-/// `slips_by_desk`.
-fn merge_each<VL: Tally, RL: Tally>(
-    desks: &mut Vec<Desk<VL, RL>>,
-    valid: &mut Share<VL>,
-    refused: &mut Share<RL>,
-    slips_by_desk: &mut Vec<Vec<Slip>>,
-) -> Result<(), AllocError>
-    requires valid { valid.old.amount ≡ valid_on slips_by_desk.old.items }
-    requires refused { refused.old.amount ≡ refused_on slips_by_desk.old.items }
-    ensures valid_cut { OnOk result (valid.new.parts ≡ valid.old.parts + vec_len desks.old) }
-    ensures refused_cut { OnOk result (refused.new.parts ≡ refused.old.parts + vec_len desks.old) }
-    ensures valid { OnOk result (valid.new.amount ≡ valid.old.amount + valid_at desks.old) }
-    ensures refused { OnOk result (refused.new.amount ≡ refused.old.amount + refused_at desks.old) }
-    ensures valid_slips { OnOk result (valid.new.amount ≡ valid_on slips_by_desk.new.items) }
-    ensures refused_slips { OnOk result (refused.new.amount ≡ refused_on slips_by_desk.new.items) }
-    ensures slips_by_desk { OnOk result (AddsSlips desks.old slips_by_desk.old.items slips_by_desk.new.items) }
-{
-    while !desks.is_empty() {
-        let next = desks.remove(0);
-        valid.merge(next.valid_share);
-        refused.merge(next.refused_share);
-        slips_by_desk.push(next.slips)?;
-    }
-    Ok(())
-}
-
 /// Merges the shares of all desks, shows that they equal the books, and returns the slips.
 fn meet<VL: Tally, RL: Tally>(
     alloc: Global,
@@ -117,24 +90,21 @@ fn meet<VL: Tally, RL: Tally>(
     ensures books { IfOk result (λ all. MeetsBooks desks held.old.ballot_box (slips_on all.items)) }
     ensures held { held.new ≡ held.old }
 {
-    let mut desks = desks;
+    let mut desks = desks.into_iter();
+    let Some(first) = desks.next() else {
+        unreachable!()
+    };
+    let mut valid = first.valid_share;
+    let mut refused = first.refused_share;
     let mut slips_by_desk = Vec::new(alloc);
-    let Desk {
-        number: _,
-        limit: _,
-        slips,
-        mut valid_share,
-        mut refused_share,
-    } = desks.remove(0);
-    slips_by_desk.push(slips)?;
-    merge_each(
-        &mut desks,
-        &mut valid_share,
-        &mut refused_share,
-        &mut slips_by_desk,
-    )?;
-    held.valid_book.audit(&mut valid_share);
-    held.refused_book.audit(&mut refused_share);
+    slips_by_desk.push(first.slips)?;
+    while let Some(desk) = desks.next() {
+        valid.merge(desk.valid_share);
+        refused.merge(desk.refused_share);
+        slips_by_desk.push(desk.slips)?;
+    }
+    held.valid_book.audit(&mut valid);
+    held.refused_book.audit(&mut refused);
     Ok(slips_by_desk)
 }
 
@@ -169,7 +139,8 @@ fn seal<VL: Tally, RL: Tally>(
 
 /// Whether the desks have the numbers 1 to `opened`, in order.
 fn are_complete<VL: Tally, RL: Tally>(desks: &[Desk<VL, RL>], opened: u8) -> bool
-    ensures { IsTrue result ↔ (map (λ desk. desk.number) desks.now ≡ range_with_len 1 opened) }
+    ensures complete { IsTrue result ↔ (map (λ desk. desk.number) desks.now ≡ range_with_len 1 opened) }
+    ensures len { OnTrue result (length desks.now ≡ opened) }
 {
     if desks.len() != usize::from(opened) {
         return false;

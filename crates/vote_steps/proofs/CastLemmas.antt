@@ -1,12 +1,14 @@
 -- The history in which desk 1 casts lines in their order.
 use Rattle.std.proofs.Common.{◌≡◌, ℕ, zero, suc, ◌+◌, ◌-◌, ◌<◌, ◌≤◌, false, ◌||◌, eqb, List, [], ◌∷◌, ◌++◌, Some, length, get_or, refl, inl, inr, sym, ap, ◌∙◌, subst, length-append, take, drop, arith}
 use Rattle.std.specs.Prelude.{All, slice_get}
+use Rattle.std.specs.Option.{option_map}
 use Rattle.std.proofs.lemmas.Bool.{cases_lt, ne_eqb}
+use Rattle.std.proofs.lemmas.Grind.{common_steps}
 use Rattle.std.proofs.lemmas.List.{take_at}
 use Rattle.std.specs.Str.{bytes_eq}
 use Rattle.std.proofs.lemmas.List.Elements.{All-nil, All-push}
 use Rattle.std.proofs.lemmas.List.Quantifiers.{position-Some}
-use Rattle.std.proofs.lemmas.Option.{get_or_from_slice_get, slice_get_within, slice_get-get_or}
+use Rattle.std.proofs.lemmas.Option.{get_or_from_slice_get, gets, slice_get_within, slice_get-get_or, slice_get-map}
 use mathlib.Core.List.{append-nil}
 use Rattle.vote_poll.specs.PollContent.{PollContent, elector_count, last_in_time, option_count}
 use Rattle.vote_poll.specs.Readings.{IsReading, ReadingFits, reading, readings}
@@ -39,9 +41,7 @@ unfolding casts_of
 none_cast last readings = refl
 
 pub read_at : (poll : PollContent) (lines : List (List ℕ)) (k : ℕ) (line : List ℕ) → slice_get lines k ≡ Some line → slice_get (readings poll lines) k ≡ Some (reading poll line)
-read_at poll [] k line h = cc
-read_at poll (x ∷ xs) zero line h = let same : x ≡ line = cc in ap (λ y. Some (reading poll y)) same
-read_at poll (x ∷ xs) (suc k) line h = read_at poll xs k line h
+read_at poll lines k line h = slice_get-map (reading poll) lines k ∙ ap (option_map (reading poll)) h
 
 -- after the next line
 pub casts_of_next : (last : ℕ) (readings : List Reading) (k n : ℕ) (r : Reading) → slice_get readings k ≡ Some r → n ≡ k + 1
@@ -88,15 +88,10 @@ casts_of_own last readings (suc k) h =
     (omega arith, ap (slice_get readings) back ∙ slice_get-get_or readings k (Bad Shape) (omega arith))
 
 get_before : (steps : List Step) (step : Step) (k : ℕ) → k < length steps → slice_get (steps ++ step ∷ []) k ≡ slice_get steps k
-get_before [] step k h = absurd (omega arith)
-get_before (x ∷ xs) step zero h = refl
-get_before (x ∷ xs) step (suc k) h = get_before xs step k (omega arith)
+get_before steps step k h = grind (arith, common_steps, gets)
 
 get_last : (steps : List Step) (step : Step) (k : ℕ) → k ≡ length steps → slice_get (steps ++ step ∷ []) k ≡ Some step
-get_last [] step zero h = refl
-get_last [] step (suc k) h = absurd (omega arith)
-get_last (x ∷ xs) step zero h = absurd (omega arith)
-get_last (x ∷ xs) step (suc k) h = get_last xs step k (omega arith)
+get_last steps step k h = grind (arith, common_steps, gets)
 
 casts_of_at : (last : ℕ) (readings : List Reading) (k place : ℕ) → place < k → (reply : Reply) × (slice_get (casts_of last readings k) place ≡ Some (Cast 1 (place + 1) (reading_at readings place) reply))
 unfolding casts_of

@@ -2,6 +2,7 @@
 use Rattle.std.proofs.Common.{◌≡◌, ℕ, ◌+◌, ◌<◌, ◌≤◌, Bool, true, false, ◌||◌, cond, eqb, ltb, not, List, [], ◌∷◌, ◌++◌, Option, Some, None, length, get_or, set, refl, sym, ap, ◌∙◌, ⊎_elim, arith, append-nil, length-set}
 use Rattle.std.specs.Prelude.{option_map}
 use Rattle.std.specs.List.{list_any, cons_option, filter_map, count_by}
+use Rattle.std.proofs.Math.Bool.{or-false}
 use Rattle.std.proofs.lemmas.Bool.{eq-eqb, ne_eqb, lt-ltb, le-ltb, cases_eq, cases_Bool}
 use Rattle.std.proofs.lemmas.Bool.Decides.{nat_tests}
 use Rattle.std.proofs.lemmas.List.{ext_get_or, get_or-set_same, get_or-set_other}
@@ -9,13 +10,12 @@ use Rattle.std.proofs.lemmas.List.Elements.{filter_map-append}
 use Rattle.std.proofs.lemmas.List.Folds.{list_any-append}
 use Rattle.std.proofs.lemmas.List.FromFn.{length-map-range_with_len, get_or-map-range_with_len}
 use Rattle.std.proofs.lemmas.List.Sums.{sum_by_push}
-use Rattle.vote_poll.specs.declared.LineFault.{LineFault}
 use Rattle.vote_poll.specs.declared.Reading.{Reading}
 use Rattle.vote_poll.specs.declared.Reading.TheVariants.{Ballot, Bad}
 use Rattle.vote_count.proofs.Counts.{count-cons}
 use Rattle.vote_steps.specs.declared.step.Received.{Received}
 use Rattle.vote_steps.specs.declared.step.Reply.{Reply}
-use Rattle.vote_steps.specs.declared.step.Reply.TheVariants.{BoxClosed, Late, Superseded, Replaced}
+use Rattle.vote_steps.specs.declared.step.Reply.TheVariants.{BoxClosed, Late}
 use Rattle.vote_steps.specs.declared.step.Step.{Step}
 use Rattle.vote_steps.specs.declared.step.Step.TheVariants.{Cast, Close}
 use Rattle.vote_steps.specs.Receiving.{after_ballot}
@@ -35,16 +35,6 @@ pub before_close-append_closed : (steps more : List Step) → is_closed steps �
 before_close-append_closed [] more h = cc
 before_close-append_closed (Cast d n r p ∷ steps) more h = ap (λ xs. Cast d n r p ∷ xs) (before_close-append_closed steps more h)
 before_close-append_closed (Close ∷ steps) more h = refl
-
-pub after_close-append_open : (steps more : List Step) → is_closed steps ≡ false → after_close (steps ++ more) ≡ after_close more
-after_close-append_open [] more h = refl
-after_close-append_open (Cast d n r p ∷ steps) more h = after_close-append_open steps more h
-after_close-append_open (Close ∷ steps) more h = cc
-
-pub after_close-append_closed : (steps more : List Step) → is_closed steps ≡ true → after_close (steps ++ more) ≡ after_close steps ++ more
-after_close-append_closed [] more h = cc
-after_close-append_closed (Cast d n r p ∷ steps) more h = after_close-append_closed steps more h
-after_close-append_closed (Close ∷ steps) more h = refl
 
 pub before_close_open : (steps : List Step) → is_closed steps ≡ false → before_close steps ≡ steps
 before_close_open [] h = refl
@@ -86,24 +76,12 @@ standing-append_open last steps (Cast d n r p) v h =
 standing-append_open last steps Close v h = ap latest (ballots-append_open last steps Close v h) ∙ ap latest (append-nil (ballots last steps v))
 
 -- the close
-pub or_false : (b : Bool) → (b || false) ≡ b
-or_false true = refl
-or_false false = refl
-
 pub is_closed-append : (steps : List Step) (step : Step) → is_closed (steps ++ step ∷ []) ≡ (is_closed steps || is_close step)
-is_closed-append steps step = list_any-append is_close steps (step ∷ []) ∙ ap (λ b. is_closed steps || b) (or_false (is_close step))
-
-pub after_close_open : (steps : List Step) → is_closed steps ≡ false → after_close steps ≡ []
-after_close_open [] h = refl
-after_close_open (Cast d n r p ∷ steps) h = after_close_open steps h
-after_close_open (Close ∷ steps) h = cc
+is_closed-append steps step = list_any-append is_close steps (step ∷ []) ∙ ap (λ b. is_closed steps || b) (or-false (is_close step))
 
 -- the counts after one more step
 pub count_by-push : (test : Step → Bool) (steps : List Step) (step : Step) → count_by test (steps ++ step ∷ []) ≡ count_by test steps + cond (test step) 1 0
 count_by-push test steps step = sum_by_push (λ x. cond (test x) 1 0) steps step
-
-pub count_by-cast : (steps : List Step) (step : Step) → count_by is_cast (steps ++ step ∷ []) ≡ count_by is_cast steps + cond (is_cast step) 1 0
-count_by-cast steps step = count_by-push is_cast steps step
 
 only_casts : (steps : List Step) → count_by is_cast (before_close steps) ≡ length (before_close steps)
 only_casts [] = refl
@@ -113,7 +91,7 @@ only_casts (Cast desk stamp reading reply ∷ steps) =
 
 -- if the only close is the last step, all other steps are casts
 pub casts_before : (steps : List Step) → steps ≡ before_close steps ++ Close ∷ [] → count_by is_cast steps ≡ length (before_close steps)
-casts_before steps last = omega (arith, ap (count_by is_cast) last, count_by-cast (before_close steps) Close, only_casts steps)
+casts_before steps last = omega (arith, ap (count_by is_cast) last, count_by-push is_cast (before_close steps) Close, only_casts steps)
 
 pub valid-append_open : (last : ℕ) (steps : List Step) (step : Step) → is_closed steps ≡ false → valid last (steps ++ step ∷ []) ≡ valid last steps + cond (is_ballot last step) 1 0
 valid-append_open last steps (Cast d n r p) h =
@@ -123,28 +101,11 @@ valid-append_open last steps Close h = rw (before_close-append_open steps (Close
 pub valid-append_closed : (last : ℕ) (steps : List Step) (step : Step) → is_closed steps ≡ true → valid last (steps ++ step ∷ []) ≡ valid last steps
 valid-append_closed last steps step h = ap (count_by (is_ballot last)) (before_close-append_closed steps (step ∷ []) h)
 
-pub refused-append_open : (last : ℕ) (steps : List Step) (step : Step) → is_closed steps ≡ false → refused last (steps ++ step ∷ []) ≡ refused last steps + cond (is_refused last step) 1 0
-refused-append_open last steps (Cast d n r p) h =
-    rw (before_close-append_open steps (Cast d n r p ∷ []) h, after_close-append_open steps (Cast d n r p ∷ []) h, before_close_open steps h, after_close_open steps h)
-    (omega (arith, count_by-push (is_refused last) steps (Cast d n r p)))
-refused-append_open last steps Close h =
-    rw (before_close-append_open steps (Close ∷ []) h, after_close-append_open steps (Close ∷ []) h, before_close_open steps h, after_close_open steps h, append-nil steps)
-    (omega arith)
-
-pub refused-append_closed : (last : ℕ) (steps : List Step) (step : Step) → is_closed steps ≡ true → refused last (steps ++ step ∷ []) ≡ refused last steps + cond (is_cast step) 1 0
-refused-append_closed last steps step h =
-    rw (before_close-append_closed steps (step ∷ []) h, after_close-append_closed steps (step ∷ []) h)
-    (omega (arith, count_by-push is_cast (after_close steps) step))
-
 -- each cast is valid or refused
-not_or : (t : Bool) → cond {A = ℕ} (not t) 1 0 + cond {A = ℕ} t 1 0 ≡ 1
-not_or true = refl
-not_or false = refl
-
 ballot_or_refused : (last : ℕ) (step : Step) → cond {A = ℕ} (is_ballot last step) 1 0 + cond {A = ℕ} (is_refused last step) 1 0 ≡ cond {A = ℕ} (is_cast step) 1 0
 ballot_or_refused last Close = refl
 ballot_or_refused last (Cast d n (Bad f) p) = refl
-ballot_or_refused last (Cast d n (Ballot v r) p) = not_or (ltb last n)
+ballot_or_refused last (Cast d n (Ballot v r) p) = grind (arith, nat_tests)
 
 ballots_and_refused : (last : ℕ) (steps : List Step) → count_by (is_ballot last) steps + count_by (is_refused last) steps ≡ count_by is_cast steps
 ballots_and_refused last [] = refl
@@ -164,7 +125,7 @@ valid-refused last steps = omega (arith, ballots_and_refused last (before_close 
 pub is_used-cast : (steps : List Step) (d n : ℕ) (r : Reading) (p : Reply) (stamp : ℕ) → is_used (steps ++ Cast d n r p ∷ []) stamp ≡ (is_used steps stamp || eqb n stamp)
 is_used-cast steps d n r p stamp =
     ap (list_any (λ used. eqb used stamp)) (filter_map-append stamp_of steps (Cast d n r p ∷ []))
-    ∙ list_any-append (λ used. eqb used stamp) (stamps steps) (n ∷ []) ∙ ap (λ b. is_used steps stamp || b) (or_false (eqb n stamp))
+    ∙ list_any-append (λ used. eqb used stamp) (stamps steps) (n ∷ []) ∙ ap (λ b. is_used steps stamp || b) (or-false (eqb n stamp))
 
 pub is_used-close : (steps : List Step) (stamp : ℕ) → is_used (steps ++ Close ∷ []) stamp ≡ is_used steps stamp
 is_used-close steps stamp =
@@ -206,21 +167,13 @@ pub roll-closed : (last : ℕ) (steps : List Step) (step : Step) (electors : ℕ
 roll-closed last steps step electors h = roll-same last steps (steps ++ step ∷ []) electors (λ v. standing-append_closed last steps step v h)
 
 -- a step that gives no voter a ballot does not change the roll
-roll-none : (last : ℕ) (steps : List Step) (step : Step) (electors : ℕ) → is_closed steps ≡ false → ((v : ℕ) → ballot_of last v step ≡ None)
+pub roll-none : (last : ℕ) (steps : List Step) (step : Step) (electors : ℕ) → is_closed steps ≡ false → ((v : ℕ) → ballot_of last v step ≡ None)
     → roll last (steps ++ step ∷ []) electors ≡ roll last steps electors
 roll-none last steps step electors h none =
     roll-same last steps (steps ++ step ∷ []) electors (λ v. standing-append_open last steps step v h ∙ ap (after_step (standing last steps v)) (none v))
 
 pub roll-close : (last : ℕ) (steps : List Step) (electors : ℕ) → is_closed steps ≡ false → roll last (steps ++ Close ∷ []) electors ≡ roll last steps electors
 roll-close last steps electors h = roll-none last steps Close electors h (λ v. refl)
-
-pub roll-late : (last : ℕ) (steps : List Step) (d n : ℕ) (r : Reading) (p : Reply) (electors : ℕ) → is_closed steps ≡ false → last < n
-    → roll last (steps ++ Cast d n r p ∷ []) electors ≡ roll last steps electors
-roll-late last steps d n r p electors h late = roll-none last steps (Cast d n r p) electors h (λ v. late_gives_none last v d n r p late)
-
-pub roll-bad : (last : ℕ) (steps : List Step) (d n : ℕ) (f : LineFault) (p : Reply) (electors : ℕ) → is_closed steps ≡ false
-    → roll last (steps ++ Cast d n (Bad f) p ∷ []) electors ≡ roll last steps electors
-roll-bad last steps d n f p electors h = roll-none last steps (Cast d n (Bad f) p) electors h (λ v. none_either (ltb last n))
 
 ballot_of_same : (last d : ℕ) (b : Received) (w v : ℕ) (p : Reply) → b.stamp ≤ last → w ≡ v → ballot_of last v (Cast d b.stamp (Ballot w b.ranks) p) ≡ Some b
 ballot_of_same last d b w v p early same = in_time_gives last v d b.stamp (Ballot w b.ranks) p early ∙ ap (λ t. stamped b.stamp (cond t (Some b.ranks) None)) (eq-eqb w v same)
@@ -252,19 +205,11 @@ roll-ballot last steps d b w p electors h early inside =
 -- the reply says how a cast is counted
 is_valid_beside : (o : Option Received) (n : ℕ) → is_valid (reply_beside o n) ≡ true
 is_valid_beside None n = refl
-is_valid_beside (Some b) n = by_test (ltb n b.stamp)
-  where
-    by_test : (t : Bool) → is_valid (cond t Superseded Replaced) ≡ true
-    by_test true = refl
-    by_test false = refl
+is_valid_beside (Some b) n = grind (arith, nat_tests)
 
 pub is_ballot_late : (last d n : ℕ) (r : Reading) (p : Reply) → ltb last n ≡ true → is_ballot last (Cast d n r p) ≡ false
 is_ballot_late last d n (Bad f) p late = refl
 is_ballot_late last d n (Ballot v ranks) p late = ap not late
-
-pub is_refused_late : (last d n : ℕ) (r : Reading) (p : Reply) → ltb last n ≡ true → is_refused last (Cast d n r p) ≡ true
-is_refused_late last d n (Bad f) p late = refl
-is_refused_late last d n (Ballot v ranks) p late = late
 
 is_valid_in_time : (last : ℕ) (steps : List Step) (d n : ℕ) (r : Reading) (p : Reply) → ltb last n ≡ false → is_valid (reply_in_time last steps n r) ≡ is_ballot last (Cast d n r p)
 is_valid_in_time last steps d n (Bad f) p early = refl
@@ -296,15 +241,12 @@ valid-cast last steps d n r p e =
 pub refused-cast : (last : ℕ) (steps : List Step) (d n : ℕ) (r : Reading) (p : Reply) → p ≡ reply_to last steps n r
     → refused last (steps ++ Cast d n r p ∷ []) ≡ refused last steps + cond (is_valid p) 0 1
 refused-cast last steps d n r p e =
-    omega (arith, either_way (is_valid p), valid-cast last steps d n r p e, valid-refused last steps, valid-refused last (steps ++ Cast d n r p ∷ []), count_by-cast steps (Cast d n r p))
-  where
-    either_way : (t : Bool) → cond {A = ℕ} t 1 0 + cond {A = ℕ} t 0 1 ≡ 1
-    either_way true = omega arith
-    either_way false = omega arith
+    let one : cond {A = ℕ} (is_valid p) 1 0 + cond {A = ℕ} (is_valid p) 0 1 ≡ 1 = grind (arith, nat_tests) in
+    omega (arith, valid-cast last steps d n r p e, valid-refused last steps, valid-refused last (steps ++ Cast d n r p ∷ []), count_by-push is_cast steps (Cast d n r p))
 
 pub valid-close : (last : ℕ) (steps : List Step) → valid last (steps ++ Close ∷ []) ≡ valid last steps
 valid-close last steps =
     ⊎_elim (λ (t : is_closed steps ≡ true). valid-append_closed last steps Close t) (λ (t : is_closed steps ≡ false). omega (arith, valid-append_open last steps Close t)) (cases_Bool (is_closed steps))
 
 pub refused-close : (last : ℕ) (steps : List Step) → refused last (steps ++ Close ∷ []) ≡ refused last steps
-refused-close last steps = omega (arith, valid-close last steps, valid-refused last steps, valid-refused last (steps ++ Close ∷ []), count_by-cast steps Close)
+refused-close last steps = omega (arith, valid-close last steps, valid-refused last steps, valid-refused last (steps ++ Close ∷ []), count_by-push is_cast steps Close)

@@ -1,21 +1,22 @@
 -- Facts about every legal history, proved step by step.
-use Rattle.std.proofs.Common.{◌≡◌, ℕ, ◌+◌, ◌<◌, ◌≤◌, Bool, true, false, ◌||◌, cond, eqb, List, [], ◌∷◌, ◌++◌, ⊎_elim, refl, sym, ap, ◌∙◌, subst, arith, length, length-append, append-nil, append_assoc}
+use Rattle.std.proofs.Common.{◌≡◌, ℕ, ◌+◌, ◌<◌, ◌≤◌, true, false, ◌||◌, cond, eqb, List, [], ◌∷◌, ◌++◌, ⊎_elim, refl, sym, ap, ◌∙◌, subst, arith, length, length-append, append-nil, append_assoc}
 use Rattle.std.proofs.lemmas.Cmp.{nat_eq_equiv}
 use Rattle.std.specs.List.{IsDistinct, list_any, count_by}
+use Rattle.std.proofs.Math.Bool.{or-false}
 use Rattle.std.proofs.lemmas.Bool.{eqb-true, cases_Bool, or_cases}
 use Rattle.std.proofs.lemmas.List.Elements.{filter_map-append}
 use Rattle.std.proofs.lemmas.List.Folds.{list_any-append}
-use Rattle.std.proofs.lemmas.List.Sums.{sum_by-cons}
 use Rattle.std.proofs.lemmas.Map.Keys.{IsDistinct-push}
 use Rattle.std.proofs.lemmas.Map.Steps.{length-le_from_distinct_below}
 use Rattle.vote_poll.specs.declared.Reading.{Reading}
+use Rattle.vote_count.proofs.Counts.{count-cons, one_at_most}
 use Rattle.vote_steps.specs.declared.step.Reply.{Reply}
 use Rattle.vote_steps.specs.declared.step.Step.{Step}
 use Rattle.vote_steps.specs.declared.step.Step.TheVariants.{Cast, Close}
 use Rattle.vote_steps.specs.History.{is_cast, is_close, is_closed, is_used, stamp_of, stamps}
 use Rattle.vote_steps.specs.Boxes.{BoxState, MayFollow, IsLegal}
 use Rattle.vote_steps.specs.Laws.{StampsAreDistinct, EachStampIsUsed, ClosesOnce, HasRoomForAll}
-use Rattle.vote_steps.proofs.HistoryLemmas.{or_false, is_closed-append, count_by-push}
+use Rattle.vote_steps.proofs.HistoryLemmas.{is_closed-append, count_by-push}
 
 -- if a fact holds of no steps, and still holds after each step that may follow, it holds of a legal history
 by_steps_from : (b : BoxState) (P : List Step → Type 0) → ((before : List Step) (step : Step) → MayFollow b before step → P before → P (before ++ step ∷ []))
@@ -44,7 +45,7 @@ within_more : (limit : ℕ) (xs : List ℕ) (n : ℕ) → (1 ≤ n) × (n ≤ li
     → (m : ℕ) → list_any (eqb m) (xs ++ n ∷ []) ≡ true → (1 ≤ m) × (m ≤ limit)
 within_more limit xs n fits old m h =
     ⊎_elim (λ (t : list_any (eqb m) xs ≡ true). old m t)
-    (λ (t : (eqb m n || false) ≡ true). let e : m ≡ n = eqb-true m n (sym (or_false (eqb m n)) ∙ t) in let P : ℕ → Type 0 = λ k. (1 ≤ k) × (k ≤ limit) in subst P (sym e) fits)
+    (λ (t : (eqb m n || false) ≡ true). let e : m ≡ n = eqb-true m n (sym (or-false (eqb m n)) ∙ t) in let P : ℕ → Type 0 = λ k. (1 ≤ k) × (k ≤ limit) in subst P (sym e) fits)
     (or_cases (list_any (eqb m) xs) (eqb m n || false) (sym (list_any-append (eqb m) xs (n ∷ [])) ∙ h))
 
 tidy_more : (b : BoxState) (before : List Step) (step : Step) → MayFollow b before step → IsTidy b.limit before → IsTidy b.limit (before ++ step ∷ [])
@@ -62,7 +63,7 @@ tidy_more b before (Cast d n r p) may t =
     record {
       distinct = subst P (sym (stamps-cast before d n r p)) (IsDistinct-push nat_eq_equiv (stamps before) n t.distinct (any_flip (stamps before) n ∙ may.stamp_new));
       within = subst Q (sym (stamps-cast before d n r p)) (within_more b.limit (stamps before) n may.stamp_fits t.within);
-      closes = omega (arith, count_by-push is_close before (Cast d n r p), t.closes, ap (λ u. cond {A = ℕ} u 1 0) (is_closed-append before (Cast d n r p) ∙ or_false (is_closed before)));
+      closes = omega (arith, count_by-push is_close before (Cast d n r p), t.closes, ap (λ u. cond {A = ℕ} u 1 0) (is_closed-append before (Cast d n r p) ∙ or-false (is_closed before)));
     }
 
 pub tidy : (b : BoxState) → IsLegal b → IsTidy b.limit b.steps
@@ -72,15 +73,13 @@ tidy b legal = by_steps_from b (IsTidy b.limit) (tidy_more b) legal [] b.steps r
 -- each cast has a stamp, and each other step is a close
 length-stamps : (steps : List Step) → length (stamps steps) ≡ count_by is_cast steps
 length-stamps [] = refl
-length-stamps (Close ∷ steps) = omega (arith, length-stamps steps, sum_by-cons (λ x. cond {A = ℕ} (is_cast x) 1 0) Close steps)
-length-stamps (Cast d n r p ∷ steps) = omega (arith, length-stamps steps, sum_by-cons (λ x. cond {A = ℕ} (is_cast x) 1 0) (Cast d n r p) steps)
+length-stamps (Close ∷ steps) = omega (arith, length-stamps steps, count-cons is_cast Close steps)
+length-stamps (Cast d n r p ∷ steps) = omega (arith, length-stamps steps, count-cons is_cast (Cast d n r p) steps)
 
 casts-closes : (steps : List Step) → count_by is_cast steps + count_by is_close steps ≡ length steps
 casts-closes [] = refl
-casts-closes (Close ∷ steps) =
-    omega (arith, casts-closes steps, sum_by-cons (λ x. cond {A = ℕ} (is_cast x) 1 0) Close steps, sum_by-cons (λ x. cond {A = ℕ} (is_close x) 1 0) Close steps)
-casts-closes (Cast d n r p ∷ steps) =
-    omega (arith, casts-closes steps, sum_by-cons (λ x. cond {A = ℕ} (is_cast x) 1 0) (Cast d n r p) steps, sum_by-cons (λ x. cond {A = ℕ} (is_close x) 1 0) (Cast d n r p) steps)
+casts-closes (Close ∷ steps) = omega (arith, casts-closes steps, count-cons is_cast Close steps, count-cons is_close Close steps)
+casts-closes (Cast d n r p ∷ steps) = omega (arith, casts-closes steps, count-cons is_cast (Cast d n r p) steps, count-cons is_close (Cast d n r p) steps)
 
 -- with 0, which is not a stamp, and with a stamp that is not used, there are still no more numbers than from 0 to the limit
 with_zero : (b : BoxState) → IsTidy b.limit b.steps → IsDistinct eqb (stamps b.steps ++ 0 ∷ [])
@@ -88,7 +87,7 @@ with_zero b t = IsDistinct-push nat_eq_equiv (stamps b.steps) 0 t.distinct (⊎_
 
 zero_within : (limit : ℕ) (xs : List ℕ) → ((n : ℕ) → list_any (eqb n) xs ≡ true → n ≤ limit) → (n : ℕ) → list_any (eqb n) (xs ++ 0 ∷ []) ≡ true → n < limit + 1
 zero_within limit xs old n h =
-    ⊎_elim (λ (t : list_any (eqb n) xs ≡ true). let le = old n t in omega (arith, le)) (λ (t : (eqb n 0 || false) ≡ true). let e = eqb-true n 0 (sym (or_false (eqb n 0)) ∙ t) in omega (arith, e))
+    ⊎_elim (λ (t : list_any (eqb n) xs ≡ true). let le = old n t in omega (arith, le)) (λ (t : (eqb n 0 || false) ≡ true). let e = eqb-true n 0 (sym (or-false (eqb n 0)) ∙ t) in omega (arith, e))
     (or_cases (list_any (eqb n) xs) (eqb n 0 || false) (sym (list_any-append (eqb n) xs (0 ∷ [])) ∙ h))
 
 pub casts_within : (b : BoxState) → IsLegal b → count_by is_cast b.steps ≤ b.limit
@@ -116,10 +115,6 @@ stamps_are_distinct_lem b legal = (tidy b legal).distinct
 pub each_stamp_is_used_lem : EachStampIsUsed
 each_stamp_is_used_lem b legal full n low high =
     ⊎_elim (λ (t : is_used b.steps n ≡ true). t) (λ (t : is_used b.steps n ≡ false). let less = casts_below b n legal low high t in absurd (omega (arith, less, full))) (cases_Bool (is_used b.steps n))
-
-pub one_at_most : (t : Bool) → cond {A = ℕ} t 1 0 ≤ 1
-one_at_most true = omega arith
-one_at_most false = omega arith
 
 pub closes_once_lem : ClosesOnce
 closes_once_lem b legal = let t = tidy b legal in omega (arith, t.closes, one_at_most (is_closed b.steps))

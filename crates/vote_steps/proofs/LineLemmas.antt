@@ -1,8 +1,9 @@
 -- The counts of a box that holds the lines follow from the lines.
-use Rattle.std.proofs.Common.{◌≡◌, ℕ, ◌+◌, ◌-◌, ◌<◌, ◌≤◌, zero, suc, cond, eqb, Bool, true, false, not, ◌||◌, List, [], ◌∷◌, ◌++◌, Option, Some, None, length, get_or, take, map, refl, sym, ap, ◌∙◌, ⊎_elim, arith, append_assoc}
+use Rattle.std.proofs.Common.{◌≡◌, ℕ, ◌+◌, ◌-◌, ◌<◌, ◌≤◌, zero, suc, cond, eqb, Bool, true, false, not, ◌||◌, List, [], ◌∷◌, ◌++◌, Option, Some, None, length, get_or, take, refl, sym, ap, ◌∙◌, ⊎_elim, arith, append_assoc}
 use Rattle.std.specs.Prelude.{slice_get, is_some, option_and_then}
 use Rattle.std.specs.List.{AllByRecursion, count_by, range_with_len}
 use Rattle.std.proofs.lemmas.Bool.{cases_eq, cases_lt, eq-eqb, ne_eqb, lt-ltb, le-ltb}
+use Rattle.std.proofs.lemmas.Bool.Decides.{nat_tests}
 use Rattle.std.proofs.lemmas.List.{take_all}
 use Rattle.std.proofs.Math.Bool.{or-false}
 use Rattle.std.proofs.Math.Seq.{take-suc}
@@ -22,6 +23,7 @@ use Rattle.vote_steps.specs.Boxes.{BoxState, IsLegal}
 use Rattle.vote_steps.specs.Recasts.{HasOwnReading, last_ballot}
 use Rattle.vote_steps.proofs.HistoryLemmas.{casts_before, valid-refused, is_used-cast, is_used-close}
 use Rattle.vote_steps.proofs.LegalLemmas.{each_stamp_is_used_lem}
+use Rattle.vote_steps.proofs.RecountLemmas.{count_by-map_same, same_entry}
 use Rattle.vote_steps.specs.Standing.{LinesAreCounted}
 use Rattle.vote_steps.proofs.StandingLemmas.{as_long, last_lines_stand_lem}
 
@@ -83,17 +85,6 @@ in_time n s h = ap (λ t. one (not t)) (le-ltb n s h)
 too_late : (n s : ℕ) → n < s → one (not (is_late n s)) ≡ 0
 too_late n s h = ap (λ t. one (not t)) (lt-ltb n s h)
 
-late-suc : (s n : ℕ) → one (not (is_late (suc n) s)) ≡ one (not (is_late n s)) + one (eqb s (suc n))
-late-suc s n =
-    ⊎_elim
-    (λ (is : s ≡ suc n). omega (arith, in_time (suc n) s (omega arith), too_late n s (omega arith), ap one (eq-eqb s (suc n) is)))
-    (λ (other : s ≡ suc n → ⊥).
-    ⊎_elim
-    (λ (above : n < s). let more : suc n < s = omega arith in omega (arith, too_late (suc n) s more, too_late n s above, ap one (ne_eqb s (suc n) other)))
-    (λ (within : s ≤ n). omega (arith, in_time (suc n) s (omega arith), in_time n s within, ap one (ne_eqb s (suc n) other)))
-    (cases_lt n s))
-    (cases_eq s (suc n))
-
 one_envelope_more : (n : ℕ) (steps : List Step) → count_by (is_ballot (suc n)) steps ≡ count_by (is_ballot n) steps + count_by (is_ballot_of (suc n)) steps
 one_envelope_more n [] = refl
 one_envelope_more n (step ∷ steps) =
@@ -102,7 +93,7 @@ one_envelope_more n (step ∷ steps) =
     of_step : (s : Step) → one (is_ballot (suc n) s) ≡ one (is_ballot n s) + one (is_ballot_of (suc n) s)
     of_step Close = refl
     of_step (Cast d s (Bad fault) p) = refl
-    of_step (Cast d s (Ballot voter ranks) p) = late-suc s n
+    of_step (Cast d s (Ballot voter ranks) p) = grind (arith, nat_tests)
 
 -- the line of an envelope
 
@@ -157,26 +148,21 @@ none_in_time readings (Cast d s (Ballot voter ranks) p ∷ steps) own =
     let first = own.0.0 in
     omega (arith, count-cons (is_ballot 0) (Cast d s (Ballot voter ranks) p) steps, none_in_time readings steps own.1, too_late 0 s (omega arith))
 
+count_by-same : {X : Type 0} (P : X → Type 0) (p q : X → Bool) (xs : List X) → ((x : X) → P x → p x ≡ q x) → AllByRecursion P xs → count_by p xs ≡ count_by q xs
+count_by-same P p q [] same each = refl
+count_by-same P p q (x ∷ xs) same each = omega (arith, count-cons p x xs, count-cons q x xs, ap one (same x each.0), count_by-same P p q xs same each.1)
+
 -- if the last envelope comes after all lines, no line is late
 all_in_time : (last : ℕ) (readings : List Reading) (steps : List Step) → length readings ≤ last → AllByRecursion (HasOwnReading readings) steps
     → count_by (is_ballot last) steps ≡ count_by (is_ballot (length readings)) steps
-all_in_time last readings [] above own = refl
-all_in_time last readings (Close ∷ steps) above own =
-    omega (arith, count-cons (is_ballot (length readings)) Close steps, count-cons (is_ballot last) Close steps, all_in_time last readings steps above own.1)
-all_in_time last readings (Cast d s (Bad fault) p ∷ steps) above own =
-    let step : Step = Cast d s (Bad fault) p in
-    omega (arith, count-cons (is_ballot (length readings)) step steps, count-cons (is_ballot last) step steps, all_in_time last readings steps above own.1)
-all_in_time last readings (Cast d s (Ballot voter ranks) p ∷ steps) above own =
-    let step : Step = Cast d s (Ballot voter ranks) p in
-    let inside = slice_get_within readings (s - 1) (Ballot voter ranks) own.0.1 in
-    omega (
-      arith,
-      count-cons (is_ballot (length readings)) step steps,
-      count-cons (is_ballot last) step steps,
-      all_in_time last readings steps above own.1,
-      in_time (length readings) s (omega arith),
-      in_time last s (omega arith),
-    )
+all_in_time last readings steps above own = count_by-same (HasOwnReading readings) (is_ballot last) (is_ballot (length readings)) steps each own
+  where
+    each : (step : Step) → HasOwnReading readings step → is_ballot last step ≡ is_ballot (length readings) step
+    each Close own = refl
+    each (Cast d s (Bad fault) p) own = refl
+    each (Cast d s (Ballot voter ranks) p) own =
+        let inside = slice_get_within readings (s - 1) (Ballot voter ranks) own.1 in
+        rw (le-ltb last s (omega arith), le-ltb (length readings) s (omega arith)) refl
 
 some_within : (readings : List Reading) (n : ℕ) → n < length readings → (r : Reading) × (slice_get readings n ≡ Some r)
 some_within [] n h = absurd (omega arith)
@@ -212,17 +198,9 @@ valid_lines last readings steps own once =
 
 -- the voters
 
-count-maps : {X Y Z : Type 0} (p : Y → Bool) (q : Z → Bool) (f : X → Y) (g : X → Z) (xs : List X) → ((x : X) → p (f x) ≡ q (g x)) → count_by p (map f xs) ≡ count_by q (map g xs)
-count-maps p q f g [] same = refl
-count-maps p q f g (x ∷ xs) same = omega (arith, count-cons p (f x) (map f xs), count-cons q (g x) (map g xs), ap one (same x), count-maps p q f g xs same)
-
 has_ranks : (o : Option Received) → is_some o ≡ is_some (option_and_then (λ (ballot : Received). Some ballot.ranks) o)
 has_ranks None = refl
 has_ranks (Some ballot) = refl
-
-prefers_alike : (a c : ℕ) (o : Option Received) → is_for a c o ≡ entry_prefers a c (option_and_then (λ (ballot : Received). Some ballot.ranks) o)
-prefers_alike a c None = refl
-prefers_alike a c (Some ballot) = refl
 
 pub lines_are_counted_lem : LinesAreCounted
 lines_are_counted_lem poll lines b held =
@@ -241,6 +219,6 @@ lines_are_counted_lem poll lines b held =
     record {
       valid_is = sym before ∙ valid_lines b.last_in_time rs b.steps own once;
       refused_is = valid-refused b.last_in_time b.steps ∙ casts_before b.steps held.closed_last ∙ held.casts ∙ sym long;
-      voters_are = count-maps is_some is_some standing_there (last_ballot early) (range_with_len 0 b.electors) (λ voter. has_ranks (standing_there voter) ∙ ap is_some (stand voter));
-      votes_are = λ x y. count-maps (is_for x y) (entry_prefers x y) standing_there (last_ballot early) (range_with_len 0 b.electors) (λ voter. prefers_alike x y (standing_there voter) ∙ ap (entry_prefers x y) (stand voter));
+      voters_are = count_by-map_same standing_there (last_ballot early) is_some is_some (λ voter. has_ranks (standing_there voter) ∙ ap is_some (stand voter)) (range_with_len 0 b.electors);
+      votes_are = λ x y. count_by-map_same standing_there (last_ballot early) (is_for x y) (entry_prefers x y) (λ voter. same_entry x y (standing_there voter) ∙ ap (entry_prefers x y) (stand voter)) (range_with_len 0 b.electors);
     }

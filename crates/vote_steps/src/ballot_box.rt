@@ -1,7 +1,7 @@
 //! The ballot box.
-ghost use Rattle.std.specs.Prelude.{◌≡◌, ◌+◌, ◌<◌, ◌≤◌, ◌↔◌, ◌∷◌, ◌++◌, [], length, Err, vec_len, vec_capacity, IsTrue, IfOk, OnOk, OnErr};
+ghost use Rattle.std.specs.Prelude.{◌≡◌, ◌+◌, ◌<◌, ◌≤◌, ◌↔◌, ◌∷◌, ◌++◌, [], length, Err, vec_len, vec_capacity, if◌then◌else◌, IsTrue, IfOk, OnOk, OnErr};
 ghost use Rattle.vote_count.specs.Ballots.{IsBallotOf};
-ghost use Rattle.vote_steps.specs.History.{is_closed, standing_ranks};
+ghost use Rattle.vote_steps.specs.History.{is_closed, is_valid, standing_ranks};
 ghost use Rattle.vote_poll.specs.Readings.{ReadingFits};
 ghost use Rattle.vote_steps.specs.Boxes.{AddsCast, AddsClose, CountsRefused, CountsValid, HasUsed, HasVotesOf, IsLegal, IsOutOfRange, UsesAll, box_of, empty_box, refused_in, reply_in, valid_in};
 ghost use Rattle.vote_steps.specs.Totals.{totals_of};
@@ -9,7 +9,7 @@ ghost use Rattle.vote_steps.specs.Totals.{totals_of};
 use crate::MAX_DESKS;
 use crate::packed_reading::PackedReading;
 use crate::roll::Roll;
-use crate::step::{Received, Reply, Step};
+use crate::step::{Reply, Step};
 use std::alloc::{AllocError, Global};
 use std::marker::Model;
 use thiserror::Error;
@@ -150,24 +150,8 @@ impl BallotBox {
             return Err(StepFault::StampUsed);
         }
         let is_late = stamp > self.last_in_time;
-        let reply = if self.closed {
-            self.refused += 1;
-            Reply::BoxClosed
-        } else if is_late {
-            self.refused += 1;
-            Reply::Late
-        } else {
-            match reading {
-                Reading::Bad(fault) => {
-                    self.refused += 1;
-                    Reply::BadLine(fault)
-                }
-                Reading::Ballot { voter, ranks } => {
-                    self.valid += 1;
-                    self.roll.receive(voter, Received { stamp, ranks })
-                }
-            }
-        };
+        let reply = self.roll.answer(self.closed, is_late, stamp, &reading);
+        count(reply, &mut self.valid, &mut self.refused);
         self.used[place] = true;
         let step = Step::Cast {
             desk,
@@ -278,6 +262,18 @@ impl BallotBox {
         ensures at_most { result ≤ MAX_LINES }
     {
         self.last_in_time
+    }
+}
+
+// Counts a reply as that of a valid or of a refused line.
+fn count(reply: Reply, valid: &mut u64, refused: &mut u64)
+    requires { valid.old + refused.old ≤ MAX_LINES }
+    ensures valid { valid.new ≡ valid.old + (if is_valid reply then 1 else 0) }
+    ensures refused { refused.new ≡ refused.old + (if is_valid reply then 0 else 1) }
+{
+    match reply {
+        Reply::Counted | Reply::Replaced | Reply::Superseded => *valid += 1,
+        Reply::BadLine(_) | Reply::Late | Reply::BoxClosed => *refused += 1,
     }
 }
 

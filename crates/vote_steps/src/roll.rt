@@ -4,14 +4,15 @@
 //! With n options, at most 32, each costs n² additions of bytes, sixteen at a time, whatever the number of voters and lines. A
 //! recount at each question would cost as much for each voter on the roll, and a desk may ask after each cast.
 ghost use Rattle.std.specs.Prelude.{◌≡◌, ◌<◌, ◌≤◌, length, is_some, vec_len, count_by};
+ghost use Rattle.vote_poll.specs.Readings.{ReadingFits};
 ghost use Rattle.vote_poll.specs.declared.TheConstants.{MAX_ELECTORS};
 ghost use Rattle.vote_count.specs.Ballots.{IsBallotOf};
-ghost use Rattle.vote_steps.specs.Receiving.{AreVotesOf, HaveRanks, ballot_at, ranks_at, with_ballot};
+ghost use Rattle.vote_steps.specs.Receiving.{AreVotesOf, HaveRanks, ballot_at, ballots_given, ranks_at, reply_given, with_ballot};
 ghost use Rattle.vote_steps.specs.History.{reply_beside};
 
 use crate::step::{Received, Reply};
 use vote_count::RunningMatrix;
-use vote_poll::Ranks;
+use vote_poll::{Ranks, Reading};
 
 /// The ballots that stand, and their votes together.
 #[derive(Drop)]
@@ -37,6 +38,29 @@ impl Roll {
         match self.ballots.get(voter) {
             Some(Some(ballot)) => Some(ballot.ranks),
             _ => None,
+        }
+    }
+
+    /// Answers an envelope, and takes in its ballot if the box is open and the envelope is not late.
+    pub fn answer(&mut self, is_closed: bool, is_late: bool, stamp: u32, reading: &Reading) -> Reply
+        requires { ReadingFits self.old.matrix.options (vec_len self.old.ballots) reading.now }
+        ensures reply { result ≡ reply_given is_closed is_late self.old.ballots.items stamp reading.now }
+        ensures ballots { self.new.ballots.items ≡ ballots_given is_closed is_late self.old.ballots.items stamp reading.now }
+        ensures options { self.new.matrix.options ≡ self.old.matrix.options }
+        ensures len { vec_len self.new.ballots ≡ vec_len self.old.ballots }
+    {
+        if is_closed {
+            return Reply::BoxClosed;
+        }
+        if is_late {
+            return Reply::Late;
+        }
+        match reading {
+            Reading::Ballot { voter, ranks } => {
+                let ranks = *ranks;
+                self.receive(*voter, Received { stamp, ranks })
+            }
+            Reading::Bad(fault) => Reply::BadLine(*fault),
         }
     }
 

@@ -10,7 +10,7 @@ use Rattle.vote_desks_box.specs.declared.fault.DeskFault.{DeskFault}
 use Rattle.vote_desks_box.specs.declared.fault.DeskFault.TheVariants.{MissingDesk, Memory}
 use Rattle.vote_desks_box.specs.declared.slip.Slip.{Slip}
 use Rattle.vote_desks_box.specs.Desks.{DeskState, SealedState, SharedState}
-use Rattle.vote_desks_box.proofs.Ranges.{numbered, length_range}
+use Rattle.vote_desks_box.proofs.Ranges.{numbered}
 use Rattle.vote_desks_box.proofs.SlipSums.{all_slips}
 use Rattle.vote_desks_box.proofs.Numbered.{numbers_of_sorted}
 use Rattle.vote_desks_box.proofs.sealed.gather.Goals as goal
@@ -32,37 +32,17 @@ returns-then-not-are_complete-clause-missing g c =
           let moved = IsPermutation-trans (map number sorted) (map number came) (range_with_len 1 c.args.shared.desks) (IsPermutation-sym (map number came) (map number sorted) (IsPermutation-map number came sorted c.sort_unstable_by_key.ensures.permutation)) p in
           let up = IsNonDecreasingBy-from_sort_by_key number sorted c.sort_unstable_by_key.ensures.sorted (λ a r q k. search rules) in
           let in_order = numbers_of_sorted number 1 c.args.shared.desks sorted up moved in
-          let yes = c.are_complete.ensures.1 (ap (map number) c.deref.ensures.value ∙ in_order ∙ ap (range_with_len 1) (sym opened)) in
+          let yes = c.are_complete.ensures.complete.1 (ap (map number) c.deref.ensures.value ∙ in_order ∙ ap (range_with_len 1) (sym opened)) in
           let no = c.if-not-are_complete.true in false≢true (sym no ∙ yes),
       λ other. refl,
     )
-
-pub seal-requires-clause-some : goal.seal-requires-clause-some
-seal-requires-clause-some g c =
-    let sorted : List DeskState = c.sort_unstable_by_key.new.self.items in
-    let numbers : map (λ (d : DeskState). d.number) sorted ≡ range_with_len 1 c.shared.inside.desks = ap (map (λ (d : DeskState). d.number)) (sym c.deref.ensures.value) ∙ c.are_complete.ensures.0 c.if-not-are_complete.false in
-    let len = length_range (λ (d : DeskState). d.number) 1 c.shared.inside.desks sorted numbers in
-    let ok = c.sort_unstable_by_key.new.self.ok.0 in
-    let inv = c.shared.invariant in (omega arith, omega arith)
-
-pub seal-requires-clause-valid : goal.seal-requires-clause-valid
-seal-requires-clause-valid g c =
-    let sorted : List DeskState = c.sort_unstable_by_key.new.self.items in
-    let numbers : map (λ (d : DeskState). d.number) sorted ≡ range_with_len 1 c.shared.inside.desks = ap (map (λ (d : DeskState). d.number)) (sym c.deref.ensures.value) ∙ c.are_complete.ensures.0 c.if-not-are_complete.false in
-    c.sort_unstable_by_key.new.self.ok.0 ∙ length_range (λ (d : DeskState). d.number) 1 c.shared.inside.desks sorted numbers ∙ c.shared.invariant.2 ∙ c.requires.valid
-
-pub seal-requires-clause-refused : goal.seal-requires-clause-refused
-seal-requires-clause-refused g c =
-    let sorted : List DeskState = c.sort_unstable_by_key.new.self.items in
-    let numbers : map (λ (d : DeskState). d.number) sorted ≡ range_with_len 1 c.shared.inside.desks = ap (map (λ (d : DeskState). d.number)) (sym c.deref.ensures.value) ∙ c.are_complete.ensures.0 c.if-not-are_complete.false in
-    c.sort_unstable_by_key.new.self.ok.0 ∙ length_range (λ (d : DeskState). d.number) 1 c.shared.inside.desks sorted numbers ∙ c.shared.invariant.3 ∙ c.requires.refused
 
 pub returns-in-Ok-clause-slips_by_desk : goal.returns-in-Ok-clause-slips_by_desk
 returns-in-Ok-clause-slips_by_desk g c =
     let came : List DeskState = c.args.desks.items in
     let sorted : List DeskState = c.sort_unstable_by_key.new.self.items in
     let f : DeskState → ℕ × List Slip = λ d. (d.number, d.slips) in
-    let numbers : map (λ (d : DeskState). d.number) sorted ≡ range_with_len 1 c.shared.inside.desks = ap (map (λ (d : DeskState). d.number)) (sym c.deref.ensures.value) ∙ c.are_complete.ensures.0 c.if-not-are_complete.false in
+    let numbers : map (λ (d : DeskState). d.number) sorted ≡ range_with_len 1 c.shared.inside.desks = ap (map (λ (d : DeskState). d.number)) (sym c.deref.ensures.value) ∙ c.are_complete.ensures.complete.0 c.if-not-are_complete.false in
     let in_order : map f sorted ≡ enumerate_from 1 c.in-Ok.sealed.slips_by_desk =
     numbered (λ d. d.number) (λ d. d.slips) 1 c.shared.inside.desks sorted numbers ∙ ap (enumerate_from 1) (sym c.in-Ok.ensures.slips_by_desk) in
     let P : List (ℕ × List Slip) → Type 0 = λ xs. IsPermutation (map f came) xs in
@@ -71,8 +51,8 @@ returns-in-Ok-clause-slips_by_desk g c =
 pub returns-in-Ok-clause-desks : goal.returns-in-Ok-clause-desks
 returns-in-Ok-clause-desks g c =
     let sorted : List DeskState = c.sort_unstable_by_key.new.self.items in
-    let numbers : map (λ (d : DeskState). d.number) sorted ≡ range_with_len 1 c.shared.inside.desks = ap (map (λ (d : DeskState). d.number)) (sym c.deref.ensures.value) ∙ c.are_complete.ensures.0 c.if-not-are_complete.false in
-    ap length c.in-Ok.ensures.slips_by_desk ∙ length-map sorted (λ (d : DeskState). d.slips) ∙ length_range (λ (d : DeskState). d.number) 1 c.shared.inside.desks sorted numbers ∙ ap (λ (s : SharedState). s.desks) c.shared.view_is
+    let len = rw c.if-not-are_complete.false at c.are_complete.ensures.len in
+    ap length c.in-Ok.ensures.slips_by_desk ∙ length-map sorted (λ (d : DeskState). d.slips) ∙ ap length (sym c.deref.ensures.value) ∙ len ∙ ap (λ (s : SharedState). s.desks) c.shared.view_is
 
 pub returns-in-Ok-clause-casts : goal.returns-in-Ok-clause-casts
 returns-in-Ok-clause-casts g c =
@@ -83,7 +63,7 @@ returns-in-Ok-clause-missing g c =
     let came : List DeskState = c.args.desks.items in
     let sorted : List DeskState = c.sort_unstable_by_key.new.self.items in
     let number : DeskState → ℕ = λ d. d.number in
-    let numbers : map number sorted ≡ range_with_len 1 c.args.shared.desks = ap (map number) (sym c.deref.ensures.value) ∙ c.are_complete.ensures.0 c.if-not-are_complete.false ∙ ap (range_with_len 1) (ap (λ (s : SharedState). s.desks) c.shared.view_is) in
+    let numbers : map number sorted ≡ range_with_len 1 c.args.shared.desks = ap (map number) (sym c.deref.ensures.value) ∙ c.are_complete.ensures.complete.0 c.if-not-are_complete.false ∙ ap (range_with_len 1) (ap (λ (s : SharedState). s.desks) c.shared.view_is) in
     let P : List ℕ → Type 0 = λ xs. IsPermutation (map number came) xs in
     (λ e. absurd (not_sealed c.in-Ok.sealed e), λ not_all. absurd (not_all (subst P numbers (IsPermutation-map number came sorted c.sort_unstable_by_key.ensures.permutation))))
 
@@ -92,7 +72,7 @@ returns-in-Err-clause-missing g c =
     let came : List DeskState = c.args.desks.items in
     let sorted : List DeskState = c.sort_unstable_by_key.new.self.items in
     let number : DeskState → ℕ = λ d. d.number in
-    let numbers : map number sorted ≡ range_with_len 1 c.args.shared.desks = ap (map number) (sym c.deref.ensures.value) ∙ c.are_complete.ensures.0 c.if-not-are_complete.false ∙ ap (range_with_len 1) (ap (λ (s : SharedState). s.desks) c.shared.view_is) in
+    let numbers : map number sorted ≡ range_with_len 1 c.args.shared.desks = ap (map number) (sym c.deref.ensures.value) ∙ c.are_complete.ensures.complete.0 c.if-not-are_complete.false ∙ ap (range_with_len 1) (ap (λ (s : SharedState). s.desks) c.shared.view_is) in
     let P : List ℕ → Type 0 = λ xs. IsPermutation (map number came) xs in
     (λ e. absurd (not_memory e), λ not_all. absurd (not_all (subst P numbers (IsPermutation-map number came sorted c.sort_unstable_by_key.ensures.permutation))))
 
