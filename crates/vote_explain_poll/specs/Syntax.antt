@@ -1,19 +1,16 @@
 -- What is said of a poll file that is no TOML, by the place of an error in it: how many bytes stand before the error.
-use Rattle.std.specs.Prelude.{◌≡◌, ◌⊎◌, ℕ, ◌+◌, ◌-◌, ◌≤◌, not, Bool, List, [], ◌++◌, Option, Some, None, count_by, filter, length, slice_index_or, take, codes, decimal, ◌==◌, ◌||◌}
-use Rattle.std.specs.List.{Contains, slice_split}
+use Rattle.std.specs.Prelude.{◌≡◌, ◌⊎◌, ℕ, ◌+◌, ◌≤◌, not, Bool, List, [], ◌++◌, Option, Some, None, count_by, filter, length, slice_index_or, take, codes, decimal, ◌==◌, ◌||◌}
+use Rattle.std.specs.List.{Contains, after_last, slice_split}
 use Rattle.std.specs.Str.{byte}
-use Rattle.vote_poll_text.specs.Lines.{feed_count, parts_of}
+use Rattle.vote_poll_text.specs.Lines.{feed_count}
 use Rattle.vote_poll_text.specs.Names.{is_within}
 use Rattle.vote_poll.specs.BallotLine.{IsBallotText}
 use Rattle.vote_hints.specs.FileKinds.{file_kind, unmarked}
-use Rattle.vote_hints.specs.Hints.{IsHintLine}
+use Rattle.vote_hints.specs.Hints.{IsExcerpt, IsHintLine}
 
--- the first line of a text, and what stands after its last line feed
-abbrev pub first_line : List ℕ → List ℕ
-first_line text = slice_index_or (parts_of text) 0 []
-
+-- what stands in a text after its last line feed
 abbrev pub last_line : List ℕ → List ℕ
-last_line text = slice_index_or (parts_of text) (length (parts_of text) - 1) []
+last_line text = after_last (λ byte. byte == 10) text
 
 -- the line after a text, from 1
 abbrev pub line_number : List ℕ → ℕ
@@ -31,17 +28,10 @@ column_number before = count_by begins_character before + 1
 abbrev pub place_words : List ℕ → List ℕ
 place_words before = codes "poll:" ++ decimal (line_number before) ++ codes ":" ++ decimal (column_number (last_line before)) ++ codes ": "
 
--- The place, a hint, and two lines that show the place. Open are the place that `toml` tells and the words.
-pub record IsPlaceFinding (text finding : List ℕ) : Type 0 where
-  pub place : ℕ
-  pub within : place ≤ length text
-  pub hint : List ℕ
-  pub is_hint : IsHintLine hint
-  pub line : List ℕ
-  pub is_line : IsHintLine line
-  pub mark : List ℕ
-  pub is_mark : IsHintLine mark
-  pub is_text : finding ≡ place_words (take place text) ++ hint ++ line ++ mark
+-- The place, a hint, and an excerpt that shows the place. Open are the place that `toml` tells and the words.
+abbrev pub IsPlaceFinding : List ℕ → List ℕ → Type 0
+IsPlaceFinding text finding =
+    (place : ℕ) × (hint : List ℕ) × (shown : List ℕ) × (place ≤ length text) × IsHintLine hint × IsExcerpt shown × (finding ≡ place_words (take place text) ++ hint ++ shown)
 
 -- the lines of the text that are not empty, without a mark; a carriage return ends a line as a line feed does
 abbrev pub full_lines : List ℕ → List (List ℕ)

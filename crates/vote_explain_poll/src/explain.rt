@@ -82,14 +82,10 @@ pub fn explain_poll(
 {
     match toml::table_from_slice(alloc, text) {
         Ok(table) => explain_table(alloc, text, &table),
-        Err(error) => {
-            if error.is_memory() {
-                return Err(AllocError);
-            }
-            Ok(ExplainedPoll {
-                findings: syntax_finding(alloc, text, &error, file)?,
-                outcome: Err(PollFault::Syntax),
-            })
-        }
+        Err(error) if error.is_memory() => Err(AllocError),
+        Err(error) => Ok(ExplainedPoll {
+            findings: syntax_finding(alloc, text, &error, file)?,
+            outcome: Err(PollFault::Syntax),
+        }),
     }
 }

@@ -18,7 +18,7 @@ use vote_hints::{MAX_SHOWN, push_character, push_hint_line};
 use vote_poll::{MAX_ELECTORS, MAX_OPTIONS, MAX_QUORUM_MULTIPLE, MAX_RATIO, parse_ratio, times_q};
 use vote_poll_keys::{FoundKeys, PollFault, PollKey, value_at};
 use vote_poll_text::{
-    MAX_LINES, MAX_OPTION_NAME, MAX_TITLE, MAX_VOTER_NAME, is_voter_byte, push_shown,
+    MAX_LINES, MAX_OPTION_NAME, MAX_TITLE, MAX_VOTER_NAME, is_printable, is_voter_byte, push_shown,
 };
 
 /// Adds a text in quotes, at most so many of its bytes as are shown.
@@ -28,17 +28,9 @@ fn push_quoted(words: &mut String, text: &str) -> Result<(), AllocError> {
     words.push_str("\"")
 }
 
-/// The first character of a name that it may not have, from 1, and how many bytes stand before it.
-fn bad_character(name: &str, is_voter: bool) -> Option<(usize, usize)> {
-    let mut number = 0usize;
-    for (place, character) in name.char_indices() {
-        number = number.saturating_add(1);
-        match character {
-            ' '..='~' if !is_voter || is_voter_byte(character as u8) => {}
-            _ => return Some((number, place)),
-        }
-    }
-    None
+/// How many characters of a name stand before the first one that it may not have. Each of them is one byte.
+fn before_bad_character(name: &str, is_voter: bool) -> Option<usize> {
+    name.bytes().position(|byte| !is_printable(byte) || is_voter && !is_voter_byte(byte))
 }
 
 /// Adds a name, and what is wrong with its shape; nothing of the latter if it is a name, of at most so many bytes.
@@ -49,11 +41,11 @@ fn push_shape(
     is_voter: bool,
 ) -> Result<bool, AllocError> {
     push_quoted(words, name)?;
-    match bad_character(name, is_voter) {
+    match before_bad_character(name, is_voter) {
         _ if name.is_empty() => words.push_str(" is empty")?,
         _ if name.len() > most => write!(words, " has {} bytes", name.len())?,
-        Some((number, place)) => {
-            write!(words, " has as character {number}: ")?;
+        Some(place) => {
+            write!(words, " has as character {}: ", place.saturating_add(1))?;
             push_character(words, name.as_bytes().get(place..).unwrap_or(b""))?;
         }
         None if name.starts_with(' ') => words.push_str(" begins with a space")?,
@@ -136,9 +128,8 @@ fn push_ratios(words: &mut String, ratios: &[i64], others: usize) -> Result<(), 
     let ratio = ratios.get(place).copied().unwrap_or(0);
     write!(
         words,
-        "{ratio} for option {option}; a ratio is a whole number from 1 to {MAX_RATIO}"
-    )?;
-    words.push_str(A_RATIO)
+        "{ratio} for option {option}; a ratio is a whole number from 1 to {MAX_RATIO}{A_RATIO}"
+    )
 }
 
 /// What a value is.
@@ -154,12 +145,17 @@ fn kind_words(value: &Value) -> &'static str {
     }
 }
 
-/// Adds the first entry of a list that is of the wrong kind: no whole number among ratios, or else no text.
-fn push_wrong_entry(words: &mut String, key: PollKey, entries: &[Value]) -> Result<(), AllocError> {
+/// Adds what the value at a key is, and in a list the first entry of the wrong kind: no whole number among ratios, or no text in others.
+fn push_kind(words: &mut String, key: PollKey, value: &Value) -> Result<(), AllocError> {
+    words.push_str(kind_words(value))?;
+    let Value::Array(entries) = value else {
+        return Ok(());
+    };
     for (place, entry) in entries.iter().enumerate() {
         let is_right = match key {
             PollKey::Ratios => entry.is_integer(),
-            _ => entry.is_str(),
+            PollKey::Options | PollKey::Roll => entry.is_str(),
+            _ => true,
         };
         if !is_right {
             let (kind, number) = (kind_words(entry), place.saturating_add(1));
@@ -175,18 +171,15 @@ fn push_wanted(words: &mut String, key: PollKey) -> Result<(), AllocError> {
         PollKey::Title | PollKey::DefaultOption => words.push_str("; a text is wanted"),
         PollKey::Wording => words.push_str("; a text is wanted: at_least or more_than"),
         PollKey::Options | PollKey::Roll => words.push_str("; a list of texts is wanted"),
-        PollKey::Ratios => {
-            write!(
-                words,
-                "; a list of whole numbers from 1 to {MAX_RATIO} is wanted, one for each option but the default"
-            )?;
-            words.push_str(A_RATIO)
-        }
+        PollKey::Ratios => write!(
+            words,
+            "; a list of whole numbers from 1 to {MAX_RATIO} is wanted, one for each option but the default{A_RATIO}"
+        ),
         PollKey::Quorum => Ok(()),
-        PollKey::LastEnvelope => {
-            write!(words, "; a whole number from 0 to {MAX_LINES} is wanted")?;
-            words.push_str(A_LAST_ENVELOPE)
-        }
+        PollKey::LastEnvelope => write!(
+            words,
+            "; a whole number from 0 to {MAX_LINES} is wanted{A_LAST_ENVELOPE}"
+        ),
     }
 }
 
@@ -219,11 +212,19 @@ fn roll_size(keys: &FoundKeys<'_>) -> usize
     }
 }
 
-/// Where the texts are in the list of a key that is above all tables, and how many bytes each has.
-fn texts_of(alloc: Global, poll: &[u8], key: PollKey) -> Result<Vec<(usize, usize)>, AllocError> {
-    match structure_of(poll, key.name().as_bytes()).top {
-        Some(place) => texts_at(alloc, poll, place),
-        None => Ok(Vec::new(alloc)),
+/// The key at which a fault is, if it is at one.
+fn key_of(fault: PollFault) -> Option<PollKey> {
+    match fault {
+        PollFault::Syntax | PollFault::Memory => None,
+        PollFault::Key(key) => Some(key),
+        PollFault::Title => Some(PollKey::Title),
+        PollFault::OptionCount => Some(PollKey::Options),
+        PollFault::OptionName(_) => Some(PollKey::DefaultOption),
+        PollFault::Ratio => Some(PollKey::Ratios),
+        PollFault::Quorum => Some(PollKey::Quorum),
+        PollFault::RollSize | PollFault::VoterName(_) => Some(PollKey::Roll),
+        PollFault::LastEnvelope => Some(PollKey::LastEnvelope),
+        PollFault::Wording => Some(PollKey::Wording),
     }
 }
 
@@ -263,8 +264,8 @@ impl<'f> Hints<'f> {
             unread,
             options: with_first_places(alloc, entries(&names))?,
             roll: with_first_places(alloc, entries(&keys.roll))?,
-            option_places: texts_of(alloc, poll, PollKey::Options)?,
-            roll_places: texts_of(alloc, poll, PollKey::Roll)?,
+            option_places: texts_at(alloc, poll, b"options")?,
+            roll_places: texts_at(alloc, poll, b"roll")?,
             line_begins: line_begins(alloc, poll)?,
         })
     }
@@ -318,14 +319,11 @@ impl<'f> Hints<'f> {
                 write!(words, "{found} found; a roll has 1 to {MAX_ELECTORS} names")
             }
             PollFault::VoterName(place) => self.push_voter(words, place),
-            PollFault::LastEnvelope => {
-                write!(
-                    words,
-                    "{} found; a last envelope is a whole number from 0 to {MAX_LINES}",
-                    keys.last_envelope.unwrap_or(0)
-                )?;
-                words.push_str(A_LAST_ENVELOPE)
-            }
+            PollFault::LastEnvelope => write!(
+                words,
+                "{} found; a last envelope is a whole number from 0 to {MAX_LINES}{A_LAST_ENVELOPE}",
+                keys.last_envelope.unwrap_or(0)
+            ),
             PollFault::Wording => {
                 push_quoted(words, keys.wording.unwrap_or(""))?;
                 words.push_str(" found; a wording is at_least or more_than")
@@ -364,15 +362,9 @@ impl<'f> Hints<'f> {
 
     /// Adds what is wrong with a key: it is missing, or it is of the wrong kind.
     fn push_key(&self, words: &mut String, key: PollKey) -> Result<(), AllocError> {
-        let Some(value) = value_at(self.file, key) else {
-            self.push_tables(words, key)?;
-            return push_wanted(words, key);
-        };
-        words.push_str(kind_words(value))?;
-        if let Value::Array(entries) = value
-            && matches!(key, PollKey::Options | PollKey::Ratios | PollKey::Roll)
-        {
-            push_wrong_entry(words, key, entries)?;
+        match value_at(self.file, key) {
+            Some(value) => push_kind(words, key, value)?,
+            None => self.push_tables(words, key)?,
         }
         push_wanted(words, key)
     }
@@ -391,25 +383,7 @@ impl<'f> Hints<'f> {
         }
         Ok(())
     }
-}
 
-/// The key at which a fault is, if it is at one.
-fn key_of(fault: PollFault) -> Option<PollKey> {
-    match fault {
-        PollFault::Syntax | PollFault::Memory => None,
-        PollFault::Key(key) => Some(key),
-        PollFault::Title => Some(PollKey::Title),
-        PollFault::OptionCount => Some(PollKey::Options),
-        PollFault::OptionName(_) => Some(PollKey::DefaultOption),
-        PollFault::Ratio => Some(PollKey::Ratios),
-        PollFault::Quorum => Some(PollKey::Quorum),
-        PollFault::RollSize | PollFault::VoterName(_) => Some(PollKey::Roll),
-        PollFault::LastEnvelope => Some(PollKey::LastEnvelope),
-        PollFault::Wording => Some(PollKey::Wording),
-    }
-}
-
-impl<'f> Hints<'f> {
     /// Where a fault is in the file, and how many bytes are there: a name in a list, or else the line of a key.
     fn place_of(&self, fault: PollFault) -> Option<(usize, usize)> {
         let text = match fault {
@@ -450,8 +424,8 @@ pub(crate) fn push_fault_line(
     write!(text, "poll: {}: ", fault.words())?;
     let words = hints.words_of(alloc, fault)?;
     push_hint_line(text, words.as_bytes())?;
-    let begins = hints.line_begins.as_slice();
-    push_line_at(alloc, text, hints.poll, begins, hints.place_of(fault))?;
+    let place = hints.place_of(fault);
+    push_line_at(alloc, text, hints.poll, &hints.line_begins, place)?;
     Ok(())
 }
 

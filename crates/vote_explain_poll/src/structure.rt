@@ -8,10 +8,10 @@ pub(crate) fn definition(line: &[u8]) -> &[u8] {
     let end = if line.starts_with(b"[") { b'#' } else { b'=' };
     let definition = line.split(|byte| *byte == end).next();
     let definition = definition.unwrap_or(line).trim_ascii();
-    let unquoted = definition.strip_prefix(b"\"");
-    unquoted
-        .and_then(|key| key.strip_suffix(b"\""))
-        .unwrap_or(definition)
+    match definition {
+        [b'"', key @ .., b'"'] => key,
+        _ => definition,
+    }
 }
 
 /// The marks around the text that begins here.
@@ -100,13 +100,14 @@ pub(crate) fn structure_of(file: &[u8], wanted: &[u8]) -> Structure {
     Structure { open, first, top }
 }
 
-/// The places of the texts in the list that begins in the line at a place, each with the number of its bytes.
+/// The places of the texts in the list at a key that is above all tables, each with the number of its bytes.
 pub(crate) fn texts_at(
     alloc: Global,
     file: &[u8],
-    begin: usize,
+    key: &[u8],
 ) -> Result<Vec<(usize, usize)>, AllocError> {
     let mut texts = Vec::new(alloc);
+    let begin = structure_of(file, key).top.unwrap_or(file.len());
     let (mut next, mut depth) = (begin, 0usize);
     for place in begin..file.len() {
         if place < next {

@@ -2,11 +2,12 @@
 //!
 //! It is what kind of file it is, or where it leaves TOML, and what is there. At which place `toml`
 //! finds the error no contract says.
-ghost use Rattle.std.specs.Prelude.{◌≡◌, ◌≤◌, ◌++◌, IfOk, codes, decimal, length, string_bytes, take};
+ghost use Rattle.std.specs.Prelude.{◌≡◌, ◌==◌, [], IfOk, position, reverse, slice_index_or, string_bytes};
 ghost use Rattle.vote_poll_text.specs.Adding.{Adds};
-ghost use Rattle.vote_hints.specs.Hints.{IsExcerpt, Tells};
+ghost use Rattle.vote_poll_text.specs.Lines.{parts_of};
+ghost use Rattle.vote_hints.specs.Hints.{Tells};
 ghost use Rattle.vote_explain_poll.specs.Findings.{IsLineShown};
-ghost use Rattle.vote_explain_poll.specs.Syntax.{IsPlaceFinding, IsSyntaxFinding, begins_character, column_number, first_line, last_line, line_number};
+ghost use Rattle.vote_explain_poll.specs.Syntax.{IsPlaceFinding, IsSyntaxFinding, begins_character, column_number, last_line, line_number, place_words};
 
 use crate::full_lines::begins_as_ballots;
 use crate::structure::{definition, structure_of};
@@ -16,39 +17,25 @@ use vote_hints::{
 };
 use vote_poll_text::{count_feeds, push_shown, split_at_feed};
 
-/// A place in a text.
-#[derive(Clone, Copy, Drop)]
-struct Place<'t> {
-    text: &'t [u8],
-    /// All that stands before the place, and after it.
-    before: &'t [u8],
-    after: &'t [u8],
-    /// What stands before the place in its line, and after it.
-    left: &'t [u8],
-    right: &'t [u8],
-    /// The number of the line.
-    number: usize,
-}
-
 /// The first line of a text, without its line feed.
 pub(crate) fn first_line(text: &[u8]) -> &[u8]
-    ensures { result.now ≡ first_line text.now }
+    ensures { result.now ≡ slice_index_or (parts_of text.now) 0 [] }
 {
-    match split_at_feed(text) {
-        Some((line, _)) => line,
-        None => text,
-    }
+    split_at_feed(text).map_or(text, |(line, _)| line)
+}
+
+/// How many bytes of a text stand after its last line feed, if it has one.
+fn length_after_feed(text: &[u8]) -> Option<usize>
+    ensures { result ≡ position (λ byte. byte == 10) (reverse text.now) }
+{
+    text.iter().rev().position(|byte| *byte == b'\n')
 }
 
 /// What stands in a text after its last line feed.
 fn last_line(text: &[u8]) -> &[u8]
     ensures { result.now ≡ last_line text.now }
 {
-    let mut line = text;
-    while let Some((_, after)) = split_at_feed(line) {
-        line = after;
-    }
-    line
+    &text[text.len() - length_after_feed(text).unwrap_or(text.len())..]
 }
 
 /// Whether a byte of UTF-8 is the first one of a character.
@@ -62,50 +49,31 @@ fn begins_character(byte: u8) -> bool
 fn column_number(before: &[u8]) -> usize
     ensures { result ≡ column_number before.now }
 {
-    before
-        .iter()
-        .filter(|byte| begins_character(**byte))
-        .count()
-        + 1
+    let characters = before.iter().filter(|byte| begins_character(**byte));
+    characters.count() + 1
 }
 
-/// The place in a text before which so many of its bytes stand.
-fn place_at(text: &[u8], at: usize) -> Place<'_>
-    requires { at ≤ length text.now }
-    ensures left { result.left.now ≡ last_line (take at text.now) }
-    ensures number { result.number ≡ line_number (take at text.now) }
+/// The number of the line after the beginning of a text.
+fn line_number(before: &[u8]) -> usize
+    ensures { result ≡ line_number before.now }
 {
-    let (before, after) = text.split_at(at);
-    Place {
-        text,
-        before,
-        after,
-        left: last_line(before),
-        right: first_line(after),
-        number: count_feeds(before) + 1,
-    }
+    count_feeds(before) + 1
 }
 
-/// How many bytes of a text stand before an error.
-fn index_of(text: &[u8], error: &toml::de::Error) -> usize
-    ensures { result ≤ length text.now }
+/// Adds that a finding is at the line and column of the poll before which this stands.
+fn push_place(text: &mut String, before: &[u8]) -> Result<(), AllocError>
+    ensures { Adds result text.old (place_words before.now) text.new }
 {
-    let start = error.span().map_or(0, |span| span.start);
-    start.min(text.len())
-}
-
-/// Adds that a finding is at this line and column of the poll.
-fn push_place(text: &mut String, line: usize, column: usize) -> Result<(), AllocError>
-    ensures { Adds result text.old (codes "poll:" ++ decimal line ++ codes ":" ++ decimal column ++ codes ": ") text.new }
-{
+    let (line, column) = (line_number(before), column_number(last_line(before)));
     write!(text, "poll:{line}:{column}: ")
 }
 
-/// Adds the name of what stands at a place, or at the end of a line of the last before it, if it is no printable ASCII.
-fn push_sign(words: &mut String, place: &Place<'_>) -> Result<(), AllocError> {
-    let begin = place.left.iter().rposition(|byte| begins_character(*byte));
-    let last = place.left.get(begin.unwrap_or(0)..).unwrap_or(b"");
-    match (place.right, last) {
+/// Adds the name of what stands at a place, or at the end of a line of the last before it, if it is no printable ASCII. `left` and
+/// `right` stand in its line before the place and after it.
+fn push_sign(words: &mut String, left: &[u8], right: &[u8]) -> Result<(), AllocError> {
+    let begin = left.iter().rposition(|byte| begins_character(*byte));
+    let last = left.get(begin.unwrap_or(0)..).unwrap_or(b"");
+    match (right, last) {
         ([] | [13], [0x80..=0xFF, ..]) => {
             words.push_str(": after ")?;
             push_character(words, last)
@@ -113,79 +81,62 @@ fn push_sign(words: &mut String, place: &Place<'_>) -> Result<(), AllocError> {
         ([] | [13] | [b' '..=b'~', ..], _) => Ok(()),
         _ => {
             words.push_str(": ")?;
-            push_character(words, place.right)
+            push_character(words, right)
         }
     }
 }
 
-/// The number of the line at a place in a text. Nothing is promised of it, unlike of that in [`Place`].
-fn line_at(text: &[u8], place: usize) -> usize {
-    count_feeds(text.get(..place).unwrap_or(b"")).saturating_add(1)
-}
-
-/// Adds what the file ends within, if it ends at a place.
-fn push_unfinished(words: &mut String, place: &Place<'_>) -> Result<(), AllocError> {
-    if !place.after.trim_ascii().is_empty() {
-        return Ok(());
-    }
-    let Some((what, begin)) = structure_of(place.text, b"").open else {
+/// Adds what a text ends within.
+fn push_unfinished(words: &mut String, text: &[u8]) -> Result<(), AllocError> {
+    let Some((what, begin)) = structure_of(text, b"").open else {
         return Ok(());
     };
-    let line = line_at(place.text, begin);
+    let line = line_number(text.get(..begin).unwrap_or(b""));
     write!(
         words,
         "; the file ends within the {what} that begins in line {line}: its end may be missing"
     )
 }
 
-/// Adds both places of a key that is there twice.
-fn push_both_places(words: &mut String, place: &Place<'_>) -> Result<(), AllocError> {
-    let key = definition(place.right);
-    let first = structure_of(place.before, key).first;
-    let Some(first) = first.filter(|_| place.left.trim_ascii().is_empty()) else {
+/// Adds both places of a key that is there twice, if the second begins the line `right` after this text.
+fn push_both_places(words: &mut String, before: &[u8], right: &[u8]) -> Result<(), AllocError> {
+    let key = definition(right);
+    let first = structure_of(before, key).first;
+    let Some(first) = first.filter(|_| last_line(before).trim_ascii().is_empty()) else {
         return Ok(());
     };
-    let line = line_at(place.text, first);
+    let first = line_number(before.get(..first).unwrap_or(b""));
+    let second = line_number(before);
     words.push_str(": ")?;
     push_shown(words, key, MAX_SHOWN)?;
-    write!(words, " is in line {line} and in line {}", place.number)
+    write!(words, " is in line {first} and in line {second}")
 }
 
 /// What carriage returns in place of line feeds are.
 const OLD_MAC: &str =
     ": carriage returns end the lines, as on old Macs, and not line feeds: this can be mended";
 
-/// Adds what is said of a place after the words of `toml`.
+/// Adds what is said of a place in a text after the words of `toml`.
 fn push_facts(
     words: &mut String,
-    place: &Place<'_>,
+    text: &[u8],
+    at: usize,
     said: &str,
     file: Option<&str>,
 ) -> Result<(), AllocError> {
-    if !place.text.contains(&b'\n') && place.text.contains(&b'\r') {
+    if !text.contains(&b'\n') && text.contains(&b'\r') {
         return push_mending(words, OLD_MAC, "tr '\\r' '\\n'", "", file);
     }
+    let (before, after) = text.split_at(at.min(text.len()));
+    let right = first_line(after);
     if said == "duplicate key" {
-        return push_both_places(words, place);
+        return push_both_places(words, before, right);
     }
-    push_sign(words, place)?;
-    push_unfinished(words, place)
-}
-
-/// Adds the line of a place, in which so many bytes after the place are marked, but at most the rest of the line.
-fn push_line_of(
-    alloc: Global,
-    text: &mut String,
-    place: &Place<'_>,
-    wide: usize,
-) -> Result<(), AllocError>
-    ensures { Tells result text.old IsExcerpt text.new }
-{
-    let at = place.left.len();
-    let begin = place.before.len().saturating_sub(at);
-    let line = first_line(place.text.get(begin..).unwrap_or(b""));
-    push_excerpt(alloc, text, place.number, line, at, wide)?;
-    Ok(())
+    push_sign(words, last_line(before), right)?;
+    match after.trim_ascii() {
+        [] => push_unfinished(words, text),
+        _ => Ok(()),
+    }
 }
 
 /// Where the lines of a file begin, in their order.
@@ -216,9 +167,7 @@ pub(crate) fn push_line_at(
     };
     let number = begins.partition_point(|begin| *begin <= at);
     let begin = begins.get(number.saturating_sub(1)).copied().unwrap_or(0);
-    let end = begins.get(number).copied().unwrap_or(file.len());
-    let line = file.get(begin..end).unwrap_or(b"");
-    let line = line.strip_suffix(b"\n").unwrap_or(line);
+    let line = first_line(file.get(begin..).unwrap_or(b""));
     push_excerpt(alloc, text, number, line, at.saturating_sub(begin), wide)?;
     Ok(())
 }
@@ -232,19 +181,20 @@ fn place_finding(
 ) -> Result<String, AllocError>
     ensures { IfOk result (λ finding. IsPlaceFinding text.now (string_bytes finding)) }
 {
-    let place = place_at(text, index_of(text, error));
-    let mut finding = String::new(alloc);
-    push_place(&mut finding, place.number, column_number(place.left))?;
-    let mut words = String::from_str(alloc, error.message())?;
-    push_facts(&mut words, &place, error.message(), file)?;
-    push_hint_line(&mut finding, words.as_bytes())?;
     let span = error.span().unwrap_or(0..0);
-    push_line_of(
-        alloc,
-        &mut finding,
-        &place,
+    let (at, wide) = (
+        span.start.min(text.len()),
         span.end.saturating_sub(span.start),
-    )?;
+    );
+    let (before, _) = text.split_at(at);
+    let left = last_line(before).len();
+    let line = first_line(text.get(at.saturating_sub(left)..).unwrap_or(b""));
+    let mut words = String::from_str(alloc, error.message())?;
+    push_facts(&mut words, text, at, error.message(), file)?;
+    let mut finding = String::new(alloc);
+    push_place(&mut finding, before)?;
+    push_hint_line(&mut finding, words.as_bytes())?;
+    push_excerpt(alloc, &mut finding, line_number(before), line, left, wide)?;
     Ok(finding)
 }
 

@@ -10,9 +10,9 @@ returns-in-Ok c =
     let read : document c.args.text.now ≡ Ok (table_view c.in-Ok.table) = document-table _ _ c.in-Ok.ensures.ok.0 c.in-Ok.ensures.ok.1 in
     record { findings = rw read c.explain_table.ensures.findings; outcome = rw read c.explain_table.ensures.outcome; known = c.explain_table.ensures.known }
 
-pub returns-in_ok-syntax_finding-in-Err : goal.returns-in_ok-syntax_finding-in-Err
+pub returns-in_ok-syntax_finding-in-Err-2 : goal.returns-in_ok-syntax_finding-in-Err-2
 unfolding poll_in
-returns-in_ok-syntax_finding-in-Err c =
+returns-in_ok-syntax_finding-in-Err-2 c =
     let refused : document c.args.text.now ≡ Err fault.Syntax =
     document-refused _ (c.in-Err.ensures.refused (λ memory. let is : c.is_memory.result ≡ true = c.is_memory.ensures.1 memory in cc)) in
-    record { findings = rw refused c.in_ok-syntax_finding-in-Err.ensures; outcome = rw refused refl; known = search rules }
+    record { findings = rw refused c.in_ok-syntax_finding-in-Err-2.ensures; outcome = rw refused refl; known = search rules }
