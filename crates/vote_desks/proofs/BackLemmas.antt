@@ -1,5 +1,5 @@
 -- The workers return what they promised: the desks in order, with passes that took each place of the tray once.
-use Rattle.std.proofs.Common.{◌≡◌, ℕ, ◌+◌, ◌<◌, zero, suc, List, [], ◌∷◌, ◌++◌, max, length, map, sum_by, Contains, refl, sym, ap, ◌∙◌, subst, arith, length-append}
+use Rattle.std.proofs.Common.{◌≡◌, ℕ, ◌+◌, ◌<◌, List, [], ◌∷◌, ◌++◌, max, length, map, sum_by, Contains, refl, sym, ap, ◌∙◌, subst, arith, length-append}
 use Rattle.std.specs.List.{All, range_with_len, enumerate_from, sum}
 use Rattle.std.proofs.lemmas.List.{length-map, map-id, map_push}
 use Rattle.std.proofs.lemmas.List.Elements.{All-from_recursion, All-map, All-push}

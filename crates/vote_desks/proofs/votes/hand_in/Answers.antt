@@ -1,5 +1,5 @@
 -- The desks come back in the order of their passes, so each pass can be joined to those before it.
-use Rattle.std.proofs.Common.{◌≡◌, ◌+◌, suc, length, get_or, ◌∷◌, [], ◌++◌, sym, ap, ◌∙◌, subst, vec_len, arith}
+use Rattle.std.proofs.Common.{◌≡◌, suc, length, get_or, ◌∷◌, [], ◌++◌, sym, ap, ◌∙◌, subst, vec_len, arith}
 use Rattle.std.specs.Vec.Iter.{into_iter_items}
 use Rattle.vote_desks.specs.Back.{AreHandedIn}
 use Rattle.vote_desks.specs.Workers.{IsWorkerAt}
