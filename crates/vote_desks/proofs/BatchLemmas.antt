@@ -1,26 +1,15 @@
 -- What a pass has after it has taken one more place.
-use Rattle.std.proofs.Common.{◌≡◌, ℕ, ◌+◌, ◌-◌, ◌<◌, ◌≤◌, List, [], ◌∷◌, ◌++◌, length, get_or, sym, ap, ◌∙◌, subst, ⊎_elim, arith}
+use Rattle.std.proofs.Common.{◌≡◌, ℕ, ◌+◌, ◌-◌, ◌<◌, ◌≤◌, List, [], ◌∷◌, ◌++◌, length, get_or, sym, ap, ◌∙◌, subst, arith}
 use Rattle.std.specs.List.{All}
 use Rattle.std.specs.List.Sorted.{IsStrictlyIncreasing}
-use Rattle.std.proofs.lemmas.Bool.{cases_lt}
-use Rattle.std.proofs.Math.Seq.{get_or-append_seam}
-use Rattle.std.proofs.lemmas.List.{get_or_append_left, get_or_push, length_push, map_push}
+use Rattle.std.proofs.lemmas.Grind.{common_steps}
+use Rattle.std.proofs.lemmas.List.{get_or_push, length_push, map_push}
 use Rattle.std.proofs.lemmas.List.Elements.{All-push}
 use Rattle.vote_tray.specs.Passes.{PassState, with_place}
 use Rattle.vote_desks.specs.Work.{IsRising, last_stamp, stamps_taken}
 
 increasing_push : (xs : List ℕ) (y : ℕ) → IsStrictlyIncreasing xs → All (λ x. x < y) xs → IsStrictlyIncreasing (xs ++ y ∷ [])
-increasing_push xs y up below = λ k lt.
-    let len = length_push xs y in
-    let here = get_or_append_left xs (y ∷ []) 0 in
-    ⊎_elim
-    (λ (inside : k + 1 < length xs). let less = up k inside in omega (arith, here k (omega arith), here (k + 1) inside, less))
-    (λ (last : length xs ≤ k + 1).
-    let end : k + 1 ≡ length xs = omega arith in
-    let less : get_or xs k 0 < y = below k 0 (omega arith) in
-    let seam : get_or (xs ++ y ∷ []) (k + 1) 0 ≡ y = ap (λ i. get_or (xs ++ y ∷ []) i 0) end ∙ get_or-append_seam xs y [] 0 in
-    omega (arith, less, seam, get_or_append_left xs (y ∷ []) k 0 (omega arith)))
-    (cases_lt (k + 1) (length xs))
+increasing_push xs y up below k lt = let less = up k in let low = below k 0 in grind (arith, common_steps)
 
 pub rising_with : (pass : PassState) (place : ℕ) → IsRising pass → pass.seen ≤ place → place < pass.tray.size → IsRising (with_place pass place)
 rising_with pass place h seen inside =

@@ -1,4 +1,3 @@
 pub mod BatchLemmas
-pub mod Joined
 pub mod BackLemmas
 pub mod StopLemmas

@@ -1,6 +1,6 @@
 -- The lowest desk that stopped early, and what an audit may find.
 use Rattle.std.proofs.Common.{◌≡◌, ℕ, Bool, IsTrue, ◌+◌, ◌<◌, ◌≤◌, List, Option, Some, None, length, get_or, map, refl, sym, ap, ◌∙◌, ⊎_elim, arith}
-use Rattle.std.specs.List.{range_with_len, count_by}
+use Rattle.std.specs.List.{count_by}
 use Rattle.std.proofs.lemmas.Bool.{cases_lt}
 use Rattle.std.proofs.lemmas.List.{get_or-map, length-map}
 use Rattle.vote_poll.specs.PollContent.{PollContent}
@@ -18,11 +18,10 @@ use Rattle.vote_desks_box.specs.declared.EnterFault.{EnterFault}
 use Rattle.vote_desks_box.specs.declared.EnterFault.TheVariants.{StampUsed}
 use Rattle.vote_audit.specs.Faults.{CanStopAudit, CanStopCasts, CanStopVotes, IsOfDesk, IsAuditFaultOf, IsFoundIn}
 use Rattle.vote_desks.specs.Stops.{IsBarredBy, stop_fault, IsLeastStop}
-use Rattle.vote_desks_box.proofs.Ranges.{at_range}
 
 -- the desks are numbered in order, and the desk at this index is the first that stopped early
 pub least_stop : {W : Type 0} (desk : W → ℕ) (stopped : W → Option Stop) (all : List W) (k : ℕ) (w : W) (stop : Stop) (fault : VoteFault)
-    → map desk all ≡ range_with_len 1 (length all) → k < length all → w ≡ get_or all k w → stopped w ≡ Some stop → fault ≡ stop_fault (desk w) stop
+    → ((i : ℕ) (d : W) → i < length all → desk (get_or all i d) ≡ i + 1) → k < length all → w ≡ get_or all k w → stopped w ≡ Some stop → fault ≡ stop_fault (desk w) stop
     → ((j : ℕ) (e : W) → j < k → stopped (get_or all j e) ≡ None)
     → IsLeastStop (map {B = ℕ × Option Stop} (λ v. (desk v, stopped v)) all) fault
 least_stop {W} desk stopped all k w stop fault numbers inside here stops is before =
@@ -37,8 +36,8 @@ least_stop {W} desk stopped all k w stop fault numbers inside here stops is befo
           let i = there.0 in
           let within : i < length all = let lt = there.1 in omega arith in
           let at : pair (get_or all i w) ≡ (other, Some why) = sym (get_or-map pair all i w (other, Some why) within) ∙ there.2 in
-          let mine : desk (get_or all k w) ≡ 1 + k = at_range desk 1 (length all) all k w numbers inside in
-          let its : desk (get_or all i w) ≡ 1 + i = at_range desk 1 (length all) all i w numbers within in
+          let mine = numbers k w inside in
+          let its = numbers i w within in
           let same = ap desk here in
           let number = ap (λ p. p.0) at in
           ⊎_elim

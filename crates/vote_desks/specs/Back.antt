@@ -1,16 +1,9 @@
 -- The desks and passes that all workers return.
-use Rattle.std.specs.Prelude.{◌≡◌, ℕ, ◌+◌, List, [], ◌∷◌, length, map, sum_by, All}
+use Rattle.std.specs.Prelude.{◌≡◌, ℕ, List, length, map, sum_by, All}
 use Rattle.std.specs.List.{range_with_len}
 use Rattle.vote_tray.specs.Passes.{TrayId, PassState}
 use Rattle.vote_desks_box.specs.Slips.{Rises}
 use Rattle.vote_desks_box.specs.Desks.{DeskState}
-use Rattle.vote_desks.specs.Work.{HasCastAll}
-
--- the desks from number n + 1 on, in order, each with its pass, and they have emptied the tray
-abbrev pub AreBackFrom : TrayId → ℕ → List (DeskState × PassState) → Type 0
-AreBackFrom tray n [] = Unit {0}
-AreBackFrom tray n (back ∷ others) =
-    (back.0.number ≡ n + 1) × (back.1.tray ≡ tray) × (back.1.parts ≡ n ∷ []) × HasCastAll back.0 back.1 × AreBackFrom tray (n + 1) others
 
 -- the number of envelopes that these desks have cast
 abbrev pub casts_at : List DeskState → ℕ

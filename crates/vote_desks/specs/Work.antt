@@ -35,10 +35,6 @@ pub record HasCastAll (desk : DeskState) (pass : PassState) : Type 0 where
   pub rising : Rises desk.slips
   pub emptied : pass.seen ≡ pass.tray.size
 
--- the tray and the parts of a pass, which do not change when it takes places
-abbrev pub tray_and_parts : PassState → TrayId × List ℕ
-tray_and_parts pass = (pass.tray, pass.parts)
-
 -- a stamp is the number of a line, from 1, if there are this many lines
 abbrev pub IsStampOf : ℕ → ℕ → Type 0
 IsStampOf lines stamp = (1 ≤ stamp) × (stamp ≤ lines)

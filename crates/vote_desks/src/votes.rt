@@ -5,18 +5,18 @@
 //! all have ended, the desks are gathered and each line is read once more. The first fault in the order of `VoteFault` is returned,
 //! but `Memory` may come at any growth. The contract of `take_votes` promises only the result: an audited box, or a fault that may
 //! come.
-ghost use Rattle.std.specs.Prelude.{◌≡◌, ◌<◌, [], IfOk, IfErr, IfSome, IsNone, All, None, length, map, vec_len};
+ghost use Rattle.std.specs.Prelude.{◌≡◌, ◌<◌, [], IfOk, IfErr, IfSome, IsNone, All, None, length, vec_len};
 ghost use Rattle.std.specs.List.{range_with_len};
 ghost use Rattle.vote_steps.specs.Boxes.{box_of};
 ghost use Rattle.vote_steps.specs.Desks.{AreDesks};
 ghost use Rattle.vote_desks_box.specs.Slips.{Rises};
 ghost use Rattle.vote_desks_box.specs.Desks.{AreSlipsInOrder, fresh_desks};
 ghost use Rattle.vote_audit.specs.Audit.{IsAuditedFor};
-ghost use Rattle.vote_desks.specs.Back.{AreAllHandedIn, AreBackFrom, casts_at};
+ghost use Rattle.vote_desks.specs.Back.{AreAllHandedIn, casts_at};
 ghost use Rattle.vote_desks.specs.Stops.{stop_fault, IsLeastStop, StopsWorkers};
 ghost use Rattle.vote_audit.specs.Faults.{AreSlipsOf, CanStopAudit, CanStopCasts, CanStopVotes, IsOfDesk, IsAuditFaultOf, IsFoundIn};
-ghost use Rattle.vote_desks.specs.Work.{new_passes, tray_and_parts};
-ghost use Rattle.vote_desks.specs.Workers.{AreBarredBy, numbers_back, numbers_of, pairs_back, parts_back, stops_back};
+ghost use Rattle.vote_desks.specs.Work.{new_passes};
+ghost use Rattle.vote_desks.specs.Workers.{AreBack, AreBarredBy, AreNumbered, numbers_of, stops_back};
 
 use crate::work::{Gate, Workplace, work_all};
 use crate::worker_result::{Stop, WorkerResult};
@@ -43,7 +43,7 @@ fn stop_fault(desk: u8, stop: Stop) -> VoteFault
 
 /// The fault of the lowest desk that stopped early.
 fn first_stop<VL: Tally, RL: Tally, G: Gate>(all: &[WorkerResult<VL, RL>]) -> Option<VoteFault>
-    requires numbers { numbers_back all.now ≡ range_with_len 1 (length all.now) }
+    requires numbers { AreNumbered all.now }
     requires barred { AreBarredBy G.bars all.now }
     ensures some { IfSome result (IsLeastStop (stops_back all.now)) }
     ensures can { IfSome result (CanStopCasts G.bars) }
@@ -65,7 +65,8 @@ fn hand_in<VL: Tally, RL: Tally>(
     all: Vec<WorkerResult<VL, RL>>,
 ) -> Result<(Vec<Desk<VL, RL>>, Pass), VoteFault>
     requires all { (0 < vec_len all) × (vec_len all ≡ tray.now.passes) }
-    requires back { AreBackFrom tray.now 0 (pairs_back all.items) }
+    requires back { AreBack tray.now all.items }
+    requires done { All (λ worked. worked.stopped ≡ None) all.items }
     ensures handed { IfOk result (λ handed. AreAllHandedIn tray.now handed.0.items handed.1) }
     ensures err { IfErr result (λ fault. fault ≡ VoteFault.Memory) }
 {
@@ -90,8 +91,8 @@ fn take_back<VL: Tally, RL: Tally, G: Gate>(
     all: Vec<WorkerResult<VL, RL>>,
 ) -> Result<(Vec<Desk<VL, RL>>, Pass), VoteFault>
     requires some { 0 < tray.now.passes }
-    requires numbers { numbers_back all.items ≡ range_with_len 1 tray.now.passes }
-    requires passes { parts_back all.items ≡ map tray_and_parts (new_passes tray.now) }
+    requires len { vec_len all ≡ tray.now.passes }
+    requires back { AreBack tray.now all.items }
     requires barred { AreBarredBy G.bars all.items }
     ensures handed { IfOk result (λ handed. AreAllHandedIn tray.now handed.0.items handed.1) }
     ensures stops { IfErr result (StopsWorkers (stops_back all.items)) }

@@ -1,10 +1,9 @@
 //! Workers. Each serves a desk in a thread of its own.
-ghost use Rattle.std.specs.Prelude.{◌≡◌, ℕ, Bool, true, false, ◌+◌, ◌<◌, ◌≤◌, ◌^◌, [], None, Ok, Some, All, IsNone, IsSome, IsTrue, IfOk, IfErr, map, length, vec_len};
-ghost use Rattle.std.specs.List.{AllByRecursion};
+ghost use Rattle.std.specs.Prelude.{◌≡◌, ℕ, Bool, true, false, ◌+◌, ◌<◌, ◌≤◌, ◌^◌, [], None, Ok, Some, All, IsNone, IsSome, IsTrue, IfOk, IfErr, length, vec_len};
 ghost use Rattle.vote_steps.specs.Boxes.{box_of};
-ghost use Rattle.vote_desks_box.specs.Desks.{FitsBox};
-ghost use Rattle.vote_desks.specs.Work.{AreReadAt, HasCast, HasCastAll, IsFresh, IsStampOf, IsUnused, tray_and_parts};
-ghost use Rattle.vote_desks.specs.Workers.{AreBarredBy, desks_promised, numbers_back, numbers_of, parts_back, parts_promised, passes_promised};
+ghost use Rattle.vote_desks_box.specs.Desks.{FitsBox, fresh_desks};
+ghost use Rattle.vote_desks.specs.Work.{AreReadAt, HasCast, HasCastAll, IsFresh, IsStampOf, IsUnused, new_passes};
+ghost use Rattle.vote_desks.specs.Workers.{AreBack, AreBarredBy, ArePromised};
 ghost use Rattle.vote_desks.specs.Stops.{IsBarredBy, IsRefusedAsUsed};
 ghost use Rattle.vote_audit.specs.Faults.{IsStartFault};
 
@@ -271,11 +270,11 @@ fn start_all<
     mut desks: Vec<Desk<VL, RL>>,
     mut passes: Vec<Pass>,
 ) -> Result<Vec<PromisedHandle<WorkerResult<VL, RL>, WorkerPromise<G>>>, VoteFault>
-    requires desks { AllByRecursion (IsFresh (length workplace.now.lines.now)) desks.items }
-    requires passes { AllByRecursion (IsUnused workplace.now.tray.now) passes.items }
+    requires desks { desks.items ≡ fresh_desks (length workplace.now.lines.now) (vec_len desks) }
+    requires passes { passes.items ≡ new_passes workplace.now.tray.now }
     requires same { vec_len passes ≡ vec_len desks }
-    ensures desks { IfOk result (λ all. desks_promised all.items ≡ numbers_of desks.items) }
-    ensures passes { IfOk result (λ all. passes_promised all.items ≡ passes.items) }
+    ensures len { IfOk result (λ all. vec_len all ≡ vec_len desks) }
+    ensures promised { IfOk result (λ all. ArePromised workplace.now.tray.now all.items) }
     ensures err { IfErr result IsStartFault }
 {
     let mut handles = Vec::new(alloc);
@@ -300,11 +299,11 @@ pub(crate) fn work_all<
     desks: Vec<Desk<VL, RL>>,
     passes: Vec<Pass>,
 ) -> Result<Vec<WorkerResult<VL, RL>>, VoteFault>
-    requires desks { AllByRecursion (IsFresh (length workplace.now.lines.now)) desks.items }
-    requires passes { AllByRecursion (IsUnused workplace.now.tray.now) passes.items }
+    requires desks { desks.items ≡ fresh_desks (length workplace.now.lines.now) (vec_len desks) }
+    requires passes { passes.items ≡ new_passes workplace.now.tray.now }
     requires same { vec_len passes ≡ vec_len desks }
-    ensures desks { IfOk result (λ all. numbers_back all.items ≡ numbers_of desks.items) }
-    ensures passes { IfOk result (λ all. parts_back all.items ≡ map tray_and_parts passes.items) }
+    ensures len { IfOk result (λ all. vec_len all ≡ vec_len desks) }
+    ensures back { IfOk result (λ all. AreBack workplace.now.tray.now all.items) }
     ensures barred { IfOk result (λ all. AreBarredBy G.bars all.items) }
     ensures err { IfErr result IsStartFault }
 {
@@ -312,27 +311,14 @@ pub(crate) fn work_all<
         thread::scope_env(),
         rt,
         |scope| -> Result<Vec<PromisedHandle<WorkerResult<VL, RL>, WorkerPromise<G>>>, VoteFault>
-            requires desks { AllByRecursion (IsFresh (length workplace.now.lines.now)) desks.items }
-            requires passes { AllByRecursion (IsUnused workplace.now.tray.now) passes.items }
+            requires desks { desks.items ≡ fresh_desks (length workplace.now.lines.now) (vec_len desks) }
+            requires passes { passes.items ≡ new_passes workplace.now.tray.now }
             requires same { vec_len passes ≡ vec_len desks }
-            ensures desks { IfOk result (λ all. desks_promised all.items ≡ numbers_of desks.items) }
-            ensures passes { IfOk result (λ all. passes_promised all.items ≡ passes.items) }
+            ensures len { IfOk result (λ all. vec_len all ≡ vec_len desks) }
+            ensures promised { IfOk result (λ all. ArePromised workplace.entry.now.tray.now all.items) }
             ensures err { IfErr result IsStartFault }
         { start_all(scope, rt, alloc, workplace, desks, passes) },
     )?;
-    join_all(rt, handles)
-}
-
-/// Joins all workers.
-fn join_all<VL: Tally, RL: Tally, G: Gate, R: Threads>(
-    rt: &R,
-    handles: Vec<PromisedHandle<WorkerResult<VL, RL>, WorkerPromise<G>>>,
-) -> Result<Vec<WorkerResult<VL, RL>>, VoteFault>
-    ensures desks { IfOk result (λ all. numbers_back all.items ≡ desks_promised handles.items) }
-    ensures passes { IfOk result (λ all. parts_back all.items ≡ parts_promised handles.items) }
-    ensures barred { IfOk result (λ all. AreBarredBy G.bars all.items) }
-    ensures err { IfErr result (λ fault. fault ≡ VoteFault.Memory) }
-{
     match thread::join_promised(rt, handles) {
         Ok(all) => Ok(all),
         Err(_) => Err(VoteFault::Memory),

@@ -1,7 +1,6 @@
 use Rattle.std.proofs.Common.{Some, length, ap, ◌∙◌, subst, sym, arith}
 use Rattle.vote_audit.specs.Faults.{CanStopCasts, IsOfDesk}
 use Rattle.vote_desks.specs.Stops.{IsBarredBy, stop_fault}
-use Rattle.vote_desks_box.proofs.Ranges.{at_range}
 use Rattle.vote_desks.proofs.StopLemmas.{least_stop, can_stop, of_desk}
 use Rattle.vote_desks.proofs.votes.first_stop.Goals as goal
 
@@ -23,6 +22,6 @@ pub returns-in-Some-clause-desk : goal.returns-in-Some-clause-desk
 returns-in-Some-clause-desk g c =
     let all = c.args.all.now in
     let k = c.loop-worked.worked-index in
-    let mine = at_range (λ w. w.desk.number) 1 (length all) all k c.worked-item.result c.requires.numbers (omega arith) in
+    let mine = c.requires.numbers k c.worked-item.result (omega arith) in
     let here = ap (λ w. w.desk.number) c.worked-item.is in
     subst (IsOfDesk (length all)) (sym c.stop_fault.ensures) (of_desk (length all) c.number.result c.in-Some.stop (omega (arith, c.number.ensures, mine, here)) (omega (arith, c.number.ensures, mine, here)))

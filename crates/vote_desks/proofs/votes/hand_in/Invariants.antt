@@ -1,16 +1,20 @@
-use Rattle.std.proofs.Common.{◌≤◌, ◌-◌, map, length}
+use Rattle.std.proofs.Common.{◌≡◌, ℕ, ◌+◌, ◌<◌, None, length, get_or, vec_len}
+use Rattle.std.specs.List.{All}
 use Rattle.std.specs.Vec.Iter.{into_iter_items}
-use Rattle.vote_tray.specs.Passes.{PassState}
-use Rattle.vote_desks_box.specs.Desks.{DeskState}
-use Rattle.vote_desks.specs.Back.{AreBackFrom, AreHandedIn}
+use Rattle.vote_desks.specs.Back.{AreHandedIn}
+use Rattle.vote_desks.specs.Workers.{IsWorkerAt}
 use Rattle.vote_desks.proofs.votes.hand_in.Given as goal
 
+-- after as many desks as are handed in, the results that are left go on in order
 abbrev pub invariant-loop-desk : goal.invariant-loop-desk
-invariant-loop-desk g l = record {
-  few : length (into_iter_items l.all) ≤ l.tray.passes;
-  back : AreBackFrom l.tray (l.tray.passes - length (into_iter_items l.all)) (map {B = DeskState × PassState} (λ w. (w.desk, w.pass)) (into_iter_items l.all));
-  so_far : AreHandedIn l.tray (l.tray.passes - length (into_iter_items l.all)) l.desks.items l.joined;
-}
+invariant-loop-desk g l =
+    let rest = into_iter_items l.all in
+    record {
+      few : vec_len l.desks + length rest ≡ l.tray.passes;
+      back : (k index : ℕ) (any : _) → k < length rest → index ≡ vec_len l.desks + k → IsWorkerAt l.tray index (get_or rest k any).desk.number (get_or rest k any).pass;
+      done : All (λ worked. worked.stopped ≡ None) rest;
+      so_far : AreHandedIn l.tray (vec_len l.desks) l.desks.items l.joined;
+    }
 
 abbrev pub decreases-loop-desk : goal.decreases-loop-desk
 decreases-loop-desk g l = length (into_iter_items l.all)

@@ -24,5 +24,5 @@ returns-clause-found g c =
     let back = c.in_ok-back.back in
     IfErr-weaker c.gather_and_audit.result _ _
     (λ fault. found_in_such (AreSlipsInOrder back) (AreSlipsOf c.args.desks) c.args.poll.now c.args.lines.now fault
-    (λ slips_by_desk are. (gathered_long back.items slips_by_desk _ are c.in_ok-back.ensures.numbers ∙ c.in-Ok.ensures.len, gathered_rise back.items slips_by_desk are c.in_ok-back.ensures.rising)))
+    (λ slips_by_desk are. (gathered_long back.items slips_by_desk are _ c.in_ok-back.ensures.numbers ∙ c.in-Ok.ensures.len, gathered_rise back.items slips_by_desk are c.in_ok-back.ensures.rising)))
     c.gather_and_audit.ensures.found

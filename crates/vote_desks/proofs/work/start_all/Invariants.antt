@@ -1,16 +1,17 @@
-use Rattle.std.proofs.Common.{◌≡◌, ◌++◌, map, vec_len, length}
-use Rattle.std.specs.List.{AllByRecursion}
-use Rattle.vote_desks_box.specs.Desks.{DeskState}
-use Rattle.vote_desks.specs.Work.{IsFresh, IsUnused}
+use Rattle.std.proofs.Common.{◌≡◌, ℕ, ◌+◌, ◌<◌, length, get_or, vec_len}
+use Rattle.vote_tray.specs.Passes.{PassState, new_pass}
+use Rattle.vote_desks_box.specs.Desks.{DeskState, fresh_desk}
+use Rattle.vote_desks.specs.Workers.{ArePromised}
 use Rattle.vote_desks.proofs.work.start_all.Given as goal
 
+-- after as many desks as there are handles, the desks and the passes that are left go on in order
 abbrev pub invariant-loop-desks : goal.invariant-loop-desks
 invariant-loop-desks g l = record {
   same : vec_len l.passes ≡ vec_len l.desks;
-  fresh : AllByRecursion (IsFresh (length l.workplace.lines.now)) l.desks.items;
-  unused : AllByRecursion (IsUnused l.workplace.tray.now) l.passes.items;
-  desks : map (λ h. h.promise.number) l.handles.items ++ map (λ (d : DeskState). d.number) l.desks.items ≡ map (λ (d : DeskState). d.number) l.fn.desks.items;
-  passes : map (λ h. h.promise.pass.value) l.handles.items ++ l.passes.items ≡ l.fn.passes.items;
+  len : vec_len l.handles + vec_len l.desks ≡ vec_len l.fn.desks;
+  desks : (k index : ℕ) (any : DeskState) → k < vec_len l.desks → index ≡ vec_len l.handles + k → get_or l.desks.items k any ≡ fresh_desk (length l.workplace.lines.now) (index + 1);
+  passes : (k index : ℕ) (any : PassState) → k < vec_len l.passes → index ≡ vec_len l.handles + k → get_or l.passes.items k any ≡ new_pass l.workplace.tray.now index;
+  promised : ArePromised l.workplace.tray.now l.handles.items;
 }
 
 abbrev pub decreases-loop-desks : goal.decreases-loop-desks

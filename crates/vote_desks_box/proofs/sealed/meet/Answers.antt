@@ -1,5 +1,5 @@
 -- The shares of all desks were merged into the first, so they add up to the books, and the books are the numbers of the box.
-use Rattle.std.proofs.Common.{◌≡◌, ◌++◌, [], ◌∷◌, length, map, refl, sym, ap, ◌∙◌, vec_items, arith}
+use Rattle.std.proofs.Common.{◌++◌, [], ◌∷◌, length, map, refl, sym, ap, ◌∙◌, vec_items, arith}
 use Rattle.std.specs.Vec.Iter.{into_iter_items}
 use Rattle.std.proofs.lemmas.List.{append-nil, nil_from_length}
 use Rattle.vote_steps.specs.History.{valid, refused}
