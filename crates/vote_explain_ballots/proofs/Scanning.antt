@@ -69,10 +69,6 @@ pub record IsAfter (front : List ℕ) (count : ℕ) (p : Part) : Type 0 where
   pub room : count ≤ most_before p
   pub left : (rest : List ℕ) → goes_on part.Name 0 (front ++ rest) ≡ goes_on p count rest
 
--- before the first byte a name comes
-pub after_none : IsAfter [] 0 part.Name
-after_none = record { room = omega arith; left = λ rest. refl }
-
 after_next : (front : List ℕ) (p : Part) (count b : ℕ) → IsAfter front count p → (rest : List ℕ) → goes_on part.Name 0 ((front ++ b ∷ []) ++ rest) ≡ has_byte p count b && goes_on (next_part p b) (count + 1) rest
 after_next front p count b is rest = ap (goes_on part.Name 0) (append_assoc front (b ∷ []) rest) ∙ is.left (b ∷ rest) ∙ step p count b rest is.room
 

@@ -16,7 +16,7 @@ pub use Rattle.vote_poll_text.specs.Shown.{shown}
 pub use Rattle.vote_poll.specs.PollContent.{PollContent, last_in_time}
 pub use Rattle.vote_poll.specs.Readings.{IsReading, ballot_in, is_ballot, is_space, rank_in, reading, reading_of, readings}
 pub use Rattle.vote_poll.specs.declared.reading.Reading.{Reading}
-pub use Rattle.vote_steps.specs.History.{before_close, is_closed, is_valid, reply_to}
+pub use Rattle.vote_steps.specs.History.{before_close, is_closed, reply_to}
 pub use Rattle.vote_poll_text.specs.Texts.{Text}
 pub use Rattle.vote_hints.specs.Hints.{Adding, AreLinesFor}
 pub use Rattle.vote_explain_ballots.specs.Explained.{IsIfText, IsLineHint, SaysRefusal, finding_head, question, stranger_words}

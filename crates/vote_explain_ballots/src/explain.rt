@@ -5,7 +5,7 @@ ghost use Rattle.vote_poll.specs.PollContent.{last_in_time, option_count};
 ghost use Rattle.vote_poll_text.specs.Adding.{Adds};
 ghost use Rattle.vote_steps.specs.HeldLines.{HoldsLines};
 ghost use Rattle.vote_steps.specs.LastBallots.{refused_count};
-ghost use Rattle.vote_explain_ballots.specs.Explained.{AreTotals, IsExplained, counted_text, example_text, has_bad_line, numbered, numbers_text, order_words, own_ballot, own_options, reads_ballot, warnings_text};
+ghost use Rattle.vote_explain_ballots.specs.Explained.{AreTotals, IsExplained, example_text, has_bad_line, numbered, numbers_text, order_words, own_ballot, own_options, reads_ballot, warnings_text};
 ghost use Rattle.vote_explain_ballots.specs.Refusals.{EachRefusalIsListed, RefusedAsBySteps};
 
 use crate::MOST_REMARK;
@@ -28,6 +28,7 @@ pub struct Explained {
 }
 
 /// What a box that holds the lines counts, in the words of the result sheet.
+#[tactic(auto, using(vote_steps::proofs::Holding::refused_are))]
 fn totals_of(poll: &Poll, lines: &Lines<'_>, ballot_box: &BallotBox) -> Totals
     requires { HoldsLines poll.now lines.now ballot_box.now }
     ensures { AreTotals poll.now lines.now result }
@@ -128,11 +129,15 @@ impl<'f> CastFile<'f> {
         (self.late_count() as u64) < self.totals.refused
     }
 
-    /// Adds that lines are counted, if the poll has a last envelope, the file has a line with its number, and a line is refused that is
-    /// not late.
-    fn push_counted(&self, text: &mut String) -> Result<(), AllocError>
-        ensures { Adds result text.old (counted_text self.now.poll.now self.now.lines.now) text.new }
+    /// Adds what is said before the lines, if it can be ballots: that they look like a table, if they do; and that lines are counted, if
+    /// the poll has a last envelope, the file has a line with its number, and a line is refused that is not late.
+    fn push_warnings(&self, alloc: Global, text: &mut String) -> Result<(), AllocError>
+        ensures { Adds result text.old (warnings_text self.now.is_text self.now.poll.now self.now.lines.now) text.new }
     {
+        if !self.is_text {
+            return Ok(());
+        }
+        push_table(alloc, text, self.poll, self.lines)?;
         let Some(last) = self.poll.last_envelope() else {
             return Ok(());
         };
@@ -143,17 +148,6 @@ impl<'f> CastFile<'f> {
             text,
             "lines are counted: taking one out, or adding one above line {last}, changes which ballots are late"
         )
-    }
-
-    /// Adds what is said before the lines, if it can be ballots.
-    fn push_warnings(&self, alloc: Global, text: &mut String) -> Result<(), AllocError>
-        ensures { Adds result text.old (warnings_text self.now.is_text self.now.poll.now self.now.lines.now) text.new }
-    {
-        if !self.is_text {
-            return Ok(());
-        }
-        push_table(alloc, text, self.poll, self.lines)?;
-        self.push_counted(text)
     }
 
     /// Adds a ballot line of the poll, and what each of its ranks is of, if it can be ballots, and a line is refused that is not late.

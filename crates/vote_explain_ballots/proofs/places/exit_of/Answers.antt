@@ -1,9 +1,6 @@
 use Rattle.vote_explain_ballots.proofs.Words.{◌≡◌, ◌∙◌, length, sym, take, arith, take_more}
-use Rattle.vote_explain_ballots.proofs.Scanning.{after_byte, after_none, exit_after}
+use Rattle.vote_explain_ballots.proofs.Scanning.{after_byte, exit_after}
 use Rattle.vote_explain_ballots.proofs.places.exit_of.Goals as goal
-
-pub loop-before-init : goal.loop-before-init
-loop-before-init c = after_none
 
 pub returns-then-not-has_byte : goal.returns-then-not-has_byte
 returns-then-not-has_byte c =
