@@ -1,5 +1,5 @@
 -- The names that the proofs of this crate share.
-pub use Rattle.std.proofs.Common.{Bool, Bor, List, None, Option, Some, [], ap, append-nil, append_assoc, ap₂, arith, codes, decimal, drop, false, filter, get_or, inl, inr, length, map, min, nat_le, not, refl, rules, slice_get, string_bytes, subst, suc, sym}
+pub use Rattle.std.proofs.Common.{Bool, Bor, List, None, Option, Some, [], add-one, ap, append-nil, append_assoc, ap₂, arith, codes, decimal, drop, false, filter, get_or, inl, inr, length, map, min, nat_le, not, refl, rules, slice_get, string_bytes, subst, suc, sym}
 pub use Rattle.std.proofs.Common.{take, take-append-drop, take_all, true, zero, ℕ, ◌&&◌, ◌++◌, ◌+◌, ◌-◌, ◌<◌, ◌==◌, ◌||◌, ◌∙◌, ◌∷◌, ◌≡◌, ◌≤◌}
 pub use Rattle.std.specs.List.{All, Contains, after_first, before_first, enumerate_from, flat_map, list_all, list_any, onto_first, position_or_len, slice_split}
 pub use Rattle.std.specs.Prelude.{cond, is_some, option_and_then, ◌↔◌}
@@ -16,11 +16,11 @@ pub use Rattle.vote_poll_text.specs.Shown.{shown}
 pub use Rattle.vote_poll.specs.PollContent.{PollContent, last_in_time}
 pub use Rattle.vote_poll.specs.Readings.{IsReading, ballot_in, is_ballot, is_space, rank_in, reading, reading_of, readings}
 pub use Rattle.vote_poll.specs.declared.reading.Reading.{Reading}
-pub use Rattle.vote_steps.specs.History.{before_close, is_closed, is_valid, reply_to}
+pub use Rattle.vote_steps.specs.History.{before_close, is_closed, reply_to}
 pub use Rattle.vote_poll_text.specs.Texts.{Text}
 pub use Rattle.vote_hints.specs.Hints.{Adding, AreLinesFor}
-pub use Rattle.vote_explain_ballots.specs.Explained.{IsIfText, IsLineHint, IsRemarked, IsStrangerHint, SaysRefusal, finding, finding_head, parted, question, stranger_words, turned_rank}
+pub use Rattle.vote_explain_ballots.specs.Explained.{IsIfText, IsLineHint, SaysRefusal, finding_head, question, stranger_words}
 pub use Rattle.vote_explain_ballots.specs.Places.{IsColumn, IsExit, IsLinePrefix, IsPartAfter, has_byte, may_end, next_part}
-pub use Rattle.vote_explain_ballots.specs.Refusals.{AreReplies, EachRefusalIsListed, Refusal, RefusedAsBySteps, if_refusing, refusal, refusal_by, refusal_of, refusals, refusing_reply, reply_to_cast}
+pub use Rattle.vote_explain_ballots.specs.Refusals.{EachRefusalIsListed, Refusal, RefusedAsBySteps, refusal_by, refusal_of, refusals, refusing, refusing_at, refusing_reply}
 pub use Rattle.vote_explain_ballots.specs.Tables.{is_even, is_head, is_of_ranks, is_sign, words_of}
 pub use Rattle.vote_explain_ballots.specs.Remarks.{IsNearest, IsRemark, edits_between, edits_from, is_title}

@@ -1,7 +1,7 @@
 -- What `explain` says of the lines of a ballot file. Which lines are listed, where each leaves the grammar, what a ballot has there, and
 -- what looks like a table, what the ranks of a ballot are of, and all numbers are fixed here. What a remark says is open.
-use Rattle.std.specs.Prelude.{◌≡◌, ℕ, ◌+◌, ◌==◌, ◌&&◌, if◌then◌else◌, nat_le, nat_lt, slice_index_or, Bool, true, false, option_map, unwrap_or, List, [], ◌∷◌, ◌++◌, count_by, drop, length, codes, decimal}
-use Rattle.std.specs.List.{All, before_first, concat, enumerate_from, flat_map}
+use Rattle.std.specs.Prelude.{◌≡◌, ℕ, zero, suc, ◌+◌, ◌-◌, ◌==◌, ◌&&◌, if◌then◌else◌, nat_le, nat_lt, slice_get, slice_index_or, Bool, true, false, option_map, unwrap_or, List, [], ◌∷◌, ◌++◌, count_by, drop, length, codes, decimal}
+use Rattle.std.specs.List.{All, before_first, concat, flat_map}
 use Rattle.std.specs.Str.{byte}
 use Rattle.vote_poll.specs.PollContent.{PollContent, elector_count, last_in_time, option_count}
 use Rattle.vote_poll.specs.Readings.{is_ballot, is_space, reading}
@@ -22,10 +22,6 @@ use Rattle.vote_explain_ballots.specs.declared.TheConstants.{MOST_REMARK}
 use Rattle.vote_explain_ballots.specs.Tables.{table_text}
 use Rattle.vote_explain_ballots.specs.Refusals.{Refusal, refusals}
 use Rattle.vote_explain_ballots.specs.declared.places.Exit.{Exit}
-
--- these words, and then a remark
-abbrev pub IsRemarked : Text → Text → Type 0
-IsRemarked words text = (remark : Text) × IsRemark remark × (text ≡ words ++ remark)
 
 -- what a ballot has where a line leaves the grammar, said of a file that can be ballots
 unfoldable pub sentence : Bool → Exit → Text
@@ -57,7 +53,8 @@ stranger_words name near = shown MAX_SHOWN name ++ codes " is not on the roll" +
 
 -- a name that is not on the roll, the names on it that are suggested, and a remark on their ballots
 abbrev pub IsStrangerHint : List Text → Text → Text → Type 0
-IsStrangerHint roll name hint = (near : List Text) × All (IsNearest name roll) near × IsRemarked (stranger_words name near) hint
+IsStrangerHint roll name hint =
+    (near : List Text) × (remark : Text) × All (IsNearest name roll) near × IsRemark remark × (hint ≡ stranger_words name near ++ remark)
 
 -- What is said after the words of the reply: where a line leaves the grammar; its number of ranks; its name, and those that are near;
 -- the last envelope. No other reply refuses a line.
@@ -72,10 +69,6 @@ IsLineHint is_text poll bytes other hint = hint ≡ []
 abbrev pub finding_head : ℕ → Reply → Text
 finding_head number reply = codes "ballots:" ++ decimal number ++ codes ": " ++ reply_words reply ++ codes ": "
 
--- all of it
-abbrev pub finding : Refusal → Text → Text
-finding refusal hint = finding_head refusal.number refusal.reply ++ hint ++ line_feed
-
 -- nothing of a file that can't be ballots
 abbrev pub IsIfText : Bool → (Text → Type 0) → Text → Type 0
 IsIfText true Says text = Says text
@@ -84,38 +77,45 @@ IsIfText false Says text = text ≡ []
 -- what is said of a refusal, and its line
 abbrev pub SaysRefusal : Bool → PollContent → Refusal → Text → Type 0
 SaysRefusal is_text poll refusal text =
-    (hint : Text) × (shown : Text) × IsLineHint is_text poll refusal.bytes refusal.reply hint × IsIfText is_text IsExcerpt shown × (text ≡ finding refusal hint ++ shown)
+    (hint : Text) × (shown : Text) × IsLineHint is_text poll refusal.bytes refusal.reply hint × IsIfText is_text IsExcerpt shown
+    × (text ≡ finding_head refusal.number refusal.reply ++ hint ++ line_feed ++ shown)
 
 -- ---- a ballot line of the poll, and what each of its ranks is of
--- what stands before the first one of a row, and before the others
-abbrev pub parted : Text → ℕ → Text
-parted sign number = if number == 1 then codes " " else sign
+-- the texts of 1 to n, in their order
+abbrev pub each : ℕ → (ℕ → Text) → Text
+each zero text = []
+each (suc n) text = each n text ++ text (suc n)
 
--- the rank of an option in a ballot that ranks the last one first, and then the others in their order
-abbrev pub turned_rank : ℕ → ℕ → ℕ
-turned_rank options option = if option == options then 1 else option + 1
+-- the first elector, who ranks the last option first, and each other option one below its number: with the numbers as ranks, who takes
+-- them for an order of choice sees no fault
+unfoldable pub own_ballot : PollContent → Text
+own_ballot poll = concat (
+    shown MAX_SHOWN (slice_index_or poll.roll 0 []) ∷ codes " " ∷ each (option_count poll - 1) (λ option. decimal (option + 1) ++ codes ",") ∷ codes "1" ∷ [])
 
--- the first elector, who ranks the last option first: with the numbers as ranks, who takes them for an order of choice sees no fault
-abbrev pub own_ballot : PollContent → Text
-own_ballot poll =
-    shown MAX_SHOWN (slice_index_or poll.roll 0 []) ++ flat_map (λ option. parted (codes ",") option.0 ++ decimal (turned_rank (option_count poll) option.0)) (enumerate_from 1 poll.options)
+-- an option with its number, parted from the one before it
+unfoldable pub numbered : List Text → ℕ → Text
+numbered names option = concat ((if option == 1 then codes " " else codes ", ") ∷ decimal option ∷ codes " " ∷ unwrap_or (slice_get names (option - 1)) [] ∷ [])
 
--- the options in their order, each with its number
+-- the options in their order, each with its number, as far as they have room in a remark
 abbrev pub own_options : PollContent → Text
-own_options poll = flat_map (λ option. parted (codes ", ") option.0 ++ decimal option.0 ++ codes " " ++ option.1) (enumerate_from 1 poll.options)
+own_options poll = shown MOST_REMARK (each (option_count poll) (numbered poll.options))
 
--- a ballot, and the options that its ranks are of, as far as they have room in a remark
+-- a ballot, and the options that its ranks are of
 abbrev pub order_words : Text → Text → Text
-order_words ballot options = line (codes "a ballot line of this poll: `" ∷ ballot ∷ codes "`: the ranks of" ∷ shown MOST_REMARK options ∷ codes "; 1 is the best" ∷ [])
+order_words ballot options = line (codes "a ballot line of this poll: `" ∷ ballot ∷ codes "`: the ranks of" ∷ options ∷ codes "; 1 is the best" ∷ [])
 
 -- a line is refused that is not late
 abbrev pub has_bad_line : PollContent → List Text → Bool
 has_bad_line poll lines = nat_lt (length (drop (last_in_time poll) lines)) (refused_count poll lines)
 
+-- the poll reads a ballot in the line
+unfoldable pub reads_ballot : PollContent → Text → Bool
+reads_ballot poll bytes = is_ballot (reading poll bytes)
+
 -- said of a file that can be ballots, where a line is refused that is not late
 abbrev pub example_text : Bool → PollContent → List Text → Text
 example_text is_text poll lines =
-    if is_text && has_bad_line poll lines && is_ballot (reading poll (own_ballot poll)) then order_words (own_ballot poll) (own_options poll) else []
+    if is_text && has_bad_line poll lines && reads_ballot poll (own_ballot poll) then order_words (own_ballot poll) (own_options poll) else []
 
 -- what a box that holds the lines counts, in the words of the result sheet
 pub record AreTotals (poll : PollContent) (lines : List Text) (totals : Totals) : Type 0 where

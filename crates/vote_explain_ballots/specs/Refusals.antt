@@ -46,31 +46,18 @@ refusals poll lines = flat_map (refusal_of poll) (enumerate_from 1 lines)
 abbrev pub EachRefusalIsListed : Type 0
 EachRefusalIsListed = (poll : PollContent) (lines : List Text) → length (refusals poll lines) ≡ refused_count poll lines
 
--- the reply, where it refuses a line
-abbrev pub if_refusing : Reply → Option Reply
-if_refusing reply = if is_valid reply then None else Some reply
-
--- the refusal of the line with this number, where this reply refuses it
-abbrev pub refusal : ℕ → Text → Reply → List Refusal
-refusal number bytes reply = refusal_by number bytes (if_refusing reply)
-
--- the reply to a cast
-abbrev pub reply_to_cast : Step → Option Reply
-reply_to_cast Close = None
-reply_to_cast (Cast desk stamp reading reply) = Some reply
+-- the reply of a step that refuses its line
+abbrev pub refusing : Step → Option Reply
+refusing Close = None
+refusing (Cast desk stamp reading reply) = if is_valid reply then None else Some reply
 
 -- that of the step at a place
-abbrev pub reply_at : List Step → ℕ → Option Reply
-reply_at steps place = option_and_then reply_to_cast (slice_get steps place)
-
--- the step at the place of each line is a cast, whose reply refuses the line where one is to
-abbrev pub AreReplies : PollContent → List Text → List Step → Type 0
-AreReplies poll lines steps =
-    (place : ℕ) (bytes : Text) → slice_get lines place ≡ Some bytes
-    → (reply : Reply) × (reply_at steps place ≡ Some reply) × (if_refusing reply ≡ refusing_reply (last_in_time poll) (place + 1) (reading poll bytes))
+abbrev pub refusing_at : List Step → ℕ → Option Reply
+refusing_at steps place = option_and_then refusing (slice_get steps place)
 
 -- the box of `steps` refuses the lines that are listed, and no others, each with the reply that is told
 abbrev pub RefusedAsBySteps : Type 0
 RefusedAsBySteps =
-    (poll : PollContent) (lines : List Text) (b : BoxState)
-    → HoldsLines poll lines b → AreCastInOrder (readings poll lines) b.steps → AreReplies poll lines b.steps
+    (poll : PollContent) (lines : List Text) (b : BoxState) → HoldsLines poll lines b → AreCastInOrder (readings poll lines) b.steps
+    → (place : ℕ) (bytes : Text) → slice_get lines place ≡ Some bytes
+    → refusing_at b.steps place ≡ refusing_reply (last_in_time poll) (place + 1) (reading poll bytes)

@@ -1,11 +1,11 @@
 //! What is wrong with the lines of a ballot file, as a text.
-ghost use Rattle.std.specs.Prelude.{◌≡◌, ◌≤◌, [], IfOk, drop, length, slice_index_or, string_bytes};
-ghost use Rattle.vote_poll.specs.PollContent.{last_in_time};
-ghost use Rattle.vote_poll.specs.Readings.{is_ballot, reading};
+ghost use Rattle.std.specs.Prelude.{◌≡◌, [], IfOk, drop, length, slice_index_or, string_bytes};
+ghost use Rattle.vote_poll.specs.Options.{IsOption};
+ghost use Rattle.vote_poll.specs.PollContent.{last_in_time, option_count};
 ghost use Rattle.vote_poll_text.specs.Adding.{Adds};
 ghost use Rattle.vote_steps.specs.HeldLines.{HoldsLines};
 ghost use Rattle.vote_steps.specs.LastBallots.{refused_count};
-ghost use Rattle.vote_explain_ballots.specs.Explained.{AreTotals, IsExplained, counted_text, example_text, has_bad_line, numbers_text, order_words, own_ballot, own_options, parted, turned_rank, warnings_text};
+ghost use Rattle.vote_explain_ballots.specs.Explained.{AreTotals, IsExplained, example_text, has_bad_line, numbered, numbers_text, order_words, own_ballot, own_options, reads_ballot, warnings_text};
 ghost use Rattle.vote_explain_ballots.specs.Refusals.{EachRefusalIsListed, RefusedAsBySteps};
 
 use crate::MOST_REMARK;
@@ -16,7 +16,7 @@ use std::alloc::{AllocError, Global};
 use vote_hints::MAX_SHOWN;
 use vote_poll::{Lines, Poll, Reading, push_shown, read_line};
 use vote_steps::laws::lines_are_counted;
-use vote_steps::{BallotBox, Step, Totals, cast_all};
+use vote_steps::{BallotBox, Totals, cast_all};
 
 /// What is wrong with the lines of a ballot file.
 #[derive(Drop)]
@@ -27,27 +27,14 @@ pub struct Explained {
     pub refused: u64,
 }
 
-/// How many lines are late.
-fn late_count(poll: &Poll, lines: &Lines<'_>) -> usize
-    ensures { result ≡ length (drop (last_in_time poll.now) lines.now) }
-{
-    lines.len().saturating_sub(poll.last_in_time() as usize)
-}
-
 /// What a box that holds the lines counts, in the words of the result sheet.
+#[tactic(auto, using(vote_steps::proofs::Holding::refused_are))]
 fn totals_of(poll: &Poll, lines: &Lines<'_>, ballot_box: &BallotBox) -> Totals
     requires { HoldsLines poll.now lines.now ballot_box.now }
     ensures { AreTotals poll.now lines.now result }
 {
     lines_are_counted();
     ballot_box.totals()
-}
-
-/// Adds what stands before the first one of a row, or this before the others.
-fn push_parted(text: &mut String, sign: &str, number: u8) -> Result<(), AllocError>
-    ensures { Adds result text.old (parted sign.now number) text.new }
-{
-    text.push_str(if number == 1 { " " } else { sign })
 }
 
 /// The name of the first elector.
@@ -57,137 +44,135 @@ fn first_elector(poll: &Poll) -> &[u8]
     poll.voter_name(0).unwrap_or(b"")
 }
 
-/// The rank of an option in a ballot that ranks the last one first, and then the others in their order.
-fn turned_rank(options: u8, option: u8) -> u8
-    requires { option ≤ options }
-    ensures { result ≡ turned_rank options option }
+/// A ballot line of the poll, in which the first elector ranks the last option first, and each other option one below its number.
+#[tactic(auto, using(crate::proofs::Listing::each_one_more), unfolding(crate::specs::Explained::own_ballot))]
+fn own_ballot(alloc: Global, poll: &Poll) -> Result<String, AllocError>
+    ensures { IfOk result (λ ballot. string_bytes ballot ≡ own_ballot poll.now) }
 {
-    if option == options { 1 } else { option + 1 }
+    let mut ballot = String::new(alloc);
+    push_shown(&mut ballot, first_elector(poll), MAX_SHOWN)?;
+    ballot.push_str(" ")?;
+    for before in 0..poll.options() - 1 {
+        let option = before + 1;
+        write!(ballot, "{},", option + 1)?;
+    }
+    ballot.push_str("1")?;
+    Ok(ballot)
 }
 
-/// A ballot line of the poll, in which the first elector ranks the last option first; and the options with their numbers.
-fn own_ballot(alloc: Global, poll: &Poll) -> Result<(String, String), AllocError>
-    ensures { IfOk result (λ own. (string_bytes own.0 ≡ own_ballot poll.now) × (string_bytes own.1 ≡ own_options poll.now)) }
+/// Adds an option with its number, parted from the one before it.
+#[tactic(auto, unfolding(crate::specs::Explained::numbered))]
+fn push_option(text: &mut String, poll: &Poll, option: u8) -> Result<(), AllocError>
+    requires { IsOption (option_count poll.now) option }
+    ensures { Adds result text.old (numbered poll.now.options option) text.new }
 {
-    let (mut ballot, mut options) = (String::new(alloc), String::new(alloc));
-    push_shown(&mut ballot, first_elector(poll), MAX_SHOWN)?;
+    let sign = if option == 1 { " " } else { ", " };
+    write!(text, "{sign}{option} {}", poll.option_name(option))
+}
+
+/// The options in their order, each with its number, as far as they have room in a remark.
+#[tactic(auto, using(crate::proofs::Listing::each_one_more))]
+fn own_options(alloc: Global, poll: &Poll) -> Result<String, AllocError>
+    ensures { IfOk result (λ options. string_bytes options ≡ own_options poll.now) }
+{
+    let (mut row, mut options) = (String::new(alloc), String::new(alloc));
     for before in 0..poll.options() {
-        push_parted(&mut ballot, ",", before + 1)?;
-        write!(ballot, "{}", turned_rank(poll.options(), before + 1))?;
-        push_parted(&mut options, ", ", before + 1)?;
-        write!(options, "{} ", before + 1)?;
-        options.push_str(poll.option_name(before + 1))?;
+        push_option(&mut row, poll, before + 1)?;
     }
-    Ok((ballot, options))
+    push_shown(&mut options, row.as_bytes(), MOST_REMARK)?;
+    Ok(options)
 }
 
 /// Whether the poll reads a ballot in a line.
-fn is_ballot(poll: &Poll, line: &[u8]) -> bool
-    ensures { result ≡ is_ballot (reading poll.now line.now) }
+#[tactic(auto, unfolding(crate::specs::Explained::reads_ballot))]
+fn reads_ballot(poll: &Poll, line: &[u8]) -> bool
+    ensures { result ≡ reads_ballot poll.now line.now }
 {
     matches!(read_line(poll, line), Reading::Ballot { .. })
 }
 
 /// Adds a ballot line of the poll, and what each of its ranks is of.
-fn push_order(text: &mut String, ballot: &String, options: &String) -> Result<(), AllocError>
-    ensures { Adds result text.old (order_words (string_bytes ballot.now) (string_bytes options.now)) text.new }
+fn push_order(text: &mut String, ballot: &str, options: &str) -> Result<(), AllocError>
+    ensures { Adds result text.old (order_words ballot.now options.now) text.new }
 {
-    text.push_str("a ballot line of this poll: `")?;
-    text.push_str(ballot.as_str())?;
-    text.push_str("`: the ranks of")?;
-    push_shown(text, options.as_bytes(), MOST_REMARK)?;
-    text.push_str("; 1 is the best\n")?;
-    Ok(())
-}
-
-/// Whether a line is refused that is not late.
-fn has_bad_line(poll: &Poll, lines: &Lines<'_>, totals: &Totals) -> bool
-    requires { AreTotals poll.now lines.now totals.now }
-    ensures { result ≡ has_bad_line poll.now lines.now }
-{
-    (late_count(poll, lines) as u64) < totals.refused
-}
-
-/// Adds a ballot line of the poll, and what each of its ranks is of, if a line is refused that is not late, in a file that can be
-/// ballots.
-fn push_example(
-    alloc: Global,
-    text: &mut String,
-    is_text: bool,
-    poll: &Poll,
-    lines: &Lines<'_>,
-    totals: &Totals,
-) -> Result<(), AllocError>
-    requires { AreTotals poll.now lines.now totals.now }
-    ensures { Adds result text.old (example_text is_text poll.now lines.now) text.new }
-{
-    let (ballot, options) = own_ballot(alloc, poll)?;
-    let has_bad_line = has_bad_line(poll, lines, totals);
-    if !(is_text & has_bad_line & is_ballot(poll, ballot.as_bytes())) {
-        return Ok(());
-    }
-    push_order(text, &ballot, &options)?;
-    Ok(())
-}
-
-/// Adds how many lines are valid, refused and late, and how many electors have a ballot.
-fn push_totals(
-    text: &mut String,
-    poll: &Poll,
-    lines: &Lines<'_>,
-    totals: &Totals,
-) -> Result<(), AllocError>
-    requires { AreTotals poll.now lines.now totals.now }
-    ensures { Adds result text.old (numbers_text poll.now lines.now) text.new }
-{
-    let (count, late, electors) = (lines.len(), late_count(poll, lines), poll.electors());
-    let (valid, refused, voters) = (totals.valid, totals.refused, totals.voters);
     writeln!(
         text,
-        "{count} lines: {valid} valid, {refused} refused, {late} of them late; {voters} of {electors} electors have a ballot; refused lines count for nothing"
+        "a ballot line of this poll: `{ballot}`: the ranks of{options}; 1 is the best"
     )
 }
 
-/// Adds that lines are counted, if the poll has a last envelope, the file has a line with its number, and a line is refused that is not
-/// late.
-fn push_counted(
-    text: &mut String,
-    poll: &Poll,
-    lines: &Lines<'_>,
-    totals: &Totals,
-) -> Result<(), AllocError>
-    requires { AreTotals poll.now lines.now totals.now }
-    ensures { Adds result text.old (counted_text poll.now lines.now) text.new }
-{
-    let Some(last) = poll.last_envelope() else {
-        return Ok(());
-    };
-    if lines.len() < last as usize || !has_bad_line(poll, lines, totals) {
-        return Ok(());
-    }
-    writeln!(
-        text,
-        "lines are counted: taking one out, or adding one above line {last}, changes which ballots are late"
-    )
+/// A ballot file, whose lines one desk cast in their order.
+#[derive(Drop)]
+pub(crate) struct CastFile<'f> {
+    pub(crate) poll: &'f Poll,
+    pub(crate) lines: &'f Lines<'f>,
+    pub(crate) ballot_box: &'f BallotBox,
+    /// Whether it can be ballots.
+    pub(crate) is_text: bool,
+    totals: Totals,
+    ghost counted: { AreTotals poll.now lines.now totals },
 }
 
-/// Adds what is said before the lines, of a file that can be ballots.
-fn push_warnings(
-    alloc: Global,
-    text: &mut String,
-    is_text: bool,
-    poll: &Poll,
-    lines: &Lines<'_>,
-    totals: &Totals,
-) -> Result<(), AllocError>
-    requires { AreTotals poll.now lines.now totals.now }
-    ensures { Adds result text.old (warnings_text is_text poll.now lines.now) text.new }
-{
-    if !is_text {
-        return Ok(());
+impl<'f> CastFile<'f> {
+    /// How many lines are late.
+    fn late_count(&self) -> usize
+        ensures { result ≡ length (drop (last_in_time self.now.poll.now) self.now.lines.now) }
+    {
+        let last = self.poll.last_in_time() as usize;
+        self.lines.len().saturating_sub(last)
     }
-    push_table(alloc, text, poll, lines)?;
-    push_counted(text, poll, lines, totals)
+
+    /// Whether a line is refused that is not late.
+    fn has_bad_line(&self) -> bool
+        ensures { result ≡ has_bad_line self.now.poll.now self.now.lines.now }
+    {
+        (self.late_count() as u64) < self.totals.refused
+    }
+
+    /// Adds what is said before the lines, if it can be ballots: that they look like a table, if they do; and that lines are counted, if
+    /// the poll has a last envelope, the file has a line with its number, and a line is refused that is not late.
+    fn push_warnings(&self, alloc: Global, text: &mut String) -> Result<(), AllocError>
+        ensures { Adds result text.old (warnings_text self.now.is_text self.now.poll.now self.now.lines.now) text.new }
+    {
+        if !self.is_text {
+            return Ok(());
+        }
+        push_table(alloc, text, self.poll, self.lines)?;
+        let Some(last) = self.poll.last_envelope() else {
+            return Ok(());
+        };
+        if self.lines.len() < last as usize || !self.has_bad_line() {
+            return Ok(());
+        }
+        writeln!(
+            text,
+            "lines are counted: taking one out, or adding one above line {last}, changes which ballots are late"
+        )
+    }
+
+    /// Adds a ballot line of the poll, and what each of its ranks is of, if it can be ballots, and a line is refused that is not late.
+    fn push_example(&self, alloc: Global, text: &mut String) -> Result<(), AllocError>
+        ensures { Adds result text.old (example_text self.now.is_text self.now.poll.now self.now.lines.now) text.new }
+    {
+        let ballot = own_ballot(alloc, self.poll)?;
+        if !self.is_text || !self.has_bad_line() || !reads_ballot(self.poll, ballot.as_bytes()) {
+            return Ok(());
+        }
+        let options = own_options(alloc, self.poll)?;
+        push_order(text, ballot.as_str(), options.as_str())
+    }
+
+    /// Adds how many lines are valid, refused and late, and how many electors have a ballot.
+    fn push_totals(&self, text: &mut String) -> Result<(), AllocError>
+        ensures { Adds result text.old (numbers_text self.now.poll.now self.now.lines.now) text.new }
+    {
+        let (count, late, electors) = (self.lines.len(), self.late_count(), self.poll.electors());
+        let (valid, refused, voters) = (self.totals.valid, self.totals.refused, self.totals.voters);
+        writeln!(
+            text,
+            "{count} lines: {valid} valid, {refused} refused, {late} of them late; {voters} of {electors} electors have a ballot; refused lines count for nothing"
+        )
+    }
 }
 
 /// What is wrong with the lines of a ballot file: what is remarked on the whole file; a line for each line that is refused, in their
@@ -207,10 +192,17 @@ pub fn explain_ballots(
     let (totals, steps) = (totals_of(poll, lines, &ballot_box), ballot_box.steps());
     let mut findings = Findings::new(alloc);
     let is_text = push_file_text(alloc, &mut findings.text, lines, text, steps, file)?;
-    push_warnings(alloc, &mut findings.text, is_text, poll, lines, &totals)?;
-    findings.add_all(poll, lines, steps, is_text)?;
-    push_example(alloc, &mut findings.text, is_text, poll, lines, &totals)?;
-    push_totals(&mut findings.text, poll, lines, &totals)?;
+    let ballots = CastFile {
+        poll,
+        lines,
+        ballot_box: &ballot_box,
+        is_text,
+        totals,
+    };
+    ballots.push_warnings(alloc, &mut findings.text)?;
+    findings.add_all(&ballots)?;
+    ballots.push_example(alloc, &mut findings.text)?;
+    ballots.push_totals(&mut findings.text)?;
     Ok(Explained {
         text: findings.text,
         refused: totals.refused,

@@ -1,11 +1,5 @@
-use Rattle.vote_explain_ballots.proofs.Words.{refl, subst, sym, AreLinesFor, SaysRefusal, AreReplies, refusals}
-use Rattle.vote_explain_ballots.proofs.BoxReplies.{replies_of_box}
+use Rattle.vote_explain_ballots.proofs.Words.{refl, subst, AreLinesFor, SaysRefusal, refusals}
 use Rattle.vote_explain_ballots.proofs.explain.explain_ballots.Goals as goal
-
-pub add_all-requires : goal.add_all-requires
-add_all-requires c =
-    subst (AreReplies c.args.poll.now c.args.lines.now) (sym c.steps-steps.ensures.steps)
-    (replies_of_box c.args.poll.now c.args.lines.now c.in_ok-ballot_box.ballot_box c.in_ok-ballot_box.ensures.held c.in_ok-ballot_box.ensures.in_order)
 
 pub returns-clause-text : goal.returns-clause-text
 returns-clause-text c =
