@@ -19,8 +19,9 @@ pub use Rattle.vote_poll.specs.declared.reading.Reading.{Reading}
 pub use Rattle.vote_steps.specs.History.{before_close, is_closed, is_valid, reply_to}
 pub use Rattle.vote_poll_text.specs.Texts.{Text}
 pub use Rattle.vote_hints.specs.Hints.{Adding, AreLinesFor}
+pub use Rattle.vote_hints.specs.Near.{IsNearest}
 pub use Rattle.vote_explain_ballots.specs.Explained.{IsIfText, IsLineHint, IsRemarked, IsStrangerHint, SaysRefusal, finding, finding_head, parted, question, stranger_words, turned_rank}
 pub use Rattle.vote_explain_ballots.specs.Places.{IsColumn, IsExit, IsLinePrefix, IsPartAfter, has_byte, may_end, next_part}
 pub use Rattle.vote_explain_ballots.specs.Refusals.{AreReplies, EachRefusalIsListed, Refusal, RefusedAsBySteps, if_refusing, refusal, refusal_by, refusal_of, refusals, refusing_reply, reply_to_cast}
 pub use Rattle.vote_explain_ballots.specs.Tables.{is_even, is_head, is_of_ranks, is_sign, words_of}
-pub use Rattle.vote_explain_ballots.specs.Remarks.{IsNearest, IsRemark, edits_between, edits_from, is_title}
+pub use Rattle.vote_explain_ballots.specs.Remarks.{IsRemark, is_title}

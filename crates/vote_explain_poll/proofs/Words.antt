@@ -5,4 +5,4 @@ pub use Rattle.vote_poll_keys.specs.Keys.{all_keys, document, key_named}
 pub use Rattle.vote_explain_poll.specs.Findings.{SaysFault, SaysKey, key_head}
 pub use Rattle.vote_hints.specs.Hints.{Adding, AreLinesFor, hint_line}
 pub use Rattle.vote_explain_poll.specs.Syntax.{column_number, last_line}
-pub use Rattle.vote_explain_poll.specs.UnreadKeys.{edits_to, path_of, table_holds_name, unread_in}
+pub use Rattle.vote_explain_poll.specs.UnreadKeys.{missing_names, path_of, table_holds_name, unread_in}
