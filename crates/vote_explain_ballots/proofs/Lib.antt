@@ -1,7 +1,6 @@
 pub mod Words
 pub mod Heads
 pub mod Scanning
-pub mod Nearest
 pub mod Listing
 pub mod BoxReplies
 pub mod Counting

@@ -17,7 +17,8 @@ use Rattle.vote_poll_text.specs.Texts.{Text, line}
 use Rattle.vote_hints.specs.Hints.{AreLinesFor, IsExcerpt}
 use Rattle.vote_hints.specs.declared.TheConstants.{MAX_SHOWN}
 use Rattle.vote_explain_ballots.specs.Places.{IsExit, place_words}
-use Rattle.vote_explain_ballots.specs.Remarks.{IsFileText, IsNearest, IsRemark, can_be_ballots}
+use Rattle.vote_hints.specs.Near.{IsNearest}
+use Rattle.vote_explain_ballots.specs.Remarks.{IsFileText, IsRemark, can_be_ballots}
 use Rattle.vote_explain_ballots.specs.declared.TheConstants.{MOST_REMARK}
 use Rattle.vote_explain_ballots.specs.Tables.{table_text}
 use Rattle.vote_explain_ballots.specs.Refusals.{Refusal, refusals}

@@ -2,3 +2,4 @@
 pub mod Hints
 pub mod FileKinds
 pub mod Commands
+pub mod Near
