@@ -54,7 +54,10 @@ fn push_parted(text: &mut String, sign: &str, number: u8) -> Result<(), AllocErr
 fn first_elector(poll: &Poll) -> &[u8]
     ensures { result.now ≡ slice_index_or poll.now.roll 0 [] }
 {
-    poll.voter_name(0).unwrap_or(b"")
+    match poll.voter_name(0) {
+        Some(name) => name,
+        None => b"",
+    }
 }
 
 /// The rank of an option in a ballot that ranks the last one first, and then the others in their order.
