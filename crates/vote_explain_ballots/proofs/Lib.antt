@@ -1,5 +1,4 @@
 pub mod Words
-pub mod Heads
 pub mod Scanning
 pub mod Listing
 pub mod BoxReplies

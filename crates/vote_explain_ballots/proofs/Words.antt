@@ -8,7 +8,7 @@ pub use Rattle.std.proofs.lemmas.Grind.{common_steps}
 pub use Rattle.std.proofs.lemmas.Int.{clamps}
 pub use Rattle.std.proofs.lemmas.List.{drop_more, flat_map_more, take-append-le, take-take, take_more}
 pub use Rattle.std.proofs.lemmas.List.Elements.{All-map, All-nil, All-push, All-weaker}
-pub use Rattle.std.proofs.lemmas.List.Folds.{flat_map-map, list_any_at, list_any_more}
+pub use Rattle.std.proofs.lemmas.List.Folds.{flat_map-map}
 pub use Rattle.std.proofs.lemmas.List.FromFn.{get_or-enumerate_from, length-enumerate_from}
 pub use Rattle.std.proofs.lemmas.Option.{get_or_from_slice_get, slice_get_within}
 pub use Rattle.vote_poll_text.specs.Names.{is_voter_byte, is_within}
@@ -23,5 +23,5 @@ pub use Rattle.vote_explain_ballots.specs.Explained.{IsIfText, IsLineHint, SaysR
 pub use Rattle.vote_hints.specs.Near.{IsNearest}
 pub use Rattle.vote_explain_ballots.specs.Places.{IsColumn, IsExit, IsLinePrefix, IsPartAfter, has_byte, may_end, next_part}
 pub use Rattle.vote_explain_ballots.specs.Refusals.{EachRefusalIsListed, Refusal, RefusedAsBySteps, refusal_by, refusal_of, refusals, refusing, refusing_at, refusing_reply}
-pub use Rattle.vote_explain_ballots.specs.Tables.{is_even, is_head, is_of_ranks, is_sign, words_of}
+pub use Rattle.vote_explain_ballots.specs.Tables.{is_even, is_head, is_of_ranks}
 pub use Rattle.vote_explain_ballots.specs.Remarks.{IsRemark, is_title}

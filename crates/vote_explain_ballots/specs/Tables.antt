@@ -46,9 +46,13 @@ number_of (b ∷ []) = b - byte "0"
 number_of (b ∷ c ∷ []) = 10 * (b - byte "0") + (c - byte "0")
 number_of other = 0
 
--- a word, and two ranks or more behind it
+-- how many of the words behind the first are ranks
+abbrev pub rank_count : Text → ℕ
+rank_count bytes = length (filter is_rank (later_words bytes))
+
+-- behind the first word two ranks or more, and no other words
 abbrev pub is_of_ranks : Text → Bool
-is_of_ranks bytes = nat_le 3 (length (words_of bytes)) && list_all is_rank (later_words bytes)
+is_of_ranks bytes = nat_le 2 (rank_count bytes) && length (later_words bytes) == rank_count bytes
 
 -- behind the first word as many words as there are options, and each number of an option
 abbrev pub has_each_rank : ℕ → Text → Bool
@@ -80,7 +84,7 @@ has_heads options bytes =
 
 -- of the words behind the first at most half are ranks
 abbrev pub has_few_ranks : Text → Bool
-has_few_ranks bytes = nat_le (2 * length (filter is_rank (later_words bytes))) (length (later_words bytes))
+has_few_ranks bytes = nat_le (2 * rank_count bytes) (length (later_words bytes))
 
 -- A line has the words of a head where it stands, of which is given whether a line of ranks is above it. Below one, a line of ranks is
 -- no head; nor is any line if there are two options.
@@ -99,12 +103,13 @@ abbrev pub has_head : PollContent → Bool → List Text → Bool
 has_head poll is_below [] = false
 has_head poll is_below (bytes ∷ below) = (is_head poll is_below bytes && list_any is_of_ranks below) || has_head poll (is_below || is_of_ranks bytes) below
 
--- A file with these lines looks like a table if it has a head above a line of ranks; or if it has two lines of ranks or more, and in
--- each of them one sign stands behind the first word and between all others.
+-- two lines of ranks or more; and in each of them one sign stands behind the first word and between all others
+abbrev pub has_even_ranks : List Text → Bool
+has_even_ranks lines = nat_le 2 (length (filter is_of_ranks lines)) && list_all is_even (filter is_of_ranks lines)
+
+-- a file with these lines looks like a table if it has a head above a line of ranks, or lines of ranks that are even
 abbrev pub looks_like_table : PollContent → List Text → Bool
-looks_like_table poll lines =
-    let ranks = filter is_of_ranks lines in
-    has_head poll false lines || (nat_le 2 (length ranks) && list_all is_even ranks)
+looks_like_table poll lines = has_head poll false lines || has_even_ranks lines
 
 -- it is said exactly of a file that looks like one
 abbrev pub table_text : PollContent → List Text → Text

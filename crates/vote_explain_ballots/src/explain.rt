@@ -41,7 +41,10 @@ fn totals_of(poll: &Poll, lines: &Lines<'_>, ballot_box: &BallotBox) -> Totals
 fn first_elector(poll: &Poll) -> &[u8]
     ensures { result.now ≡ slice_index_or poll.now.roll 0 [] }
 {
-    poll.voter_name(0).unwrap_or(b"")
+    match poll.voter_name(0) {
+        Some(name) => name,
+        None => b"",
+    }
 }
 
 /// A ballot line of the poll, in which the first elector ranks the last option first, and each other option one below its number.

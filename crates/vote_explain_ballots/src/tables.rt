@@ -1,8 +1,9 @@
 //! What looks like a table, whose columns may stand in another order than the options.
-ghost use Rattle.std.specs.Prelude.{◌≡◌, ◌≤◌, ◌==◌, ◌&&◌, ◌||◌, not, [], IfOk, filter, length};
+ghost use Rattle.std.specs.Prelude.{◌≡◌, ◌≤◌, ◌==◌, ◌&&◌, ◌||◌, not, [], IfOk, drop, false, filter, length, option_map, unwrap_or};
+ghost use Rattle.std.specs.Iterator.{YieldsFirstRef, item_count};
 ghost use Rattle.std.specs.List.{list_any};
 ghost use Rattle.vote_poll_text.specs.Adding.{Adds};
-ghost use Rattle.vote_explain_ballots.specs.Tables.{first_word, has_columns, has_each_rank, has_few_ranks, has_heads, is_column_sign, is_even, is_head, is_head_sign, is_of_ranks, is_parted_by, is_rank, is_sign, later_words, looks_like_table, may_be_head, names_no_elector, number_of, table_text, words_of};
+ghost use Rattle.vote_explain_ballots.specs.Tables.{first_word, has_columns, has_each_rank, has_even_ranks, has_few_ranks, has_head, has_heads, is_column_sign, is_even, is_head, is_head_sign, is_of_ranks, is_parted_by, is_rank, is_sign, later_words, may_be_head, names_no_elector, number_of, rank_count, table_text, words_of};
 
 use std::alloc::{AllocError, Global};
 use vote_hints::unmarked;
@@ -30,13 +31,13 @@ fn word_count(line: &[u8]) -> usize
     parts.filter(|word| !word.is_empty()).count()
 }
 
-/// The first word of a line, behind a byte-order mark, or nothing.
-fn first_word(line: &[u8]) -> &[u8]
-    ensures { result.now ≡ first_word line.now }
+/// The first word of a line, behind a byte-order mark.
+fn first_word(line: &[u8]) -> Option<&[u8]>
+    ensures { unwrap_or (option_map (λ word. word.now) result) [] ≡ first_word line.now }
 {
     let parts = unmarked(line).split(|byte| is_sign(*byte));
     let mut words = parts.filter(|word| !word.is_empty());
-    words.nth(0).unwrap_or(b"")
+    words.nth(0)
 }
 
 /// Whether a word may be a rank.
@@ -61,7 +62,7 @@ fn number_of(word: &[u8]) -> usize
 
 /// How many words behind the first of a line are ranks.
 fn later_rank_count(line: &[u8]) -> usize
-    ensures { result ≡ length (filter is_rank (later_words line.now)) }
+    ensures { result ≡ rank_count line.now }
 {
     let parts = line.split(|byte| is_sign(*byte));
     let words = parts.filter(|word| !word.is_empty());
@@ -87,14 +88,12 @@ fn has_each_rank(options: usize, line: &[u8]) -> bool
     (word_count(line) == options + 1) & has_all
 }
 
-/// Whether a line has a word and ranks behind it.
+/// Whether a line has two ranks or more behind its first word, and no other words.
 fn is_of_ranks(line: &[u8]) -> bool
     ensures { result ≡ is_of_ranks line.now }
 {
-    let parts = line.split(|byte| is_sign(*byte));
-    let words = parts.filter(|word| !word.is_empty());
-    let are_ranks = words.skip(1).all(is_rank);
-    (3 <= word_count(line)) & are_ranks
+    let ranks = later_rank_count(line);
+    2 <= ranks && word_count(line).saturating_sub(1) == ranks
 }
 
 /// Whether a sign that parts columns is in a line.
@@ -120,18 +119,11 @@ fn is_even(line: &[u8]) -> bool
     !has_column_sign(line) | by_one
 }
 
-/// Whether a byte is a sign that parts the columns of a head.
-fn is_head_sign(byte: u8) -> bool
-    ensures { result ≡ is_head_sign byte }
-{
-    is_column_sign(byte) || matches!(byte, b'|' | b'/')
-}
-
 /// Whether a sign that parts the columns of a head is in a line.
 fn has_head_sign(line: &[u8]) -> bool
     ensures { result ≡ list_any is_head_sign line.now }
 {
-    line.iter().any(|byte| is_head_sign(*byte))
+    line.iter().any(|byte| is_column_sign(*byte) || matches!(*byte, b'|' | b'/'))
 }
 
 /// Whether a line has as many columns by a sign as there are options, or up to four more.
@@ -179,44 +171,70 @@ fn may_be_head(options: usize, is_below: bool, line: &[u8]) -> bool
 fn names_no_elector(alloc: Global, poll: &Poll, line: &[u8]) -> Result<bool, AllocError>
     ensures { IfOk result (λ none. none ≡ names_no_elector poll.now line.now) }
 {
-    let word = first_word(line).to_ascii_lowercase(alloc)?;
-    Ok(poll.voter_of(&word).is_none())
+    match first_word(line) {
+        Some(word) => Ok(poll.voter_of(&word.to_ascii_lowercase(alloc)?).is_none()),
+        None => Ok(poll.voter_of(b"").is_none()),
+    }
 }
 
 /// Whether a line is a head where it stands, which may be below a line of ranks.
 fn is_head(alloc: Global, poll: &Poll, is_below: bool, line: &[u8]) -> Result<bool, AllocError>
     ensures { IfOk result (λ is. is ≡ is_head poll.now is_below line.now) }
 {
-    if !may_be_head(poll.options() as usize, is_below, line) {
-        return Ok(false);
+    Ok(may_be_head(poll.options() as usize, is_below, line) && names_no_elector(alloc, poll, line)?)
+}
+
+/// The lines of a file from a place on.
+#[derive(Drop)]
+pub(crate) struct LinesFrom<'l, 't>(pub(crate) &'l Lines<'t>, pub(crate) usize);
+
+impl<'l, 't> Iterator for LinesFrom<'l, 't> {
+    type Item = &'t [u8];
+
+    ghost next_gives = { YieldsFirstRef (λ s. drop s.1 s.0.now) };
+
+    ghost remaining = { item_count (λ s. drop s.1 s.0.now) };
+
+    fn next(&mut self) -> Option<&'t [u8]> {
+        if self.1 >= self.0.len() {
+            return None;
+        }
+        let line = self.0.line(self.1);
+        self.1 += 1;
+        Some(line)
     }
-    names_no_elector(alloc, poll, line)
 }
 
-/// Whether the lines of ranks are even, with this line below those of which it is given.
-fn are_even_with(are_even: bool, line: &[u8]) -> bool
-    ensures { result ≡ (are_even && (not (is_of_ranks line.now) || is_even line.now)) }
+/// Whether a line is a head where it stands, and a line of ranks below it.
+fn has_head(alloc: Global, poll: &Poll, lines: &Lines<'_>) -> Result<bool, AllocError>
+    ensures { IfOk result (λ has. has ≡ has_head poll.now false lines.now) }
 {
-    are_even && (!is_of_ranks(line) || is_even(line))
-}
-
-/// Whether a file with these lines looks like a table.
-fn looks_like_table(alloc: Global, poll: &Poll, lines: &Lines<'_>) -> Result<bool, AllocError>
-    ensures { IfOk result (λ looks. looks ≡ looks_like_table poll.now lines.now) }
-{
-    let (mut has_one, mut has_two, mut are_even) = (false, false, true);
-    let (mut has_head, mut is_table) = (false, false);
-    for place in 0..lines.len() {
-        let line = lines.line(place);
+    let (mut is_below, mut has_one) = (false, false);
+    for line in LinesFrom(lines, 0) {
+        let is_head = is_head(alloc, poll, is_below, line)?;
         let is_of_ranks = is_of_ranks(line);
-        let is_head = is_head(alloc, poll, has_one, line)?;
-        is_table = is_table | (has_head & is_of_ranks);
-        has_head = has_head | is_head;
-        are_even = are_even_with(are_even, line);
-        has_two = has_two | (has_one & is_of_ranks);
-        has_one = has_one | is_of_ranks;
+        if has_one & is_of_ranks {
+            return Ok(true);
+        }
+        has_one = has_one | is_head;
+        is_below = is_below | is_of_ranks;
     }
-    Ok(is_table | (has_two & are_even))
+    Ok(false)
+}
+
+/// Whether two lines or more are of ranks, and each of these is even.
+fn has_even_ranks(lines: &Lines<'_>) -> bool
+    ensures { result ≡ has_even_ranks lines.now }
+{
+    let mut number = 0usize;
+    for line in LinesFrom(lines, 0) {
+        let is_of_ranks = is_of_ranks(line);
+        if is_of_ranks && !is_even(line) {
+            return false;
+        }
+        number = number.saturating_add(usize::from(is_of_ranks));
+    }
+    2 <= number
 }
 
 /// Adds whether a file with these lines looks like a table.
@@ -228,7 +246,7 @@ pub(crate) fn push_table(
 ) -> Result<(), AllocError>
     ensures { Adds result text.old (table_text poll.now lines.now) text.new }
 {
-    if !looks_like_table(alloc, poll, lines)? {
+    if !(has_head(alloc, poll, lines)? || has_even_ranks(lines)) {
         return Ok(());
     }
     text.push_str(

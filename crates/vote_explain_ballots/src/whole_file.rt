@@ -9,6 +9,7 @@ ghost use Rattle.vote_hints.specs.Hints.{Tells};
 ghost use Rattle.vote_explain_ballots.specs.Remarks.{IsFileText, IsRemark, can_be_ballots, is_title};
 
 use crate::findings::is_of_bad_shape;
+use crate::tables::LinesFrom;
 use crate::{MARK, MOST_REMARK};
 use std::alloc::{AllocError, Global};
 use vote_hints::{file_kind, push_mending, unmarked};
@@ -78,8 +79,8 @@ fn is_title(line: &[u8]) -> bool
 fn has_title(lines: &Lines<'_>) -> bool
     ensures { result ≡ list_any is_title lines.now }
 {
-    for place in 0..lines.len() {
-        if is_title(lines.line(place)) {
+    for line in LinesFrom(lines, 0) {
+        if is_title(line) {
             return true;
         }
     }
