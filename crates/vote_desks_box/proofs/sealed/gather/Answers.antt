@@ -48,12 +48,6 @@ returns-in-Ok-clause-slips_by_desk g c =
     let P : List (ℕ × List Slip) → Type 0 = λ xs. IsPermutation (map f came) xs in
     subst P in_order (IsPermutation-map f came sorted c.sort_unstable_by_key.ensures.permutation)
 
-pub returns-in-Ok-clause-desks : goal.returns-in-Ok-clause-desks
-returns-in-Ok-clause-desks g c =
-    let sorted : List DeskState = c.sort_unstable_by_key.new.self.items in
-    let len = rw c.if-not-are_complete.false at c.are_complete.ensures.len in
-    ap length c.in-Ok.ensures.slips_by_desk ∙ length-map sorted (λ (d : DeskState). d.slips) ∙ ap length (sym c.deref.ensures.value) ∙ len ∙ ap (λ (s : SharedState). s.desks) c.shared.view_is
-
 pub returns-in-Ok-clause-casts : goal.returns-in-Ok-clause-casts
 returns-in-Ok-clause-casts g c =
     omega (arith, all_slips c.in-Ok.sealed.slips_by_desk, c.each_cast_is_counted.ensures c.in-Ok.sealed.ballot_box.last_in_time c.in-Ok.sealed.ballot_box.steps, c.in-Ok.ensures.books.valid_on_slips, c.in-Ok.ensures.books.refused_on_slips)

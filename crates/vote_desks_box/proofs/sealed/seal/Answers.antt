@@ -12,10 +12,3 @@ returns-clause-books g c =
 pub returns-clause-legal : goal.returns-clause-legal
 returns-clause-legal g c =
     subst IsLegal (sym (ap (λ (h : HeldState). h.ballot_box) (c.held.view_is ∙ c.in_ok-slips_by_desk.ensures.held))) c.close.ensures.legal
-
-pub returns-clause-opened : goal.returns-clause-opened
-returns-clause-opened g c = c.held.invariant.0
-
-pub returns-clause-closed : goal.returns-clause-closed
-returns-clause-closed g c =
-    subst (λ (b : BoxState). IsTrue (is_closed b.steps)) (sym (ap (λ (h : HeldState). h.ballot_box) (c.held.view_is ∙ c.in_ok-slips_by_desk.ensures.held))) c.close.ensures.closed

@@ -16,9 +16,3 @@ returns-clause-stands g c =
       stands = is ∙ ap (λ (now : BoxState). standing_ranks now.last_in_time b.steps c.args.voter) later;
     })
     c.standing.ensures.ok
-
-pub returns-clause-none : goal.returns-clause-none
-returns-clause-none g c =
-    let b = c.deref.result.now.ballot_box in
-    let later = c.standing.ensures.opened ∙ ap (λ (s : SharedState). record s.opened { steps = b.steps }) c.self.view_is in
-    subst (λ (now : BoxState). (c.standing.result ≡ Err (record {})) ↔ (now.electors ≤ c.args.voter)) later c.standing.ensures.none
