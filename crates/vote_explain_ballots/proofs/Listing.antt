@@ -1,8 +1,6 @@
 -- The findings of refused lines, one after another, and the texts of options.
-use Rattle.vote_explain_ballots.proofs.Words.{◌≡◌, ◌+◌, ◌++◌, ◌∷◌, ◌∙◌, ℕ, List, take, refl, ap, sym, subst, Option, Some, Bool, [], arith, add-one, slice_get, enumerate_from, flat_map, flat_map_more, take_more, get_or-enumerate_from}
-use Rattle.vote_explain_ballots.proofs.Words.{length-enumerate_from, get_or_from_slice_get, slice_get_within, append_assoc, PollContent, last_in_time, reading, Text, AreLinesFor, Adding, IsIfText, IsLineHint, SaysRefusal, finding_head, Refusal, refusal_by, refusal_of, refusing_reply}
-use Rattle.vote_poll_text.specs.Lines.{line_feed}
-use Rattle.vote_hints.specs.Hints.{IsExcerpt}
+use Rattle.vote_explain_ballots.proofs.Words.{◌≡◌, ◌+◌, ◌++◌, ◌∷◌, ◌∙◌, ℕ, List, take, refl, ap, sym, subst, Option, Some, [], arith, add-one, slice_get, enumerate_from, flat_map, flat_map_more, take_more, get_or-enumerate_from}
+use Rattle.vote_explain_ballots.proofs.Words.{length-enumerate_from, get_or_from_slice_get, slice_get_within, PollContent, last_in_time, reading, Text, AreLinesFor, Adding, Refusal, refusal_by, refusal_of, refusing_reply}
 use Rattle.vote_hints.proofs.Lines.{lines_on}
 use Rattle.vote_explain_ballots.specs.Explained.{each}
 use Rattle.vote_steps.specs.declared.Reply.{Reply}
@@ -10,12 +8,6 @@ use Rattle.vote_steps.specs.declared.Reply.{Reply}
 -- the text of the next number comes after the texts up to this number
 pub each_one_more : (n : ℕ) (text : ℕ → Text) → each (n + 1) text ≡ each n text ++ text (n + 1)
 each_one_more n text = rw add-one refl
-
--- its words were added, then its hint, a line feed, and the line
-pub one_finding : (is_text : Bool) (poll : PollContent) (one : Refusal) (t0 t1 t2 t3 t4 : Text) → t1 ≡ t0 ++ finding_head one.number one.reply → Adding (IsLineHint is_text poll one.bytes one.reply) t1 t2 → t3 ≡ t2 ++ line_feed
-    → Adding (IsIfText is_text IsExcerpt) t3 t4 → Adding (SaysRefusal is_text poll one) t0 t4
-one_finding is_text poll one t0 t1 t2 t3 t4 e1 (hint, is, e2) e3 (shown, said, e4) =
-    (finding_head one.number one.reply ++ hint ++ line_feed ++ shown, (hint, shown, is, said, refl), rw (e4, e3, e2, e1) (simp append_assoc))
 
 -- the refusals of the lines before a place
 abbrev pub refusals_before : PollContent → ℕ → List Text → List Refusal

@@ -34,9 +34,6 @@ goes_on part.Rank count rest = nat_le (count + length rest) 200 && are_ranks (te
 goes_on part.Digit count rest = nat_le (count + length rest) 200 && are_ranks (onto_first 49 (texts_in rest))
 goes_on part.RankEnd count rest = nat_le (count + length rest) 200 && are_ranks (onto_first 45 (texts_in rest))
 
-ballot_goes_on : (line : List ℕ) → is_some (ballot_in line) ≡ goes_on part.Name 0 line
-ballot_goes_on line = grind (arith, nat_tests, ranks_are (texts_in (after_first is_space line)))
-
 some_rest : (rest : List ℕ) → are_ranks (texts_in rest) ≡ true → 1 ≤ length rest
 some_rest [] is = cc
 some_rest (b ∷ rest) is = omega arith
@@ -112,7 +109,9 @@ shorter_prefix m n line few (rest, is) =
 -- since each line is read by the grammar
 module _ (law : EachLineIsRead) where
   text_is : (line : List ℕ) → IsBallotText line ↔ (goes_on part.Name 0 line ≡ true)
-  text_is line = subst (λ b. IsBallotText line ↔ (b ≡ true)) (ballot_goes_on line) (text_by line (ballot_in line) (law some_poll line))
+  text_is line =
+      let same : is_some (ballot_in line) ≡ goes_on part.Name 0 line = grind (arith, nat_tests, ranks_are (texts_in (after_first is_space line))) in
+      subst (λ b. IsBallotText line ↔ (b ≡ true)) same (text_by line (ballot_in line) (law some_poll line))
 
   is_front : (front : List ℕ) (p : Part) (count : ℕ) → IsAfter front count p → IsLinePrefix front
   is_front front p count is = let (rest, ok) = some_line p count is.room in (rest, (text_is (front ++ rest)).1 (is.left rest ∙ ok))

@@ -19,7 +19,7 @@ pub use Rattle.vote_poll.specs.declared.reading.Reading.{Reading}
 pub use Rattle.vote_steps.specs.History.{before_close, is_closed, reply_to}
 pub use Rattle.vote_poll_text.specs.Texts.{Text}
 pub use Rattle.vote_hints.specs.Hints.{Adding, AreLinesFor}
-pub use Rattle.vote_explain_ballots.specs.Explained.{IsIfText, IsLineHint, SaysRefusal, finding_head, question, stranger_words}
+pub use Rattle.vote_explain_ballots.specs.Explained.{SaysRefusal, question, stranger_words}
 pub use Rattle.vote_hints.specs.Near.{IsNearest}
 pub use Rattle.vote_explain_ballots.specs.Places.{IsColumn, IsExit, IsLinePrefix, IsPartAfter, has_byte, may_end, next_part}
 pub use Rattle.vote_explain_ballots.specs.Refusals.{EachRefusalIsListed, Refusal, RefusedAsBySteps, refusal_by, refusal_of, refusals, refusing, refusing_at, refusing_reply}

@@ -67,8 +67,8 @@ IsLineHint is_text poll bytes Late hint = hint ≡ codes "the last envelope is "
 IsLineHint is_text poll bytes other hint = hint ≡ []
 
 -- the line of a refusal, up to its hint
-abbrev pub finding_head : ℕ → Reply → Text
-finding_head number reply = codes "ballots:" ++ decimal number ++ codes ": " ++ reply_words reply ++ codes ": "
+unfoldable pub finding_head : ℕ → Reply → Text
+finding_head number reply = concat (codes "ballots:" ∷ decimal number ∷ codes ": " ∷ reply_words reply ∷ codes ": " ∷ [])
 
 -- nothing of a file that can't be ballots
 abbrev pub IsIfText : Bool → (Text → Type 0) → Text → Type 0
@@ -79,7 +79,7 @@ IsIfText false Says text = text ≡ []
 abbrev pub SaysRefusal : Bool → PollContent → Refusal → Text → Type 0
 SaysRefusal is_text poll refusal text =
     (hint : Text) × (shown : Text) × IsLineHint is_text poll refusal.bytes refusal.reply hint × IsIfText is_text IsExcerpt shown
-    × (text ≡ finding_head refusal.number refusal.reply ++ hint ++ line_feed ++ shown)
+    × (text ≡ finding_head refusal.number refusal.reply ++ hint ++ (line_feed ++ shown))
 
 -- ---- a ballot line of the poll, and what each of its ranks is of
 -- the texts of 1 to n, in their order
