@@ -6,11 +6,11 @@ pub use Rattle.std.specs.Prelude.{cond, is_some, option_and_then, ◌↔◌}
 pub use Rattle.std.proofs.lemmas.Bool.Decides.{nat_tests}
 pub use Rattle.std.proofs.lemmas.Grind.{common_steps}
 pub use Rattle.std.proofs.lemmas.Int.{clamps}
-pub use Rattle.std.proofs.lemmas.List.{drop_more, flat_map_more, take-append-le, take-take, take_more}
+pub use Rattle.std.proofs.lemmas.List.{drop_all, drop_more, flat_map_more, take-append-le, take-take, take_more}
 pub use Rattle.std.proofs.lemmas.List.Elements.{All-map, All-nil, All-push, All-weaker}
 pub use Rattle.std.proofs.lemmas.List.Folds.{flat_map-map}
 pub use Rattle.std.proofs.lemmas.List.FromFn.{get_or-enumerate_from, length-enumerate_from}
-pub use Rattle.std.proofs.lemmas.Option.{get_or_from_slice_get, slice_get_within}
+pub use Rattle.std.proofs.lemmas.Option.{get_or_from_slice_get, gets, slice_get_within}
 pub use Rattle.vote_poll_text.specs.Names.{is_voter_byte, is_within}
 pub use Rattle.vote_poll_text.specs.Shown.{shown}
 pub use Rattle.vote_poll.specs.PollContent.{PollContent, last_in_time}
@@ -25,3 +25,6 @@ pub use Rattle.vote_explain_ballots.specs.Places.{IsColumn, IsExit, IsLinePrefix
 pub use Rattle.vote_explain_ballots.specs.Refusals.{EachRefusalIsListed, Refusal, RefusedAsBySteps, refusal_by, refusal_of, refusals, refusing, refusing_at, refusing_reply}
 pub use Rattle.vote_explain_ballots.specs.Tables.{is_even, is_head, is_of_ranks}
 pub use Rattle.vote_explain_ballots.specs.Remarks.{IsRemark, is_title}
+
+-- the line at a place, and those behind it
+pub ruleset places = (drop_more, drop_all, gets, nat_tests)

@@ -1,6 +1,5 @@
 //! What looks like a table, whose columns may stand in another order than the options.
-ghost use Rattle.std.specs.Prelude.{◌≡◌, ◌≤◌, ◌==◌, ◌&&◌, ◌||◌, not, [], IfOk, drop, false, filter, length, option_map, unwrap_or};
-ghost use Rattle.std.specs.Iterator.{YieldsFirstRef, item_count};
+ghost use Rattle.std.specs.Prelude.{◌≡◌, ◌≤◌, ◌==◌, ◌&&◌, ◌||◌, not, [], IfOk, false, filter, length, option_map, unwrap_or};
 ghost use Rattle.std.specs.List.{list_any};
 ghost use Rattle.vote_poll_text.specs.Adding.{Adds};
 ghost use Rattle.vote_explain_ballots.specs.Tables.{first_word, has_columns, has_each_rank, has_even_ranks, has_few_ranks, has_head, has_heads, is_column_sign, is_even, is_head, is_head_sign, is_of_ranks, is_parted_by, is_rank, is_sign, later_words, may_be_head, names_no_elector, number_of, rank_count, table_text, words_of};
@@ -184,50 +183,32 @@ fn is_head(alloc: Global, poll: &Poll, is_below: bool, line: &[u8]) -> Result<bo
     Ok(may_be_head(poll.options() as usize, is_below, line) && names_no_elector(alloc, poll, line)?)
 }
 
-/// The lines of a file from a place on.
-#[derive(Drop)]
-pub(crate) struct LinesFrom<'l, 't>(pub(crate) &'l Lines<'t>, pub(crate) usize);
-
-impl<'l, 't> Iterator for LinesFrom<'l, 't> {
-    type Item = &'t [u8];
-
-    ghost next_gives = { YieldsFirstRef (λ s. drop s.1 s.0.now) };
-
-    ghost remaining = { item_count (λ s. drop s.1 s.0.now) };
-
-    fn next(&mut self) -> Option<&'t [u8]> {
-        if self.1 >= self.0.len() {
-            return None;
-        }
-        let line = self.0.line(self.1);
-        self.1 += 1;
-        Some(line)
-    }
-}
-
 /// Whether a line is a head where it stands, and a line of ranks below it.
+#[tactic(auto, using(crate::proofs::Words::places))]
 fn has_head(alloc: Global, poll: &Poll, lines: &Lines<'_>) -> Result<bool, AllocError>
     ensures { IfOk result (λ has. has ≡ has_head poll.now false lines.now) }
 {
     let (mut is_below, mut has_one) = (false, false);
-    for line in LinesFrom(lines, 0) {
-        let is_head = is_head(alloc, poll, is_below, line)?;
+    for place in 0..lines.len() {
+        let line = lines.line(place);
         let is_of_ranks = is_of_ranks(line);
         if has_one & is_of_ranks {
             return Ok(true);
         }
-        has_one = has_one | is_head;
+        has_one = has_one | is_head(alloc, poll, is_below, line)?;
         is_below = is_below | is_of_ranks;
     }
     Ok(false)
 }
 
 /// Whether two lines or more are of ranks, and each of these is even.
+#[tactic(auto, using(crate::proofs::Words::places))]
 fn has_even_ranks(lines: &Lines<'_>) -> bool
     ensures { result ≡ has_even_ranks lines.now }
 {
     let mut number = 0usize;
-    for line in LinesFrom(lines, 0) {
+    for place in 0..lines.len() {
+        let line = lines.line(place);
         let is_of_ranks = is_of_ranks(line);
         if is_of_ranks && !is_even(line) {
             return false;

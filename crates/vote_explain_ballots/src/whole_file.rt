@@ -9,7 +9,6 @@ ghost use Rattle.vote_hints.specs.Hints.{Tells};
 ghost use Rattle.vote_explain_ballots.specs.Remarks.{IsFileText, IsRemark, can_be_ballots, is_title};
 
 use crate::findings::is_of_bad_shape;
-use crate::tables::LinesFrom;
 use crate::{MARK, MOST_REMARK};
 use std::alloc::{AllocError, Global};
 use vote_hints::{file_kind, push_mending, unmarked};
@@ -76,11 +75,12 @@ fn is_title(line: &[u8]) -> bool
 }
 
 /// Whether a line is as that of the title of a poll.
+#[tactic(auto, using(crate::proofs::Words::places))]
 fn has_title(lines: &Lines<'_>) -> bool
     ensures { result ≡ list_any is_title lines.now }
 {
-    for line in LinesFrom(lines, 0) {
-        if is_title(line) {
+    for place in 0..lines.len() {
+        if is_title(lines.line(place)) {
             return true;
         }
     }

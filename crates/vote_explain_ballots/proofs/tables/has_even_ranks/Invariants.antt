@@ -2,7 +2,7 @@ use Rattle.vote_explain_ballots.proofs.Words.{◌≡◌, ◌+◌, ◌&&◌, drop
 use Rattle.vote_explain_ballots.specs.Tables.{has_even_ranks}
 use Rattle.vote_explain_ballots.proofs.tables.has_even_ranks.Given as goal
 
-abbrev pub invariant-loop-line : goal.invariant-loop-line
-invariant-loop-line l =
-    let left = filter is_of_ranks (drop l.line-iterator.1 l.line-iterator.0.now) in
+abbrev pub invariant-loop-place : goal.invariant-loop-place
+invariant-loop-place l =
+    let left = filter is_of_ranks (drop l.place l.lines) in
     (nat_le 2 (l.number + length left) && list_all is_even left) ≡ has_even_ranks l.lines
