@@ -46,29 +46,6 @@ least_stop {W} desk stopped all k w stop fault numbers inside here stops is befo
           (cases_lt i k);
     }
 
--- a desk that a gate stopped, or a cast with a used stamp, has a fault that can stop the casts
-pub can_stop : (bars : ℕ → Bool) (desk : ℕ) (stop : Stop) → (stop ≡ Barred → IsTrue (bars desk)) → ((fault : EnterFault) → stop ≡ Refused fault → fault ≡ StampUsed)
-    → CanStopCasts bars (stop_fault desk stop)
-can_stop bars desk Barred barred used = barred refl
-can_stop bars desk (Refused fault) barred used = used fault refl
-
--- a desk whose cast was refused was not barred
-pub refused_barred : (bars : ℕ → Bool) (desk : ℕ) (fault : EnterFault) → IsBarredBy bars desk (Some (Refused fault))
-refused_barred bars desk fault = λ e. cc
-
--- a fault that can stop the audit can stop votes
-pub stops_votes : (bars : ℕ → Bool) (fault : VoteFault) → CanStopAudit fault → CanStopVotes bars fault
-stops_votes bars Memory can = tt
-stops_votes bars Thread can = absurd can
-stops_votes bars (Gate desk) can = absurd can
-stops_votes bars (Enter desk fault) can = absurd can
-stops_votes bars (Desk fault) can = can
-stops_votes bars (Audit fault) can = can
-
-pub of_desk : (desks desk : ℕ) (stop : Stop) → 1 ≤ desk → desk ≤ desks → IsOfDesk desks (stop_fault desk stop)
-of_desk desks desk Barred low high = (low, high)
-of_desk desks desk (Refused fault) low high = (low, high)
-
 -- an audit finds neither SizeDiffers nor CountDiffers in a box with the sizes of the poll and a cast for each line
 pub can_stop_audit : (poll : PollContent) (lines : List (List ℕ)) (s : SealedState) (fault : VoteFault)
     → HasSizes poll lines s.ballot_box → count_by is_cast s.ballot_box.steps ≡ length lines → IsAuditFaultOf poll lines s fault → CanStopAudit fault

@@ -5,14 +5,6 @@ use Rattle.vote_tray.specs.Passes.{HasAllParts, new_pass}
 use Rattle.vote_desks.proofs.BackLemmas.{Contains-range}
 use Rattle.vote_desks.proofs.votes.run_desks.Goals as goal
 
-pub run_workers-requires-clause-desks : goal.run_workers-requires-clause-desks
-run_workers-requires-clause-desks g c = λ _ _. c.requires.fresh
-
-pub run_workers-requires-clause-passes : goal.run_workers-requires-clause-passes
-run_workers-requires-clause-passes g c =
-    let all : c.in-Ok.made.1.items ≡ map (new_pass c.in-Ok.made.0) (range_with_len 0 c.in-Ok.made.0.passes) =
-    c.in-Ok.ensures.passes.1 ∙ ap (λ n. map (new_pass c.in-Ok.made.0) (range_with_len 0 n)) (sym c.in-Ok.ensures.tray.1) in λ _ _. all
-
 pub returns-clause-cast : goal.returns-clause-cast
 returns-clause-cast g c =
     let handed = c.in_ok-back.ensures.handed in
@@ -24,11 +16,3 @@ returns-clause-cast g c =
     let size = c.in-Ok.ensures.tray.0 in
     let cast = handed.cast in
     let len = c.len.ensures.number in omega arith
-
-pub returns-clause-numbers : goal.returns-clause-numbers
-returns-clause-numbers g c =
-    let desks : c.len-desks.result ≡ vec_len c.args.opened = omega arith in
-    c.in_ok-back.ensures.handed.numbers ∙ ap (range_with_len 1) (c.in-Ok.ensures.tray.1 ∙ desks)
-
-pub returns-clause-rising : goal.returns-clause-rising
-returns-clause-rising g c = c.in_ok-back.ensures.handed.rising

@@ -7,19 +7,6 @@ use Rattle.vote_desks.specs.declared.worker_result.Stop.{Stop}
 use Rattle.vote_audit.specs.Faults.{IsOfDesk}
 use Rattle.vote_desks.proofs.votes.take_back.Goals as goal
 
-pub first_stop-requires-clause-numbers : goal.first_stop-requires-clause-numbers
-first_stop-requires-clause-numbers g c = rw c.deref.ensures.value (λ k any lt. (c.requires.back k any lt).0)
-
-pub first_stop-requires-clause-barred : goal.first_stop-requires-clause-barred
-first_stop-requires-clause-barred g c = rw c.deref.ensures.value c.requires.barred
-
-pub hand_in-requires-clause-done : goal.hand_in-requires-clause-done
-hand_in-requires-clause-done g c = rw c.deref.ensures.value at (c.in_default.ensures.none refl)
-
-pub returns-in-Some-clause-desk : goal.returns-in-Some-clause-desk
-returns-in-Some-clause-desk g c =
-    subst (λ n. IsOfDesk n c.in-Some.fault) (ap length c.deref.ensures.value ∙ sym c.args.all.ok.0 ∙ c.requires.len) c.in-Some.ensures.desk
-
 pub returns-clause-stops : goal.returns-clause-stops
 returns-clause-stops g c =
     let none = rw c.deref.ensures.value at (c.in_default.ensures.none refl) in

@@ -12,6 +12,3 @@ pub loop-stamps-init : goal.loop-stamps-init
 loop-stamps-init g c =
     let fit : All (FitsBox c.args.workplace.now.shared.now.opened) (replicate BATCH (Bad Shape)) = All-replicate (FitsBox c.args.workplace.now.shared.now.opened) BATCH (Bad Shape) tt in
     search rules
-
-pub enter_batch-stopped-requires-clause-room : goal.enter_batch-stopped-requires-clause-room
-enter_batch-stopped-requires-clause-room g c = grind (arith, common_steps, elements, moves, pieces)

@@ -22,18 +22,6 @@ loop-desks-init g c =
       promised = λ index any lt. absurd (omega (arith, lt, ap length c.new-handles.ensures.items));
     }
 
-pub start-requires-clause-desk : goal.start-requires-clause-desk
-start-requires-clause-desk g c =
-    let len = c.remove-desk.ensures.len in
-    let is = c.remove-desk.ensures.value ∙ c.loop-desks.invariant.desks 0 (vec_len c.loop-desks.handles) c.remove-desk.result (omega arith) (omega arith) in
-    λ _ _. record { room = ap (λ (d : DeskState). d.limit) is; empty = ap (λ (d : DeskState). d.slips) is }
-
-pub start-requires-clause-pass : goal.start-requires-clause-pass
-start-requires-clause-pass g c =
-    let len = c.remove-pass.ensures.len in
-    let is = c.remove-pass.ensures.value ∙ c.loop-desks.invariant.passes 0 (vec_len c.loop-desks.handles) c.remove-pass.result (omega arith) (omega arith) in
-    λ _ _. record { its_tray = ap (λ (p : PassState). p.tray) is; empty = ap (λ (p : PassState). p.places) is }
-
 -- a fact about each element by its index, after one more element
 each_push : {X : Type 0} (P : ℕ → X → Type 0) (xs : List X) (x : X) → ((k : ℕ) (d : X) → k < length xs → P k (get_or xs k d)) → P (length xs) x
     → (k : ℕ) (d : X) → k < length (xs ++ x ∷ []) → P k (get_or (xs ++ x ∷ []) k d)
