@@ -8,6 +8,10 @@ use Rattle.vote_desks.proofs.BackLemmas.{gathered_count, gathered_rise, has_size
 use Rattle.vote_desks.proofs.StopLemmas.{can_stop_audit, audit_of_desk, found_in}
 use Rattle.vote_desks.proofs.votes.gather_and_audit.Goals as goal
 
+pub returns-clause-desks : goal.returns-clause-desks
+returns-clause-desks g c =
+    IfOk-weaker c.audit_votes.result _ _ (λ audited same. subst (λ (s : SealedState). length s.slips_by_desk ≡ c.args.shared.desks) (sym same) c.in-Ok.ensures.desks) c.audit_votes.ensures.same
+
 pub returns-clause-rising : goal.returns-clause-rising
 returns-clause-rising g c =
     let rise = gathered_rise c.args.desks.items c.in-Ok.sealed.slips_by_desk c.in-Ok.ensures.slips_by_desk c.requires.rising in
