@@ -1,6 +1,7 @@
 //! Workers. Each serves a desk in a thread of its own.
 ghost use Rattle.std.specs.Prelude.{◌≡◌, ℕ, Bool, true, false, ◌+◌, ◌<◌, ◌≤◌, ◌^◌, [], None, Ok, Some, All, IsNone, IsSome, IsTrue, IfOk, IfErr, length, vec_len};
 ghost use Rattle.vote_steps.specs.Boxes.{box_of};
+ghost use Rattle.vote_tray.specs.Passes.{TrayId};
 ghost use Rattle.vote_desks_box.specs.Desks.{FitsBox, fresh_desks};
 ghost use Rattle.vote_desks.specs.Work.{AreReadAt, HasCast, HasCastAll, IsFresh, IsStampOf, IsUnused, new_passes};
 ghost use Rattle.vote_desks.specs.Workers.{AreBack, AreBarredBy, ArePromised};
@@ -319,6 +320,19 @@ pub(crate) fn work_all<
             ensures err { IfErr result IsStartFault }
         { start_all(scope, rt, alloc, workplace, desks, passes) },
     )?;
+    join_all(rt, handles)
+}
+
+/// Joins all workers.
+fn join_all<VL: Tally, RL: Tally, G: Gate, R: Threads>(
+    rt: &R,
+    handles: Vec<PromisedHandle<WorkerResult<VL, RL>, WorkerPromise<G>>>,
+) -> Result<Vec<WorkerResult<VL, RL>>, VoteFault>
+    ensures len { IfOk result (λ all. vec_len all ≡ vec_len handles) }
+    ensures back { (tray : TrayId) → ArePromised tray handles.items → IfOk result (λ all. AreBack tray all.items) }
+    ensures barred { IfOk result (λ all. AreBarredBy G.bars all.items) }
+    ensures err { IfErr result (λ fault. fault ≡ VoteFault.Memory) }
+{
     match thread::join_promised(rt, handles) {
         Ok(all) => Ok(all),
         Err(_) => Err(VoteFault::Memory),
