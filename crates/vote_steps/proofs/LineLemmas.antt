@@ -79,9 +79,6 @@ is_ballot_of n Close = false
 is_ballot_of n (Cast d s (Bad fault) p) = false
 is_ballot_of n (Cast d s (Ballot voter ranks) p) = eqb s n
 
-in_time : (n s : ℕ) → s ≤ n → one (not (is_late n s)) ≡ 1
-in_time n s h = ap (λ t. one (not t)) (le-ltb n s h)
-
 too_late : (n s : ℕ) → n < s → one (not (is_late n s)) ≡ 0
 too_late n s h = ap (λ t. one (not t)) (lt-ltb n s h)
 
