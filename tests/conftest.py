@@ -19,10 +19,29 @@ from debvote_tools.cli import console
 from tests.support import debian, program
 
 # the classes that take longest begin first, so that none of them runs alone at the end
-LONGEST = ["Sequences", "WhatHappened", "SecretByClicks", "Many", "LargestTest", "Damaged", "In_", "Lines", "Marked", "RandomTest", "Sending"]
+LONGEST = [
+    "Sequences",
+    "WhatHappened",
+    "SecretByClicks",
+    "Many",
+    "LargestTest",
+    "Damaged",
+    "In_",
+    "Lines",
+    "Marked",
+    "RandomTest",
+    "Sending",
+]
 
 # modules of tests that run no debvote, but for those that take no time: tests/quick runs them while it is built
-WITHOUT_PROGRAM = {"test_box", "test_call_words", "test_electors", "test_secret", "test_translations", "test_words"}
+WITHOUT_PROGRAM = {
+    "test_box",
+    "test_call_words",
+    "test_electors",
+    "test_secret",
+    "test_translations",
+    "test_words",
+}
 
 
 def pytest_configure(config: pytest.Config) -> None:
@@ -52,7 +71,9 @@ def pytest_collection_modifyitems(items: list[pytest.Item]) -> None:
 
     def place(item: pytest.Item) -> int:
         name = item.parent.name if item.parent else ""
-        return next((place for place, start in enumerate(LONGEST) if name.startswith(start)), len(LONGEST))
+        return next(
+            (place for place, start in enumerate(LONGEST) if name.startswith(start)), len(LONGEST)
+        )
 
     items.sort(key=place)
 
@@ -60,7 +81,10 @@ def pytest_collection_modifyitems(items: list[pytest.Item]) -> None:
 @pytest.hookimpl(hookwrapper=True)
 def pytest_runtest_protocol() -> Iterator[None]:
     """What a command sets for its process, such as the zone of times, a test that calls its functions leaves to no other test."""
-    before = [(variable, variable.get()) for variable in (console.ZONE, console.LEAVING_OUT, console.FOR_TERMINALS)]
+    before = [
+        (variable, variable.get())
+        for variable in (console.ZONE, console.LEAVING_OUT, console.FOR_TERMINALS)
+    ]
     yield
     for variable, value in before:
         variable.set(value)
@@ -68,7 +92,9 @@ def pytest_runtest_protocol() -> Iterator[None]:
 
 def pytest_terminal_summary(terminalreporter: TerminalReporter) -> None:
     stats = terminalreporter.stats
-    reasons = collections.Counter(report.longrepr[2].removeprefix("Skipped: ") for report in stats.get("skipped", []))
+    reasons = collections.Counter(
+        report.longrepr[2].removeprefix("Skipped: ") for report in stats.get("skipped", [])
+    )
     # without these some tests look at less
     for tool, what in (("dot", "pictures"), ("nodejs", "recount.js")):
         if shutil.which(tool) is None and not any(why.startswith(tool) for why in reasons):

@@ -27,7 +27,14 @@ class Fault(Exception):
 
 # ---------------------------------------------------------------- the poll file
 # the keys and their kinds; of several that are missing or of another kind, the first here is told
-REQUIRED = {"title": str, "options": [str], "ratios": [int], "default": str, "quorum": int, "roll": [str]}
+REQUIRED = {
+    "title": str,
+    "options": [str],
+    "ratios": [int],
+    "default": str,
+    "quorum": int,
+    "roll": [str],
+}
 OPTIONAL = {"last_envelope": int, "wording": str}
 
 
@@ -57,7 +64,9 @@ def is_of_kind(value, kind):
 def has_a_number_too_large(value):
     """Whether a whole number has more than the 64 bits that TOML allows. (Python reads a number of any size.)"""
     if isinstance(value, (dict, list)):
-        return any(map(has_a_number_too_large, value.values() if isinstance(value, dict) else value))
+        return any(
+            map(has_a_number_too_large, value.values() if isinstance(value, dict) else value)
+        )
     return is_of_kind(value, int) and not -(2**63) <= value < 2**63
 
 
@@ -319,9 +328,13 @@ def tables(poll, votes):
 def outcome(votes, dropped, defeats, rounds):
     """Result sheet, 10 to 12: what is dropped, the defeats, and the rounds."""
     yield "Dropped:"
-    yield from (f"{option:3} {cause}" for option, cause in dropped.items()) if dropped else ["  none"]
+    yield from (f"{option:3} {cause}" for option, cause in dropped.items()) if dropped else [
+        "  none"
+    ]
     yield "Defeats:"
-    yield from (f"{a:3} over {b} by {votes[a, b]} to {votes[b, a]}" for a, b in sorted(defeats)) if defeats else ["  none"]
+    yield from (
+        f"{a:3} over {b} by {votes[a, b]} to {votes[b, a]}" for a, b in sorted(defeats)
+    ) if defeats else ["  none"]
     for number, (final, removed) in enumerate(rounds, start=1):
         yield f"Round {number}: " + " ".join(map(str, final))
         yield from (f"  drop {a} over {b}" for a, b in sorted(removed))
@@ -366,7 +379,10 @@ def standing(poll_data, ballots):
     poll = poll_in(poll_data)
     _, last_ballots = all_replies_and_last_ballots(poll, ballots)
     lines = [(poll.roll[voter], last_ballots[voter]) for voter in sorted(last_ballots)]
-    return text_of(f"{name} {','.join('-' if rank is None else str(rank) for rank in ranks)}" for name, ranks in lines)
+    return text_of(
+        f"{name} {','.join('-' if rank is None else str(rank) for rank in ranks)}"
+        for name, ranks in lines
+    )
 
 
 def check(poll_data):
@@ -391,7 +407,9 @@ def wrong_in_secret(poll_data, ballots):
         if key in table:
             return f"the poll of a secret vote is published without {key}, and this one has it"
     replies, _ = all_replies_and_last_ballots(poll_in(poll_data), ballots)
-    envelope = next((envelope for envelope, reply in enumerate(replies, start=1) if reply != "counted"), None)
+    envelope = next(
+        (envelope for envelope, reply in enumerate(replies, start=1) if reply != "counted"), None
+    )
     if envelope is None:
         return None
     return f"in a secret vote each published line counts, once, and the reply to line {envelope} is: {replies[envelope - 1]}"
@@ -415,12 +433,19 @@ def command_line(words):
     """Command line: the command and its values, if there are words. A fault of the words ends with status 2."""
     parser = argparse.ArgumentParser(allow_abbrev=False)
     commands = parser.add_subparsers(dest="command")
-    known_options = {"count": "poll ballots desks casting", "standing": "poll ballots", "steps": "poll ballots", "check": "poll"}
+    known_options = {
+        "count": "poll ballots desks casting",
+        "standing": "poll ballots",
+        "steps": "poll ballots",
+        "check": "poll",
+    }
     for command, options in known_options.items():
         known = commands.add_parser(command, allow_abbrev=False)
         for option in options.split():
             choices = list("12345678") if option == "desks" else None
-            known.add_argument(f"--{option}", required=option in ("poll", "ballots"), choices=choices)
+            known.add_argument(
+                f"--{option}", required=option in ("poll", "ballots"), choices=choices
+            )
     return parser.parse_args(words)
 
 

@@ -16,6 +16,8 @@ def set_clock(time: str) -> None:
     class Clock(datetime.datetime, metaclass=Kind):
         @classmethod
         def now(cls, tz: datetime.tzinfo | None = None) -> datetime.datetime:
-            return still.astimezone(tz) if tz is not None else still.astimezone().replace(tzinfo=None)
+            return (
+                still.astimezone(tz) if tz is not None else still.astimezone().replace(tzinfo=None)
+            )
 
     datetime.datetime = Clock

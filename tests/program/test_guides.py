@@ -21,7 +21,10 @@ from tests.support.program import PROGRAM, ROOT
 
 DOCS = ROOT / "docs"
 
-BLOCK = re.compile(r"^```(console|toml|text)(?: (\S+))?\n(.*?)^```$|^<!-- clock: (\S+) -->$", re.MULTILINE | re.DOTALL)
+BLOCK = re.compile(
+    r"^```(console|toml|text)(?: (\S+))?\n(.*?)^```$|^<!-- clock: (\S+) -->$",
+    re.MULTILINE | re.DOTALL,
+)
 
 # ends what a command has printed: no program here writes this byte
 MARK = "\x1e"
@@ -52,7 +55,11 @@ def steps_of(guide):
             yield "clock", time, ""
         if kind != "console" and name:
             yield "file", name, text
-        for command in re.findall(r"^\$ (.*\n(?:(?!\$ ).*\n)*)", text, re.MULTILINE) if kind == "console" else []:
+        for command in (
+            re.findall(r"^\$ (.*\n(?:(?!\$ ).*\n)*)", text, re.MULTILINE)
+            if kind == "console"
+            else []
+        ):
             words, _, wanted = command.partition("\n")
             yield "command", words, wanted
 
@@ -92,14 +99,28 @@ def answers_of(steps):
     with tempfile.TemporaryDirectory() as name:
         folder = pathlib.Path(name)
         (folder / "clock").write_text(datetime.datetime.now(datetime.UTC).isoformat())
-        clock = {"PYTHONPATH": str(ROOT / "tests" / "clock"), "DEBVOTE_CLOCK": str(folder / "clock"), "PYTHONDONTWRITEBYTECODE": "1"}
-        environment, reader = {"PATH": path_in(folder), "HOME": name, "LC_ALL": "C", **clock}, folder / "reader"
+        clock = {
+            "PYTHONPATH": str(ROOT / "tests" / "clock"),
+            "DEBVOTE_CLOCK": str(folder / "clock"),
+            "PYTHONDONTWRITEBYTECODE": "1",
+        }
+        environment, reader = {
+            "PATH": path_in(folder),
+            "HOME": name,
+            "LC_ALL": "C",
+            **clock,
+        }, folder / "reader"
         shutil.copytree(ROOT / "examples", reader / "examples")
         shutil.copyfile(ROOT / "tests" / "reference.py", reader / "reference.py")
         ended = subprocess.run(
-            ["bash"], input="exec 2>&1\n" + "".join(shell_text(steps)), cwd=reader, env=environment,
-            stdout=subprocess.PIPE, text=True, timeout=SECONDS,
-        )  # fmt: skip
+            ["bash"],
+            input="exec 2>&1\n" + "".join(shell_text(steps)),
+            cwd=reader,
+            env=environment,
+            stdout=subprocess.PIPE,
+            text=True,
+            timeout=SECONDS,
+        )
     return ended.stdout.split(MARK)
 
 
@@ -108,7 +129,9 @@ def quorum_line(electors, multiple):
     roll = ", ".join(f'"v{i}"' for i in range(electors))
     text = f'title = "T"\noptions = ["A"]\nratios = [1]\ndefault = "N"\nquorum = {multiple}\nroll = [{roll}]\n'
     words = [PROGRAM, "count", "--poll", "/dev/stdin", "--ballots", "/dev/null"]
-    return subprocess.run(words, input=text, stdout=subprocess.PIPE, text=True, timeout=SECONDS).stdout.splitlines()[2]
+    return subprocess.run(
+        words, input=text, stdout=subprocess.PIPE, text=True, timeout=SECONDS
+    ).stdout.splitlines()[2]
 
 
 class GuideTest(expecting.Expecting):
@@ -120,20 +143,36 @@ class GuideTest(expecting.Expecting):
         self.assertTrue(commands, f"nothing was read of {guide}")
         found = answers_of(steps)
         for place, (words, wanted) in enumerate(commands):
-            self.expect(f"{guide}: $ {words}", TIME.sub("TIME", found[place] if place < len(found) else "(nothing)"), TIME.sub("TIME", wanted))
+            self.expect(
+                f"{guide}: $ {words}",
+                TIME.sub("TIME", found[place] if place < len(found) else "(nothing)"),
+                TIME.sub("TIME", wanted),
+            )
 
 
 # a class for each, so that they run side by side
 for guide in ("SECRETARY", "SECRET-VOTES", "SPECIAL-CASES", "READING-A-SHEET"):
     name = guide.lower().replace("-", "_")
-    globals()[f"Test_{name}"] = type(f"{name}_test", (GuideTest,), {f"test_{name}": lambda self, guide=guide: self.type_commands(guide)})
+    globals()[f"Test_{name}"] = type(
+        f"{name}_test",
+        (GuideTest,),
+        {f"test_{name}": lambda self, guide=guide: self.type_commands(guide)},
+    )
 
 
 class QuorumsTest(expecting.Expecting):
     def test_numbers_are_those_of_the_program(self):
         """The rows of the guide's table of quorums: the number of electors, and the votes of each multiple."""
-        rows = re.findall(r"^\| (\d+) \| (\d+) \| (\d+) \| (\d+) \|$", (DOCS / "SECRETARY.md").read_text(), re.MULTILINE)
+        rows = re.findall(
+            r"^\| (\d+) \| (\d+) \| (\d+) \| (\d+) \|$",
+            (DOCS / "SECRETARY.md").read_text(),
+            re.MULTILINE,
+        )
         self.assertTrue(rows, "no table was read")
         for electors, *numbers in rows:
             for multiple, number in enumerate(numbers, start=1):
-                self.expect(f"{electors} electors, {multiple}Q", quorum_line(int(electors), multiple), f"Quorum: {multiple}Q, {number} votes")
+                self.expect(
+                    f"{electors} electors, {multiple}Q",
+                    quorum_line(int(electors), multiple),
+                    f"Quorum: {multiple}Q, {number} votes",
+                )

@@ -25,7 +25,13 @@ FOLDERS = "bin examples python tests/support"
 
 # the commands that need the kit, other programs that do, and what they say without it
 OF_KIT = ["make try", "make build", "make test", "tests/all"]
-OF_TESTS = ["tests/edits", "tests/layout", "tests/one-edit vote_steps cast_leaves_no_mark", "tests/refused-memory", "tests/unproved file"]
+OF_TESTS = [
+    "tests/edits",
+    "tests/layout",
+    "tests/one-edit vote_steps cast_leaves_no_mark",
+    "tests/refused-memory",
+    "tests/unproved file",
+]
 NO_KIT = "rt is not in PATH: it belongs to the Rattle kit, which README names"
 
 # keeps a program as `make try` does
@@ -59,13 +65,21 @@ class Commands(expecting.Expecting):
         self.copy = checkout_in(self.room)
 
     def run_in_copy(self, command: str, path: str) -> tuple[str, int]:
-        ended = subprocess.run(["/bin/bash", "-c", command], cwd=self.copy, env={"PATH": path}, **OUTPUT)
+        ended = subprocess.run(
+            ["/bin/bash", "-c", command], cwd=self.copy, env={"PATH": path}, **OUTPUT
+        )
         return ended.stdout, ended.returncode
 
     def test_blocks(self) -> None:
         """Each command prints what README says. What it writes goes to a folder of this test."""
-        subprocess.run([sys.executable, "-c", KEEP, PROGRAM], cwd=self.copy, check=True, timeout=SECONDS)
-        steps = [(words, wanted) for kind, words, wanted in test_guides.steps_of(README) if kind == "command"]
+        subprocess.run(
+            [sys.executable, "-c", KEEP, PROGRAM], cwd=self.copy, check=True, timeout=SECONDS
+        )
+        steps = [
+            (words, wanted)
+            for kind, words, wanted in test_guides.steps_of(README)
+            if kind == "command"
+        ]
         self.expect("there are commands", [words.split()[0] for words, _ in steps][:1], ["make"])
         path = os.pathsep.join([os.environ["PATH"], str(test_guides.tools_in(self.room))])
         for words, wanted in steps:
@@ -89,17 +103,34 @@ class Commands(expecting.Expecting):
         """So do the programs of the tests that need the kit, and that no command of README runs."""
         for words in OF_TESTS:
             ended = subprocess.run(words.split(), cwd=ROOT, env={"PATH": str(self.room)}, **OUTPUT)
-            self.expect(f"{words}, without rt", (ended.stdout, ended.returncode), (f"{NO_KIT}\n", 1))
+            self.expect(
+                f"{words}, without rt", (ended.stdout, ended.returncode), (f"{NO_KIT}\n", 1)
+            )
 
     def test_without_packages(self) -> None:
         """The programs in Python say which package is missing, and do nothing."""
         new, example = self.room / "result", ROOT / "examples" / "plain_win"
-        publish = [ROOT / "bin" / "debvote-publish", "--poll", example / "poll.toml", "--ballots", example / "ballots", new]
+        publish = [
+            ROOT / "bin" / "debvote-publish",
+            "--poll",
+            example / "poll.toml",
+            "--ballots",
+            example / "ballots",
+            new,
+        ]
         nothing = "is not installed; nothing was changed: install it"
         runs = [
             ("jinja2", publish, f"debvote-publish: python3-jinja2 {nothing}\n"),
-            ("jinja2", [ROOT / "bin" / "debvote-election", "roll"], f"debvote-election: python3-jinja2 {nothing}\n"),
-            ("babel", [*publish, "--language", "de"], "debvote-publish: python3-babel is not installed; nothing was published: install it\n"),
+            (
+                "jinja2",
+                [ROOT / "bin" / "debvote-election", "roll"],
+                f"debvote-election: python3-jinja2 {nothing}\n",
+            ),
+            (
+                "babel",
+                [*publish, "--language", "de"],
+                "debvote-publish: python3-babel is not installed; nothing was published: install it\n",
+            ),
         ]
         for module, words, wanted in runs:
             missing = self.room / module
@@ -107,14 +138,28 @@ class Commands(expecting.Expecting):
             (missing / f"{module}.py").write_text(f"raise ModuleNotFoundError(name={module!r})\n")
             path = os.pathsep.join([str(PROGRAM.parent), os.environ["PATH"]])
             ended = subprocess.run(words, env={"PATH": path, "PYTHONPATH": str(missing)}, **OUTPUT)
-            self.expect(f"{words}, without {module}", (ended.stdout, ended.returncode, new.exists()), (wanted, 127, False))
+            self.expect(
+                f"{words}, without {module}",
+                (ended.stdout, ended.returncode, new.exists()),
+                (wanted, 127, False),
+            )
 
     def test_length_and_order(self) -> None:
         """At most 60 lines and 500 words; the first block of sh is the full check."""
         text = README.read_text()
-        self.expect("lines and words", (len(text.splitlines()) <= 60, len(text.split()) <= 500), (True, True))
-        self.expect("the first block", re.findall(r"^```sh\n(.*?)^```$", text, re.MULTILINE | re.DOTALL), ["tests/all\n"])
-        self.expect(".ci/run", (ROOT / ".ci" / "run").read_text().splitlines()[-1], "exec tests/all")
+        self.expect(
+            "lines and words",
+            (len(text.splitlines()) <= 60, len(text.split()) <= 500),
+            (True, True),
+        )
+        self.expect(
+            "the first block",
+            re.findall(r"^```sh\n(.*?)^```$", text, re.MULTILINE | re.DOTALL),
+            ["tests/all\n"],
+        )
+        self.expect(
+            ".ci/run", (ROOT / ".ci" / "run").read_text().splitlines()[-1], "exec tests/all"
+        )
 
 
 @at_browser.NEEDS_BROWSER
@@ -124,6 +169,9 @@ class Picture(unittest.TestCase):
         with tempfile.TemporaryDirectory() as folder:
             made = pathlib.Path(folder, "result.png")
             subprocess.run([ROOT / "docs" / "make-picture", made], check=True, timeout=SECONDS)
-            sizes = [struct.unpack(">8sI4sII", file.read_bytes()[:24]) for file in (made, ROOT / "docs" / "result.png")]
+            sizes = [
+                struct.unpack(">8sI4sII", file.read_bytes()[:24])
+                for file in (made, ROOT / "docs" / "result.png")
+            ]
         self.assertEqual(sizes[0], sizes[1])
         self.assertEqual(sizes[0][0], b"\x89PNG\r\n\x1a\n")

@@ -28,7 +28,9 @@ from tests.support.polls import random_polls
 from tests.support.program import PROGRAM
 
 # how many polls are tried for each law, and the seed of the first
-POLLS, SEED = int(os.environ.get("DEBVOTE_LAW_POLLS", "200")), int(os.environ.get("DEBVOTE_LAW_SEED", "1"))
+POLLS, SEED = int(os.environ.get("DEBVOTE_LAW_POLLS", "200")), int(
+    os.environ.get("DEBVOTE_LAW_SEED", "1")
+)
 
 SECONDS = 600
 
@@ -62,13 +64,20 @@ class Election:
 
     def with_roll(self, rng, roll):
         """The same poll with other electors, who have no lines yet."""
-        values = self.values | {"roll": polls.a_list(rng, [polls.quoted(rng, name) for name in roll])}
+        values = self.values | {
+            "roll": polls.a_list(rng, [polls.quoted(rng, name) for name in roll])
+        }
         file = polls.poll_text(rng, values).encode()
-        return dataclasses.replace(self, roll=roll, values=values, file=file, poll=reference.poll_in(file), lines=[])
+        return dataclasses.replace(
+            self, roll=roll, values=values, file=file, poll=reference.poll_in(file), lines=[]
+        )
 
     def without_last_envelope(self):
         """The same lines, of a poll that is made anew by `with_roll`."""
-        return dataclasses.replace(self, values={key: value for key, value in self.values.items() if key != "last_envelope"})
+        return dataclasses.replace(
+            self,
+            values={key: value for key, value in self.values.items() if key != "last_envelope"},
+        )
 
     def with_lines(self, lines):
         return dataclasses.replace(self, lines=lines)
@@ -104,7 +113,11 @@ class Election:
 
     def refused_at(self, rng, place):
         """A line that is refused at this index: if it is late, it may be a ballot."""
-        return self.ballot(rng) if self.is_late(place) and rng.random() < 0.5 else self.refused_line(rng)
+        return (
+            self.ballot(rng)
+            if self.is_late(place) and rng.random() < 0.5
+            else self.refused_line(rng)
+        )
 
 
 def election_of(rng):
@@ -112,7 +125,9 @@ def election_of(rng):
     values, names, roll = polls.good_poll(rng)
     file = polls.poll_text(rng, values).encode()
     lines = reference.lines_of(polls.ballots_text(rng, names, roll))
-    election = Election(names, roll, values, file, reference.poll_in(file), rng.choice([None, *names]), lines)
+    election = Election(
+        names, roll, values, file, reference.poll_in(file), rng.choice([None, *names]), lines
+    )
     for make in [election.ballot, election.refused_line]:
         for _ in range(rng.choice([0, 1, 2, 5])):
             lines.insert(rng.randint(0, len(lines)), make(rng))
@@ -130,12 +145,20 @@ class Count:
         self.number += 1
         names = {kind: f"{kind}_{self.number}" for kind in ("poll", "ballots", "sheet")}
         (self.folder / names["poll"]).write_bytes(election.file)
-        (self.folder / names["ballots"]).write_bytes(b"".join(line + b"\n" for line in election.lines))
+        (self.folder / names["ballots"]).write_bytes(
+            b"".join(line + b"\n" for line in election.lines)
+        )
         words = ["count", "--poll", names["poll"], "--ballots", names["ballots"]]
         words += [] if election.casting is None else [f"--casting={election.casting}"]
-        ended = subprocess.run([self.program, *words], cwd=self.folder, capture_output=True, timeout=SECONDS)
+        ended = subprocess.run(
+            [self.program, *words], cwd=self.folder, capture_output=True, timeout=SECONDS
+        )
         (self.folder / names["sheet"]).write_bytes(ended.stdout)
-        is_sheet = ended.stdout.startswith(b"Poll: ") and not ended.stderr and ended.returncode in (0, 1, 8)
+        is_sheet = (
+            ended.stdout.startswith(b"Poll: ")
+            and not ended.stderr
+            and ended.returncode in (0, 1, 8)
+        )
         ask(is_sheet, f"no sheet of {names['poll']}: {ended.stderr}, status {ended.returncode}")
         return ended.stdout.decode()
 
@@ -143,7 +166,10 @@ class Count:
 def totals_of(sheet):
     """The numbers above the options, by their words."""
     found = re.findall(r"(?m)^(Electors|Lines|Valid|Refused|Voters): (\d+)$", sheet)
-    ask([word for word, _ in found] == ["Electors", "Lines", "Valid", "Refused", "Voters"], "a sheet has not its totals")
+    ask(
+        [word for word, _ in found] == ["Electors", "Lines", "Valid", "Refused", "Voters"],
+        "a sheet has not its totals",
+    )
     return {word: int(number) for word, number in found}
 
 
@@ -153,7 +179,10 @@ def votes_of(sheet):
     ask(table, "a sheet has not its votes")
     rows = list(enumerate(table[1].splitlines(), start=1))
     cells = {(a, b): row[6 * b - 3 : 6 * b + 3] for a, row in rows for b, _ in rows}
-    ask(all(re.fullmatch(r" *-" if a == b else r" *\d+", cell) for (a, b), cell in cells.items()), "a sheet has odd votes")
+    ask(
+        all(re.fullmatch(r" *-" if a == b else r" *\d+", cell) for (a, b), cell in cells.items()),
+        "a sheet has odd votes",
+    )
     return {(a, b): int(cell) for (a, b), cell in cells.items() if a != b}
 
 
@@ -183,13 +212,21 @@ def nobody_counts_twice(rng, election, count):
     """The sums of a sheet, checked by hand."""
     sheet = count.sheet(election)
     totals, votes = totals_of(sheet), votes_of(sheet)
-    ask(totals["Valid"] + totals["Refused"] == totals["Lines"] == len(election.lines), "not each line is valid or refused")
+    ask(
+        totals["Valid"] + totals["Refused"] == totals["Lines"] == len(election.lines),
+        "not each line is valid or refused",
+    )
     ask(totals["Voters"] <= totals["Valid"], "more voters than valid lines")
     ask(totals["Voters"] <= totals["Electors"] == len(election.roll), "more voters than electors")
     for a, b in votes:
-        ask(votes[a, b] + votes[b, a] <= totals["Voters"], f"more votes between {a} and {b} than voters")
+        ask(
+            votes[a, b] + votes[b, a] <= totals["Voters"],
+            f"more votes between {a} and {b} than voters",
+        )
         yield "sums of two options"
-    yield from (["sheets with fewer voters than valid lines"] if totals["Voters"] < totals["Valid"] else [])
+    yield from (
+        ["sheets with fewer voters than valid lines"] if totals["Voters"] < totals["Valid"] else []
+    )
 
 
 def refused_lines_have_no_influence(rng, election, count):
@@ -207,7 +244,10 @@ def refused_lines_have_no_influence(rng, election, count):
     wanted = before
     for word in ("Lines", "Refused"):
         wanted = wanted.replace(f"\n{word}: {totals[word]}\n", f"\n{word}: {totals[word] + 1}\n", 1)
-    ask(after == wanted, "a refused line more changes more than the numbers of lines and of refused lines")
+    ask(
+        after == wanted,
+        "a refused line more changes more than the numbers of lines and of refused lines",
+    )
     yield "late lines added" if election.is_late(len(lines)) else "bad lines added"
 
 
@@ -232,7 +272,11 @@ def with_another_last_ballot(rng, election, elector, places):
         for place in places:
             lines[place] = election.refused_line(rng)
         return "voters without a ballot any more", election.with_lines(lines)
-    free = [place for place in range(len(lines)) if not election.ballot_at(place) and not election.is_late(place)]
+    free = [
+        place
+        for place in range(len(lines))
+        if not election.ballot_at(place) and not election.is_late(place)
+    ]
     if free:
         lines[rng.choice(free)] = election.ballot(rng, elector)
     else:
@@ -248,7 +292,10 @@ def one_ballot_moves_each_count_by_one(rng, election, count):
     before, after = count.sheet(election), count.sheet(other)
     old, new = votes_of(before), votes_of(after)
     for a, b in old:
-        ask(abs(old[a, b] - new[a, b]) <= 1, f"the votes of {a} over {b} go from {old[a, b]} to {new[a, b]}")
+        ask(
+            abs(old[a, b] - new[a, b]) <= 1,
+            f"the votes of {a} over {b} go from {old[a, b]} to {new[a, b]}",
+        )
         yield from (["numbers of votes moved"] if old[a, b] != new[a, b] else [])
     voters = [totals_of(sheet)["Voters"] for sheet in (before, after)]
     ask(abs(voters[0] - voters[1]) <= 1, f"the voters go from {voters[0]} to {voters[1]}")
@@ -306,7 +353,11 @@ def published_files_have_the_same_sheet(rng, election, count):
         yield "ballots under other names"
         before = election.lines[places[-1]]
         ranks = spelled(in_normal_form(before))
-        yield from (["ballots with ranks in normal form that were not"] if not before.endswith(b" " + ranks) else [])
+        yield from (
+            ["ballots with ranks in normal form that were not"]
+            if not before.endswith(b" " + ranks)
+            else []
+        )
         yield from (["ballots with equal ranks"] if has_equal(ranks) else [])
         published.lines.append(names[elector].encode() + b" " + ranks)
     rng.shuffle(published.lines)
@@ -318,16 +369,30 @@ def published_files_have_the_same_sheet(rng, election, count):
 LAWS = {
     names_do_not_matter: ["ballots of electors with other names", "rolls in another order"],
     nobody_counts_twice: ["sums of two options", "sheets with fewer voters than valid lines"],
-    refused_lines_have_no_influence: ["bad lines changed", "late lines changed", "bad lines added", "late lines added"],
+    refused_lines_have_no_influence: [
+        "bad lines changed",
+        "late lines changed",
+        "bad lines added",
+        "late lines added",
+    ],
     only_the_last_ballot_counts: ["outdated ballots changed"],
     one_ballot_moves_each_count_by_one: [
-        "last ballots changed", "voters without a ballot any more", "first ballots of an elector", "numbers of votes moved",
+        "last ballots changed",
+        "voters without a ballot any more",
+        "first ballots of an elector",
+        "numbers of votes moved",
     ],
-    ballots_that_order_alike_count_alike: ["ballots with other numbers", "last options left without a rank"],
+    ballots_that_order_alike_count_alike: [
+        "ballots with other numbers",
+        "last options left without a rank",
+    ],
     published_files_have_the_same_sheet: [
-        "ballots under other names", "ballots with ranks in normal form that were not", "ballots with equal ranks", "last envelopes left out",
+        "ballots under other names",
+        "ballots with ranks in normal form that were not",
+        "ballots with equal ranks",
+        "last envelopes left out",
     ],
-}  # fmt: skip
+}
 
 
 def class_of(law, kinds):

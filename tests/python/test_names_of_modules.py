@@ -31,24 +31,38 @@ TAKEN = "raise SystemExit(f'{__name__} of the system is imported')\n"
 def programs() -> list[pathlib.Path]:
     """The programs of the tests that are written in Python."""
     found = [*ROOT.glob("tests/*"), ROOT / "tests" / "cases" / "run"]
-    return sorted(file for file in found if file.is_file() and file.read_bytes().startswith(b"#!/usr/bin/python3\n"))
+    return sorted(
+        file
+        for file in found
+        if file.is_file() and file.read_bytes().startswith(b"#!/usr/bin/python3\n")
+    )
 
 
 def names() -> set[str]:
     """The names by which modules of the tests could be imported. Python itself imports a `sitecustomize`."""
-    return {file.stem for file in ROOT.glob("tests/**/*.py")} - {"__init__", "sitecustomize"} | {"tests", "debvote_tools"}
+    return {file.stem for file in ROOT.glob("tests/**/*.py")} - {"__init__", "sitecustomize"} | {
+        "tests",
+        "debvote_tools",
+    }
 
 
 class NamesTest(unittest.TestCase):
     def test_modules_of_the_system_with_the_same_names(self) -> None:
-        others = pathlib.Path(self.enterContext(tempfile.TemporaryDirectory(prefix="debvote-names-")))
+        others = pathlib.Path(
+            self.enterContext(tempfile.TemporaryDirectory(prefix="debvote-names-"))
+        )
         self.assertLess({"debian", "parts", "terminal", "reference"}, names())
         for name in names():
             (others / f"{name}.py").write_text(TAKEN)
         where = {**os.environ, "PYTHONPATH": str(others), "PYTHONDONTWRITEBYTECODE": "1"}
         imports = [[sys.executable, "-c", IMPORTS, program] for program in programs()]
         self.assertGreater(len(imports), 10)
-        for words in [*imports, [sys.executable, "-m", "pytest", "--assert=plain", "--collect-only", "-q"]]:
+        for words in [
+            *imports,
+            [sys.executable, "-m", "pytest", "--assert=plain", "--collect-only", "-q"],
+        ]:
             with self.subTest(words[-1]):
-                ended = subprocess.run(words, cwd=ROOT, capture_output=True, text=True, env=where, timeout=SECONDS)
+                ended = subprocess.run(
+                    words, cwd=ROOT, capture_output=True, text=True, env=where, timeout=SECONDS
+                )
                 self.assertEqual((ended.stderr, ended.returncode), ("", 0), ended.stdout[-2000:])

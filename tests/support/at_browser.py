@@ -19,13 +19,27 @@ from typing import Any
 
 BROWSER = shutil.which("chromium") or shutil.which("chromium-browser")
 NEEDS_BROWSER = unittest.skipUnless(BROWSER, "chromium is not installed")
-FLAGS = ["--headless", "--no-sandbox", "--disable-gpu", "--hide-scrollbars", "--no-first-run", "--remote-debugging-pipe"]
+FLAGS = [
+    "--headless",
+    "--no-sandbox",
+    "--disable-gpu",
+    "--hide-scrollbars",
+    "--no-first-run",
+    "--remote-debugging-pipe",
+]
 
 # the shell gives chromium the two ends that it uses, 3 and 4
 START = 'read=$1 write=$2; shift 2; exec "$@" 3<&"$read" 4>&"$write"'
 
 # the number of a key, and the text that it types
-KEYS = {"Tab": (9, ""), "Enter": (13, "\r"), " ": (32, " "), "ArrowUp": (38, ""), "ArrowDown": (40, ""), "-": (189, "-")}
+KEYS = {
+    "Tab": (9, ""),
+    "Enter": (13, "\r"),
+    " ": (32, " "),
+    "ArrowUp": (38, ""),
+    "ArrowDown": (40, ""),
+    "-": (189, "-"),
+}
 KEYS |= {digit: (ord(digit), digit) for digit in "0123456789"}
 
 # what the page of a call shows once a name is typed and ranks are chosen
@@ -109,8 +123,21 @@ class Browser:
         self.room = tempfile.mkdtemp(prefix="debvote-browser-")
         read, self.to_browser = os.pipe()
         from_browser, write = os.pipe()
-        words = ["bash", "-c", START, "start", str(read), str(write), str(BROWSER), *FLAGS, f"--user-data-dir={self.room}", "about:blank"]
-        self.process = subprocess.Popen(words, pass_fds=(read, write), stderr=subprocess.DEVNULL, start_new_session=True)
+        words = [
+            "bash",
+            "-c",
+            START,
+            "start",
+            str(read),
+            str(write),
+            str(BROWSER),
+            *FLAGS,
+            f"--user-data-dir={self.room}",
+            "about:blank",
+        ]
+        self.process = subprocess.Popen(
+            words, pass_fds=(read, write), stderr=subprocess.DEVNULL, start_new_session=True
+        )
         os.close(read)
         os.close(write)
         self.answers = os.fdopen(from_browser, "rb")
@@ -126,17 +153,23 @@ class Browser:
     def tell(self, session: str | None, method: str, **given: object) -> dict[str, Any]:
         """Makes a call of chromium's protocol for a window, or for the browser, and returns the answer."""
         number = next(self.numbers)
-        call = {"id": number, "method": method, "params": given} | ({"sessionId": session} if session else {})
+        call = {"id": number, "method": method, "params": given} | (
+            {"sessionId": session} if session else {}
+        )
         os.write(self.to_browser, json.dumps(call).encode() + b"\0")
         while True:
             answer = self.message()
             if answer.get("method") == "Log.entryAdded":
                 self.faults[answer.get("sessionId")].append(answer["params"]["entry"]["text"])
             elif answer.get("method") == "Runtime.exceptionThrown":
-                self.faults[answer.get("sessionId")].append(str(answer["params"]["exceptionDetails"]))
+                self.faults[answer.get("sessionId")].append(
+                    str(answer["params"]["exceptionDetails"])
+                )
             if answer.get("id") == number:
                 if "error" in answer:
-                    was_left = any(word in answer["error"]["message"] for word in ("navigated", "destroyed"))
+                    was_left = any(
+                        word in answer["error"]["message"] for word in ("navigated", "destroyed")
+                    )
                     raise (Gone if was_left else RuntimeError)(f"{method}: {answer['error']}")
                 return dict(answer["result"])
 
@@ -162,7 +195,9 @@ class Window:
         self.browser = browser()
         self.session: str | None = None
         self.context = self.tell("Target.createBrowserContext")["browserContextId"]
-        page = self.tell("Target.createTarget", url="about:blank", browserContextId=self.context)["targetId"]
+        page = self.tell("Target.createTarget", url="about:blank", browserContextId=self.context)[
+            "targetId"
+        ]
         self.session = self.tell("Target.attachToTarget", targetId=page, flatten=True)["sessionId"]
         self.tell("Log.enable")
         self.tell("Runtime.enable")
@@ -182,7 +217,13 @@ class Window:
         return self.browser.faults[self.session]
 
     def resize(self, width: int, height: int) -> None:
-        self.tell("Emulation.setDeviceMetricsOverride", width=width, height=height, deviceScaleFactor=1, mobile=False)
+        self.tell(
+            "Emulation.setDeviceMetricsOverride",
+            width=width,
+            height=height,
+            deviceScaleFactor=1,
+            mobile=False,
+        )
 
     def show(self, *, is_dark: bool = False, on_paper: bool = False) -> None:
         """From now on pages are shown in a light or in a dark scheme, or as they are printed."""
@@ -204,7 +245,9 @@ class Window:
     def open(self, page: pathlib.Path, place: str = "") -> None:
         """Opens a page, at a place of it that begins with #."""
         self.tell("Page.navigate", url=page.as_uri() + place)
-        self.until(f"document.readyState === 'complete' && location.href.startsWith({json.dumps(page.as_uri())})")
+        self.until(
+            f"document.readyState === 'complete' && location.href.startsWith({json.dumps(page.as_uri())})"
+        )
 
     def open_anew(self, page: pathlib.Path, place: str) -> None:
         """Opens a page at a place of it, as somebody who comes from elsewhere."""
@@ -214,7 +257,9 @@ class Window:
 
     def ask(self, script: str) -> Any:
         """Runs a script in the page, and returns its value."""
-        found = self.tell("Runtime.evaluate", expression=script, awaitPromise=True, returnByValue=True)
+        found = self.tell(
+            "Runtime.evaluate", expression=script, awaitPromise=True, returnByValue=True
+        )
         if "exceptionDetails" in found:
             raise RuntimeError(f"{script}: {found['exceptionDetails']}")
         return found["result"].get("value")
@@ -234,8 +279,15 @@ class Window:
     def press(self, key: str, shift: bool = False, control: bool = False) -> None:
         code, text = KEYS[key]
         name = f"Digit{key}" if key.isdigit() else {" ": "Space"}.get(key, key)
-        known = {"key": key, "code": name, "windowsVirtualKeyCode": code, "modifiers": (8 if shift else 0) | (2 if control else 0)}
-        self.tell("Input.dispatchKeyEvent", type="keyDown", **known, **({"text": text} if text else {}))
+        known = {
+            "key": key,
+            "code": name,
+            "windowsVirtualKeyCode": code,
+            "modifiers": (8 if shift else 0) | (2 if control else 0),
+        }
+        self.tell(
+            "Input.dispatchKeyEvent", type="keyDown", **known, **({"text": text} if text else {})
+        )
         self.tell("Input.dispatchKeyEvent", type="keyUp", **known)
 
     def type(self, text: str) -> None:
@@ -257,18 +309,25 @@ class Window:
         self.ask(f"document.getElementById('Name').value = {json.dumps(name)}")
         if code is not None:
             self.ask(f"document.getElementById('Code').value = {json.dumps(code)}")
-        self.ask("document.getElementById('Answer').replaceChildren(); document.getElementById('Show').click()")
+        self.ask(
+            "document.getElementById('Answer').replaceChildren(); document.getElementById('Show').click()"
+        )
         self.until("document.getElementById('Answer').textContent !== ''")
         return self.found()
 
     def found(self) -> list[str]:
         """Each paragraph of the answer, and each step of its lists, which are numbered."""
-        return list(self.ask("[...document.querySelectorAll('#Answer p, #Answer li')].map((node) => node.textContent)"))
+        return list(
+            self.ask(
+                "[...document.querySelectorAll('#Answer p, #Answer li')].map((node) => node.textContent)"
+            )
+        )
 
     def count_again(self, files: dict[str, bytes] | None = None) -> list[str]:
         """What the page of a result says after a press of the button, or of that for files from the disk."""
         chosen = {name: base64.b64encode(data).decode() for name, data in (files or {}).items()}
-        self.ask(f"""(() => {{
+        self.ask(
+            f"""(() => {{
           const chosen = new DataTransfer();
           for (const [name, data] of Object.entries({json.dumps(chosen)})) {{
             chosen.items.add(new File([Uint8Array.from(atob(data), (sign) => sign.charCodeAt(0))], name));
@@ -276,6 +335,13 @@ class Window:
           document.getElementById("Again-files").files = chosen.files;
           document.getElementById("Again-answer").replaceChildren();
           document.getElementById("{"Again-chosen" if files else "Again-button"}").click();
-        }})()""")
-        self.until("document.getElementById('Again-progress').hidden && document.getElementById('Again-answer').textContent !== ''")
-        return list(self.ask("[...document.querySelectorAll('#Again-answer p')].map((node) => node.textContent)"))
+        }})()"""
+        )
+        self.until(
+            "document.getElementById('Again-progress').hidden && document.getElementById('Again-answer').textContent !== ''"
+        )
+        return list(
+            self.ask(
+                "[...document.querySelectorAll('#Again-answer p')].map((node) => node.textContent)"
+            )
+        )

@@ -54,8 +54,12 @@ class BoxElectionTest(elections.ElectionTest):
 
     def call(self, *words: str) -> elections.Ended:
         """The call, an hour ago."""
-        self.set_clock(f"{datetime.datetime.now(datetime.UTC) - datetime.timedelta(hours=1):%Y-%m-%dT%H:%M:%S+00:00}")
-        ended = self.done("call", *UNTIL, "--to", "vote@club.example", "--at", self.host.at, "--box", *words)
+        self.set_clock(
+            f"{datetime.datetime.now(datetime.UTC) - datetime.timedelta(hours=1):%Y-%m-%dT%H:%M:%S+00:00}"
+        )
+        ended = self.done(
+            "call", *UNTIL, "--to", "vote@club.example", "--at", self.host.at, "--box", *words
+        )
         self.clock = {}
         self.upload()
         return ended
@@ -69,8 +73,14 @@ class BoxElectionTest(elections.ElectionTest):
 
     def links(self) -> dict[str, str]:
         """The third parts of the personal links, by name, as the last letters of the call have them."""
-        folders = sorted((self.folder / "letters" / "call").iterdir(), key=lambda one: one.stat().st_mtime)
-        found = [link_in(file.read_bytes()) for folder in folders for file in sorted(folder.glob("*.eml"))]
+        folders = sorted(
+            (self.folder / "letters" / "call").iterdir(), key=lambda one: one.stat().st_mtime
+        )
+        found = [
+            link_in(file.read_bytes())
+            for folder in folders
+            for file in sorted(folder.glob("*.eml"))
+        ]
         return {name: link for name, _, link in found}
 
     def begun(self, **clicks: str) -> dict[str, str]:
@@ -99,15 +109,25 @@ class BoxElectionTest(elections.ElectionTest):
 
     def place_of(self, name: str, link: str) -> str:
         """What is behind the address in the personal link that has this third part."""
-        words = "SELECT DISTINCT mark FROM elector_state JOIN elector USING (elector) WHERE name = ?"
+        words = (
+            "SELECT DISTINCT mark FROM elector_state JOIN elector USING (elector) WHERE name = ?"
+        )
         owns = [str(own) for own, in self.rows(words, name) if own]
         places = [personal_link(self.key, name, own) for own in owns]
         return next((one for one in places if one.endswith(link)), f"{name}/{'2' * 10}/{link}")
 
-    def sealed(self, line: str, place: str, number: int, sent: datetime.datetime | None = None) -> str:
+    def sealed(
+        self, line: str, place: str, number: int, sent: datetime.datetime | None = None
+    ) -> str:
         """A ballot as the page seals it, which was sent now or at another time."""
-        when = sent or datetime.datetime.now(datetime.UTC) + datetime.timedelta(seconds=self.devices_off)
-        text = sealing.inside(line, place, f"{when.astimezone(datetime.UTC):%Y-%m-%dT%H:%M:%S}.{when.microsecond // 1_000:03}Z")
+        when = sent or datetime.datetime.now(datetime.UTC) + datetime.timedelta(
+            seconds=self.devices_off
+        )
+        text = sealing.inside(
+            line,
+            place,
+            f"{when.astimezone(datetime.UTC):%Y-%m-%dT%H:%M:%S}.{when.microsecond // 1_000:03}Z",
+        )
         return sealing.sealed(self.of_page("seal"), self.of_page("mark"), f"{number:032x}", text)
 
     def body_of(self, name: str, ranks: str, link: str, number: int, page: str = "") -> bytes:
@@ -140,7 +160,9 @@ class BoxElectionTest(elections.ElectionTest):
 
     def off(self, seconds: int) -> None:
         """From now on the clock of this computer is so many seconds ahead."""
-        self.set_clock(f"{datetime.datetime.now(datetime.UTC) + datetime.timedelta(seconds=seconds):%Y-%m-%dT%H:%M:%S+00:00}")
+        self.set_clock(
+            f"{datetime.datetime.now(datetime.UTC) + datetime.timedelta(seconds=seconds):%Y-%m-%dT%H:%M:%S+00:00}"
+        )
 
     def host_off(self, seconds: int) -> None:
         """From now on the clock of the host is so many seconds ahead."""
@@ -161,7 +183,10 @@ class BoxElectionTest(elections.ElectionTest):
 
     def boxes_kept(self) -> list[dict[str, object]]:
         """What the acts keep of each asking."""
-        details = (json.loads(str(detail)) for detail, in self.rows("SELECT detail FROM act WHERE name = 'letters' ORDER BY act"))
+        details = (
+            json.loads(str(detail))
+            for detail, in self.rows("SELECT detail FROM act WHERE name = 'letters' ORDER BY act")
+        )
         return [detail["box"] for detail in details if "box" in detail]
 
     def standing(self) -> dict[str, str]:

@@ -16,7 +16,7 @@ from debvote_tools.book.book import Book, open_book
 from debvote_tools.commands import command_line
 
 from tests.support import elections
-from tests.support.letters import OTHER_RANKS as OTHER_RANKS, RANKS as RANKS, mailbox
+from tests.support.letters import mailbox
 
 LAKE = "At the lake, then In the town hall, then Further discussion, then Sell the house and meet there"
 HALL = "In the town hall, then At the lake, then Further discussion, then Sell the house and meet there"
@@ -50,7 +50,12 @@ class CalledTest(elections.ElectionTest):
         """The detail of the last act of this name."""
         return [detail for one, detail in self.acts() if one == name][-1]
 
-    def act(self, name: str, detail: dict[str, Any] | None = None, sealed: dict[str, bytes] | None = None) -> None:
+    def act(
+        self,
+        name: str,
+        detail: dict[str, Any] | None = None,
+        sealed: dict[str, bytes] | None = None,
+    ) -> None:
         with self.book.act(name, detail or {}) as act:
             for key, data in (sealed or {}).items():
                 act.insert("sealed", name=key, data=data)
@@ -67,7 +72,9 @@ class CalledTest(elections.ElectionTest):
         return queries.envelopes(self.book)
 
     def elector(self, name: str) -> int:
-        return next(elector.number for elector in queries.electors(self.book) if elector.name == name)
+        return next(
+            elector.number for elector in queries.electors(self.book) if elector.name == name
+        )
 
     def sources(self) -> list[tuple[str, bytes]]:
         return [(name, data) for _, name, data in queries.sources(self.book)]
@@ -82,7 +89,9 @@ class CalledTest(elections.ElectionTest):
         self.assert_fault(ended, status, *parts)
         self.assertEqual(self.last_act(), before)
 
-    def assert_refused(self, words: Sequence[object], status: int, *parts: str, **how: Any) -> elections.Ended:
+    def assert_refused(
+        self, words: Sequence[object], status: int, *parts: str, **how: Any
+    ) -> elections.Ended:
         """A command stops with one fault, which has these parts, and does no act."""
         before = self.last_act()
         ended = self.election(*words, **how)
@@ -108,7 +117,9 @@ class LettersTest(CalledTest):
 
     def write(self, name: str, content: bytes | str) -> pathlib.Path:
         """Writes a file with letters of this vote into the folder of the election."""
-        return super().write(name, self.of_this_vote(content.encode() if isinstance(content, str) else content))
+        return super().write(
+            name, self.of_this_vote(content.encode() if isinstance(content, str) else content)
+        )
 
     def add(self, *letters: bytes, words: Sequence[str] = ("--yes",)) -> str:
         """What `add` tells of letters that come in a mailbox."""
@@ -155,12 +166,18 @@ class LettersTest(CalledTest):
 
     def in_this_process(self, *words: str, path: str = "") -> str:
         """Runs a command here, where a test puts something between two of its steps; returns its output."""
-        with mock.patch.dict(os.environ, {"PATH": f"{path}{elections.environment()['PATH']}"}), contextlib.chdir(self.folder):
-            with contextlib.redirect_stdout(io.StringIO()) as said, contextlib.redirect_stderr(io.StringIO()):
+        with mock.patch.dict(
+            os.environ, {"PATH": f"{path}{elections.environment()['PATH']}"}
+        ), contextlib.chdir(self.folder):
+            with contextlib.redirect_stdout(io.StringIO()) as said, contextlib.redirect_stderr(
+                io.StringIO()
+            ):
                 command_line.main(elections.ELECTION.parent, list(words))
         return said.getvalue()
 
-    def overtaken(self, module: object, name: str, other: Sequence[object], words: Sequence[str]) -> None:
+    def overtaken(
+        self, module: object, name: str, other: Sequence[object], words: Sequence[str]
+    ) -> None:
         """Runs a command here; another one runs after a step of it, which it may have made untrue."""
         is_first, step = [True], getattr(module, name)
 

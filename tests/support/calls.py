@@ -19,13 +19,40 @@ ADDRESS, PAGE = "vote+club@example.org", "https://example.org/vote/"
 ROLL = ("ada", "ben", "cleo", "dan")
 CODES = tuple(f"{number:x}" * 32 for number in range(10, 14))
 POLL = SealedPoll(
-    "Where we meet", ("At the lake", "72 Euro", "Sell the house"), (1, 1, 3), default="None of the above", quorum=1, roll=ROLL,
-    deadline=UNTIL.isoformat(), address=ADDRESS,
-)  # fmt: skip
+    "Where we meet",
+    ("At the lake", "72 Euro", "Sell the house"),
+    (1, 1, 3),
+    default="None of the above",
+    quorum=1,
+    roll=ROLL,
+    deadline=UNTIL.isoformat(),
+    address=ADDRESS,
+)
 CALL = CallData(
-    language_of("en"), alone(POLL), {"": 2}, until=UNTIL, to=ADDRESS, at=PAGE, real_names=None, is_signed=False, box_key=b"", has_slips=True,
-    letter_text="", has_aliases=False, has_codes_on_roll=False, has_lapsed_codes=False,
-)  # fmt: skip
-SECRET = dataclasses.replace(CALL, questions=alone(dataclasses.replace(with_roll(POLL, CODES), secret=True)), has_aliases=True)
+    language_of("en"),
+    alone(POLL),
+    {"": 2},
+    until=UNTIL,
+    to=ADDRESS,
+    at=PAGE,
+    real_names=None,
+    is_signed=False,
+    box_key=b"",
+    has_slips=True,
+    letter_text="",
+    has_aliases=False,
+    has_codes_on_roll=False,
+    has_lapsed_codes=False,
+)
+SECRET = dataclasses.replace(
+    CALL,
+    questions=alone(dataclasses.replace(with_roll(POLL, CODES), secret=True)),
+    has_aliases=True,
+)
 WITH_CODES = dataclasses.replace(SECRET, has_aliases=False, has_codes_on_roll=True)
-KINDS = {"open": CALL, "secret": SECRET, "codes": WITH_CODES, "signed": dataclasses.replace(CALL, is_signed=True)}
+KINDS = {
+    "open": CALL,
+    "secret": SECRET,
+    "codes": WITH_CODES,
+    "signed": dataclasses.replace(CALL, is_signed=True),
+}

@@ -47,13 +47,22 @@ class Row:
 
     def names(self) -> tuple[str, str]:
         """The names of the poll and of the ballots."""
-        return (self.called or POLL, BALLOTS) if self.ballots is None else (POLL, self.called or BALLOTS)
+        return (
+            (self.called or POLL, BALLOTS)
+            if self.ballots is None
+            else (POLL, self.called or BALLOTS)
+        )
 
     def words(self) -> list[str]:
         if self.args is not None:
             return self.args
         poll, ballots = self.names()
-        return [self.command, "--poll", poll, *([] if self.ballots is None else ["--ballots", ballots])]
+        return [
+            self.command,
+            "--poll",
+            poll,
+            *([] if self.ballots is None else ["--ballots", ballots]),
+        ]
 
     def swapped_poll(self) -> str | None:
         """The poll with each text of `swap` that stands in it."""
@@ -72,14 +81,24 @@ class Row:
 
 def read_table(file: pathlib.Path) -> dict[str, Row]:
     table = tomllib.loads(file.read_bytes().decode())
-    given = {"command": table.pop("command"), "about": None, "poll": table.pop("poll", None), "ballots": None}
+    given = {
+        "command": table.pop("command"),
+        "about": None,
+        "poll": table.pop("poll", None),
+        "ballots": None,
+    }
     return {name: Row(**given | row) for name, row in table.items()}
 
 
 def written(text: str) -> str:
     """The text as a TOML string: a literal of several lines, if no character has to be escaped."""
     start = "\n" if "\n" in text else ""
-    if start and "'''" not in text and not text.endswith("'") and all(sign.isprintable() or sign == "\n" for sign in text):
+    if (
+        start
+        and "'''" not in text
+        and not text.endswith("'")
+        and all(sign.isprintable() or sign == "\n" for sign in text)
+    ):
         return f"'''{start}{text}'''"
     quotes = '"""' if start else '"'
     return quotes + start + "".join(map(spelled, text)) + quotes
@@ -95,7 +114,13 @@ def spelled(sign: str) -> str:
     known = {"\\": "\\\\", '"': '\\"', "\r": "\\r", "\t": "\\t", "\n": "\n"}
     if sign in known:
         return known[sign]
-    return sign if sign.isprintable() else f"\\U{ord(sign):08X}" if ord(sign) > 0xFFFF else f"\\u{ord(sign):04X}"
+    return (
+        sign
+        if sign.isprintable()
+        else f"\\U{ord(sign):08X}"
+        if ord(sign) > 0xFFFF
+        else f"\\u{ord(sign):04X}"
+    )
 
 
 def rewrite(file: pathlib.Path, name: str, stdout: str, stderr: str, status: int) -> None:
@@ -113,16 +138,32 @@ def write_table(file: pathlib.Path, rows: dict[str, Row], comment: str = "") -> 
     polls = [row.poll for row in rows.values()]
     most = max(polls, key=polls.count)
     shared = most if polls.count(most) > 1 and None not in polls else None
-    parts = [comment, f"command = {written(command)}\n" + ("" if shared is None else f"poll = {written(shared)}\n")]
+    parts = [
+        comment,
+        f"command = {written(command)}\n"
+        + ("" if shared is None else f"poll = {written(shared)}\n"),
+    ]
     for name, row in rows.items():
         lines = [f"[{name}]"]
         lines += [] if row.about is None else [f"about = {written(row.about)}"]
         lines += [] if row.args is None else [f"args = [{', '.join(map(written, row.args))}]"]
         lines += [f"poll = {written(row.poll)}"] if row.poll not in (shared, None) else []
-        lines += [] if row.swap is None else [f"swap = [{', '.join(map(written_in_one_line, row.swap))}]"]
+        lines += (
+            []
+            if row.swap is None
+            else [f"swap = [{', '.join(map(written_in_one_line, row.swap))}]"]
+        )
         lines += [] if row.called is None else [f"called = {written(row.called)}"]
-        lines += [f"{part} = {written(text)}" for part, text in {"ballots": row.ballots, "sheet": row.sheet}.items() if text is not None]
-        lines += [f"{part} = {written(getattr(row, part))}" for part in ("stdin", "stdout", "stderr") if getattr(row, part)]
+        lines += [
+            f"{part} = {written(text)}"
+            for part, text in {"ballots": row.ballots, "sheet": row.sheet}.items()
+            if text is not None
+        ]
+        lines += [
+            f"{part} = {written(getattr(row, part))}"
+            for part in ("stdin", "stdout", "stderr")
+            if getattr(row, part)
+        ]
         lines += [f"status = {row.status}"] if row.status else []
         parts.append("\n".join(lines) + "\n")
     file.write_bytes("\n".join(part for part in parts if part).encode())

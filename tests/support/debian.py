@@ -7,7 +7,12 @@ import subprocess
 import sys
 
 # what cannot be left out: the modules of /usr/bin/python3 and the programs, by their packages
-MODULES = {"python3-jinja2": "jinja2", "python3-babel": "babel", "python3-pytest": "pytest", "python3-pytest-xdist": "xdist"}
+MODULES = {
+    "python3-jinja2": "jinja2",
+    "python3-babel": "babel",
+    "python3-pytest": "pytest",
+    "python3-pytest-xdist": "xdist",
+}
 PROGRAMS = {"gpgv": "gpgv", "gpg": "gpg"}
 
 
@@ -19,8 +24,12 @@ def demand_kit() -> None:
 
 def missing() -> list[str]:
     """The packages that are not installed."""
-    modules = [package for package, module in MODULES.items() if importlib.util.find_spec(module) is None]
-    return modules + [package for package, program in PROGRAMS.items() if shutil.which(program) is None]
+    modules = [
+        package for package, module in MODULES.items() if importlib.util.find_spec(module) is None
+    ]
+    return modules + [
+        package for package, program in PROGRAMS.items() if shutil.which(program) is None
+    ]
 
 
 def demand() -> None:
@@ -32,7 +41,10 @@ def demand() -> None:
     if os.geteuid() == 0 and shutil.which("apt-get"):
         print(f"installing {', '.join(packages)}", flush=True)
         environment = {**os.environ, "DEBIAN_FRONTEND": "noninteractive"}
-        if any(subprocess.run(words, env=environment).returncode for words in (["apt-get", "update"], install)):
+        if any(
+            subprocess.run(words, env=environment).returncode
+            for words in (["apt-get", "update"], install)
+        ):
             sys.exit(f"{', '.join(packages)} could not be installed")
         return
     sys.exit(f"type this first: sudo {' '.join(install)}")

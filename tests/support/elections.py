@@ -39,7 +39,10 @@ ANY_MARK = "1ac5041b936c7fc1"
 
 def any_own(name: str) -> str:
     """The own mark of an elector in these letters, in place of which they get that of the book."""
-    return "".join(OWN_SIGNS[byte % len(OWN_SIGNS)] for byte in hashlib.sha256(name.encode()).digest()[:OWN_LENGTH])
+    return "".join(
+        OWN_SIGNS[byte % len(OWN_SIGNS)]
+        for byte in hashlib.sha256(name.encode()).digest()[:OWN_LENGTH]
+    )
 
 
 # four options and nine electors, of whom nobody has voted
@@ -57,10 +60,20 @@ def of_vote(folder: pathlib.Path, letters: bytes) -> bytes:
     if ANY_MARK.encode() not in letters:
         return letters
     with contextlib.closing(sqlite3.connect(folder / "election.db")) as book:
-        owns = {any_own(name).encode(): mark.encode() for name, mark in book.execute("SELECT name, mark FROM elector_now WHERE mark <> ''")}
-    letters = re.sub(rf"(?<={ANY_MARK}-){OWN}(?=\])".encode(), lambda own: owns.get(own[0], own[0]), letters)
+        owns = {
+            any_own(name).encode(): mark.encode()
+            for name, mark in book.execute("SELECT name, mark FROM elector_now WHERE mark <> ''")
+        }
+    letters = re.sub(
+        rf"(?<={ANY_MARK}-){OWN}(?=\])".encode(), lambda own: owns.get(own[0], own[0]), letters
+    )
     # the checksum of the poll, or of the list of polls, begins with it
-    return letters.replace(ANY_MARK.encode(), re.findall(rb"\b([0-9a-f]{16})[0-9a-f]{48}\b", (folder / "call" / "call.txt").read_bytes())[-1])
+    return letters.replace(
+        ANY_MARK.encode(),
+        re.findall(rb"\b([0-9a-f]{16})[0-9a-f]{48}\b", (folder / "call" / "call.txt").read_bytes())[
+            -1
+        ],
+    )
 
 
 def members_of(names: Sequence[str]) -> str:
@@ -79,7 +92,11 @@ class Ended:
 
 def environment() -> dict[str, str]:
     """The environment of a user who has the programs in the PATH."""
-    return {**os.environ, "PATH": os.pathsep.join([str(PROGRAM.parent), os.environ["PATH"]]), "PYTHONDONTWRITEBYTECODE": "1"}
+    return {
+        **os.environ,
+        "PATH": os.pathsep.join([str(PROGRAM.parent), os.environ["PATH"]]),
+        "PYTHONDONTWRITEBYTECODE": "1",
+    }
 
 
 # new elections, by what they begin with: each is made once in a process
@@ -88,7 +105,13 @@ TEMPLATES: dict[object, pathlib.Path] = {}
 
 def nothing_by(words: Sequence[str]) -> str:
     """What a command says it has not done."""
-    done = {"add": "added", "desk": "entered", "count": "counted", "publish": "published", "letters": "written"}
+    done = {
+        "add": "added",
+        "desk": "entered",
+        "count": "counted",
+        "publish": "published",
+        "letters": "written",
+    }
     return f"nothing was {done.get(words[0], 'changed')}"
 
 
@@ -117,8 +140,19 @@ class ElectionTest(unittest.TestCase):
 
     def kind(self) -> tuple[object, ...]:
         """What makes two new elections the same."""
-        words = (tuple(self.new_words), tuple(self.codes_words), self.call_words and tuple(self.call_words))
-        return (type(self).made, type(self).fill_in, self.poll, tuple(self.names), self.members, *words)
+        words = (
+            tuple(self.new_words),
+            tuple(self.codes_words),
+            self.call_words and tuple(self.call_words),
+        )
+        return (
+            type(self).made,
+            type(self).fill_in,
+            self.poll,
+            tuple(self.names),
+            self.members,
+            *words,
+        )
 
     def begin(self) -> None:
         key = self.kind()
@@ -128,7 +162,9 @@ class ElectionTest(unittest.TestCase):
         shutil.copytree(TEMPLATES[key], self.folder)
         # this machine knows the book of the copy
         book = open_book(self.folder / "election.db")
-        with contextlib.closing(book.connection), mock.patch.dict(os.environ, {"XDG_STATE_HOME": str(self.state)}):
+        with contextlib.closing(book.connection), mock.patch.dict(
+            os.environ, {"XDG_STATE_HOME": str(self.state)}
+        ):
             book.note().put(Note(book.last_act().number, book.last_act().digest, book.names))
 
     def made(self) -> pathlib.Path:
@@ -154,7 +190,9 @@ class ElectionTest(unittest.TestCase):
         self.assertEqual(ended.status, 0, ended)
         return ended
 
-    def run_program(self, *words: object, given: bytes | str | None = None, path: object = "", **how: object) -> Ended:
+    def run_program(
+        self, *words: object, given: bytes | str | None = None, path: object = "", **how: object
+    ) -> Ended:
         """Runs a program with these arguments in the folder of the election, with these bytes as its standard input.
 
         Programs in the folder `path` are found before others. Output about a picture that can't be drawn on this machine is left out.
@@ -172,16 +210,26 @@ class ElectionTest(unittest.TestCase):
     def set_clock(self, time: str) -> None:
         """From now on the programs find this time, which has its offset."""
         (self.scratch / "clock").write_text(time)
-        self.clock = {"PYTHONPATH": str(ROOT / "tests" / "clock"), "DEBVOTE_CLOCK": str(self.scratch / "clock")}
+        self.clock = {
+            "PYTHONPATH": str(ROOT / "tests" / "clock"),
+            "DEBVOTE_CLOCK": str(self.scratch / "clock"),
+        }
 
     def election(self, *words: object, **how: object) -> Ended:
         return self.run_program(sys.executable, ELECTION, *words, **how)
 
     def desk(self, **how: object) -> subprocess.Popen[str]:
         """A desk on pipes that waits for lines; none is left when the test ends."""
-        pipes = {"stdin": subprocess.PIPE, "stdout": subprocess.PIPE, "stderr": subprocess.PIPE, "text": True}
+        pipes = {
+            "stdin": subprocess.PIPE,
+            "stdout": subprocess.PIPE,
+            "stderr": subprocess.PIPE,
+            "text": True,
+        }
         env = environment() | self.clock | {"XDG_STATE_HOME": str(self.state)}
-        desk = subprocess.Popen([sys.executable, ELECTION, "desk"], cwd=self.folder, env=env, **(pipes | how))
+        desk = subprocess.Popen(
+            [sys.executable, ELECTION, "desk"], cwd=self.folder, env=env, **(pipes | how)
+        )
         for pipe in filter(None, (desk.stdin, desk.stdout, desk.stderr)):
             self.addCleanup(pipe.close)
         self.addCleanup(desk.wait)
@@ -201,11 +249,19 @@ class ElectionTest(unittest.TestCase):
 
     def without_rights(self, *words: object, **how: object) -> Ended:
         """Runs debvote-election as a user whom a mode stops: root becomes nobody."""
-        nobody = ["setpriv", "--reuid=65534", "--regid=65534", "--clear-groups"] if os.geteuid() == 0 else []
+        nobody = (
+            ["setpriv", "--reuid=65534", "--regid=65534", "--clear-groups"]
+            if os.geteuid() == 0
+            else []
+        )
         if nobody and shutil.which("setpriv") is None:
             self.skipTest("setpriv is not installed, and root may read and write everywhere")
         self.scratch.chmod(0o755)
-        for command in ([PROGRAM, "--version"], [sys.executable, ELECTION, "--help"]) if not self.is_for_everybody else ():
+        for command in (
+            ([PROGRAM, "--version"], [sys.executable, ELECTION, "--help"])
+            if not self.is_for_everybody
+            else ()
+        ):
             tried = self.run_program(*nobody, *command)
             said = f"{command[0]} can't be run by everybody, and this test runs it as nobody: chmod o+rX what leads there"
             self.assertEqual(tried.status, 0, f"{said}; {tried.faults}")

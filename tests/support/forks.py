@@ -44,7 +44,9 @@ LAUNCHERS = {
 PR_SET_PTRACER, ANY = 0x59616D61, -1
 
 
-def run(words: Sequence[object], tracer: Sequence[object] = (), **how: object) -> subprocess.CompletedProcess:
+def run(
+    words: Sequence[object], tracer: Sequence[object] = (), **how: object
+) -> subprocess.CompletedProcess:
     """What subprocess.run returns for these arguments and settings; `tracer` is strace with its options, which traces the run."""
     if not is_plain(words, how):
         return subprocess.run([*map(str, tracer), *words], **how)
@@ -70,7 +72,9 @@ def run(words: Sequence[object], tracer: Sequence[object] = (), **how: object) -
         output.seek(0)
         faults.seek(0)
         texts = [output.read(), faults.read()]
-    return subprocess.CompletedProcess(words, status, *([data.decode() for data in texts] if how.get("text") else texts))
+    return subprocess.CompletedProcess(
+        words, status, *([data.decode() for data in texts] if how.get("text") else texts)
+    )
 
 
 @contextlib.contextmanager
@@ -103,7 +107,8 @@ class Compiled(jinja2.BytecodeCache):
 @functools.cache
 def read_ahead() -> None:
     """Imports all modules, makes the schema of a book, and reads all templates in each language, so that no fork has to: it takes longer
-    than most commands. It is done before the first fork, as some processes of the tests make none."""
+    than most commands. It is done before the first fork, as some processes of the tests make none.
+    """
     for found in pkgutil.walk_packages(debvote_tools.__path__, f"{debvote_tools.__name__}."):
         # one needs python3-cryptography
         with contextlib.suppress(Fault):
@@ -113,9 +118,13 @@ def read_ahead() -> None:
     compiled = {True: Compiled(), False: Compiled()}
     # the files that are of the other one alone
     left_out = {True: ".txt", False: ".html"}
-    packages = {file.parent.parent for file in (ROOT / "python" / "debvote_tools").glob("*/templates/*")}
+    packages = {
+        file.parent.parent for file in (ROOT / "python" / "debvote_tools").glob("*/templates/*")
+    }
     for package, code, is_page in itertools.product(packages, LANGUAGES, (True, False)):
-        templates = templates_of(f"debvote_tools.{package.name}", language_of(code), is_page=is_page)
+        templates = templates_of(
+            f"debvote_tools.{package.name}", language_of(code), is_page=is_page
+        )
         templates.bytecode_cache = compiled[is_page]
         for name in templates.list_templates():
             if not name.endswith(left_out[is_page]):
@@ -125,10 +134,27 @@ def read_ahead() -> None:
 def is_plain(words: Sequence[object], how: Mapping[str, object]) -> bool:
     """Whether a fork runs this as a new process would."""
     is_known = len(words) > 1 and words[0] == sys.executable and str(words[1]) in LAUNCHERS
-    is_captured = how.get("capture_output") is True and how.get("stdin") in (None, subprocess.DEVNULL)
-    has_settings = how.keys() <= {"capture_output", "cwd", "env", "input", "stdin", "text", "timeout"}
+    is_captured = how.get("capture_output") is True and how.get("stdin") in (
+        None,
+        subprocess.DEVNULL,
+    )
+    has_settings = how.keys() <= {
+        "capture_output",
+        "cwd",
+        "env",
+        "input",
+        "stdin",
+        "text",
+        "timeout",
+    }
     is_alone = threading.current_thread() is threading.main_thread()
-    return is_known and is_captured and has_settings and is_alone and os.environ.get("DEBVOTE_FORKS") != "0"
+    return (
+        is_known
+        and is_captured
+        and has_settings
+        and is_alone
+        and os.environ.get("DEBVOTE_FORKS") != "0"
+    )
 
 
 def become(words: Sequence[str], folder: pathlib.Path, env: Mapping[str, str]) -> None:
@@ -136,10 +162,14 @@ def become(words: Sequence[str], folder: pathlib.Path, env: Mapping[str, str]) -
     if os.environ.get("DEBVOTE_FORKS") == "0":
         os.chdir(folder)
         os.execve(words[0], words, env)
-    in_child(importlib.import_module(LAUNCHERS[words[1]]).main, words, {"cwd": folder, "env": env}, [])
+    in_child(
+        importlib.import_module(LAUNCHERS[words[1]]).main, words, {"cwd": folder, "env": env}, []
+    )
 
 
-def in_child(main: Callable, words: Sequence[object], how: Mapping[str, object], streams: Sequence[int]) -> None:
+def in_child(
+    main: Callable, words: Sequence[object], how: Mapping[str, object], streams: Sequence[int]
+) -> None:
     """Runs the program in this process, and ends the process."""
     status = 70
     try:

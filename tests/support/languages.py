@@ -41,7 +41,12 @@ zz 1,2
 e08 -,-,-,1
 """
 # letters of electors: one goes in, the others wait
-LETTERS = {"e09": "e09 1,2,3,4", "e10": "I vote for the lake", "e11": "e10 1,2,3,4\ne10 2,1,3,4", "e12": "e12 1,2,3"}
+LETTERS = {
+    "e09": "e09 1,2,3,4",
+    "e10": "I vote for the lake",
+    "e11": "e10 1,2,3,4\ne10 2,1,3,4",
+    "e12": "e12 1,2,3",
+}
 AT, TO = "https://example.org/", "vote@example.org"
 FIRST_END, END, REASON = "2031-12-01 18:00", "2031-12-03 18:00:30", "Nobody has answered"
 
@@ -53,7 +58,10 @@ MARKED = re.compile(f"{BEGIN}(?:[^{BEGIN}{END_MARK}]*{END_MARK}|[^{BEGIN}{END_MA
 
 def marked(text: str) -> str:
     """A sentence with everything marked except its places and its tags."""
-    return "".join(part if place % 2 or not part else f"{BEGIN}{part}{END_MARK}" for place, part in enumerate(re.split(r"(\{\w+\}|<[^>]*>)", text)))
+    return "".join(
+        part if place % 2 or not part else f"{BEGIN}{part}{END_MARK}"
+        for place, part in enumerate(re.split(r"(\{\w+\}|<[^>]*>)", text))
+    )
 
 
 @contextlib.contextmanager
@@ -63,7 +71,17 @@ def marked_german() -> Iterator[None]:
         raise unittest.SkipTest("the language with marked words is in forks of the test alone")
     forks.read_ahead()
     head = (sentences.LOCALE / "de.po").read_text(encoding="utf-8").split("\n\n")[0]
-    catalog = catalog_of("\n".join([f"{head}\n", *[sentences.as_po(texts, tuple(map(marked, texts))) for texts in sentences.in_code()]]).encode())
+    catalog = catalog_of(
+        "\n".join(
+            [
+                f"{head}\n",
+                *[
+                    sentences.as_po(texts, tuple(map(marked, texts)))
+                    for texts in sentences.in_code()
+                ],
+            ]
+        ).encode()
+    )
     with unittest.mock.patch.dict(vars(language_of("de").catalog), vars(catalog)):
         forget_german()
         yield
@@ -87,33 +105,58 @@ class LanguageTest(elections.ElectionTest):
 
     def program(self, name: str, *words: object, given: str = "", status: int = 0) -> str:
         """The output of a program, which has to end with this status."""
-        ended = self.run_program(sys.executable, ROOT / "bin" / name, *words, given=given, cwd=self.scratch)
+        ended = self.run_program(
+            sys.executable, ROOT / "bin" / name, *words, given=given, cwd=self.scratch
+        )
         self.assertEqual(ended.status, status, ended)
         return ended.output + ended.faults
 
     def election(self, folder: str, *words: object, given: str = "", status: int = 0) -> str:
         # where the command comes first, the program reads the words of this one alone
-        return self.program("debvote-election", words[0], "--folder", folder, *words[1:], given=given, status=status)
+        return self.program(
+            "debvote-election", words[0], "--folder", folder, *words[1:], given=given, status=status
+        )
 
-    def begun(self, folder: str, language: str, *, poll: str = POLL, codes: tuple[str, ...] | None = None) -> pathlib.Path:
+    def begun(
+        self, folder: str, language: str, *, poll: str = POLL, codes: tuple[str, ...] | None = None
+    ) -> pathlib.Path:
         """An election in a language, with its roll; with arguments for `codes` it is secret."""
         self.program("debvote-election", "new", "--language", language, folder)
         place = self.scratch / folder
         (place / "poll.toml").write_text(poll if codes is None else f"secret = true\n{poll}")
-        (place / "members.csv").write_text("who,mail,name\n" + "".join(f"Person {name[1:]},{name}@example.org,{name}\n" for name in ELECTORS))
+        (place / "members.csv").write_text(
+            "who,mail,name\n"
+            + "".join(f"Person {name[1:]},{name}@example.org,{name}\n" for name in ELECTORS)
+        )
         self.election(folder, "roll")
         if codes is not None:
             self.election(folder, "codes", *codes)
         return place
 
-    def called(self, folder: str, language: str, *, codes: tuple[str, ...] | None = None) -> pathlib.Path:
+    def called(
+        self, folder: str, language: str, *, codes: tuple[str, ...] | None = None
+    ) -> pathlib.Path:
         """A called election in a language, with all that a call may have."""
         place = self.begun(folder, language, codes=codes)
         names = ("--names",) if codes is None else ()
-        self.election(folder, "call", "--until", FIRST_END, "--zone", "Europe/Berlin", "--to", TO, "--at", AT, *names)
+        self.election(
+            folder,
+            "call",
+            "--until",
+            FIRST_END,
+            "--zone",
+            "Europe/Berlin",
+            "--to",
+            TO,
+            "--at",
+            AT,
+            *names,
+        )
         return place
 
-    def held(self, folder: str, language: str, *, is_secret: bool = False, has_letters: bool = True) -> pathlib.Path:
+    def held(
+        self, folder: str, language: str, *, is_secret: bool = False, has_letters: bool = True
+    ) -> pathlib.Path:
         """An election in a language, from its beginning to its publication, with everything that pages and letters can say."""
 
         def send(*kinds: str) -> None:

@@ -68,8 +68,17 @@ class DebvoteReader:
     def asked(self, lines: Sequence[bytes]) -> dict[bytes, str | None]:
         handle = os.memfd_create("poll")
         os.write(handle, self.poll.encode())
-        words = [PROGRAM, "explain", "--poll", f"/proc/{os.getpid()}/fd/{handle}", "--ballots", "/dev/stdin"]
-        text = subprocess.run(words, input=b"".join(line + b"\n" for line in lines), capture_output=True, check=False).stdout.decode("ascii")
+        words = [
+            PROGRAM,
+            "explain",
+            "--poll",
+            f"/proc/{os.getpid()}/fd/{handle}",
+            "--ballots",
+            "/dev/stdin",
+        ]
+        text = subprocess.run(
+            words, input=b"".join(line + b"\n" for line in lines), capture_output=True, check=False
+        ).stdout.decode("ascii")
         os.close(handle)
         findings = findings_in(text)
         assert text.splitlines()[-1].startswith(f"{len(lines)} lines: "), text
@@ -85,35 +94,73 @@ def repaired_line(line: bytes) -> bytes:
 
 
 def names(options: int = RANKS.count(",") + 1, **other: object) -> Names:
-    usual: dict[str, object] = {"roll": frozenset(NAMES), "language": "en", "real_names": {name: name.capitalize() for name in NAMES}, "longest_line": LONGEST_LINE, "words": {}}
+    usual: dict[str, object] = {
+        "roll": frozenset(NAMES),
+        "language": "en",
+        "real_names": {name: name.capitalize() for name in NAMES},
+        "longest_line": LONGEST_LINE,
+        "words": {},
+    }
     found = Names(**{**usual, **other})  # type: ignore[arg-type]
     fewest = 2 if found.labels else options
-    return dataclasses.replace(found, answers=answer_pattern(fewest, "".join(found.labels), frozenset(found.words)))
+    return dataclasses.replace(
+        found, answers=answer_pattern(fewest, "".join(found.labels), frozenset(found.words))
+    )
 
 
 def circumstances(
-    *, addresses: Mapping[str, Sequence[str]] | None = None, keys: Mapping[str, str] | None = None,
-    own_marks: Mapping[str, str] = OWN, old_marks: Mapping[str, str] = {}, roll: Collection[str] = NAMES, **other: object,
-) -> Circumstances:  # fmt: skip
+    *,
+    addresses: Mapping[str, Sequence[str]] | None = None,
+    keys: Mapping[str, str] | None = None,
+    own_marks: Mapping[str, str] = OWN,
+    old_marks: Mapping[str, str] = {},
+    roll: Collection[str] = NAMES,
+    **other: object,
+) -> Circumstances:
     """The circumstances of a vote that was called three days ago and has no end; with `keys` letters have to be signed. The electors of
     `old_marks` had these on the first day."""
     listed = {name: [f"{name}@club.example"] for name in NAMES} if addresses is None else addresses
     electors = {
-        name: Elector(number, name, number, name, tuple(listed.get(name, ())), (keys or {}).get(name, ""), mark=own_marks[name])
+        name: Elector(
+            number,
+            name,
+            number,
+            name,
+            tuple(listed.get(name, ())),
+            (keys or {}).get(name, ""),
+            mark=own_marks[name],
+        )
         for number, name in enumerate(roll)
     }
-    marks = {own: OwnMark(name) for name, own in own_marks.items() if own} | {own: OwnMark(name, at(9, day=21)) for own, name in old_marks.items()}
+    marks = {own: OwnMark(name) for name, own in own_marks.items() if own} | {
+        own: OwnMark(name, at(9, day=21)) for own, name in old_marks.items()
+    }
     usual: dict[str, object] = {
-        "mark": MARK, "electors": electors, "is_signed": keys is not None, "marks": {MARK}, "own_marks": marks,
-        "called": at(9, day=20), "end": None, "first_close": None, "is_closed": False, "now": at(9, day=25),
-    }  # fmt: skip
+        "mark": MARK,
+        "electors": electors,
+        "is_signed": keys is not None,
+        "marks": {MARK},
+        "own_marks": marks,
+        "called": at(9, day=20),
+        "end": None,
+        "first_close": None,
+        "is_closed": False,
+        "now": at(9, day=25),
+    }
     return Circumstances(**{**usual, **other})  # type: ignore[arg-type]
 
 
 def letter(
-    name: str, text: str, *, number: int | str = 1, time: str | None = TEN, sender: str | None = None, head: str = "",
-    kind: str = "text/plain; charset=utf-8", subject: str | None = None,
-) -> bytes:  # fmt: skip
+    name: str,
+    text: str,
+    *,
+    number: int | str = 1,
+    time: str | None = TEN,
+    sender: str | None = None,
+    head: str = "",
+    kind: str = "text/plain; charset=utf-8",
+    subject: str | None = None,
+) -> bytes:
     """A letter of an elector. Its subject has the mark of the poll, with the own mark of who has the sender's address, unless it is given."""
     sender = sender or f"{name}@club.example"
     if not re.search("(?im)^subject", head):
@@ -122,7 +169,9 @@ def letter(
         head = f"Subject: {usual if subject is None else subject}\n{head}"
     received = "" if time is None else f"Received: from a by b; {time}\n"
     fields = f"From: {sender}\nTo: vote@club.example\nMessage-ID: <{number}.{name}@mail.example>\n"
-    return f"{received}{fields}{head}Content-Type: {kind}\n\n{text}".encode("utf-8", "surrogateescape")
+    return f"{received}{fields}{head}Content-Type: {kind}\n\n{text}".encode(
+        "utf-8", "surrogateescape"
+    )
 
 
 def marked(name: str, text: str, **how: object) -> bytes:
@@ -136,7 +185,12 @@ def answer(name: str, text: str, **how: object) -> bytes:
 
 def with_mark(data: bytes, mark: str) -> bytes:
     """A letter of a mail program, with a mark at the end of its subject."""
-    return re.sub(rb"(?im)^(subject:[^\n]*?(?:\n[ \t][^\n]*?)*)(\r?\n)(?![ \t])", rb"\1\2 %b\2" % mark.encode(), data, count=1)
+    return re.sub(
+        rb"(?im)^(subject:[^\n]*?(?:\n[ \t][^\n]*?)*)(\r?\n)(?![ \t])",
+        rb"\1\2 %b\2" % mark.encode(),
+        data,
+        count=1,
+    )
 
 
 def alternatives(name: str, plain: str, marked: str, **how: object) -> bytes:
@@ -145,7 +199,10 @@ def alternatives(name: str, plain: str, marked: str, **how: object) -> bytes:
 
 
 def mailbox(*letters: bytes) -> bytes:
-    return b"".join(b"From somebody Mon Nov 23 10:00:00 2026\n" + data.rstrip(b"\n") + b"\n\n" for data in letters)
+    return b"".join(
+        b"From somebody Mon Nov 23 10:00:00 2026\n" + data.rstrip(b"\n") + b"\n\n"
+        for data in letters
+    )
 
 
 def parsed(data: bytes, where: str = "letter", *, is_parted_off: bool = False) -> ParsedLetter:
@@ -153,9 +210,14 @@ def parsed(data: bytes, where: str = "letter", *, is_parted_off: bool = False) -
     return parse(RawLetter(where, data, is_parted_off))
 
 
-def read(*letters: bytes | ParsedLetter, reader: DebvoteReader | None = None, **of_names: object) -> list[ReadLetter]:
+def read(
+    *letters: bytes | ParsedLetter, reader: DebvoteReader | None = None, **of_names: object
+) -> list[ReadLetter]:
     """Letters with what their lines may be, as the book gives them back."""
-    given = [one if isinstance(one, ParsedLetter) else parsed(one, f"letter {number}") for number, one in enumerate(letters, start=1)]
+    given = [
+        one if isinstance(one, ParsedLetter) else parsed(one, f"letter {number}")
+        for number, one in enumerate(letters, start=1)
+    ]
     new = [one for one in given if not isinstance(one, ReadLetter)]
     fresh = iter(with_texts(new, names(**of_names), (reader or DebvoteReader()).answers))
     found = [one if isinstance(one, ReadLetter) else next(fresh) for one in given]
@@ -165,20 +227,37 @@ def read(*letters: bytes | ParsedLetter, reader: DebvoteReader | None = None, **
 
 
 def judged(
-    *letters: bytes | ParsedLetter, reader: DebvoteReader | None = None, ballots: Mapping[str, Sequence[Ballot]] | None = None,
-    decisions: Mapping[str, str] = {}, **other: object,
-) -> list[LetterCase]:  # fmt: skip
+    *letters: bytes | ParsedLetter,
+    reader: DebvoteReader | None = None,
+    ballots: Mapping[str, Sequence[Ballot]] | None = None,
+    decisions: Mapping[str, str] = {},
+    **other: object,
+) -> list[LetterCase]:
     """What becomes of letters, in the order of their times; `decisions` are those of acts, by the digests of letters."""
-    of_names = {name: value for name, value in other.items() if name in ("roll", "language", "real_names", "words")}
-    of_others = {name: value for name, value in other.items() if name not in ("language", "real_names", "words")}
+    of_names = {
+        name: value
+        for name, value in other.items()
+        if name in ("roll", "language", "real_names", "words")
+    }
+    of_others = {
+        name: value
+        for name, value in other.items()
+        if name not in ("language", "real_names", "words")
+    }
     now = circumstances(**of_others)
-    cases = [case_of(one, now, decisions.get(one.digest)) for one in read(*letters, reader=reader, **of_names)]
+    cases = [
+        case_of(one, now, decisions.get(one.digest))
+        for one in read(*letters, reader=reader, **of_names)
+    ]
     return judge_all(cases, in_order(ballots or {}))
 
 
 def in_order(ballots: Mapping[str, Sequence[Ballot]]) -> BallotsByElector:
     """The ballots of electors, as the book gives them."""
-    return BallotsByElector(ElectorBallots, {name: ElectorBallots(sorted(its, key=queries.by_time)) for name, its in ballots.items()})
+    return BallotsByElector(
+        ElectorBallots,
+        {name: ElectorBallots(sorted(its, key=queries.by_time)) for name, its in ballots.items()},
+    )
 
 
 def case_of(one: ReadLetter, now: Circumstances, state: str | None) -> LetterCase:
@@ -190,7 +269,14 @@ def case_of(one: ReadLetter, now: Circumstances, state: str | None) -> LetterCas
     is_taken_back = state == queries.TAKEN_BACK
     is_struck = state != queries.ENTERED
     is_typed = not case.ballots
-    ballot = EnteredBallot(1, BALLOT, is_late=False, is_struck=is_struck, is_taken_back=is_taken_back, is_typed=is_typed)
+    ballot = EnteredBallot(
+        1,
+        BALLOT,
+        is_late=False,
+        is_struck=is_struck,
+        is_taken_back=is_taken_back,
+        is_typed=is_typed,
+    )
     return LetterCase(one, now, kept, [ballot])
 
 
@@ -220,7 +306,9 @@ def calls_while_judged(letters: Sequence[ReadLetter]) -> int:
 def calls_while_read(data: bytes, **of_names: object) -> int:
     """The same while a letter is read, where all ranks are valid, the second time."""
     its_names = names(**of_names)  # type: ignore[arg-type]
-    [(_, _), (_, calls)] = (counted(lambda: with_texts([parsed(data)], its_names, dict.fromkeys)) for _ in range(2))
+    [(_, _), (_, calls)] = (
+        counted(lambda: with_texts([parsed(data)], its_names, dict.fromkeys)) for _ in range(2)
+    )
     return calls
 
 
@@ -244,7 +332,11 @@ def outcomes(*letters: bytes | ParsedLetter, **other: object) -> list[str]:
 
 
 def lines_in(*letters: bytes | ParsedLetter, **other: object) -> list[str]:
-    return [one.ballots[0].as_entered for one in judged(*letters, **other) if one.outcome is LetterOutcome.GOES_IN]
+    return [
+        one.ballots[0].as_entered
+        for one in judged(*letters, **other)
+        if one.outcome is LetterOutcome.GOES_IN
+    ]
 
 
 def read_in(found: Sequence[RawLetter]) -> list[RawLetter]:

@@ -9,7 +9,9 @@ from tests.support import publishing
 from tests.support.at_browser import NEEDS_BROWSER, Window
 
 NEEDS_TIDY = unittest.skipUnless(shutil.which("tidy"), "tidy is not installed")
-NEEDS_PICTURES = unittest.skipUnless(publishing.HAS_PICTURES, "dot is not installed, so there are no pictures")
+NEEDS_PICTURES = unittest.skipUnless(
+    publishing.HAS_PICTURES, "dot is not installed, so there are no pictures"
+)
 
 WIDTHS = (320, 360, 390, 1280)
 DOUBT_WIDTHS = (360, 1280)
@@ -53,7 +55,9 @@ def looks_of(folders, widths):
                 window.show(is_dark=is_dark)
                 for width in seen:
                     window.resize(width, 900)
-                    found.append({"folder": folder, "width": width, "is_dark": is_dark, **window.ask(LOOK)})
+                    found.append(
+                        {"folder": folder, "width": width, "is_dark": is_dark, **window.ask(LOOK)}
+                    )
     return found
 
 
@@ -84,12 +88,24 @@ class LooksTest(publishing.PublishTest):
     def test_tidy(self):
         for folder in self.folders:
             page = SUMMARY.sub(r"\1\2", (folder / "index.html").read_text(encoding="utf-8"))
-            self.expect(f"{folder.name}: tidy", publishing.run(["tidy", "-q", "-e"], input=page)[1:], ("", 0))
+            self.expect(
+                f"{folder.name}: tidy",
+                publishing.run(["tidy", "-q", "-e"], input=page)[1:],
+                ("", 0),
+            )
 
     @NEEDS_BROWSER
     def test_widths_and_colours(self):
         """All pages are as wide as the window, and have one pair of colours in light and another one in dark."""
-        self.expect("widths", [(look["folder"], look["width"]) for look in self.looks() if look["wide"] != look["width"]], [])
+        self.expect(
+            "widths",
+            [
+                (look["folder"], look["width"])
+                for look in self.looks()
+                if look["wide"] != look["width"]
+            ],
+            [],
+        )
         pairs = {(look["is_dark"], *look["own"]) for look in self.looks()}
         self.expect("colours of the pages", (len(pairs), len({pair[1:] for pair in pairs})), (2, 2))
 
@@ -99,6 +115,8 @@ def contrast(one, other):
     lights = []
     for colour in (one, other):
         parts = [int(part) / 255 for part in re.findall(r"\d+", colour)[:3]]
-        red, green, blue = (part / 12.92 if part <= 0.04045 else ((part + 0.055) / 1.055) ** 2.4 for part in parts)
+        red, green, blue = (
+            part / 12.92 if part <= 0.04045 else ((part + 0.055) / 1.055) ** 2.4 for part in parts
+        )
         lights.append(0.2126 * red + 0.7152 * green + 0.0722 * blue)
     return (max(lights) + 0.05) / (min(lights) + 0.05)

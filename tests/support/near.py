@@ -14,7 +14,9 @@ ROOT = pathlib.Path(__file__).resolve().parent.parent.parent
 
 def lines_of_crates() -> dict[str, str]:
     """The lines of crates.txt by their crates, lowest first."""
-    lines = [line.partition("#")[0].strip() for line in (ROOT / "crates.txt").read_text().splitlines()]
+    lines = [
+        line.partition("#")[0].strip() for line in (ROOT / "crates.txt").read_text().splitlines()
+    ]
     return {line.partition(":")[0].split()[0]: line for line in lines if line}
 
 
@@ -39,7 +41,9 @@ def lines_below(*crates: str) -> dict[str, str]:
 def words_of_missing(kind: str, name: str, names: Iterable[str], listed_by: str) -> str:
     """What to say about a name that does not exist: names that are near or contain it, or else how to list all."""
     names = list(names)
-    near = [known for known in names if name and name in known][:5] or difflib.get_close_matches(name, names, n=5, cutoff=0.45)
+    near = [known for known in names if name and name in known][:5] or difflib.get_close_matches(
+        name, names, n=5, cutoff=0.45
+    )
     said = f"there is no {kind} {name}" if name else f"say which {kind}"
     return f"{said}; near are {', '.join(near)}" if near else f"{said}; {listed_by} lists them"
 

@@ -17,7 +17,6 @@ from collections.abc import Callable, Mapping, Sequence
 
 from tests.support import elections
 from tests.support.called import LettersTest
-from tests.support.letters import OTHER_RANKS as OTHER_RANKS, RANKS as RANKS, TITLE as TITLE
 
 try:
     from aiosmtpd.controller import Controller
@@ -35,19 +34,34 @@ logging.getLogger("mail.log").setLevel(logging.CRITICAL)
 class OutTest(LettersTest):
     """A test with an election that was called with an end and the address of its page; the clock is some days later."""
 
-    call_words: Sequence[str] | None = ("--to", "vote@club.example", "--at", AT, "--until", END, "--zone", "UTC")
+    call_words: Sequence[str] | None = (
+        "--to",
+        "vote@club.example",
+        "--at",
+        AT,
+        "--until",
+        END,
+        "--zone",
+        "UTC",
+    )
     now = TEN
 
     def rows(self, kind: str) -> list[tuple[str, str]]:
         """The states of the letters of a kind, in their order, each with the name of its elector."""
-        words = "SELECT name, state FROM sent JOIN elector USING (elector) WHERE kind = ? ORDER BY sent"
+        words = (
+            "SELECT name, state FROM sent JOIN elector USING (elector) WHERE kind = ? ORDER BY sent"
+        )
         # the thread of a mail server asks, too
-        with contextlib.closing(sqlite3.connect(f"file:{self.folder / 'election.db'}?mode=ro", uri=True)) as book:
+        with contextlib.closing(
+            sqlite3.connect(f"file:{self.folder / 'election.db'}?mode=ro", uri=True)
+        ) as book:
             return [tuple(row) for row in book.execute(words, (kind,))]
 
     def files(self, kind: str) -> list[pathlib.Path]:
         """The files of the last letters of a kind that were written."""
-        folders = sorted((self.folder / "letters" / kind).glob("[0-9]*"), key=lambda folder: int(folder.name))
+        folders = sorted(
+            (self.folder / "letters" / kind).glob("[0-9]*"), key=lambda folder: int(folder.name)
+        )
         return sorted(folders[-1].iterdir()) if folders else []
 
     def written(self, kind: str, *words: object) -> dict[str, email.message.EmailMessage]:
@@ -56,7 +70,11 @@ class OutTest(LettersTest):
         if "There is no letter to send.\n" in said:
             return {}
         self.assertIn("letter", said)
-        return {file.stem: parsed(file.read_bytes()) for file in self.files(kind) if file.suffix == ".eml"}
+        return {
+            file.stem: parsed(file.read_bytes())
+            for file in self.files(kind)
+            if file.suffix == ".eml"
+        }
 
     def texts(self, kind: str, *words: object) -> dict[str, str]:
         return {name: one_line(message) for name, message in self.written(kind, *words).items()}
@@ -121,13 +139,17 @@ class MailServer:
             return True
         return False
 
-    async def handle_MAIL(self, server: SMTP, session: object, envelope: object, address: str, options: object) -> str:
+    async def handle_MAIL(
+        self, server: SMTP, session: object, envelope: object, address: str, options: object
+    ) -> str:
         if self.is_cut("mail", server):
             return "421 gone"
         envelope.mail_from = address  # type: ignore[attr-defined]
         return self.mail_answer
 
-    async def handle_RCPT(self, server: SMTP, session: object, envelope: object, address: str, options: object) -> str:
+    async def handle_RCPT(
+        self, server: SMTP, session: object, envelope: object, address: str, options: object
+    ) -> str:
         if self.is_cut("rcpt", server):
             return "421 gone"
         answer = self.rcpt_answers.get(address, "250 OK")
@@ -146,7 +168,9 @@ class MailServer:
         self.started += 1
         return answer
 
-    def authenticated(self, server: object, session: object, envelope: object, mechanism: str, data: object) -> AuthResult:
+    def authenticated(
+        self, server: object, session: object, envelope: object, mechanism: str, data: object
+    ) -> AuthResult:
         self.logins.append((data.login, data.password))  # type: ignore[attr-defined]
         return AuthResult(success=data.password == b"right", handled=False)  # type: ignore[attr-defined]
 
@@ -154,7 +178,13 @@ class MailServer:
 class PlainServer:
     """A mail server that answers by itself, as no good one does: to each step by its name, else as it should."""
 
-    usual = {"helo": "250 here", "from": "250 OK", "to": "250 OK", "data": "354 go on", "letter": "250 OK"}
+    usual = {
+        "helo": "250 here",
+        "from": "250 OK",
+        "to": "250 OK",
+        "data": "354 go on",
+        "letter": "250 OK",
+    }
 
     def __init__(self, answers: Mapping[str, str]) -> None:
         self.answers = {**self.usual, **answers}
@@ -214,9 +244,26 @@ class SendTest(OutTest):
         return ended
 
     def assert_none_is_due(self, kind: str) -> None:
-        self.assert_sent(kind, "There is no letter to send: the server has taken all that are due.\n")
+        self.assert_sent(
+            kind, "There is no letter to send: the server has taken all that are due.\n"
+        )
 
     def sending(self, kind: str) -> subprocess.Popen:
         env = elections.environment() | self.clock | {"XDG_STATE_HOME": str(self.state)}
-        words = [sys.executable, elections.ELECTION, "letters", kind, "--send", "--server", self.server.name]
-        return subprocess.Popen(words, cwd=self.folder, env=env, stdout=subprocess.PIPE, stderr=subprocess.DEVNULL, text=True)
+        words = [
+            sys.executable,
+            elections.ELECTION,
+            "letters",
+            kind,
+            "--send",
+            "--server",
+            self.server.name,
+        ]
+        return subprocess.Popen(
+            words,
+            cwd=self.folder,
+            env=env,
+            stdout=subprocess.PIPE,
+            stderr=subprocess.DEVNULL,
+            text=True,
+        )

@@ -17,7 +17,19 @@ from tests.support.spoken import Spoken
 
 EMPTY_TAGS = {"meta", "br", "hr", "input", "rect", "path"}
 # of scripts a page has its own alone
-UNWANTED_TAGS = {"link", "iframe", "img", "object", "embed", "form", "base", "audio", "video", "image", "use"}
+UNWANTED_TAGS = {
+    "link",
+    "iframe",
+    "img",
+    "object",
+    "embed",
+    "form",
+    "base",
+    "audio",
+    "video",
+    "image",
+    "use",
+}
 UNWANTED_ATTRIBUTES = {"src", "style", "xlink:href"}
 
 
@@ -59,12 +71,22 @@ SENTENCES = {
 }
 
 # how each question may end, in capitals
-ENDED = {"tie": "No option has won yet", "casting": "Has won by the casting vote", "rejected": "Not carried", "carried": "Carried"}
+ENDED = {
+    "tie": "No option has won yet",
+    "casting": "Has won by the casting vote",
+    "rejected": "Not carried",
+    "carried": "Carried",
+}
 ENDED |= {"default": "The default option has won", "won": "Has won"}
 
 
 # the answers to a motion: yes, no and abstain
-ANSWERS = {"en": ("Yes", "No", "Abstain"), "de": ("Ja", "Nein", "Enthaltung"), "fr": ("Oui", "Non", "Abstention"), "es": ("Sí", "No", "Abstención")}
+ANSWERS = {
+    "en": ("Yes", "No", "Abstain"),
+    "de": ("Ja", "Nein", "Enthaltung"),
+    "fr": ("Oui", "Non", "Abstention"),
+    "es": ("Sí", "No", "Abstención"),
+}
 
 ENGLISH = Spoken("en")
 
@@ -104,7 +126,12 @@ class Node:
 
     def all(self, tag, kind=None):
         """All elements of a tag within, and of a class if one is given."""
-        return (node for node in self.within() if node.tag == tag and (kind is None or kind in node.attributes.get("class", "").split()))
+        return (
+            node
+            for node in self.within()
+            if node.tag == tag
+            and (kind is None or kind in node.attributes.get("class", "").split())
+        )
 
     def one(self, tag, kind=None):
         found = list(self.all(tag, kind))
@@ -149,12 +176,18 @@ def built(page):
 
 def sections_of(page):
     """The parts of a page by the places of their headings."""
-    return {section.attributes["aria-labelledby"]: section for section in tree_of(page).all("section")}
+    return {
+        section.attributes["aria-labelledby"]: section for section in tree_of(page).all("section")
+    }
 
 
 def doubts_of(page):
     """The doubts that the page marks, as a reader reads them."""
-    return [entry.text().removeprefix("Doubt: ") for box in list(tree_of(page).all("div", "doubts")) for entry in box.all("li")]
+    return [
+        entry.text().removeprefix("Doubt: ")
+        for box in list(tree_of(page).all("div", "doubts"))
+        for entry in box.all("li")
+    ]
 
 
 def try_page(expect, name, folder):
@@ -162,16 +195,37 @@ def try_page(expect, name, folder):
     place of the page; each ballot has its place, and no elector has the place of another thing."""
     read = built((folder / "index.html").read_text())
     nodes = list(read.root.within())
-    is_active = {node.tag for node in nodes for key in node.attributes if key.startswith("on") or key in UNWANTED_ATTRIBUTES}
+    is_active = {
+        node.tag
+        for node in nodes
+        for key in node.attributes
+        if key.startswith("on") or key in UNWANTED_ATTRIBUTES
+    }
     unwanted = is_active | ({node.tag for node in nodes} & UNWANTED_TAGS)
     faults = read.faults + [node.tag for node in read.open[1:]]
-    expect(f"{name}: its tags", (faults, unwanted, sum(node.tag == "script" for node in nodes)), ([], set(), 1))
+    expect(
+        f"{name}: its tags",
+        (faults, unwanted, sum(node.tag == "script" for node in nodes)),
+        ([], set(), 1),
+    )
     ids = [node.attributes["id"] for node in nodes if "id" in node.attributes]
     roll = tomllib.loads((folder / "poll.toml").read_text())["roll"]
-    expect(f"{name}: its places", (len(set(ids)), [place for place in set(ids) - set(roll) if place == place.lower()]), (len(ids), []))
-    expect(f"{name}: a place for each ballot", {line.split()[0] for line in (folder / "standing.txt").read_text().splitlines()} - set(ids), set())
+    expect(
+        f"{name}: its places",
+        (len(set(ids)), [place for place in set(ids) - set(roll) if place == place.lower()]),
+        (len(ids), []),
+    )
+    expect(
+        f"{name}: a place for each ballot",
+        {line.split()[0] for line in (folder / "standing.txt").read_text().splitlines()} - set(ids),
+        set(),
+    )
     places = {f"#{place}" for place in ids} | {file.name for file in folder.iterdir()}
-    expect(f"{name}: its links", {node.attributes["href"] for node in nodes if "href" in node.attributes} - places, set())
+    expect(
+        f"{name}: its links",
+        {node.attributes["href"] for node in nodes if "href" in node.attributes} - places,
+        set(),
+    )
 
 
 class Parts:
@@ -179,7 +233,12 @@ class Parts:
 
     def __init__(self, page, letter, count, names, spoken=ENGLISH, *, label="", is_motion=False):
         """`names` are those that people read of title (0) and options, where they differ from the plain ones."""
-        self.page, self.letter, self.count, self.names = page, f" {' '.join(letter.split())} ", count, names
+        self.page, self.letter, self.count, self.names = (
+            page,
+            f" {' '.join(letter.split())} ",
+            count,
+            names,
+        )
         self.spoken, self.label, self.is_motion = spoken, label, is_motion
         self.say, self.say_number = spoken.say, spoken.say_number
         self.sections = sections_of(page)
@@ -197,11 +256,17 @@ class Parts:
         return self.spoken.joined(map(self.name, options))
 
     def entries(self, heading, kind="ul"):
-        return [entry.text() for found in list(self.sections[heading].all(kind)) for entry in found.all("li")]
+        return [
+            entry.text()
+            for found in list(self.sections[heading].all(kind))
+            for entry in found.all("li")
+        ]
 
     def check(self):
         """Meets all parts with the count. Raises Wrong, or returns the kinds of sentences that the page has."""
-        for part in "headings named facts panel lines rule others options table defeats rounds ballots who_voted".split():
+        for (
+            part
+        ) in "headings named facts panel lines rule others options table defeats rounds ballots who_voted".split():
             getattr(self, part)()
         self.spoken = self.spoken.in_letters()
         self.in_letter()
@@ -211,30 +276,66 @@ class Parts:
         """A sentence of a kind, in which a pair of options may have its names, numbers and round."""
         self.met[kind] += 1
         if pair is not None:
-            (a, b), removed = pair, [number for number, (_, gone) in enumerate(self.count.rounds, start=1) if {pair, pair[::-1]} & gone]
-            numbers = {"over": self.count.votes[a, b], "under": self.count.votes[b, a], "round": sum(removed)}
+            (a, b), removed = pair, [
+                number
+                for number, (_, gone) in enumerate(self.count.rounds, start=1)
+                if {pair, pair[::-1]} & gone
+            ]
+            numbers = {
+                "over": self.count.votes[a, b],
+                "under": self.count.votes[b, a],
+                "round": sum(removed),
+            }
             places |= {"option": self.name(a), "other": self.name(b), **numbers}
         return self.say(SENTENCES[kind], **places)
 
     def headings(self):
         """Each part has a heading with its place, and a part of a group is one deeper than the group."""
         for place, section in self.sections.items():
-            demand_equal(f"the heading of {place}", [node.attributes.get("id") for tag in ("h2", "h3") for node in section.all(tag)], [place])
-        demand_equal("the title", tree_of(self.page).one("h1").text(), self.names.get(0, self.count.poll.title))
-        levels = [int(node.tag[1]) for node in tree_of(self.page).within() if re.fullmatch("h[1-6]", node.tag)]
+            demand_equal(
+                f"the heading of {place}",
+                [node.attributes.get("id") for tag in ("h2", "h3") for node in section.all(tag)],
+                [place],
+            )
+        demand_equal(
+            "the title",
+            tree_of(self.page).one("h1").text(),
+            self.names.get(0, self.count.poll.title),
+        )
+        levels = [
+            int(node.tag[1])
+            for node in tree_of(self.page).within()
+            if re.fullmatch("h[1-6]", node.tag)
+        ]
         demand_equal("the first heading", levels[0], 1)
-        demand_equal("headings that skip a level", [level for before, level in zip(levels, levels[1:]) if level > before + 1], [])
+        demand_equal(
+            "headings that skip a level",
+            [level for before, level in zip(levels, levels[1:]) if level > before + 1],
+            [],
+        )
 
     def named(self):
         """Each name of an option beside its number is that of this option."""
         for node in tree_of(self.page).within():
-            pairs = [pair for pair in zip(node.inner, node.inner[2:]) if isinstance(pair[0], Node) and pair[0].tag == "i"]
+            pairs = [
+                pair
+                for pair in zip(node.inner, node.inner[2:])
+                if isinstance(pair[0], Node) and pair[0].tag == "i"
+            ]
             for number, name in pairs:
-                demand_equal("a named option", (name.tag, name.text()), ("bdi", self.plain(int(number.text()))))
+                demand_equal(
+                    "a named option",
+                    (name.tag, name.text()),
+                    ("bdi", self.plain(int(number.text()))),
+                )
 
     def facts(self):
         """The numbers below the winner."""
-        demand_equal("the facts", [entry.text() for entry in tree_of(self.page).one("ul", "facts").all("li")], list(self.numbers()))
+        demand_equal(
+            "the facts",
+            [entry.text() for entry in tree_of(self.page).one("ul", "facts").all("li")],
+            list(self.numbers()),
+        )
 
     def numbers(self):
         """The numbers of a result; what is none is not told."""
@@ -245,24 +346,57 @@ class Parts:
         of_voters = "{voters} of {electors} voted"
         yield self.say_number(of_voters, of_voters, voters, voters=voters, electors=len(poll.roll))
         if poll.quorum:
-            yield self.say("quorum {quorum} reached" if reached else "quorum {quorum} not reached", quorum=quorum)
+            yield self.say(
+                "quorum {quorum} reached" if reached else "quorum {quorum} not reached",
+                quorum=quorum,
+            )
         if refused:
             of_lines = "{refused} of {lines} line refused", "{refused} of {lines} lines refused"
-            yield self.say_number(*of_lines, len(count.lines), refused=refused, lines=len(count.lines))
+            yield self.say_number(
+                *of_lines, len(count.lines), refused=refused, lines=len(count.lines)
+            )
         if abstained:
             yield self.say("{number} abstained", number=abstained)
 
     def lines(self):
-        count, poll, valid, voters = self.count, self.count.poll, self.count.valid, len(self.count.last)
+        count, poll, valid, voters = (
+            self.count,
+            self.count.poll,
+            self.count.valid,
+            len(self.count.last),
+        )
         numbers = {"valid": valid, "refused": len(count.lines) - valid}
         one = "{number} line is in the ballot file: {valid} valid, {refused} refused."
-        wanted = [self.say_number(one, "{number} lines are in the ballot file: {valid} valid, {refused} refused.", len(count.lines), **numbers)]
+        wanted = [
+            self.say_number(
+                one,
+                "{number} lines are in the ballot file: {valid} valid, {refused} refused.",
+                len(count.lines),
+                **numbers,
+            )
+        ]
         if valid != voters:
             more = "{valid} valid lines: electors who voted again account for the difference, and the last valid line of each counts."
-            wanted.append(self.say_number(f"{{number}} voter has {more}", f"{{number}} voters have {more}", voters, valid=valid))
+            wanted.append(
+                self.say_number(
+                    f"{{number}} voter has {more}",
+                    f"{{number}} voters have {more}",
+                    voters,
+                    valid=valid,
+                )
+            )
         if poll.last_envelope is not None:
-            wanted.append(self.say("The last envelope is {number}: a line with a greater number is late, and is refused.", number=poll.last_envelope))
-        demand_equal("the lines", " ".join(next(self.sections["Refused-lines"].all("p")).text().split()), " ".join(wanted))
+            wanted.append(
+                self.say(
+                    "The last envelope is {number}: a line with a greater number is late, and is refused.",
+                    number=poll.last_envelope,
+                )
+            )
+        demand_equal(
+            "the lines",
+            " ".join(next(self.sections["Refused-lines"].all("p")).text().split()),
+            " ".join(wanted),
+        )
 
     def rule(self):
         poll, said = self.count.poll, self.sections["Options"].text()
@@ -272,72 +406,157 @@ class Parts:
             "more than the ratio, where the Constitution of Debian has at least the ratio",
         )
         wanted = [not poll.is_more_than, poll.is_more_than, poll.is_more_than]
-        demand_equal("the wording of majorities", [self.say(sentence) in said for sentence in sentences], wanted)
+        demand_equal(
+            "the wording of majorities",
+            [self.say(sentence) in said for sentence in sentences],
+            wanted,
+        )
         of = ": at least {multiple}Q, where Q is half of the square root of the number of electors."
-        quorum = self.say_number(f"The quorum is {{number}} vote{of}", f"The quorum is {{number}} votes{of}", least_of(self.count), multiple=poll.quorum)
+        quorum = self.say_number(
+            f"The quorum is {{number}} vote{of}",
+            f"The quorum is {{number}} votes{of}",
+            least_of(self.count),
+            multiple=poll.quorum,
+        )
         none = self.say("No quorum is asked for.")
-        demand_equal("the quorum", (quorum in said, none in said), (poll.quorum > 0, poll.quorum == 0))
+        demand_equal(
+            "the quorum", (quorum in said, none in said), (poll.quorum > 0, poll.quorum == 0)
+        )
 
     def others(self):
         """Below the panel, each whose fate the panel does not say, as the rounds leave them, and last those that were dropped: of each
-        the name, the chip, and what became of it; of one that was dropped a bar with its numbers, too."""
+        the name, the chip, and what became of it; of one that was dropped a bar with its numbers, too.
+        """
         count, poll, votes = self.count, self.count.poll, self.count.votes
         default, winner, final = poll.default, count.winner, count.final
         told = {winner} | {o for _, o in few(self.nearest())} if winner == default else {winner}
         told |= set(final) if winner is None and len(final) == 2 else set()
-        last = {o: max((n for n, (kept, _) in enumerate(count.rounds, 1) if o in kept), default=0) for o in poll.options}
-        order = [o for o in sorted(poll.options, key=lambda o: (o in count.dropped, -last[o], o)) if o not in told and len(poll.options) > 2]
+        last = {
+            o: max((n for n, (kept, _) in enumerate(count.rounds, 1) if o in kept), default=0)
+            for o in poll.options
+        }
+        order = [
+            o
+            for o in sorted(poll.options, key=lambda o: (o in count.dropped, -last[o], o))
+            if o not in told and len(poll.options) > 2
+        ]
         demand_equal("whether others are told", "Why-not-the-others" in self.sections, order != [])
         if not order:
             return
-        lists = [list(found.all("li")) for found in self.sections["Why-not-the-others"].all("ol", "options")]
-        demand_equal("how many options are seen, and folded", list(map(len, lists)), [len(order)] if len(order) <= 8 else [5, len(order) - 5])
+        lists = [
+            list(found.all("li"))
+            for found in self.sections["Why-not-the-others"].all("ol", "options")
+        ]
+        demand_equal(
+            "how many options are seen, and folded",
+            list(map(len, lists)),
+            [len(order)] if len(order) <= 8 else [5, len(order) - 5],
+        )
         chips = {"quorum": "no quorum", "majority": "no majority", "left": "tied"}
         for option, entry in zip(order, [entry for entries in lists for entry in entries]):
-            head = [part.text() for part in entry.one("p", "option").inner if isinstance(part, Node)]
-            demand_equal(f"the head of {option}", head, [self.name(option), self.say(chips.get(count.ended(option), "lost"))])
-            reasons, bars = [part.text() for part in entry.all("p", "reason")], list(map(bar_of, entry.all("svg", "bar")))
+            head = [
+                part.text() for part in entry.one("p", "option").inner if isinstance(part, Node)
+            ]
+            demand_equal(
+                f"the head of {option}",
+                head,
+                [self.name(option), self.say(chips.get(count.ended(option), "lost"))],
+            )
+            reasons, bars = [part.text() for part in entry.all("p", "reason")], list(
+                map(bar_of, entry.all("svg", "bar"))
+            )
             if option not in count.dropped:
-                demand_equal(f"why {option} has not won", (reasons, bars), ([" ".join(self.fate(option))], []))
+                demand_equal(
+                    f"why {option} has not won",
+                    (reasons, bars),
+                    ([" ".join(self.fate(option))], []),
+                )
                 continue
-            numbers = {"over": votes[option, default], "under": votes[default, option], "other": self.name(default)}
-            wanted = [f"{self.say('{over} for it, {under} for {other}.', **numbers)} {self.lack(option)}"]
+            numbers = {
+                "over": votes[option, default],
+                "under": votes[default, option],
+                "other": self.name(default),
+            }
+            wanted = [
+                f"{self.say('{over} for it, {under} for {other}.', **numbers)} {self.lack(option)}"
+            ]
             if winner not in (None, default) and votes[option, winner] > votes[winner, option]:
                 wanted.append(self.told("dropped, and preferred to the winner", (option, winner)))
-            demand_equal(f"why {option} was dropped", (reasons, bars), (wanted, [self.bar(option, default, needed_by(count, option))]))
+            demand_equal(
+                f"why {option} was dropped",
+                (reasons, bars),
+                (wanted, [self.bar(option, default, needed_by(count, option))]),
+            )
 
     def nearest(self):
         """The options that were dropped, by what they lacked for quorum and majority."""
         count, default = self.count, self.count.poll.default
-        return sorted((max(least_of(count), majority_of(count, o)) - count.votes[o, default], o) for o in count.dropped)
+        return sorted(
+            (max(least_of(count), majority_of(count, o)) - count.votes[o, default], o)
+            for o in count.dropped
+        )
 
     def bar(self, a, b, needed=0):
         """A bar, all of which have one scale: it ends at the voters, and what is needed beyond them is dashed, up to as much again."""
         count, voters = self.count, len(self.count.last)
-        whole = max(voters, min(max((needed_by(count, o) for o in count.dropped), default=0), 2 * voters), 1)
+        whole = max(
+            voters, min(max((needed_by(count, o) for o in count.dropped), default=0), 2 * voters), 1
+        )
         over, under = count.votes[a, b], count.votes[b, a]
-        demand(over + under <= voters <= whole, f"the bar of {a} and {b} is longer than its numbers say")
+        demand(
+            over + under <= voters <= whole,
+            f"the bar of {a} and {b} is longer than its numbers say",
+        )
         dashed = [(voters, min(needed, whole) - voters)] if needed > voters else []
-        return (whole, voters), over, (voters - under, under), dashed, [needed] if 0 < needed <= whole else []
+        return (
+            (whole, voters),
+            over,
+            (voters - under, under),
+            dashed,
+            [needed] if 0 < needed <= whole else [],
+        )
 
     def lack(self, option):
         """What an option lacks that was dropped."""
         count, ratio = self.count, self.count.poll.ratios[option]
         kind = "missed more than a ratio" if count.poll.is_more_than else "missed a ratio"
-        kind = "missed the quorum" if count.dropped[option] == "quorum" else "missed its majority" if ratio == 1 else kind
-        return self.told(f"a motion {kind}" if self.is_motion else kind, needed=needed_by(count, option), ratio=ratio)
+        kind = (
+            "missed the quorum"
+            if count.dropped[option] == "quorum"
+            else "missed its majority"
+            if ratio == 1
+            else kind
+        )
+        return self.told(
+            f"a motion {kind}" if self.is_motion else kind,
+            needed=needed_by(count, option),
+            ratio=ratio,
+        )
 
     def for_and_against(self, option):
-        numbers = {"over": self.count.votes[option, self.count.poll.default], "under": self.count.votes[self.count.poll.default, option]}
-        return self.say("{over} yes, {under} no" if self.is_motion else "{over} for, {under} against", **numbers)
+        numbers = {
+            "over": self.count.votes[option, self.count.poll.default],
+            "under": self.count.votes[self.count.poll.default, option],
+        }
+        return self.say(
+            "{over} yes, {under} no" if self.is_motion else "{over} for, {under} against", **numbers
+        )
 
     def fate(self, option):
         """What became of an option that was not dropped and has not won, a sentence each."""
         count = self.count
         if option not in count.final:
-            if count.winner and count.votes[option, count.winner] == count.votes[count.winner, option]:
+            if (
+                count.winner
+                and count.votes[option, count.winner] == count.votes[count.winner, option]
+            ):
                 yield self.told("equal with the winner", (count.winner, option))
-            yield from (self.told("its own defeat removed", pair) for _, gone in count.rounds for pair in sorted(gone) if pair[0] == option)
+            yield from (
+                self.told("its own defeat removed", pair)
+                for _, gone in count.rounds
+                for pair in sorted(gone)
+                if pair[0] == option
+            )
             first, *more = self.chain(option)
             yield self.told("loses directly", first)
             yield from (self.told("loses by a chain", pair) for pair in more)
@@ -352,24 +571,42 @@ class Parts:
 
     def against(self, option, other):
         is_removed = any({(option, other), (other, option)} & gone for _, gone in self.count.rounds)
-        return self.told("left with a removed defeat" if is_removed else "left in a tie", (option, other))
+        return self.told(
+            "left with a removed defeat" if is_removed else "left in a tie", (option, other)
+        )
 
     def chain(self, option):
         """The shortest chain of defeats that were there when an option left the set: to the winner if one is, or else to the least number."""
         gone = [removed for kept, removed in self.count.rounds if option in kept]
-        defeats, within = sorted(self.count.defeats.difference(*gone)), set(self.count.rounds[len(gone)][0])
+        defeats, within = sorted(self.count.defeats.difference(*gone)), set(
+            self.count.rounds[len(gone)][0]
+        )
         chains, last = {option: []}, [option]
         while not within & chains.keys():
             step = {}
             for loser in last:
-                step |= {a: [*chains[loser], (a, b)] for a, b in defeats if b == loser and a not in chains.keys() | step.keys()}
+                step |= {
+                    a: [*chains[loser], (a, b)]
+                    for a, b in defeats
+                    if b == loser and a not in chains.keys() | step.keys()
+                }
             chains, last = chains | step, sorted(step)
-        return chains[self.count.winner if self.count.winner in chains else min(within & chains.keys())]
+        return chains[
+            self.count.winner if self.count.winner in chains else min(within & chains.keys())
+        ]
 
     def how_it_ended(self):
         count, is_default = self.count, self.count.winner == self.count.poll.default
-        kind = ("rejected" if is_default else "carried") if self.is_motion else "default" if is_default else "won"
-        return self.say(ENDED["tie" if count.winner is None else "casting" if count.final[1:] else kind])
+        kind = (
+            ("rejected" if is_default else "carried")
+            if self.is_motion
+            else "default"
+            if is_default
+            else "won"
+        )
+        return self.say(
+            ENDED["tie" if count.winner is None else "casting" if count.final[1:] else kind]
+        )
 
     def panel(self):
         """How it ended, the name of the winner, and the winner against each rival: no bar but that of a defeat that was set aside has
@@ -378,12 +615,23 @@ class Parts:
         head, texts = section.one("h2"), [part.text() for part in section.all("p")]
         demand_equal("how it ended", texts.pop(0), self.how_it_ended())
         if count.winner is None:
-            wanted = [self.all_names(count.final), f"{self.say('The casting vote has to choose one of them.')} {self.tied()}"]
-            demand_equal("a tie", (head.text(), list(head.within()), texts), (self.say("A tie"), [], wanted))
+            wanted = [
+                self.all_names(count.final),
+                f"{self.say('The casting vote has to choose one of them.')} {self.tied()}",
+            ]
+            demand_equal(
+                "a tie", (head.text(), list(head.within()), texts), (self.say("A tie"), [], wanted)
+            )
             return
         name = self.plain(count.winner)
-        demand_equal("the head of the result", (head.text(), [node.tag for node in head.within()]), (name, ["b", "bdi"]))
-        demand_equal("whether it is long", head.attributes.get("class"), "long" if len(name) > 60 else None)
+        demand_equal(
+            "the head of the result",
+            (head.text(), [node.tag for node in head.within()]),
+            (name, ["b", "bdi"]),
+        )
+        demand_equal(
+            "whether it is long", head.attributes.get("class"), "long" if len(name) > 60 else None
+        )
         is_grey = "default" in section.attributes["class"].split()
         demand_equal("whether the panel is grey", is_grey, count.winner == default)
         if count.final[1:]:
@@ -391,7 +639,13 @@ class Parts:
             demand_equal("a casting vote", texts, [self.left(), self.say(said)])
             return
         rows = [self.shown(entry) for entry in section.one("ul", "duels").all("li")]
-        rivals = self.failed() if count.winner == default else self.carried() if self.is_motion else self.rivals(count.winner)
+        rivals = (
+            self.failed()
+            if count.winner == default
+            else self.carried()
+            if self.is_motion
+            else self.rivals(count.winner)
+        )
         demand_equal("the rivals", rows, list(rivals))
 
     def tied(self):
@@ -405,11 +659,20 @@ class Parts:
     def left(self):
         """Among which the casting vote chose."""
         final = self.count.final
-        return self.told("the casting vote among many", options=self.all_names(final)) if final[2:] else self.against(*final)
+        return (
+            self.told("the casting vote among many", options=self.all_names(final))
+            if final[2:]
+            else self.against(*final)
+        )
 
     def shown(self, entry):
         """A row of the panel: its texts, its bar, and whether it is one of a defeat that holds."""
-        texts = [part.text() for head in entry.all("p", "duel") for part in head.inner if isinstance(part, Node)] or [entry.text()]
+        texts = [
+            part.text()
+            for head in entry.all("p", "duel")
+            for part in head.inner
+            if isinstance(part, Node)
+        ] or [entry.text()]
         texts += [part.text() for part in entry.all("p", "reason")]
         return texts, *map(bar_of, entry.all("svg", "bar")), entry.attributes.get("class")
 
@@ -418,7 +681,9 @@ class Parts:
         rows = self.nearest()
         for _, option in few(rows):
             texts = [self.name(option), self.for_and_against(option), self.lack(option)]
-            yield texts, self.bar(option, self.count.poll.default, needed_by(self.count, option)), None
+            yield texts, self.bar(
+                option, self.count.poll.default, needed_by(self.count, option)
+            ), None
         yield from self.more(rows)
 
     def carried(self):
@@ -435,9 +700,17 @@ class Parts:
             over, under, whole = votes[winner, rival], votes[rival, winner], len(count.last)
             demand(kind is None or over > under, f"the bar of {rival} contradicts the result")
             said = [self.say("{over} to {under}", over=over, under=under)]
-            said += [self.say("{equal}\u00a0equal", equal=whole - over - under)] if over + under < whole else []
+            said += (
+                [self.say("{equal}\u00a0equal", equal=whole - over - under)]
+                if over + under < whole
+                else []
+            )
             # by its name alone: a number there would be read as one of votes
-            return [self.say("against {option}", option=self.plain(rival)), " ".join(said), *more], self.bar(winner, rival), kind
+            return (
+                [self.say("against {option}", option=self.plain(rival)), " ".join(said), *more],
+                self.bar(winner, rival),
+                kind,
+            )
 
         beaten = self.beaten()
         yield from (row(rival, kind="won") for _, rival in few(beaten))
@@ -445,9 +718,16 @@ class Parts:
         why = self.say("set aside: the weakest defeat in a circle of options that beat each other")
         yield from (row(rival, why) for rival in few(aside))
         yield from self.more(aside)
-        rest = set(count.poll.options) - set(count.dropped) - {winner, *aside, *(rival for _, rival in beaten)}
+        rest = (
+            set(count.poll.options)
+            - set(count.dropped)
+            - {winner, *aside, *(rival for _, rival in beaten)}
+        )
         if rest:
-            chains = "and {number} other option by a chain of defeats", "and {number} other options by chains of defeats"
+            chains = (
+                "and {number} other option by a chain of defeats",
+                "and {number} other options by chains of defeats",
+            )
             yield [self.say_number(*chains, len(rest))], None
 
     def more(self, rows):
@@ -459,7 +739,11 @@ class Parts:
         """Those whom the winner beats by defeats that hold, the nearest first."""
         count, votes = self.count, self.count.votes
         removed = {pair for _, pairs in count.rounds for pair in pairs}
-        return sorted((votes[pair] - votes[pair[::-1]], pair[1]) for pair in count.defeats - removed if pair[0] == count.winner)
+        return sorted(
+            (votes[pair] - votes[pair[::-1]], pair[1])
+            for pair in count.defeats - removed
+            if pair[0] == count.winner
+        )
 
     def in_letter(self):
         """In the letter, below the head of a question of several: how it ended, what decides it, and the numbers of the result."""
@@ -467,22 +751,38 @@ class Parts:
         if count.winner is None:
             wanted = f"{self.told('a tie', options=self.all_names(count.final))} {self.tied()}"
         else:
-            kind, decides = ("the casting vote", [self.left()]) if count.final[1:] else ("a winner", self.deciding())
+            kind, decides = (
+                ("the casting vote", [self.left()])
+                if count.final[1:]
+                else ("a winner", self.deciding())
+            )
             wanted = " ".join([f"{self.told(kind, option=self.name(count.winner))}.", *decides])
         if self.label:
             title = self.names.get(0, count.poll.title)
-            wanted = f"{self.say('Question {label}: {title}', label=self.label, title=title)} {wanted}"
-        demand(f" {' '.join(wanted.split())} " in self.letter, f"what decides it, in the letter: {wanted} is not in {self.letter[:900]}")
+            wanted = (
+                f"{self.say('Question {label}: {title}', label=self.label, title=title)} {wanted}"
+            )
+        demand(
+            f" {' '.join(wanted.split())} " in self.letter,
+            f"what decides it, in the letter: {wanted} is not in {self.letter[:900]}",
+        )
         facts = ", ".join(self.numbers())
-        demand(f" {facts}. " in self.letter, f"the numbers, in the letter: {facts}. is not in {self.letter[:900]}")
+        demand(
+            f" {facts}. " in self.letter,
+            f"the numbers, in the letter: {facts}. is not in {self.letter[:900]}",
+        )
 
     def deciding(self):
         """The sentences on what decides it where one option is left."""
         count, winner, default = self.count, self.count.winner, self.count.poll.default
         if winner == default:
-            demand_equal("all others were dropped", set(count.dropped), set(count.poll.options) - {default})
+            demand_equal(
+                "all others were dropped", set(count.dropped), set(count.poll.options) - {default}
+            )
             nearest = self.nearest()
-            yield from (self.failure(option) for _, option in (nearest if len(nearest) < 4 else nearest[:1]))
+            yield from (
+                self.failure(option) for _, option in (nearest if len(nearest) < 4 else nearest[:1])
+            )
             if len(nearest) > 3:
                 yield self.told("many failed", number=len(nearest) - 1)
         elif self.is_motion:
@@ -493,23 +793,50 @@ class Parts:
     def failure(self, option):
         """What an option had that was dropped, and what it lacks."""
         votes = self.for_and_against(option)
-        said = f"{votes}." if self.is_motion else self.told("an option failed", option=self.name(option), votes=votes)
+        said = (
+            f"{votes}."
+            if self.is_motion
+            else self.told("an option failed", option=self.name(option), votes=votes)
+        )
         return f"{said} {self.lack(option)}"
 
     def whom_it_beats(self):
         count, winner, rows = self.count, self.count.winner, self.beaten()
         removed = [pair for _, pairs in count.rounds for pair in sorted(pairs)]
         others = set(count.poll.options) - set(count.dropped) - {winner}
-        demand(not any(b == winner for _, b in count.defeats - set(removed)), "nothing beats the winner")
-        by = [self.say("{other} by {over} to {under}", other=self.name(b), over=count.votes[winner, b], under=count.votes[b, winner]) for _, b in rows]
-        said = self.say("{number} options, most narrowly {option}", number=len(by), option=by[0]) if len(by) > 2 else self.spoken.joined(by)
+        demand(
+            not any(b == winner for _, b in count.defeats - set(removed)),
+            "nothing beats the winner",
+        )
+        by = [
+            self.say(
+                "{other} by {over} to {under}",
+                other=self.name(b),
+                over=count.votes[winner, b],
+                under=count.votes[b, winner],
+            )
+            for _, b in rows
+        ]
+        said = (
+            self.say("{number} options, most narrowly {option}", number=len(by), option=by[0])
+            if len(by) > 2
+            else self.spoken.joined(by)
+        )
         if removed:
-            yield self.told("circles" if removed[1:] else "a circle", number=len(removed), defeat=self.defeat(removed[-1]))
+            yield self.told(
+                "circles" if removed[1:] else "a circle",
+                number=len(removed),
+                defeat=self.defeat(removed[-1]),
+            )
             yield self.told("beats after circles", options=said)
             return
         if len(by) < len(others):
-            chains = reference.transitive_defeats([o for o in count.poll.options if o not in count.dropped], count.defeats)
-            demand({b for a, b in chains if a == winner} >= others, "the winner beats all by chains")
+            chains = reference.transitive_defeats(
+                [o for o in count.poll.options if o not in count.dropped], count.defeats
+            )
+            demand(
+                {b for a, b in chains if a == winner} >= others, "the winner beats all by chains"
+            )
             yield self.told("beats by chains", options=said)
             return
         kind = {1: "beats one", 2: "beats each of two"}.get(len(others), "beats each of many")
@@ -522,11 +849,27 @@ class Parts:
         self.spoken = Spoken(self.spoken.code, "{name}")
         section = sections_of(front)[f"Question-{self.label}"]
         kind = "tie" if count.winner is None else "default" if count.winner == default else None
-        demand_equal("the kind of question", section.attributes["class"].split()[1:], [kind] if kind else [])
-        demand_equal("its title", section.one("h2").text(), f"{self.label} {self.names.get(0, count.poll.title)}")
+        demand_equal(
+            "the kind of question", section.attributes["class"].split()[1:], [kind] if kind else []
+        )
+        demand_equal(
+            "its title",
+            section.one("h2").text(),
+            f"{self.label} {self.names.get(0, count.poll.title)}",
+        )
         name = self.all_names(count.final) if count.winner is None else self.plain(count.winner)
-        texts = [" ".join(section.one("p", part).text().split()) for part in ("ended", "won", "votes")]
-        demand_equal("how a question ended", texts, [self.how_it_ended(), " ".join(name.split()), " ".join(self.by_which_numbers().split())])
+        texts = [
+            " ".join(section.one("p", part).text().split()) for part in ("ended", "won", "votes")
+        ]
+        demand_equal(
+            "how a question ended",
+            texts,
+            [
+                self.how_it_ended(),
+                " ".join(name.split()),
+                " ".join(self.by_which_numbers().split()),
+            ],
+        )
         return self.met
 
     def by_which_numbers(self):
@@ -543,19 +886,36 @@ class Parts:
     def defeat(self, pair):
         a, b = pair
         numbers = {"over": self.count.votes[a, b], "under": self.count.votes[b, a]}
-        return self.say("{option} over {other} by {over} to {under}", option=self.name(a), other=self.name(b), **numbers)
+        return self.say(
+            "{option} over {other} by {over} to {under}",
+            option=self.name(a),
+            other=self.name(b),
+            **numbers,
+        )
 
     def options(self):
         count, poll = self.count, self.count.poll
         wanted = []
         for o in poll.options:
-            said = self.say("the default option") if o == poll.default else self.say("majority ratio {ratio}", ratio=poll.ratios[o])
+            said = (
+                self.say("the default option")
+                if o == poll.default
+                else self.say("majority ratio {ratio}", ratio=poll.ratios[o])
+            )
             said = f"{self.name(o)}, {said}"
             if o in self.names:
-                said += f" ({self.say('plain name, on the result sheet: {name}', name=poll.names[o])})"
+                said += (
+                    f" ({self.say('plain name, on the result sheet: {name}', name=poll.names[o])})"
+                )
             if o != poll.default:
-                numbers = {"quorum": least_of(count), "majority": majority_of(count, o), "over": count.votes[o, poll.default]}
-                needs = self.say("{quorum} are the quorum, {majority} a majority; it has {over}", **numbers)
+                numbers = {
+                    "quorum": least_of(count),
+                    "majority": majority_of(count, o),
+                    "over": count.votes[o, poll.default],
+                }
+                needs = self.say(
+                    "{quorum} are the quorum, {majority} a majority; it has {over}", **numbers
+                )
                 said = self.spoken.with_colon(said, needs)
             wanted.append(said)
         demand_equal("Options", self.entries("Options"), wanted)
@@ -575,14 +935,30 @@ class Parts:
             demand_equal(f"the kind of row {a}", row.attributes.get("class"), kind)
             cells = [(cell.text(), cell.attributes.get("class")) for cell in row.all("td")]
             beats = {b: "beats" if (a, b) in count.defeats else None for b in poll.options}
-            demand_equal(f"row {a}", cells, [("-", None) if a == b else (str(count.votes[a, b]), beats[b]) for b in poll.options])
+            demand_equal(
+                f"row {a}",
+                cells,
+                [
+                    ("-", None) if a == b else (str(count.votes[a, b]), beats[b])
+                    for b in poll.options
+                ],
+            )
 
     def defeats(self):
         wanted = list(map(self.defeat, sorted(self.count.defeats)))
         demand_equal("Defeats", self.entries("Defeats")[: len(wanted)], wanted)
-        rows = [entry for found in list(self.sections["Defeats"].all("ul")) for entry in found.all("li")][: len(wanted)]
-        numbers = [[str(self.count.votes[a, b]), str(self.count.votes[b, a])] for a, b in sorted(self.count.defeats)]
-        demand_equal("numbers in sentences are bold", [[number.text() for number in row.all("b")] for row in rows], numbers)
+        rows = [
+            entry for found in list(self.sections["Defeats"].all("ul")) for entry in found.all("li")
+        ][: len(wanted)]
+        numbers = [
+            [str(self.count.votes[a, b]), str(self.count.votes[b, a])]
+            for a, b in sorted(self.count.defeats)
+        ]
+        demand_equal(
+            "numbers in sentences are bold",
+            [[number.text() for number in row.all("b")] for row in rows],
+            numbers,
+        )
 
     def rounds(self):
         wanted = []
@@ -590,14 +966,25 @@ class Parts:
             places = {"options": self.all_names(kept)}
             if removed:
                 places["defeats"] = self.spoken.joined(map(self.defeat, sorted(removed)))
-            wanted.append(self.say("The set is {options}. Removed: {defeats}." if removed else "The set is {options}. No defeat is within it, and the count ends.", **places))
+            wanted.append(
+                self.say(
+                    "The set is {options}. Removed: {defeats}."
+                    if removed
+                    else "The set is {options}. No defeat is within it, and the count ends.",
+                    **places,
+                )
+            )
         demand_equal("Rounds", self.entries("Defeats", "ol"), wanted)
 
     def ballots(self):
         count = self.count
-        found, wanted = [(entry.attributes["id"], entry.text()) for entry in self.sections["Ballots"].all("li")], []
+        found, wanted = [
+            (entry.attributes["id"], entry.text()) for entry in self.sections["Ballots"].all("li")
+        ], []
         for voter, ranks in sorted(count.last.items()):
-            name, spelled = count.poll.roll[voter], ",".join("-" if rank is None else str(rank) for rank in ranks)
+            name, spelled = count.poll.roll[voter], ",".join(
+                "-" if rank is None else str(rank) for rank in ranks
+            )
             said = self.answer(ranks) if self.is_motion else self.ballot_words(ranks)
             wanted.append((name, self.spoken.with_colon(f"{name} {spelled}", said)))
         demand_equal("Ballots", found, wanted)
@@ -605,8 +992,12 @@ class Parts:
     def ballot_words(self, ranks):
         steps = []
         for rank in sorted({rank for rank in ranks if rank is not None}):
-            equal = self.all_names(option for option, other in enumerate(ranks, start=1) if other == rank)
-            steps.append(self.say("{options} equally", options=equal) if ranks.count(rank) > 1 else equal)
+            equal = self.all_names(
+                option for option, other in enumerate(ranks, start=1) if other == rank
+            )
+            steps.append(
+                self.say("{options} equally", options=equal) if ranks.count(rank) > 1 else equal
+            )
         if not steps:
             return self.say("no option is ranked, so nothing is preferred")
         ranked, *rest = steps
@@ -614,8 +1005,14 @@ class Parts:
             ranked = self.say("{before}, then {step}", before=ranked, step=step)
         if None not in ranks:
             return ranked
-        unranked = self.all_names(option for option, rank in enumerate(ranks, start=1) if rank is None)
-        return self.say("{ranked}; not ranked, and so behind all others: {unranked}", ranked=ranked, unranked=unranked)
+        unranked = self.all_names(
+            option for option, rank in enumerate(ranks, start=1) if rank is None
+        )
+        return self.say(
+            "{ranked}; not ranked, and so behind all others: {unranked}",
+            ranked=ranked,
+            unranked=unranked,
+        )
 
     def answer(self, ranks):
         """What a ballot says to a motion: a word, and the name of what it is for, unless that begins with the word."""
@@ -625,7 +1022,11 @@ class Parts:
         option = 1 if one < other else 2
         word = ANSWERS[self.spoken.code][option - 1]
         first = re.match(r"\W*(\w*)", self.plain(option))[1]
-        return word if first.lower() == word.lower() else self.spoken.with_colon(word, self.plain(option))
+        return (
+            word
+            if first.lower() == word.lower()
+            else self.spoken.with_colon(word, self.plain(option))
+        )
 
     def who_voted(self):
         """The electors in the order of the roll: who has a ballot that counts, and who has none and so a place here."""
@@ -633,10 +1034,24 @@ class Parts:
         voted = [name for voter, name in enumerate(count.poll.roll) if voter in count.last]
         absent = [name for voter, name in enumerate(count.poll.roll) if voter not in count.last]
         heads = [head.text() for head in section.all("h4")]
-        wanted = [self.say("Voted ({number})", number=len(voted)), self.say("No ballot that counts ({number})", number=len(absent))]
+        wanted = [
+            self.say("Voted ({number})", number=len(voted)),
+            self.say("No ballot that counts ({number})", number=len(absent)),
+        ]
         demand_equal("who voted, heads", heads, wanted)
-        lists = [[(entry.text(), entry.attributes.get("id")) for entry in names.all("li")] for names in section.all("ul", "roll")]
-        demand_equal("who voted", lists, [names for names in ([(name, None) for name in voted], [(name, name) for name in absent]) if names])
+        lists = [
+            [(entry.text(), entry.attributes.get("id")) for entry in names.all("li")]
+            for names in section.all("ul", "roll")
+        ]
+        demand_equal(
+            "who voted",
+            lists,
+            [
+                names
+                for names in ([(name, None) for name in voted], [(name, name) for name in absent])
+                if names
+            ],
+        )
         one = "{number} elector of {electors} has a ballot that counts, which is {share}."
         many = "{number} electors of {electors} have a ballot that counts, which is {share}."
         part = share(len(voted), len(count.poll.roll), self.spoken)
@@ -651,7 +1066,10 @@ def bar_of(svg):
     widths = int(svg.attributes["viewbox"].split()[2]), int(ground.attributes["width"])
     demand_equal("a reader has the numbers of a bar as text", svg.attributes["aria-hidden"], "true")
     marks = [int(re.match(r"M(\d+) ", mark.attributes["d"])[1]) for mark in svg.all("path")]
-    from_to = [(int(part.attributes["x"]), int(part.attributes["width"])) for part in (under, *svg.all("rect", "lacking"))]
+    from_to = [
+        (int(part.attributes["x"]), int(part.attributes["width"]))
+        for part in (under, *svg.all("rect", "lacking"))
+    ]
     return widths, int(over.attributes["width"]), from_to[0], from_to[1:], marks
 
 
@@ -686,4 +1104,8 @@ def share(voters, electors, spoken):
     if 0 < voters < electors:
         rounded = min(max(rounded, tenth), decimal.Decimal("99.9"))
     whole, tenths = str(rounded).split(".")
-    return spoken.say("{whole} %", whole=whole) if tenths == "0" else spoken.say("{whole}.{tenths} %", whole=whole, tenths=tenths)
+    return (
+        spoken.say("{whole} %", whole=whole)
+        if tenths == "0"
+        else spoken.say("{whole}.{tenths} %", whole=whole, tenths=tenths)
+    )

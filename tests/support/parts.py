@@ -42,12 +42,19 @@ def free_memory() -> int:
 def kit() -> pathlib.Path:
     """The folder of the kit. Ends the program if it is missing."""
     debian.demand_kit()
-    return pathlib.Path(subprocess.run(["rt", "doc"], capture_output=True, text=True, check=True).stdout.strip()).parent
+    return pathlib.Path(
+        subprocess.run(["rt", "doc"], capture_output=True, text=True, check=True).stdout.strip()
+    ).parent
 
 
 def environment_of_try() -> dict[str, str]:
     """The environment in which tests run `rt try`: without hints on names, and with half of the processor."""
-    return {**os.environ, "PATH": os.pathsep.join([str(ROOT / "tests" / "support" / "without-hint"), os.environ["PATH"]])}
+    return {
+        **os.environ,
+        "PATH": os.pathsep.join(
+            [str(ROOT / "tests" / "support" / "without-hint"), os.environ["PATH"]]
+        ),
+    }
 
 
 @dataclasses.dataclass(frozen=True)
@@ -59,7 +66,9 @@ class Count:
     skipped: collections.Counter[str] = dataclasses.field(default_factory=collections.Counter)
 
     def __add__(self, other: "Count") -> "Count":
-        return Count(self.passed + other.passed, self.failed + other.failed, self.skipped + other.skipped)
+        return Count(
+            self.passed + other.passed, self.failed + other.failed, self.skipped + other.skipped
+        )
 
     def __str__(self) -> str:
         """If something was skipped, a line that says why; then 'N passed, M failed'."""
@@ -72,14 +81,23 @@ class Part:
     """A running part; its output and its seconds go to files of its own. Python waits for it: a shell that asks for the status of an id,
     long after that process has ended, may get the status of another one."""
 
-    def __init__(self, words: list[str], room: pathlib.Path, cwd: pathlib.Path = ROOT, counted: re.Pattern[str] = COUNT, **how: object) -> None:
+    def __init__(
+        self,
+        words: list[str],
+        room: pathlib.Path,
+        cwd: pathlib.Path = ROOT,
+        counted: re.Pattern[str] = COUNT,
+        **how: object,
+    ) -> None:
         self.name = " ".join([*words, *(["in", cwd.name] if cwd.parent.name == "crates" else [])])
         self.counted = counted
         key = re.sub(r"\W+", "-", self.name).strip("-")
         self.told, self.seconds = room / f"{key}.told", room / f"{key}.times"
         with open(self.told, "wb") as told:
             output = {"stdout": told, "stderr": subprocess.STDOUT, **how}
-            self.process = subprocess.Popen([ROOT / "tests" / "times", self.seconds, *words], cwd=cwd, **output)
+            self.process = subprocess.Popen(
+                [ROOT / "tests" / "times", self.seconds, *words], cwd=cwd, **output
+            )
 
     def text(self) -> str:
         return self.told.read_text(encoding="utf-8", errors="replace")
@@ -87,8 +105,16 @@ class Part:
     def count(self) -> Count:
         """Its counts, once it has ended. If it ended without a count of its failures, that is a failure too."""
         status, lines = self.process.wait(), self.text().splitlines()
-        counts = [Count(int(found[1]), int(found[2])) for line in lines if (found := self.counted.fullmatch(line))]
-        skipped = [Count(0, 0, collections.Counter({found[1]: int(found[2] or 1)})) for line in lines if (found := SKIPPED.fullmatch(line))]
+        counts = [
+            Count(int(found[1]), int(found[2]))
+            for line in lines
+            if (found := self.counted.fullmatch(line))
+        ]
+        skipped = [
+            Count(0, 0, collections.Counter({found[1]: int(found[2] or 1)}))
+            for line in lines
+            if (found := SKIPPED.fullmatch(line))
+        ]
         whole = sum([*counts, *skipped], Count(0, 0))
         return whole if whole.failed or (counts and status == 0) else whole + Count(0, 1)
 
@@ -96,7 +122,9 @@ class Part:
         """Once it has ended, its lines of failures; of one that failed without any, how it ended."""
         if not self.count().failed:
             return []
-        return [line[:WIDTH] for line in self.text().splitlines() if FAILED.match(line)] or [f"it ended with status {self.process.returncode}"]
+        return [line[:WIDTH] for line in self.text().splitlines() if FAILED.match(line)] or [
+            f"it ended with status {self.process.returncode}"
+        ]
 
 
 def tell(parts: Iterable[Part]) -> Count:
@@ -104,10 +132,20 @@ def tell(parts: Iterable[Part]) -> Count:
     parts, counts = list(parts), []
     for part in parts:
         counts.append(part.count())
-        print(f"== {part.name}", *[line for line in part.text().splitlines() if not SKIPPED.fullmatch(line)], sep="\n", flush=True)
+        print(
+            f"== {part.name}",
+            *[line for line in part.text().splitlines() if not SKIPPED.fullmatch(line)],
+            sep="\n",
+            flush=True,
+        )
     print("== seconds, and those of processor")
     for part in parts:
-        print(part.seconds.read_text().rstrip("\n") if part.seconds.exists() else f"{part.name}: it was killed", flush=True)
+        print(
+            part.seconds.read_text().rstrip("\n")
+            if part.seconds.exists()
+            else f"{part.name}: it was killed",
+            flush=True,
+        )
     return sum(counts, Count(0, 0))
 
 

@@ -25,33 +25,80 @@ class Keys:
         for name in ("ada", "ben", "cleo", "dan", "eve", "fay", "mallory"):
             self.make(name, EXPIRY if name == "dan" else "never")
         # ada signs with a subkey
-        self.gpg("--faked-system-time", "20240102T000000!", "--quick-add-key", self.fingerprints["ada"], "ed25519", "sign", "never")
+        self.gpg(
+            "--faked-system-time",
+            "20240102T000000!",
+            "--quick-add-key",
+            self.fingerprints["ada"],
+            "ed25519",
+            "sign",
+            "never",
+        )
 
     def end(self) -> None:
         subprocess.run(["gpgconf", "--homedir", self.home, "--kill", "all"], capture_output=True)
         shutil.rmtree(self.home, ignore_errors=True)
 
     def gpg(self, *words: object, given: bytes = b"") -> bytes:
-        command = ["gpg", "--homedir", self.home, "--batch", "--quiet", "--yes", "--no-tty", "--passphrase", "", *words]
-        ended = subprocess.run([str(word) for word in command], input=given, capture_output=True, env={**os.environ, "LC_ALL": "C"})
+        command = [
+            "gpg",
+            "--homedir",
+            self.home,
+            "--batch",
+            "--quiet",
+            "--yes",
+            "--no-tty",
+            "--passphrase",
+            "",
+            *words,
+        ]
+        ended = subprocess.run(
+            [str(word) for word in command],
+            input=given,
+            capture_output=True,
+            env={**os.environ, "LC_ALL": "C"},
+        )
         if ended.returncode:
             raise AssertionError(f"gpg {words}: {ended.stderr.decode('utf-8', 'replace')}")
         return ended.stdout
 
     def make(self, name: str, expiry: str) -> None:
-        self.gpg("--faked-system-time", BORN, "--quick-gen-key", f"{name} <{name}@club.example>", "ed25519", "sign", expiry)
+        self.gpg(
+            "--faked-system-time",
+            BORN,
+            "--quick-gen-key",
+            f"{name} <{name}@club.example>",
+            "ed25519",
+            "sign",
+            expiry,
+        )
         listed = self.gpg("--with-colons", "--list-keys", f"{name}@club.example").decode()
         self.fingerprints[name] = re.search(r"(?m)^fpr:+([0-9A-F]{40}):", listed)[1]
 
     def ring(self, *names: str, armor: bool = False) -> bytes:
-        return self.gpg(*(["--armor"] if armor else []), "--export", *(self.fingerprints[name] for name in names))
+        return self.gpg(
+            *(["--armor"] if armor else []),
+            "--export",
+            *(self.fingerprints[name] for name in names),
+        )
 
     def revoked(self, name: str) -> bytes:
-        said = (self.home / "openpgp-revocs.d" / f"{self.fingerprints[name]}.rev").read_text().replace(":-----BEGIN", "-----BEGIN")
+        said = (
+            (self.home / "openpgp-revocs.d" / f"{self.fingerprints[name]}.rev")
+            .read_text()
+            .replace(":-----BEGIN", "-----BEGIN")
+        )
         with tempfile.TemporaryDirectory(prefix="pgp-") as other:
             for data in (self.ring(name), said.encode()):
-                subprocess.run(["gpg", "--homedir", other, "--batch", "--quiet", "--import"], input=data, capture_output=True, check=True)
-            ring = subprocess.run(["gpg", "--homedir", other, "--batch", "--export"], capture_output=True, check=True).stdout
+                subprocess.run(
+                    ["gpg", "--homedir", other, "--batch", "--quiet", "--import"],
+                    input=data,
+                    capture_output=True,
+                    check=True,
+                )
+            ring = subprocess.run(
+                ["gpg", "--homedir", other, "--batch", "--export"], capture_output=True, check=True
+            ).stdout
             subprocess.run(["gpgconf", "--homedir", other, "--kill", "all"], capture_output=True)
         return ring
 
@@ -70,8 +117,16 @@ class Keys:
 
 def mime_of(part: bytes, signature: bytes, more: bytes = b"") -> tuple[str, bytes]:
     """The kind and the body of a letter that has a part and a signature."""
-    behind = b"\n--sig\nContent-Type: application/pgp-signature; name=signature.asc\n\n" + signature + more + b"\n--sig--\n"
-    return 'multipart/signed; micalg=pgp-sha256; protocol="application/pgp-signature"; boundary=sig', b"--sig\n" + part + behind
+    behind = (
+        b"\n--sig\nContent-Type: application/pgp-signature; name=signature.asc\n\n"
+        + signature
+        + more
+        + b"\n--sig--\n"
+    )
+    return (
+        'multipart/signed; micalg=pgp-sha256; protocol="application/pgp-signature"; boundary=sig',
+        b"--sig\n" + part + behind,
+    )
 
 
 @functools.cache

@@ -42,7 +42,11 @@ def missing(file: pathlib.Path = PROGRAM) -> str | None:
     """If there is no program: where it was looked for, and how to make one."""
     if file.is_file() and os.access(file, os.X_OK):
         return None
-    looked = "as DEBVOTE says" if os.environ.get("DEBVOTE") else "where make build makes it, with its proof, in 20 minutes"
+    looked = (
+        "as DEBVOTE says"
+        if os.environ.get("DEBVOTE")
+        else "where make build makes it, with its proof, in 20 minutes"
+    )
     quick = "tests/unproved /tmp/checked /tmp/debvote makes one without proof in two minutes; then set DEBVOTE=/tmp/debvote"
     return f"there is no program that can be run at {file}, {looked}. {quick}"
 

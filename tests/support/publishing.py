@@ -40,7 +40,12 @@ FILES = ["--poll", "poll.toml", "--ballots", "ballots"]
 
 
 def run(words, path=PATH, **how):
-    given = {"capture_output": True, "text": True, "timeout": SECONDS, "env": {**os.environ, "PATH": path}}
+    given = {
+        "capture_output": True,
+        "text": True,
+        "timeout": SECONDS,
+        "env": {**os.environ, "PATH": path},
+    }
     ended = forks.run(list(map(str, words)), **given, **how)
     return ended.stdout, ended.stderr, ended.returncode
 
@@ -53,12 +58,16 @@ def publish(room, *words, **how):
 
 def publish_files(poll, ballots, folder, *more, **how):
     """The output of debvote-publish for these files, and its status."""
-    return run([sys.executable, PUBLISH, "--poll", poll, "--ballots", ballots, *more, folder], **how)
+    return run(
+        [sys.executable, PUBLISH, "--poll", poll, "--ballots", ballots, *more, folder], **how
+    )
 
 
 def room_with(folder, example):
     """A folder with the two files of an example."""
-    return plain_room(folder, *((EXAMPLES / example / name).read_text() for name in ("poll.toml", "ballots")))
+    return plain_room(
+        folder, *((EXAMPLES / example / name).read_text() for name in ("poll.toml", "ballots"))
+    )
 
 
 def plain_room(folder, poll=PLAIN_POLL, ballots=PLAIN_BALLOTS):
@@ -70,13 +79,20 @@ def plain_room(folder, poll=PLAIN_POLL, ballots=PLAIN_BALLOTS):
 
 def plain(values):
     """A poll in plain form."""
-    return "".join(f"{key} = {json.dumps(value, ensure_ascii=False)}\n" for key, value in values.items()).encode()
+    return "".join(
+        f"{key} = {json.dumps(value, ensure_ascii=False)}\n" for key, value in values.items()
+    ).encode()
 
 
 def publish_questions(target, polls, ballots, language, *, motions, castings):
     """Publishes several questions, whose polls are in plain form, without pictures, and returns the letter of the result."""
-    questions = Questions({label: read_plain(poll, motion=label in motions) for label, poll in polls.items()}, "Several questions")
-    vote = VoteFacts(questions, language=language_of(language), words=PublishedWords(castings=castings))
+    questions = Questions(
+        {label: read_plain(poll, motion=label in motions) for label, poll in polls.items()},
+        "Several questions",
+    )
+    vote = VoteFacts(
+        questions, language=language_of(language), words=PublishedWords(castings=castings)
+    )
     facts = [QuestionFacts(vote, label, ballots[label]) for label in polls]
     without_graphviz = unittest.mock.patch.dict(os.environ, {"PATH": str(PROGRAM.parent)})
     with folder.beside(target) as new, contextlib.redirect_stderr(io.StringIO()), without_graphviz:
@@ -90,7 +106,9 @@ class PublishTest(expecting.Expecting):
 
     @classmethod
     def setUpClass(cls):
-        cls.scratch = pathlib.Path(cls.enterClassContext(tempfile.TemporaryDirectory(prefix="debvote-publish-")))
+        cls.scratch = pathlib.Path(
+            cls.enterClassContext(tempfile.TemporaryDirectory(prefix="debvote-publish-"))
+        )
 
 
 @at_browser.NEEDS_BROWSER
@@ -117,11 +135,16 @@ class ResultPageTest(PublishTest):
         """A room with the result of the files of another one, with what an election adds to them."""
         programs = PROGRAM.parent
         files = {"poll": str(room / "poll.toml"), "ballots": str(room / "ballots")}
-        facts = command_line.facts_of(command_line.Arguments(**files, casting=None, desks=1, language="en", target="result"), programs)
+        facts = command_line.facts_of(
+            command_line.Arguments(**files, casting=None, desks=1, language="en", target="result"),
+            programs,
+        )
         of_vote = {key: changes.pop(key) for key in [*changes] if key in facts.vote._fields}
         vote = facts.vote._replace(**of_vote)
         made_room = plain_room(self.scratch / name)
         with folder.beside(made_room / "result") as new:
-            folder.filled(new.folder, vote, [facts._replace(vote=vote, **changes)], programs, is_forced=True)
+            folder.filled(
+                new.folder, vote, [facts._replace(vote=vote, **changes)], programs, is_forced=True
+            )
             new.take_place(made_room / "result")
         return made_room

@@ -64,7 +64,10 @@ class QuestionsTest(LettersTest):
         head, *parts = re.split(r"(?m)^Question ([A-Z])\n", found.output)
         sheets = dict(zip(parts[::2], parts[1::2], strict=True))
         titles = {label: tomllib.loads(poll)["title"] for label, poll in self.polls.items()}
-        lines = [f"{label} ({titles[label]}): {sheet.splitlines()[-1]}\n" for label, sheet in sheets.items()]
+        lines = [
+            f"{label} ({titles[label]}): {sheet.splitlines()[-1]}\n"
+            for label, sheet in sheets.items()
+        ]
         self.assertEqual((head, [*sheets]), ("".join(lines), [*self.polls]), found)
         self.assertEqual(self.election("count").output, head)
         return sheets
@@ -73,7 +76,10 @@ class QuestionsTest(LettersTest):
         """The sheet of an election of its own with the poll of a question and these lines, by the second program."""
         folder = self.scratch / "single"
         folder.mkdir(exist_ok=True)
-        files = {"poll": poll or self.read(f"call/{label}/poll.toml"), "ballots": "".join(f"{line}\n" for line in lines).encode()}
+        files = {
+            "poll": poll or self.read(f"call/{label}/poll.toml"),
+            "ballots": "".join(f"{line}\n" for line in lines).encode(),
+        }
         for name, data in files.items():
             (folder / name).write_bytes(data)
         words = [REFERENCE, "count", "--poll", folder / "poll", "--ballots", folder / "ballots"]
@@ -88,8 +94,14 @@ def one_line(name: str, answers: Answers) -> str:
 def in_a_letter(folder: pathlib.Path, answers: Answers, code: str = "en") -> str:
     """The same in words, as the letter of the result has it in a language, but for its line ends."""
     language = language_of(code)
-    said = Election(folder, PROGRAM.parent).questions.in_words(language)(one_line("", answers).strip())
-    lines = [language.say("Your own ballot in words:"), *said.split("\n"), language.say("The page shows it at:")]
+    said = Election(folder, PROGRAM.parent).questions.in_words(language)(
+        one_line("", answers).strip()
+    )
+    lines = [
+        language.say("Your own ballot in words:"),
+        *said.split("\n"),
+        language.say("The page shows it at:"),
+    ]
     return " ".join(lines)
 
 
@@ -144,7 +156,10 @@ def tally_in(sheet: str) -> Tally:
     """What a sheet says of the same."""
     table = re.search(r"(?m)^Votes:\n.*\n((?: .*\n)+)", sheet)
     assert table is not None, sheet
-    rows = [[int(word) if word != "-" else 0 for word in line.split()[1:]] for line in table[1].splitlines()]
+    rows = [
+        [int(word) if word != "-" else 0 for word in line.split()[1:]]
+        for line in table[1].splitlines()
+    ]
     numbers = range(1, len(rows) + 1)
     last = sheet.splitlines()[-1]
     left = re.findall(r"\d+", last) if last.startswith("Tie") else [last.split()[1]]

@@ -54,13 +54,25 @@ class Count:
 
     @property
     def winner(self):
-        return self.final[0] if len(self.final) == 1 else self.casting if self.casting in self.final else None
+        return (
+            self.final[0]
+            if len(self.final) == 1
+            else self.casting
+            if self.casting in self.final
+            else None
+        )
 
     def ended(self, option):
         """How it ended for an option, in a word: what it was dropped for, `won`, `left` in a tie or `lost`."""
         if option in self.dropped:
             return self.dropped[option]
-        return "won" if option == self.winner else "left" if self.winner is None and option in self.final else "lost"
+        return (
+            "won"
+            if option == self.winner
+            else "left"
+            if self.winner is None and option in self.final
+            else "lost"
+        )
 
 
 def count_of(poll_data, ballots, casting_name):
@@ -78,25 +90,45 @@ def document_of(count, version, names):
     """The document of result.json, by docs/FORMATS.md."""
     poll, votes = count.poll, count.votes
     return {
-        "format": "debvote result 1", "program": version, "title": poll.title, "label": names.get(0, poll.title), "electors": len(poll.roll),
-        "quorum": {"multiple": poll.quorum, "votes": pages.least_of(count)}, "wording": "more_than" if poll.is_more_than else "at_least",
-        "lines": len(count.lines), "last_envelope": poll.last_envelope, "valid": count.valid, "refused": len(count.lines) - count.valid,
+        "format": "debvote result 1",
+        "program": version,
+        "title": poll.title,
+        "label": names.get(0, poll.title),
+        "electors": len(poll.roll),
+        "quorum": {"multiple": poll.quorum, "votes": pages.least_of(count)},
+        "wording": "more_than" if poll.is_more_than else "at_least",
+        "lines": len(count.lines),
+        "last_envelope": poll.last_envelope,
+        "valid": count.valid,
+        "refused": len(count.lines) - count.valid,
         "voters": len(count.last),
         "options": [
             {
-                "number": o, "name": name, "label": names.get(o, name), "is_default": o == poll.default, "ratio": poll.ratios.get(o),
+                "number": o,
+                "name": name,
+                "label": names.get(o, name),
+                "is_default": o == poll.default,
+                "ratio": poll.ratios.get(o),
                 "dropped": count.dropped.get(o),
             }
             for o, name in poll.names.items()
         ],
         "votes": [[None if a == b else votes[a, b] for b in poll.options] for a in poll.options],
-        "defeats": [{"over": a, "under": b, "votes": votes[a, b], "against": votes[b, a]} for a, b in sorted(count.defeats)],
-        "rounds": [{"set": final, "removed": [{"over": a, "under": b} for a, b in sorted(removed)]} for final, removed in count.rounds],
+        "defeats": [
+            {"over": a, "under": b, "votes": votes[a, b], "against": votes[b, a]}
+            for a, b in sorted(count.defeats)
+        ],
+        "rounds": [
+            {"set": final, "removed": [{"over": a, "under": b} for a, b in sorted(removed)]}
+            for final, removed in count.rounds
+        ],
         "outcome": {
-            "winner": count.winner, "is_by_casting_vote": count.winner is not None and len(count.final) > 1, "left": count.final,
+            "winner": count.winner,
+            "is_by_casting_vote": count.winner is not None and len(count.final) > 1,
+            "left": count.final,
             "casting_vote_outside": count.casting if count.winner is None else None,
         },
-    }  # fmt: skip
+    }
 
 
 def table_of(count):
@@ -115,19 +147,37 @@ def try_refused(page, count, spoken):
     for entry in pages.sections_of(page)["Refused-lines"].all("li"):
         said, head = entry.text(), entry.one("b").text()
         numbers = list(map(int, re.findall(r"\d+", head)))
-        one, many = spoken.say("line {number}", number=numbers[0]), spoken.say("lines {first} to {last}", first=numbers[0], last=numbers[-1])
+        one, many = spoken.say("line {number}", number=numbers[0]), spoken.say(
+            "lines {first} to {last}", first=numbers[0], last=numbers[-1]
+        )
         demand(head == (many if numbers[1:] else one), f"the number of a refused line: {head}")
         for number in range(numbers[0], numbers[-1] + 1):
-            before = spoken.with_colon(head, spoken.with_colon(line_shown(count.lines[number - 1], spoken), ""))
+            before = spoken.with_colon(
+                head, spoken.with_colon(line_shown(count.lines[number - 1], spoken), "")
+            )
             demand(said.startswith(before), f"the text of line {number}: {said}")
             cause = said.removeprefix(before)
             # in other languages what debvote says stands in brackets
-            cause = cause if spoken.code == "en" else re.fullmatch(r"(?:.+? )?\(((?:late|bad [a-z ]+): .*)\)", cause, re.DOTALL)[1]
+            cause = (
+                cause
+                if spoken.code == "en"
+                else re.fullmatch(r"(?:.+? )?\(((?:late|bad [a-z ]+): .*)\)", cause, re.DOTALL)[1]
+            )
             # a remark about the line is open
             found.append(reference_checks.promised(count.poll, f"ballots:{number}: {cause}"))
-    wanted = list(reference_checks.refusals(count.poll, count.lines, count.replies, reference_checks.is_other_file(b"\n".join(count.lines))))
+    wanted = list(
+        reference_checks.refusals(
+            count.poll,
+            count.lines,
+            count.replies,
+            reference_checks.is_other_file(b"\n".join(count.lines)),
+        )
+    )
     demand(found == wanted, f"refused lines {found[:3]} in place of {wanted[:3]}")
-    demand((spoken.say("No line was refused, and none came late.") in part) == (not wanted), "that no line was refused")
+    demand(
+        (spoken.say("No line was refused, and none came late.") in part) == (not wanted),
+        "that no line was refused",
+    )
 
 
 def line_shown(line, spoken):
@@ -135,23 +185,41 @@ def line_shown(line, spoken):
     seen = "".join(sign if sign.isprintable() else f"\\u{ord(sign):04X}" for sign in text[:100])
     if not line:
         return spoken.say("(an empty line)")
-    return spoken.say("{text} (the first {shown} of {number} characters)", text=seen, shown=100, number=len(text)) if len(text) > 100 else seen
+    return (
+        spoken.say(
+            "{text} (the first {shown} of {number} characters)",
+            text=seen,
+            shown=100,
+            number=len(text),
+        )
+        if len(text) > 100
+        else seen
+    )
 
 
 def names_of(seed, count):
     """Names that people read for title (0) and options, in every second poll; those that differ from the plain ones."""
     if seed % 2:
         return {}
-    return {number: f"Größe «{number}» & <i>" for number in (0, *count.poll.options) if (seed + number) % 3 == 0}
+    return {
+        number: f"Größe «{number}» & <i>"
+        for number in (0, *count.poll.options)
+        if (seed + number) % 3 == 0
+    }
 
 
 def with_names(poll, count, names):
     """The poll with these names, whose keys come first."""
     if not names:
         return poll
-    keys = {"shown_title": names.get(0, count.poll.title), "shown_options": [names.get(number, name) for number, name in count.poll.names.items()]}
+    keys = {
+        "shown_title": names.get(0, count.poll.title),
+        "shown_options": [names.get(number, name) for number, name in count.poll.names.items()],
+    }
     mark = b"\xef\xbb\xbf" if poll.startswith(b"\xef\xbb\xbf") else b""
-    said = "".join(f"{key} = {json.dumps(value, ensure_ascii=False)}\n" for key, value in keys.items())
+    said = "".join(
+        f"{key} = {json.dumps(value, ensure_ascii=False)}\n" for key, value in keys.items()
+    )
     return mark + said.encode() + poll.removeprefix(mark)
 
 
@@ -161,7 +229,11 @@ def meet(seed):
     election = random_polls().election_of(seed)
     election = election._replace(ballots=b"") if seed % 27 == 0 else election
     try:
-        casting = election.casting if election.casting in reference.poll_in(election.poll).names.values() else None
+        casting = (
+            election.casting
+            if election.casting in reference.poll_in(election.poll).names.values()
+            else None
+        )
         count = count_of(election.poll, election.ballots, casting)
     except reference.Fault:
         return None, None
@@ -170,25 +242,44 @@ def meet(seed):
         try:
             return try_folder(pathlib.Path(name), seed, election, count, casting, spoken), None
         except (Wrong, KeyError, TypeError, ValueError, AttributeError, OSError) as wrong:
-            return collections.Counter(), f"seed {seed}, in {spoken.code}: {type(wrong).__name__}: {wrong}"
+            return (
+                collections.Counter(),
+                f"seed {seed}, in {spoken.code}: {type(wrong).__name__}: {wrong}",
+            )
 
 
 def try_folder(room, seed, election, count, casting, spoken):
     names = names_of(seed, count)
     (room / "poll.toml").write_bytes(with_names(election.poll, count, names))
     (room / "ballots").write_bytes(election.ballots)
-    words = ["--poll", "poll.toml", "--ballots", "ballots", *([] if casting is None else [f"--casting={casting}"])]
+    words = [
+        "--poll",
+        "poll.toml",
+        "--ballots",
+        "ballots",
+        *([] if casting is None else [f"--casting={casting}"]),
+    ]
     folders = [room / "one", *([room / "two"] if seed % 10 == 0 else [])]
     for folder in folders:
         # no Graphviz: pictures are tested elsewhere
-        _, faults, status = publishing.publish(room, *words, "--language", spoken.code, folder.name, path=str(PROGRAM.parent))
+        _, faults, status = publishing.publish(
+            room, *words, "--language", spoken.code, folder.name, path=str(PROGRAM.parent)
+        )
         if casting is not None and count.casting not in count.final:
-            demand((status, folder.exists()) == (8, False), f"status {status} in place of 8: {faults}")
+            demand(
+                (status, folder.exists()) == (8, False), f"status {status} in place of 8: {faults}"
+            )
             left = " and ".join(f"{option} {count.poll.names[option]}" for option in count.final)
-            demand(f"which is not left; left {'are' if count.final[1:] else 'is'} {left};" in faults, faults)
+            demand(
+                f"which is not left; left {'are' if count.final[1:] else 'is'} {left};" in faults,
+                faults,
+            )
             return collections.Counter()
         if "write the poll as TOML 1.0" in faults:
-            demand((status, is_toml_1_0(room / "poll.toml")) == (3, False), "a poll that is TOML 1.0 was refused")
+            demand(
+                (status, is_toml_1_0(room / "poll.toml")) == (3, False),
+                "a poll that is TOML 1.0 was refused",
+            )
             return None
         wanted = 1 if count.winner is None else 0
         demand(status == wanted, f"status {status} in place of {wanted}: {faults}")
@@ -197,31 +288,60 @@ def try_folder(room, seed, election, count, casting, spoken):
     sheet, _ = reference.count(election.poll, election.ballots, casting)
     demand(contents[0]["sheet.txt"] == sheet.encode(), "sheet.txt")
     if seed % 5 == 0:
-        words = [sys.executable, "recount.py", "count", "--poll", "poll.toml", "--ballots", "ballots.txt", *words[4:]]
+        words = [
+            sys.executable,
+            "recount.py",
+            "count",
+            "--poll",
+            "poll.toml",
+            "--ballots",
+            "ballots.txt",
+            *words[4:],
+        ]
         demand(publishing.run(words, cwd=room / "one")[:2] == (sheet, ""), "recount.py")
-    return try_made(room / "one", count, names, spoken) + try_beside_a_motion(room, seed, count, names, spoken)
+    return try_made(room / "one", count, names, spoken) + try_beside_a_motion(
+        room, seed, count, names, spoken
+    )
 
 
 def try_beside_a_motion(room, seed, count, names, spoken):
     """The page of all questions, and the letter, where the poll of a folder is one of them, and the other one is a motion; and the page
     of that motion. Returns the kinds of sentences found."""
     rng, values = random.Random(seed), tomllib.loads((room / "one" / "poll.toml").read_text())
-    keys = {"title": "The fee", "options": ["Raise it"], "ratios": [rng.choice([1, 1, 2, 4])], "default": "As it is", "quorum": rng.choice([0, 1, 1, 3])}
+    keys = {
+        "title": "The fee",
+        "options": ["Raise it"],
+        "ratios": [rng.choice([1, 1, 2, 4])],
+        "default": "As it is",
+        "quorum": rng.choice([0, 1, 1, 3]),
+    }
     keys |= {"wording": "more_than"} if rng.random() < 0.4 else {}
-    keys |= {"roll": values["roll"]} | ({"shown_options": ["Yes, raise it", "Nein, wie bisher"]} if rng.random() < 0.4 else {})
+    keys |= {"roll": values["roll"]} | (
+        {"shown_options": ["Yes, raise it", "Nein, wie bisher"]} if rng.random() < 0.4 else {}
+    )
     likings = [rng.choice(["1,2", "2,1", "1,1", "-,-", "-,9"]) for _ in range(3)]
-    motion = "".join(f"{voter} {rng.choice(likings)}\n" for voter in values["roll"] if rng.random() < 0.8).encode() if seed % 19 else b""
+    motion = (
+        "".join(
+            f"{voter} {rng.choice(likings)}\n" for voter in values["roll"] if rng.random() < 0.8
+        ).encode()
+        if seed % 19
+        else b""
+    )
     polls = {"A": (room / "one" / "poll.toml").read_bytes(), "B": publishing.plain(keys)}
     ballots = {"A": (room / "one" / "ballots.txt").read_bytes(), "B": motion}
     castings = {} if count.casting is None else {"A": count.poll.names[count.casting]}
-    letter = publishing.publish_questions(room / "both", polls, ballots, spoken.code, motions=["B"], castings=castings)
+    letter = publishing.publish_questions(
+        room / "both", polls, ballots, spoken.code, motions=["B"], castings=castings
+    )
     counts = {"A": count, "B": count_of(polls["B"], motion, None)}
     shown = {"A": names, "B": dict(enumerate(keys.get("shown_options", []), start=1))}
     met = collections.Counter()
     front = (room / "both" / "index.html").read_text()
     for label, its in counts.items():
         page = (room / "both" / label / "index.html").read_text()
-        found = pages.Parts(page, letter, its, shown[label], spoken, label=label, is_motion=label == "B")
+        found = pages.Parts(
+            page, letter, its, shown[label], spoken, label=label, is_motion=label == "B"
+        )
         found.check()
         met += found.above(front)
     return met
@@ -235,17 +355,27 @@ def is_toml_1_0(file):
 
 def try_made(folder, count, names, spoken):
     """Compares data, names, refused lines and sentences of a folder. Returns the kinds of sentences found."""
-    data, table, page, letter = ((folder / name).read_text() for name in ("result.json", "votes.csv", "index.html", "letter.txt"))
+    data, table, page, letter = (
+        (folder / name).read_text()
+        for name in ("result.json", "votes.csv", "index.html", "letter.txt")
+    )
     document = document_of(count, publishing.run([PROGRAM, "--version"])[0].strip(), names)
     demand(json.loads(data) == document, f"result.json: {data} in place of {document}")
     demand(list(json.loads(data)) == list(document), "the order of its keys")
     demand(list(csv.reader(io.StringIO(table))) == list(table_of(count)), f"votes.csv: {table}")
     for number, text in names.items():
-        shown = f"<bdi>{pages.escaped(text)}</bdi>" if number else f'<h1 dir="auto">{pages.escaped(text)}</h1>'
+        shown = (
+            f"<bdi>{pages.escaped(text)}</bdi>"
+            if number
+            else f'<h1 dir="auto">{pages.escaped(text)}</h1>'
+        )
         demand(shown in page, f"name of {number}")
     # on paper a table is never larger than the text around it, and smaller only if it has many columns
     [size] = re.findall(r"@media print \{ table \{ font-size: ([\d.]+)rem; \} \}", page)
-    demand(float(size) == 1 if len(count.poll.names) < 10 else float(size) <= 1, f"the table on paper: {size}")
+    demand(
+        float(size) == 1 if len(count.poll.names) < 10 else float(size) <= 1,
+        f"the table on paper: {size}",
+    )
     try_refused(page, count, spoken)
     return pages.Parts(page, letter, count, names, spoken).check()
 
@@ -255,8 +385,19 @@ def try_published(expect, name, folder, casting):
     poll_bytes = (folder / "poll.toml").read_bytes()
     count = count_of(poll_bytes, (folder / "ballots.txt").read_bytes(), casting)
     poll = tomllib.loads(poll_bytes.decode())
-    names = dict(enumerate([poll.get("shown_title", poll["title"]), *poll.get("shown_options", count.poll.names.values())]))
-    names = {number: text for number, text in names.items() if text != {0: poll["title"], **count.poll.names}[number]}
+    names = dict(
+        enumerate(
+            [
+                poll.get("shown_title", poll["title"]),
+                *poll.get("shown_options", count.poll.names.values()),
+            ]
+        )
+    )
+    names = {
+        number: text
+        for number, text in names.items()
+        if text != {0: poll["title"], **count.poll.names}[number]
+    }
     try:
         return try_made(folder, count, names, pages.ENGLISH)
     except Wrong as wrong:
@@ -276,4 +417,8 @@ def try_random_polls(expect, met):
             seed += 40
     expect(f"random polls ({passed} of seeds 1 to {seed - 1}): what is wrong", wrong[:3], [])
     if POLLS >= ENOUGH:
-        expect("random polls: kinds of sentences that were never met", sorted(pages.SENTENCES.keys() - met.keys()), [])
+        expect(
+            "random polls: kinds of sentences that were never met",
+            sorted(pages.SENTENCES.keys() - met.keys()),
+            [],
+        )

@@ -50,7 +50,9 @@ def sealed(public_key: str, mark: str, number: str, text: str, own: int = 0) -> 
     seed = int.from_bytes(hashlib.sha512(f"{number} {text}".encode("utf-8", "replace")).digest())
     private = ec.derive_private_key(own or seed % (ORDER - 1) + 1, CURVE)
     point = bytes_of(private)
-    shared = private.exchange(ec.ECDH(), ec.EllipticCurvePublicKey.from_encoded_point(CURVE, public))
+    shared = private.exchange(
+        ec.ECDH(), ec.EllipticCurvePublicKey.from_encoded_point(CURVE, public)
+    )
     key = HKDF(hashes.SHA256(), 32, None, b"debvote box 2\n" + point + public).derive(shared)
     data = AESGCM(key).encrypt(bytes(12), data, f"{mark} {number}".encode())
     return base64.urlsafe_b64encode(point + data).decode().rstrip("=")

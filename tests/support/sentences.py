@@ -40,7 +40,9 @@ def in_code() -> dict[tuple[str, ...], str]:
     found: dict[tuple[str, ...], str] = {}
     templates = jinja2.Environment(extensions=["jinja2.ext.i18n"])
     for file in sorted(PACKAGE.rglob("templates/*")):
-        for line, name, words in templates.extract_translations(file.read_text(encoding="utf-8"), ["say", "say_number", "say_each", "marked"]):
+        for line, name, words in templates.extract_translations(
+            file.read_text(encoding="utf-8"), ["say", "say_number", "say_each", "marked"]
+        ):
             texts = words if isinstance(words, tuple) else (words,)
             texts = texts[:2] if name in WITH_TWO else texts[:1]
             # a macro says its argument, which is where the macro is called
@@ -54,11 +56,21 @@ def in_code() -> dict[tuple[str, ...], str]:
 
 
 def texts_of(node: ast.AST) -> list[tuple[str, ...]]:
-    if isinstance(node, ast.Constant) and isinstance(node.value, str) and node.value.startswith(BEGINS):
+    if (
+        isinstance(node, ast.Constant)
+        and isinstance(node.value, str)
+        and node.value.startswith(BEGINS)
+    ):
         return [(node.value,)]
     if not isinstance(node, ast.Call):
         return []
-    name = node.func.attr if isinstance(node.func, ast.Attribute) else node.func.id if isinstance(node.func, ast.Name) else ""
+    name = (
+        node.func.attr
+        if isinstance(node.func, ast.Attribute)
+        else node.func.id
+        if isinstance(node.func, ast.Name)
+        else ""
+    )
     if name in WITH_TWO:
         one, many = (literals(word) for word in node.args[:2])
         return [(first, second) for first in one for second in many]
@@ -88,14 +100,23 @@ def entries_in(text: str) -> list[Entry]:
         parts: dict[str, str] = {}
         keyword = ""
         for line in block.splitlines():
-            said = re.fullmatch(r'(?:#~ )?(msgid_plural|msgid|msgstr(?:\[\d\])?)?\s*(".*")', line.strip())
+            said = re.fullmatch(
+                r'(?:#~ )?(msgid_plural|msgid|msgstr(?:\[\d\])?)?\s*(".*")', line.strip()
+            )
             if said:
                 keyword = said[1] or keyword
                 parts[keyword] = parts.get(keyword, "") + ast.literal_eval(said[2])
         if "msgid" in parts:
             texts = tuple(parts[name] for name in ("msgid", "msgid_plural") if name in parts)
             forms = tuple(parts[name] for name in sorted(parts) if name.startswith("msgstr"))
-            found.append(Entry(texts, forms, bool(re.search(r"(?m)^#,.*fuzzy", block)), bool(re.search(r"(?m)^#~", block))))
+            found.append(
+                Entry(
+                    texts,
+                    forms,
+                    bool(re.search(r"(?m)^#,.*fuzzy", block)),
+                    bool(re.search(r"(?m)^#~", block)),
+                )
+            )
     return found
 
 
@@ -106,7 +127,10 @@ def places_in(text: str) -> set[str]:
 def as_po(texts: tuple[str, ...], forms: tuple[str, ...]) -> str:
     keywords = ["msgid"] if len(texts) == 1 else ["msgid", "msgid_plural"]
     names = ["msgstr"] if len(texts) == 1 else [f"msgstr[{number}]" for number in range(len(forms))]
-    return "".join(f"{keyword} {quoted(text)}\n" for keyword, text in zip([*keywords, *names], [*texts, *forms], strict=True))
+    return "".join(
+        f"{keyword} {quoted(text)}\n"
+        for keyword, text in zip([*keywords, *names], [*texts, *forms], strict=True)
+    )
 
 
 def quoted(text: str) -> str:
@@ -125,7 +149,9 @@ def quoted(text: str) -> str:
 
 def tell_new(code: str) -> None:
     """Prints the entries that a file of translations lacks, and those that nothing uses."""
-    has = {entry.texts for entry in entries_in((LOCALE / f"{code}.po").read_text(encoding="utf-8"))[1:]}
+    has = {
+        entry.texts for entry in entries_in((LOCALE / f"{code}.po").read_text(encoding="utf-8"))[1:]
+    }
     said = in_code()
     for texts, place in said.items():
         if texts not in has:

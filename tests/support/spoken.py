@@ -17,7 +17,9 @@ class Spoken:
         self.code, self.numbered = code, numbered
 
     def in_letters(self):
-        return Spoken(self.code, self.say("Option {number}: {name}", number="{number}", name="{name}"))
+        return Spoken(
+            self.code, self.say("Option {number}: {name}", number="{number}", name="{name}")
+        )
 
     def forms(self, *texts):
         return texts if self.code == "en" else catalogue(self.code)[texts]
@@ -31,7 +33,11 @@ class Spoken:
 
     def joined(self, texts):
         *before, last = texts
-        return self.say("{entries} and {last}", entries=", ".join(before), last=last) if before else last
+        return (
+            self.say("{entries} and {last}", entries=", ".join(before), last=last)
+            if before
+            else last
+        )
 
     def with_colon(self, before, after):
         return self.say("{before}: {after}", before=before, after=after)
@@ -40,4 +46,7 @@ class Spoken:
 @functools.cache
 def catalogue(code):
     """The translations of a language, by the English texts."""
-    return {entry.texts: entry.forms for entry in entries_in((LOCALE / f"{code}.po").read_text(encoding="utf-8"))}
+    return {
+        entry.texts: entry.forms
+        for entry in entries_in((LOCALE / f"{code}.po").read_text(encoding="utf-8"))
+    }

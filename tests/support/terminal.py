@@ -49,7 +49,10 @@ class Terminal:
         """The text of the terminal up to these words, from the end of the last call."""
         end = time.monotonic() + SECONDS
         while words not in self.text:
-            self.test.assertTrue(self.read(end, f"waits for {words!r}"), f"ended before {words!r}, with {self.text!r}")
+            self.test.assertTrue(
+                self.read(end, f"waits for {words!r}"),
+                f"ended before {words!r}, with {self.text!r}",
+            )
         shown, _, self.text = self.text.partition(words)
         return shown + words
 

@@ -21,7 +21,11 @@ LEFT_OUT = {"must-fail", "proofs", "out"}
 def sum_of_sources() -> str:
     """A sum of the crates and, if it is there, of the kit."""
     whole = hashlib.sha256((parts.kit() / "KIT-ID").read_bytes() if shutil.which("rt") else b"")
-    files = (file for file in (parts.ROOT / "crates").rglob("*") if file.is_file() and not LEFT_OUT & set(file.parts))
+    files = (
+        file
+        for file in (parts.ROOT / "crates").rglob("*")
+        if file.is_file() and not LEFT_OUT & set(file.parts)
+    )
     for file in [parts.ROOT / "crates.txt", *sorted(files)]:
         digest = hashlib.sha256(file.read_bytes()).hexdigest()
         whole.update(f"{digest}  {file.relative_to(parts.ROOT)}\n".encode())
@@ -31,7 +35,9 @@ def sum_of_sources() -> str:
 def are_kept(*names: str) -> bool:
     """Whether these programs are there, and were made from what is there now."""
     folder = parts.ROOT / FOLDER
-    is_of_today = (folder / MADE_FROM).exists() and (folder / MADE_FROM).read_text() == sum_of_sources()
+    is_of_today = (folder / MADE_FROM).exists() and (
+        folder / MADE_FROM
+    ).read_text() == sum_of_sources()
     return is_of_today and all((folder / name).exists() for name in names)
 
 

@@ -112,9 +112,13 @@ class Host:
     """
 
     def __init__(
-        self, folder: pathlib.Path, *settings: str,
-        tracer: Sequence[object] = (), workers: int = 1, most_bytes: int | None = None,
-    ) -> None:  # fmt: skip
+        self,
+        folder: pathlib.Path,
+        *settings: str,
+        tracer: Sequence[object] = (),
+        workers: int = 1,
+        most_bytes: int | None = None,
+    ) -> None:
         self.folder, self.workers, self.most_bytes = folder, workers, most_bytes
         self.before, self.settings = [*tracer, *START], settings
 

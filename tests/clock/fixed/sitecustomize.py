@@ -15,7 +15,9 @@ if "DEBVOTE_FIXED" in os.environ:
     class Clock(datetime.datetime):
         @classmethod
         def now(cls, tz: datetime.tzinfo | None = None) -> datetime.datetime:
-            return fixed.astimezone(tz) if tz is not None else fixed.astimezone().replace(tzinfo=None)
+            return (
+                fixed.astimezone(tz) if tz is not None else fixed.astimezone().replace(tzinfo=None)
+            )
 
     def urandom(size: int) -> bytes:
         return hashlib.shake_256(f"{seed} {next(numbers)}".encode()).digest(size)

@@ -29,13 +29,43 @@ MOVED = ("--moved", "--because", "the disk was exchanged")
 
 # the commands that stop at a book that this machine does not know, and those that say so and go on
 ACTING = [
-    *(("add", "--yes", "more"), ("close",), ("roll",), ("strike", "1", "--because", "x"), ("undo", "--yes"), ("desk",)),
-    *(("held", "1", "--set-aside"), ("reopen", "--because", "x"), ("call", "--to", "x@club.example"), ("codes",)),
+    *(
+        ("add", "--yes", "more"),
+        ("close",),
+        ("roll",),
+        ("strike", "1", "--because", "x"),
+        ("undo", "--yes"),
+        ("desk",),
+    ),
+    *(
+        ("held", "1", "--set-aside"),
+        ("reopen", "--because", "x"),
+        ("call", "--to", "x@club.example"),
+        ("codes",),
+    ),
     *(("count",), ("publish",), ("letters", "receipts")),
 ]
-READING = [*(("status",), ("status", "--json"), ("show", "ada"), ("log",), ("log", "--check"), ("held",), ("check",)), ("add", "--look", "more")]
+READING = [
+    *(
+        ("status",),
+        ("status", "--json"),
+        ("show", "ada"),
+        ("log",),
+        ("log", "--check"),
+        ("held",),
+        ("check",),
+    ),
+    ("add", "--look", "more"),
+]
 # those on whose words others rely: they read the whole chain
-RELYING = [("log", "--check"), ("count",), ("close",), ("publish",), ("export", "out"), ("backup", "copy.db")]
+RELYING = [
+    ("log", "--check"),
+    ("count",),
+    ("close",),
+    ("publish",),
+    ("export", "out"),
+    ("backup", "copy.db"),
+]
 
 # gives each lock that somebody asks for, as some file systems do
 NO_LOCKS = """
@@ -72,11 +102,22 @@ class BookTest(elections.ElectionTest):
     def sql(self, *statements: str) -> None:
         """Changes the book with another program, past its triggers, which are there again afterwards."""
         with contextlib.closing(sqlite3.connect(self.book, isolation_level=None)) as connection:
-            triggers = connection.execute("SELECT name, sql FROM sqlite_schema WHERE type = 'trigger'").fetchall()
-            for statement in (*(f"DROP TRIGGER {name}" for name, _ in triggers), *statements, *(sql for _, sql in triggers)):
+            triggers = connection.execute(
+                "SELECT name, sql FROM sqlite_schema WHERE type = 'trigger'"
+            ).fetchall()
+            for statement in (
+                *(f"DROP TRIGGER {name}" for name, _ in triggers),
+                *statements,
+                *(sql for _, sql in triggers),
+            ):
                 connection.execute(statement)
 
-    def assert_stops(self, *parts: str, acting: Sequence[Sequence[str]] = ACTING, reading: Sequence[Sequence[str]] = READING) -> None:
+    def assert_stops(
+        self,
+        *parts: str,
+        acting: Sequence[Sequence[str]] = ACTING,
+        reading: Sequence[Sequence[str]] = READING,
+    ) -> None:
         """Each command that writes an act, or says what others rely on, stops; those that read say it and go on."""
         self.write("more", "hal 1,2,3,4\n")
         before = self.read("election.db")
@@ -112,10 +153,15 @@ class Copies(BookTest):
         self.assert_fault(self.election("add", "--yes", "--moved", "more"), 2, "--moved", "reason")
         for text in ("a\u202eb", "a\x1b[1m", "one line\nand one more"):
             odd = self.election("add", "--yes", "--moved", "--because", text, "more")
-            self.assert_fault(odd, 2, "--because: the text has the character U+", "nothing was added")
+            self.assert_fault(
+                odd, 2, "--because: the text has the character U+", "nothing was added"
+            )
         self.done("add", "--yes", *MOVED, "more")
         log = self.done("log", "--json").output
-        self.assertEqual(([json.loads(line)["name"] for line in log.splitlines()][-2:], log.count(lacks)), (["moved", "add"], 1))
+        self.assertEqual(
+            ([json.loads(line)["name"] for line in log.splitlines()][-2:], log.count(lacks)),
+            (["moved", "add"], 1),
+        )
         # no file of a disk shows that all of it was put back, so the secretary says it where nothing stops
         self.write("more", "ida 1,2,3,4\n")
         self.assertIn("3 counted", self.done("add", "--yes", *MOVED, "more").output)
@@ -126,7 +172,9 @@ class Copies(BookTest):
     def test_another_place_whose_path_is_any_bytes(self) -> None:
         here, self.folder = self.folder, self.scratch / os.fsdecode(b"spring \xff")
         here.rename(self.folder)
-        self.assert_stops("never seen this election in this folder", acting=ACTING[:2], reading=READING[:1])
+        self.assert_stops(
+            "never seen this election in this folder", acting=ACTING[:2], reading=READING[:1]
+        )
         self.write("more", "hal 1,2,3,4\n")
         self.done("add", "--yes", *MOVED, "more")
         self.add("ida 1,2,3,4")
@@ -164,7 +212,10 @@ class Copies(BookTest):
         copy.replace(self.book)
         said, faults = desk.communicate("ben 1,2,3,4\n")
         self.assertEqual((desk.returncode, said), (9, ""), faults)
-        self.assertIn("election.db: another file took its place while this command was running; act 4 (desk) was done: ", faults)
+        self.assertIn(
+            "election.db: another file took its place while this command was running; act 4 (desk) was done: ",
+            faults,
+        )
         self.assert_stops("older copy", acting=ACTING[:2], reading=READING[:1])
 
     def test_another_computer(self) -> None:
@@ -177,16 +228,24 @@ class Copies(BookTest):
         other_id.write_text("0123456789abcdef0123456789abcdef\n")
         self.add("ada 1,2,3,4")
         with mock.patch.object(machine_note, "MACHINE_ID", other_id):
-            self.assert_stops("never seen this election in this folder", acting=ACTING[:2], reading=READING[:1])
+            self.assert_stops(
+                "never seen this election in this folder", acting=ACTING[:2], reading=READING[:1]
+            )
             self.write("more", "hal 1,2,3,4\n")
             self.done("add", "--yes", *MOVED, "more")
         self.assert_stops("its act 6 was done on another computer")
         self.write("more", "ida 1,2,3,4\n")
         self.done("add", "--yes", *MOVED, "more")
         [(salt,)] = self.rows("SELECT salt FROM act WHERE act = 1")
-        ids = [file.read_bytes() if file.exists() else b"" for file in (pathlib.Path("/etc/machine-id"), other_id)]
+        ids = [
+            file.read_bytes() if file.exists() else b""
+            for file in (pathlib.Path("/etc/machine-id"), other_id)
+        ]
         own, other = (hashlib.sha256(salt + data).hexdigest()[:16] for data in ids)
-        self.assertEqual(self.rows("SELECT machine FROM act ORDER BY act"), [(own,)] * 4 + [(other,)] * 2 + [(own,)] * 2)
+        self.assertEqual(
+            self.rows("SELECT machine FROM act ORDER BY act"),
+            [(own,)] * 4 + [(other,)] * 2 + [(own,)] * 2,
+        )
 
     def test_what_stops_nothing(self) -> None:
         """A home of yesterday is an act of the same book: nothing stops."""
@@ -211,16 +270,28 @@ class Copies(BookTest):
         """Room is made before the act. What fails after the commit leaves the note at an earlier act of the book."""
         self.add("ada 1,2,3,4")
         self.write("more", "hal 1,2,3,4\n")
-        files = (file for file in (self.state / "debvote").iterdir() if not file.suffix and file.name != "lock")
-        [note] = (file for file in files if json.loads(file.read_text())["path"] == str(self.book.resolve()))
+        files = (
+            file
+            for file in (self.state / "debvote").iterdir()
+            if not file.suffix and file.name != "lock"
+        )
+        [note] = (
+            file
+            for file in files
+            if json.loads(file.read_text())["path"] == str(self.book.resolve())
+        )
         following, before, noted = note.with_suffix(".next"), self.contents(), note.read_bytes()
 
         def injected(call: str) -> elections.Ended:
             """Adds lines, while a call that writes the next note fails."""
-            return self.traced("-P", following, "-e", f"inject={call}", words=("add", "--yes", "more"))
+            return self.traced(
+                "-P", following, "-e", f"inject={call}", words=("add", "--yes", "more")
+            )
 
         for call in ("write:error=ENOSPC", "fsync:error=EIO"):
-            self.assert_fault(injected(call), 7, "this computer must note there", "nothing was added")
+            self.assert_fault(
+                injected(call), 7, "this computer must note there", "nothing was added"
+            )
             self.assertEqual((self.contents(), note.read_bytes()), (before, noted))
         ended = injected("rename:error=ENOSPC")
         self.assertEqual((ended.status, ended.faults, note.read_bytes()), (0, "", noted), ended)
@@ -250,9 +321,15 @@ class Copies(BookTest):
             self.done(*words)
             books.append(self.read("election.db"))
         self.folder, self.state = here, before
-        for name, data in zip(("cut.db", "fewer acts.db", "as many.db", "election (conflicted copy).db"), books, strict=True):
+        for name, data in zip(
+            ("cut.db", "fewer acts.db", "as many.db", "election (conflicted copy).db"),
+            books,
+            strict=True,
+        ):
             (self.folder / name).write_bytes(data)
-            which = {} if name == "fewer acts.db" else {"acting": ACTING[:2], "reading": READING[:1]}
+            which = (
+                {} if name == "fewer acts.db" else {"acting": ACTING[:2], "reading": READING[:1]}
+            )
             self.assert_stops(name, "acts that election.db lacks", **which)
             (self.folder / name).unlink()
         # this book as it was, and what is no book
@@ -263,10 +340,14 @@ class Copies(BookTest):
 
 def as_json(*row: object, line: int | None = None) -> str:
     """A row as INSIDE has it, without the number of the act; `line` is the place of what came."""
-    in_text = {value: hashlib.sha256(value).hexdigest() for value in row if isinstance(value, bytes)}
+    in_text = {
+        value: hashlib.sha256(value).hexdigest() for value in row if isinstance(value, bytes)
+    }
     if line is not None:
         in_text[row[line]] = row[line].decode(errors="surrogateescape")
-    return json.dumps([in_text.get(value, value) for value in row], separators=(",", ":"), ensure_ascii=False)
+    return json.dumps(
+        [in_text.get(value, value) for value in row], separators=(",", ":"), ensure_ascii=False
+    )
 
 
 class Rewritten(BookTest):
@@ -278,7 +359,9 @@ class Rewritten(BookTest):
 
     def of_document(self) -> list[str]:
         """What the program of INSIDE prints of the book, and the fault with which it ends."""
-        [program] = re.findall(r"^```python\n(.*?)^```$", INSIDE.read_text(), re.MULTILINE | re.DOTALL)
+        [program] = re.findall(
+            r"^```python\n(.*?)^```$", INSIDE.read_text(), re.MULTILINE | re.DOTALL
+        )
         fault = []
         with contextlib.chdir(self.folder), contextlib.redirect_stdout(io.StringIO()) as said:
             try:
@@ -295,38 +378,63 @@ class Rewritten(BookTest):
             for *act, digest in connection.execute("SELECT * FROM act").fetchall():
                 lines, count = [before, as_json(*act)], 0
                 for table in ("elector", "elector_state", "sealed", "source", "envelope"):
-                    names = [name for _, name, *_ in connection.execute(f"PRAGMA table_info({table})") if name != "act"]
+                    names = [
+                        name
+                        for _, name, *_ in connection.execute(f"PRAGMA table_info({table})")
+                        if name != "act"
+                    ]
                     place = names.index("line") if "line" in names else None
-                    rows = connection.execute(f"SELECT {', '.join(names)} FROM {table} WHERE act = ?", act[:1]).fetchall()
+                    rows = connection.execute(
+                        f"SELECT {', '.join(names)} FROM {table} WHERE act = ?", act[:1]
+                    ).fetchall()
                     lines += [table, *(as_json(*row, line=place) for row in rows)] if rows else []
                     count += len(rows)
                 before = hashlib.sha256("\n".join(lines).encode()).hexdigest()
                 digests.append((digest, before, count))
-        self.assertEqual([found for found, _, _ in digests], [computed for _, computed, _ in digests])
+        self.assertEqual(
+            [found for found, _, _ in digests], [computed for _, computed, _ in digests]
+        )
         self.assertEqual([count for _, _, count in digests], [0, 9 + 9, 9 + 5, 1 + 2])
         # the chain reads no index
         with contextlib.closing(sqlite3.connect(self.book)) as connection:
             chain.prepare(connection)
             queries_of_all = map(chain.query_of, chain.line_of())
-            plans = [connection.execute(f"EXPLAIN QUERY PLAN {words}").fetchall() for words in queries_of_all]
+            plans = [
+                connection.execute(f"EXPLAIN QUERY PLAN {words}").fetchall()
+                for words in queries_of_all
+            ]
         self.assertEqual(len(plans), 10)
         for plan in plans:
             self.assertEqual([step for *_, step in plan if "INDEX" in step], [])
         self.done("strike", "2", "--because", 'Ben\'s "Ö" \\')
         self.assertIn("The chain is whole: 5 acts", self.done("log", "--check").output)
         [last] = self.of_document()
-        self.assertEqual(last.split()[-1], json.loads(self.done("status", "--json").output)["digest"])
+        self.assertEqual(
+            last.split()[-1], json.loads(self.done("status", "--json").output)["digest"]
+        )
         # the view of the ballots
         self.add("cleo 1,2,3,4")
         self.done("close")
         self.done("desk", given="dan 1,2,3,4\n")
-        self.assertEqual(self.rows("SELECT line FROM ballot ORDER BY envelope"), [(b"ada 1,2,3,4",), (b"cleo 1,2,3,4",)])
+        self.assertEqual(
+            self.rows("SELECT line FROM ballot ORDER BY envelope"),
+            [(b"ada 1,2,3,4",), (b"cleo 1,2,3,4",)],
+        )
         # lines of any bytes stay as they are in what the digest is over, and none can be taken for the rows of two
-        odd = [b"ada \"1\\", b"\xff\xfe\x00\x7f", b"\xed\xa0\x80 \xe2\x80\xa8\t", b'x\n[3,1,"ada 1,2,3,4"]', b"", b"\xc3\xa9"]
+        odd = [
+            b'ada "1\\',
+            b"\xff\xfe\x00\x7f",
+            b"\xed\xa0\x80 \xe2\x80\xa8\t",
+            b'x\n[3,1,"ada 1,2,3,4"]',
+            b"",
+            b"\xc3\xa9",
+        ]
         with mock.patch.dict(os.environ, {"XDG_STATE_HOME": str(self.state)}):
             book = open_book(self.book)
             with contextlib.closing(book.connection), book.act("desk") as act:
-                queries.add_envelopes(act, map(queries.NewEnvelope, odd), [None] * len(odd), is_late=False)
+                queries.add_envelopes(
+                    act, map(queries.NewEnvelope, odd), [None] * len(odd), is_late=False
+                )
         self.assertIn("The chain is whole: 10 acts", self.done("log", "--check").output)
         self.assertEqual(len(self.of_document()), 1)
 
@@ -342,11 +450,27 @@ class Rewritten(BookTest):
         self.fill_each_table()
         whole, tried = self.read("election.db"), 0
         with contextlib.closing(sqlite3.connect(self.book)) as connection:
-            tables = [name for name, in connection.execute("SELECT name FROM sqlite_schema WHERE type = 'table'")]
-            columns = [(table, name, kind) for table in tables for _, name, kind, *_ in connection.execute(f"PRAGMA table_info({table})")]
-            owners = {table: connection.execute(f"SELECT max(rowid), act FROM {table}").fetchone() for table in tables}
+            tables = [
+                name
+                for name, in connection.execute(
+                    "SELECT name FROM sqlite_schema WHERE type = 'table'"
+                )
+            ]
+            columns = [
+                (table, name, kind)
+                for table in tables
+                for _, name, kind, *_ in connection.execute(f"PRAGMA table_info({table})")
+            ]
+            owners = {
+                table: connection.execute(f"SELECT max(rowid), act FROM {table}").fetchone()
+                for table in tables
+            }
         later = "strftime('%Y-%m-%dT%H:%M:%SZ', {}, '+1 second')"
-        other = {"INTEGER": "coalesce({} + 1000, 1000)", "TEXT": "coalesce({}, '') || ' '", "BLOB": "CAST({} || 'x' AS BLOB)"}
+        other = {
+            "INTEGER": "coalesce({} + 1000, 1000)",
+            "TEXT": "coalesce({}, '') || ' '",
+            "BLOB": "CAST({} || 'x' AS BLOB)",
+        }
         for table, column, kind in columns:
             row, act = owners[table]
             value = (later if column == "time" else other[kind]).format(column)
@@ -354,7 +478,11 @@ class Rewritten(BookTest):
             ended = self.election("log", "--check")
             # an act that has another number now is missing
             is_gone = (table, column) == ("act", "act")
-            said = f"rows of act {act}, and no such act" if is_gone else f"act {act} does not match its digest"
+            said = (
+                f"rows of act {act}, and no such act"
+                if is_gone
+                else f"act {act} does not match its digest"
+            )
             with self.subTest(f"{table}.{column}"):
                 self.assertEqual(ended.status, 9, ended)
                 self.assertIn(said, ended.faults)
@@ -368,12 +496,18 @@ class Rewritten(BookTest):
         columns = "envelope, act, elector, line, place, time, late"
         added = "(3, 4, 3, CAST('cleo 1,2,3,4' AS BLOB), ':3', '2026-12-04T17:00:00Z', 0)"
         whole = self.read("election.db")
-        for statement in (CHANGED, "DELETE FROM envelope WHERE envelope = 2", f"INSERT INTO envelope ({columns}) VALUES {added}"):
+        for statement in (
+            CHANGED,
+            "DELETE FROM envelope WHERE envelope = 2",
+            f"INSERT INTO envelope ({columns}) VALUES {added}",
+        ):
             self.sql(statement)
             # each command on whose words others rely says so; so does the program of INSIDE
             for words in RELYING:
                 with self.subTest(statement, words=words):
-                    self.assert_fault(self.election(*words), 9, "election.db", "act 4 does not match its digest")
+                    self.assert_fault(
+                        self.election(*words), 9, "election.db", "act 4 does not match its digest"
+                    )
             self.assertIn("act 4 does not match its digest", self.of_document())
             self.book.write_bytes(whole)
 
@@ -383,7 +517,9 @@ class Rewritten(BookTest):
         for act in (-1, 0, 5, 1_000_000):
             self.sql(f"INSERT INTO struck VALUES (1, {act}), (2, {act})")
             for words in RELYING:
-                self.assert_fault(self.election(*words), 9, f"it has rows of act {act}, and no such act")
+                self.assert_fault(
+                    self.election(*words), 9, f"it has rows of act {act}, and no such act"
+                )
             self.assertGreater(len(self.of_document()), 1)
             self.book.write_bytes(whole)
 
@@ -393,7 +529,11 @@ class Rewritten(BookTest):
         whole = self.read("election.db")
         with contextlib.closing(sqlite3.connect(self.book)) as connection:
             [(size,)] = connection.execute("PRAGMA page_size")
-            pages = dict(connection.execute("SELECT name, rootpage FROM sqlite_schema WHERE tbl_name = 'struck'"))
+            pages = dict(
+                connection.execute(
+                    "SELECT name, rootpage FROM sqlite_schema WHERE tbl_name = 'struck'"
+                )
+            )
 
         def cell(name: str) -> int:
             """Where the only cell of a page begins."""
@@ -402,8 +542,15 @@ class Rewritten(BookTest):
 
         # a row of the table: its length, its number, and the row; one of the index: its length, and the row
         table, index = cell("struck"), cell("struck_by_act")
-        self.assertEqual((whole[table : table + 6], whole[index : index + 5]), (b"\x04\x01\x03\x00\x01\x05", b"\x04\x03\x01\x09\x05"))
-        for name, at in {"the envelope": table + 1, "the act": table + 5, "the act of the index": index + 4}.items():
+        self.assertEqual(
+            (whole[table : table + 6], whole[index : index + 5]),
+            (b"\x04\x01\x03\x00\x01\x05", b"\x04\x03\x01\x09\x05"),
+        )
+        for name, at in {
+            "the envelope": table + 1,
+            "the act": table + 5,
+            "the act of the index": index + 4,
+        }.items():
             with self.subTest(name):
                 self.book.write_bytes(whole[:at] + bytes([whole[at] ^ 2]) + whole[at + 1 :])
                 for words in RELYING[:5]:
@@ -411,7 +558,12 @@ class Rewritten(BookTest):
                     self.assert_fault(ended, 9, "election.db: the book is damaged", "struck")
                 self.assertGreater(len(self.of_document()), 1)
                 # nothing is built on it, either
-                self.assert_fault(self.election("desk", given="hal 1,2,3,4\n"), 9, "election.db: the book is damaged", "nothing was entered")
+                self.assert_fault(
+                    self.election("desk", given="hal 1,2,3,4\n"),
+                    9,
+                    "election.db: the book is damaged",
+                    "nothing was entered",
+                )
         # the last one is of an index alone, and as the guide says
         copy = self.scratch / "copy"
         shutil.copy(self.book, copy)
@@ -429,12 +581,18 @@ class Rewritten(BookTest):
         for name, statements in {
             "trigger x": [strikes],
             "trigger struck_DELETE": ["DROP TRIGGER struck_DELETE"],
-            "index struck_by_act": ["DROP INDEX struck_by_act", "CREATE INDEX struck_by_act ON struck (act DESC)"],
+            "index struck_by_act": [
+                "DROP INDEX struck_by_act",
+                "CREATE INDEX struck_by_act ON struck (act DESC)",
+            ],
             "index x": ["CREATE UNIQUE INDEX x ON envelope (elector)"],
             "view x": ["CREATE VIEW x AS SELECT * FROM act"],
             "table x": ["CREATE TABLE x (y)"],
             "table sqlite_stat1": ["ANALYZE"],
-            "table struck": [writable, "UPDATE sqlite_schema SET sql = replace(sql, 'act INTEGER', 'act  INTEGER') WHERE name = 'struck'"],
+            "table struck": [
+                writable,
+                "UPDATE sqlite_schema SET sql = replace(sql, 'act INTEGER', 'act  INTEGER') WHERE name = 'struck'",
+            ],
         }.items():
             with contextlib.closing(sqlite3.connect(self.book, isolation_level=None)) as connection:
                 for statement in statements:
@@ -442,7 +600,9 @@ class Rewritten(BookTest):
             changed = self.read("election.db")
             for words in (("status",), ("desk",), ("log", "--check"), ("backup", "copy.db")):
                 with self.subTest(name, words=words):
-                    self.assert_fault(self.election(*words, given=""), 9, f"the {name} is not as new makes it")
+                    self.assert_fault(
+                        self.election(*words, given=""), 9, f"the {name} is not as new makes it"
+                    )
             self.assertEqual(self.read("election.db"), changed)
             self.book.write_bytes(whole)
 
@@ -453,7 +613,12 @@ class Rewritten(BookTest):
         strike, call = ("strike", "1", "--because", "x"), ("call", "--at", "https://club.example/")
         acting = (("add", "--yes", "more"), strike, ("undo", "--yes"), call)
         for words in acting:
-            self.assert_fault(self.election(*words), 9, "act 4 does not match its digest", elections.nothing_by(words))
+            self.assert_fault(
+                self.election(*words),
+                9,
+                "act 4 does not match its digest",
+                elections.nothing_by(words),
+            )
 
     def test_no_act_adopts_rows(self) -> None:
         """Rows with the number of the act to come, or of one after it, stop it, in whatever table they are."""
@@ -462,7 +627,12 @@ class Rewritten(BookTest):
         self.done("desk", given="hal 4,3,2,1\n")
         whole = self.read("election.db")
         [(last,)] = self.rows("SELECT max(act) FROM act")
-        tables = [name for name, in self.rows("SELECT name FROM sqlite_schema WHERE type = 'table' AND name <> 'act'")]
+        tables = [
+            name
+            for name, in self.rows(
+                "SELECT name FROM sqlite_schema WHERE type = 'table' AND name <> 'act'"
+            )
+        ]
         for table, act in itertools.product(tables, (last + 1, last + 7)):
             # a copy of its last row, with other keys
             row = {column: column for _, column, *_ in self.rows(f"PRAGMA table_info({table})")}
@@ -471,21 +641,38 @@ class Rewritten(BookTest):
             values = f"SELECT {', '.join(row.values())} FROM {table} ORDER BY rowid DESC LIMIT 1"
             self.sql(f"INSERT INTO {table} ({', '.join(row)}) {values}")
             with self.subTest(table, act=act):
-                self.assert_fault(self.election("desk", given="hal 1,2,3,4\n"), 9, f"it has rows of act {act}, and no such act")
+                self.assert_fault(
+                    self.election("desk", given="hal 1,2,3,4\n"),
+                    9,
+                    f"it has rows of act {act}, and no such act",
+                )
                 self.assertEqual(self.rows("SELECT max(act) FROM act"), [(last,)])
             self.book.write_bytes(whole)
         # after that each command that acts, and the book stays as it is
         self.sql(f"INSERT INTO struck VALUES (1, {last + 1})")
         changed = self.read("election.db")
         self.write("more", "hal 1,2,3,4\n")
-        for words in (("add", "--yes", "more"), ("undo", "--yes"), ("held", "1", "--wait"), ("close",), ("call", "--at", "https://x.example/")):
-            self.assert_fault(self.election(*words), 9, f"it has rows of act {last + 1}, and no such act", elections.nothing_by(words))
+        for words in (
+            ("add", "--yes", "more"),
+            ("undo", "--yes"),
+            ("held", "1", "--wait"),
+            ("close",),
+            ("call", "--at", "https://x.example/"),
+        ):
+            self.assert_fault(
+                self.election(*words),
+                9,
+                f"it has rows of act {last + 1}, and no such act",
+                elections.nothing_by(words),
+            )
         self.assertEqual(self.read("election.db"), changed)
 
     def made_whole(self, *statements: str) -> None:
         """Changes the book, computes its chain anew, and has the computer note it: whoever has the computer can do so."""
         self.sql(*statements)
-        triggers = self.rows("SELECT name, sql FROM sqlite_schema WHERE type = 'trigger' AND tbl_name = 'act'")
+        triggers = self.rows(
+            "SELECT name, sql FROM sqlite_schema WHERE type = 'trigger' AND tbl_name = 'act'"
+        )
         with mock.patch.dict(os.environ, {"XDG_STATE_HOME": str(self.state)}):
             book, before = open_book(self.book), chain.BEGINNING
             with contextlib.closing(book.connection) as connection:
@@ -500,7 +687,9 @@ class Rewritten(BookTest):
 
     def assert_changed(self, statement: str, said: str) -> None:
         """A book that was changed so, and made whole, stops those that others rely on. Then it is as before."""
-        whole, state = self.read("election.db"), {file: file.read_bytes() for file in (self.state / "debvote").iterdir()}
+        whole, state = self.read("election.db"), {
+            file: file.read_bytes() for file in (self.state / "debvote").iterdir()
+        }
         self.made_whole(statement)
         self.done("log", "--check")
         for words in (("count",), ("close",), ("publish", "--force", "--because", "x")):
@@ -513,10 +702,21 @@ class Rewritten(BookTest):
     def test_electors_are_those_of_the_lines(self) -> None:
         """For whom an envelope is kept is compared with its line: else `show` tells whose ballot it is, and it is another's."""
         self.add("ben 1,2", "nobody 1,2,3,4", "cleo 1,2,3,4", "dan 1,2,3,4")
-        said = "envelope {} is kept for another elector than the one whose name its line begins with"
+        said = (
+            "envelope {} is kept for another elector than the one whose name its line begins with"
+        )
         numbers = dict(self.rows("SELECT name, elector FROM elector"))
-        for envelope, number in ((1, numbers["eve"]), (3, numbers["eve"]), (3, "NULL"), (4, numbers["eve"]), (5, numbers["eve"])):
-            self.assert_changed(f"UPDATE envelope SET elector = {number} WHERE envelope = {envelope}", said.format(envelope))
+        for envelope, number in (
+            (1, numbers["eve"]),
+            (3, numbers["eve"]),
+            (3, "NULL"),
+            (4, numbers["eve"]),
+            (5, numbers["eve"]),
+        ):
+            self.assert_changed(
+                f"UPDATE envelope SET elector = {number} WHERE envelope = {envelope}",
+                said.format(envelope),
+            )
         # two are exchanged: as many have a ballot, and each line counts
         exchanged = f"UPDATE envelope SET elector = CASE envelope WHEN 5 THEN {numbers['dan']} ELSE {numbers['cleo']} END WHERE envelope IN (5, 6)"
         self.assert_changed(exchanged, said.format(5))
@@ -543,7 +743,9 @@ class Rewritten(BookTest):
         # after the close the ballots are compared with it, too
         self.made_whole("UPDATE envelope SET line = CAST('ada 4,3,2,1' AS BLOB) WHERE envelope = 1")
         for words in (("count",), ("publish",)):
-            self.assert_fault(self.election(*words), 9, "the ballots have the checksum", "and the close recorded")
+            self.assert_fault(
+                self.election(*words), 9, "the ballots have the checksum", "and the close recorded"
+            )
 
     def test_a_row_that_names_a_row_that_is_not_there(self) -> None:
         """The chain is made whole over it, so that only what the rows name tells."""
@@ -568,7 +770,13 @@ class Rewritten(BookTest):
         }.items():
             self.sql(statement)
             told = 0
-            for words in (("show", "ada"), ("status",), ("desk",), ("roll",), ("letters", "receipts")):
+            for words in (
+                ("show", "ada"),
+                ("status",),
+                ("desk",),
+                ("roll",),
+                ("letters", "receipts"),
+            ):
                 ended = self.election(*words, given="")
                 with self.subTest(statement, words=words):
                     self.assertEqual(ended.status, 9 if ended.faults else 0, ended)
@@ -578,7 +786,10 @@ class Rewritten(BookTest):
             self.assertGreater(told, 0, statement)
             self.book.write_bytes(whole)
         # a poll in the book that is not in plain form is the fault of the book, and of no file of the secretary's
-        for statement in ("DELETE FROM sealed", "UPDATE sealed SET data = CAST('title = 1' AS BLOB)"):
+        for statement in (
+            "DELETE FROM sealed",
+            "UPDATE sealed SET data = CAST('title = 1' AS BLOB)",
+        ):
             self.sql(statement)
             for words in (("status",), ("desk",), ("held",)):
                 with self.subTest(statement, words=words):
@@ -590,11 +801,19 @@ class Rewritten(BookTest):
         """What is in the book stays: no row of any table is changed, removed or replaced."""
         self.fill_each_table()
         book = open_book(self.book)
-        tables = [name for name, in self.rows("SELECT name FROM sqlite_schema WHERE type = 'table'")]
+        tables = [
+            name for name, in self.rows("SELECT name FROM sqlite_schema WHERE type = 'table'")
+        ]
         with contextlib.closing(book.connection) as connection:
             for table in tables:
-                for statement in ("UPDATE {} SET act = act", "DELETE FROM {}", "REPLACE INTO {0} SELECT * FROM {0}"):
-                    with self.subTest(statement, table=table), self.assertRaises(sqlite3.IntegrityError):
+                for statement in (
+                    "UPDATE {} SET act = act",
+                    "DELETE FROM {}",
+                    "REPLACE INTO {0} SELECT * FROM {0}",
+                ):
+                    with self.subTest(statement, table=table), self.assertRaises(
+                        sqlite3.IntegrityError
+                    ):
                         connection.execute(statement.format(table))
 
 
@@ -627,7 +846,12 @@ class OnTheDisk(BookTest):
         said = []
         for call in range(1, 9):
             before = self.last_act()
-            ended = self.traced("-e", f"inject=fdatasync:error=EIO:when={call}", words=("desk",), given="ada 1,2,3,4\n")
+            ended = self.traced(
+                "-e",
+                f"inject=fdatasync:error=EIO:when={call}",
+                words=("desk",),
+                given="ada 1,2,3,4\n",
+            )
             done = self.last_act() - before
             if ended.status == 0:
                 said.append("done")
@@ -636,7 +860,11 @@ class OnTheDisk(BookTest):
                 self.assertEqual(done, 0)
                 said.append("nothing")
             else:
-                self.assert_fault(ended, 7, f"nobody knows whether act {before + 1} was done: see debvote-election status")
+                self.assert_fault(
+                    ended,
+                    7,
+                    f"nobody knows whether act {before + 1} was done: see debvote-election status",
+                )
                 self.assertEqual(done, 1)
                 said.append("nobody knows")
         self.assertEqual(set(said), {"done", "nothing", "nobody knows"})
@@ -645,7 +873,12 @@ class OnTheDisk(BookTest):
         """It ends the program at once, as it does elsewhere."""
         self.write("long.py", LONG)
         for number, status in ((signal.SIGTERM, 128 + signal.SIGTERM), (signal.SIGINT, 5)):
-            run = subprocess.Popen([sys.executable, "long.py"], cwd=self.folder, stdout=subprocess.PIPE, env={**os.environ, "PYTHONPATH": str(elections.ROOT / "python")})
+            run = subprocess.Popen(
+                [sys.executable, "long.py"],
+                cwd=self.folder,
+                stdout=subprocess.PIPE,
+                env={**os.environ, "PYTHONPATH": str(elections.ROOT / "python")},
+            )
             with run:
                 self.addCleanup(run.kill)
                 self.assertEqual(run.stdout.read(1), b"1")
@@ -659,22 +892,40 @@ class OnTheDisk(BookTest):
     def test_interrupted_in_the_commit(self) -> None:
         """What is done is reported: the signal comes when SQLite removes the journal."""
         journal = str(self.book.resolve()) + "-journal"
-        for rank, signal in enumerate(("INT", "TERM", "HUP"), start=1):
+        for rank, ending in enumerate(("INT", "TERM", "HUP"), start=1):
             self.write("more", f"ben {rank},2,3,4\n")
             for words, given in ((("desk",), "ada 1,2,3,4\n"), (("add", "--yes", "more"), None)):
                 before = self.last_act()
-                ended = self.traced("-P", journal, "-e", f"inject=unlink:signal={signal}", words=words, given=given)
+                ended = self.traced(
+                    "-P", journal, "-e", f"inject=unlink:signal={ending}", words=words, given=given
+                )
                 self.assertEqual(self.last_act(), before + 1)
-                self.assertRegex(ended.output, r"(?m)^\d+ (counted|replaced)  (ada|ben): ", (signal, words))
+                self.assertRegex(
+                    ended.output, r"(?m)^\d+ (counted|replaced)  (ada|ben): ", (ending, words)
+                )
         ended = self.traced("-P", journal, "-e", "inject=unlink:signal=INT", words=("close",))
-        self.assert_fault(ended, 130, f"interrupted; act {self.last_act()} (close) was done, and nothing else")
+        self.assert_fault(
+            ended, 130, f"interrupted; act {self.last_act()} (close) was done, and nothing else"
+        )
         ended = self.traced("-P", journal, "-e", "inject=unlink:signal=INT", words=("publish",))
         self.assertTrue((self.folder / "result" / "index.html").exists(), ended)
 
-    def calls(self, *words: str, given: str | None = None, inject: str = "fsync:delay_exit=0") -> list[tuple[str, str]]:
+    def calls(
+        self, *words: str, given: str | None = None, inject: str = "fsync:delay_exit=0"
+    ) -> list[tuple[str, str]]:
         """The calls of a command that bring a file to the disk or put it into its place, in their order, each with its path."""
         trace = self.scratch / "trace"
-        self.traced("-y", "-o", trace, "-e", "trace=fsync,rename", "-e", f"inject={inject}", words=words, given=given)
+        self.traced(
+            "-y",
+            "-o",
+            trace,
+            "-e",
+            "trace=fsync,rename",
+            "-e",
+            f"inject={inject}",
+            words=words,
+            given=given,
+        )
         return re.findall(r"(?m)^(fsync|rename)\((?:\d+<|\")([^>\"]*)", trace.read_text())
 
     def test_what_takes_a_place_is_on_the_disk(self) -> None:
@@ -682,22 +933,37 @@ class OnTheDisk(BookTest):
         for words, renames in ((("desk",), 1), (("close",), 3)):
             calls = self.calls(*words, given="ada 1,2,3,4\n")
             # but for the folder of letters
-            places = [(at, path) for at, (call, path) in enumerate(calls) if call == "rename" and "letters/closed/" not in path]
+            places = [
+                (at, path)
+                for at, (call, path) in enumerate(calls)
+                if call == "rename" and "letters/closed/" not in path
+            ]
             self.assertEqual(len(places), renames, calls)
             for at, path in places:
-                self.assertEqual(calls[at - 1 : at + 2], [("fsync", path), ("rename", path), ("fsync", str(pathlib.Path(path).parent))])
+                self.assertEqual(
+                    calls[at - 1 : at + 2],
+                    [("fsync", path), ("rename", path), ("fsync", str(pathlib.Path(path).parent))],
+                )
         # what can't take its place is gone
         self.done("reopen", "--because", "x")
         (self.folder / "letters" / "closed.txt").unlink()
         self.calls("close", inject="rename:error=EIO:when=2")
-        self.assertEqual([file.name for file in self.folder.rglob("*") if file.name.startswith(".debvote-")], [])
+        self.assertEqual(
+            [file.name for file in self.folder.rglob("*") if file.name.startswith(".debvote-")], []
+        )
         self.assertFalse((self.folder / "letters" / "closed.txt").exists())
 
     def test_a_note_goes_only_forward_and_rows_name_rows_that_are_there(self) -> None:
         note = machine_note.MachineNote("a machine", self.book)
         note.folder = self.scratch / "notes"
         note.file, note.next = note.folder / "note", note.folder / "note.next"
-        for act, is_moved, stands in ((3, False, 3), (5, False, 5), (4, False, 5), (4, True, 4), (10**19, False, 10**19)):
+        for act, is_moved, stands in (
+            (3, False, 3),
+            (5, False, 5),
+            (4, False, 5),
+            (4, True, 4),
+            (10**19, False, 10**19),
+        ):
             note.make_ready()
             note.put(machine_note.Note(act, hashlib.sha256(b"").hexdigest()), is_moved=is_moved)
             self.assertEqual(note.read().act, stands)
@@ -707,7 +973,9 @@ class OnTheDisk(BookTest):
         self.assertEqual(note.next.stat().st_size, size)
         with mock.patch.dict(os.environ, {"XDG_STATE_HOME": str(self.state)}):
             book = open_book(self.book)
-            with contextlib.closing(book.connection), self.assertRaises(Fault), book.act("strike") as act:
+            with contextlib.closing(book.connection), self.assertRaises(Fault), book.act(
+                "strike"
+            ) as act:
                 queries.strike_envelopes(act, [99])
         self.assertIn("3 acts", self.done("log", "--check").output)
 
@@ -719,7 +987,9 @@ class Places(BookTest):
         for words in (("status",), ("add", "x"), ("roll",)):
             self.assert_fault(self.election(*words, cwd=self.folder / "call"), 2, "one folder up")
         self.assert_fault(self.election("status", cwd=self.scratch), 2, "no election.db")
-        self.assert_fault(self.election("status", "--folder", "nowhere"), 2, "nowhere", "no such folder")
+        self.assert_fault(
+            self.election("status", "--folder", "nowhere"), 2, "nowhere", "no such folder"
+        )
         old = self.scratch / "old"
         old.mkdir()
         (old / "journal").write_text("")
@@ -733,15 +1003,26 @@ class Places(BookTest):
         with sqlite3.connect(self.book) as connection:
             connection.execute(f"PRAGMA application_id = {0x64627674}")
             connection.execute("PRAGMA user_version = 2")
-        self.assert_fault(self.election("status"), 2, "it is a book (version 2), and this program writes version 6")
+        self.assert_fault(
+            self.election("status"),
+            2,
+            "it is a book (version 2), and this program writes version 6",
+        )
         # a book of 2.0.0 is refused by name, and not opened: what a command that was cut off left stays, too
         with contextlib.closing(sqlite3.connect(self.book)) as connection:
             connection.execute("PRAGMA user_version = 3")
-        (self.folder / "election.db-journal").write_bytes(b"what a command that was cut off has left")
+        (self.folder / "election.db-journal").write_bytes(
+            b"what a command that was cut off has left"
+        )
         self.write("more", "hal 1,2,3,4\n")
         before = self.contents()
         for words in (("status",), ("add", "--yes", "more"), ("log", "--check"), ("close",)):
-            self.assert_fault(self.election(*words), 2, "it is a book of debvote-election 2.0.0 (version 3)", elections.nothing_by(words))
+            self.assert_fault(
+                self.election(*words),
+                2,
+                "it is a book of debvote-election 2.0.0 (version 3)",
+                elections.nothing_by(words),
+            )
             self.assertEqual(self.contents(), before)
 
     def test_damaged(self) -> None:
@@ -767,12 +1048,16 @@ class Places(BookTest):
         for words in (("close",), ("publish",), ("count", *MOVED)):
             self.assert_fault(self.without_rights(*words), 7, "is not writable")
         (self.scratch / "more").write_text("ben 1,2,3,4\n")
-        self.assert_fault(self.without_rights("add", "--yes", self.scratch / "more"), 7, "is not writable")
+        self.assert_fault(
+            self.without_rights("add", "--yes", self.scratch / "more"), 7, "is not writable"
+        )
 
     def test_read_only_folder_in_which_an_act_was_cut_off(self) -> None:
         """Both files together are the book: the act is taken back where that can be written."""
         names, journal = ("election.db", "election.db-journal"), f"{self.book.resolve()}-journal"
-        self.traced("-P", journal, "-e", "inject=unlink:signal=KILL", words=("desk",), given="ada 1,2,3,4\n")
+        self.traced(
+            "-P", journal, "-e", "inject=unlink:signal=KILL", words=("desk",), given="ada 1,2,3,4\n"
+        )
         copy = self.scratch / "copy"
         copy.mkdir()
         for name in names:
@@ -797,7 +1082,9 @@ class Places(BookTest):
         self.state = self.scratch / "other state"
         before = self.contents()
         for words in (("add", "--yes", *MOVED, "more"), ("new", "another")):
-            ended = self.run_program("env", f"LD_PRELOAD={library}", sys.executable, elections.ELECTION, *words)
+            ended = self.run_program(
+                "env", f"LD_PRELOAD={library}", sys.executable, elections.ELECTION, *words
+            )
             self.assertEqual(ended.status, 9, ended)
             self.assertIn("locks do not work", ended.faults)
             self.assertEqual(self.contents(), before)

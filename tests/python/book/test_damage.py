@@ -46,14 +46,26 @@ def first_bytes(data: bytearray, chance: random.Random) -> None:
 def block(data: bytearray, chance: random.Random, size: int) -> None:
     """A sector or a page has nothing, or noise, or what another one has."""
     at, other = (chance.randrange(len(data) // size) * size for _ in range(2))
-    data[at : at + size] = chance.choice([bytes(size), chance.randbytes(size), data[other : other + size]])
+    data[at : at + size] = chance.choice(
+        [bytes(size), chance.randbytes(size), data[other : other + size]]
+    )
 
 
 def cut_end(data: bytearray, chance: random.Random) -> None:
-    del data[chance.choice([chance.randrange(len(data)), chance.randrange(len(data) // PAGE) * PAGE]) :]
+    del data[
+        chance.choice([chance.randrange(len(data)), chance.randrange(len(data) // PAGE) * PAGE]) :
+    ]
 
 
-KINDS = [one_bit, one_bit, one_byte, some_bytes, first_bytes, cut_end, *(functools.partial(block, size=size) for size in (SECTOR, PAGE))]
+KINDS = [
+    one_bit,
+    one_bit,
+    one_byte,
+    some_bytes,
+    first_bytes,
+    cut_end,
+    *(functools.partial(block, size=size) for size in (SECTOR, PAGE)),
+]
 
 
 def content(file: pathlib.Path) -> tuple[object, ...]:
@@ -61,8 +73,16 @@ def content(file: pathlib.Path) -> tuple[object, ...]:
     book = open_book(file)
     with contextlib.closing(book.connection):
         book.demand_whole()
-        kept = [(letter.number, letter.state, letter.identity) for letter in queries.kept_letters(book)]
-        return queries.envelopes(book), queries.lines_to_count(book), queries.all_electors(book), kept, queries.sealed(book, "poll")
+        kept = [
+            (letter.number, letter.state, letter.identity) for letter in queries.kept_letters(book)
+        ]
+        return (
+            queries.envelopes(book),
+            queries.lines_to_count(book),
+            queries.all_electors(book),
+            kept,
+            queries.sealed(book, "poll"),
+        )
 
 
 class Damaged(elections.ElectionTest):
@@ -103,7 +123,14 @@ class Damaged(elections.ElectionTest):
 
     def show(self, data: bytes, seed: int) -> None:
         """Each command ends in order, or with lines that say what is the matter."""
-        for words in (("status",), ("show", "ada"), ("held",), ("log",), ("count",), ("add", "--yes", "lines")):
+        for words in (
+            ("status",),
+            ("show", "ada"),
+            ("held",),
+            ("log",),
+            ("count",),
+            ("add", "--yes", "lines"),
+        ):
             (self.folder / "election.db").write_bytes(data)
             ended = self.election(*words)
             self.assertIn(ended.status, (0, 1, 2, 3, 4, 7, 9, 10), (seed, ended))
@@ -114,5 +141,9 @@ class Damaged(elections.ElectionTest):
 
 # a class for each part, so that they run side by side
 for first in range(4):
-    globals()[f"Damaged{first}"] = type(f"Damaged{first}", (Damaged,), {"test_damage": functools.partialmethod(Damaged.seeds, first)})
+    globals()[f"Damaged{first}"] = type(
+        f"Damaged{first}",
+        (Damaged,),
+        {"test_damage": functools.partialmethod(Damaged.seeds, first)},
+    )
 del first

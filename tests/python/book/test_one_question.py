@@ -7,9 +7,19 @@ import pytest
 from debvote_tools.book import queries
 from debvote_tools.book.book import BOOK_FILE, Book, connected, create, open_book
 
-LINES = [(b"ada A 1,2 C 2,1,3", None), (b"ben A 2,1", None), (b"ada C 1,1,1", None), (b"ben C 1,2", "bad rank count: ..")]
+LINES = [
+    (b"ada A 1,2 C 2,1,3", None),
+    (b"ben A 2,1", None),
+    (b"ada C 1,1,1", None),
+    (b"ben C 1,2", "bad rank count: .."),
+]
 
-SEEN = {"": [line for line, _ in LINES], "A": [b"ada 1,2", b"ben 2,1"], "B": [], "C": [b"ada 2,1,3", b"ada 1,1,1", b"ben 1,2"]}
+SEEN = {
+    "": [line for line, _ in LINES],
+    "A": [b"ada 1,2", b"ben 2,1"],
+    "B": [],
+    "C": [b"ada 2,1,3", b"ada 1,1,1", b"ben 1,2"],
+}
 
 
 @pytest.fixture
@@ -26,7 +36,9 @@ def book(tmp_path: pathlib.Path) -> Book:
 
 @pytest.mark.parametrize("label", SEEN)
 @pytest.mark.parametrize("is_within", [False, True])
-def test_of_each_line_the_part_that_answers_it_is_seen(book: Book, label: str, is_within: bool) -> None:
+def test_of_each_line_the_part_that_answers_it_is_seen(
+    book: Book, label: str, is_within: bool
+) -> None:
     if is_within:
         with book.snapshot(), book.question(label):
             seen = queries.lines_to_count(book)
@@ -41,13 +53,25 @@ def test_of_each_line_the_part_that_answers_it_is_seen(book: Book, label: str, i
 
 def test_what_became_of_a_part_is_of_its_question(book: Book) -> None:
     with book.question("C"):
-        assert [(one.number, one.became) for one in queries.envelopes(book)] == [(1, "replaced"), (3, "counts"), (4, "refused")]
+        assert [(one.number, one.became) for one in queries.envelopes(book)] == [
+            (1, "replaced"),
+            (3, "counts"),
+            (4, "refused"),
+        ]
         assert queries.what_counts(book) == {"ada": "1,1,1"}
         assert queries.numbers(book) == (3, 2, 1, 1)
         [refused] = queries.envelopes(book, "envelope IN refused")
-        assert (refused.number, refused.line, refused.why_refused) == (4, b"ben 1,2", "bad rank count: ..")
+        assert (refused.number, refused.line, refused.why_refused) == (
+            4,
+            b"ben 1,2",
+            "bad rank count: ..",
+        )
     with book.question("A"):
-        assert queries.what_counts(book) == queries.what_counts(book, at=book.last_number()) == {"ada": "1,2", "ben": "2,1"}
+        assert (
+            queries.what_counts(book)
+            == queries.what_counts(book, at=book.last_number())
+            == {"ada": "1,2", "ben": "2,1"}
+        )
 
 
 def test_a_fault_within_leaves_no_view(book: Book) -> None:

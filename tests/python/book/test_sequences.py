@@ -87,15 +87,27 @@ class Model:
     is_closed: bool = False
     is_reopened: bool = False
 
-    def enter(self, texts: list[str], *, is_late: bool, from_file: bool, letters: list[int | None] | None = None) -> None:
+    def enter(
+        self,
+        texts: list[str],
+        *,
+        is_late: bool,
+        from_file: bool,
+        letters: list[int | None] | None = None,
+    ) -> None:
         """One act that enters these lines, perhaps of letters."""
         self.entered.append([*range(len(self.lines) + 1, len(self.lines) + len(texts) + 1)])
-        self.lines += [Line(text, is_late, letter=letter, is_of_file=from_file) for text, letter in zip(texts, letters or [None] * len(texts))]
+        self.lines += [
+            Line(text, is_late, letter=letter, is_of_file=from_file)
+            for text, letter in zip(texts, letters or [None] * len(texts))
+        ]
 
     def came(self, is_late: bool) -> collections.Counter:
         """How often each line came in files, also if it was struck; to one that is in time a late one did not come."""
         came = (line for line in self.lines if line.is_of_file and not line.is_undone)
-        return collections.Counter(line.text for line in came if is_late or not line.is_late or line.is_struck)
+        return collections.Counter(
+            line.text for line in came if is_late or not line.is_late or line.is_struck
+        )
 
     def new_of(self, texts: list[str], is_late: bool) -> list[str]:
         """Which lines of a file did not come before."""
@@ -109,7 +121,11 @@ class Model:
 
     def undo(self) -> None:
         """Takes back the last act of which a line stands: what was struck before stays struck."""
-        *_, last = (numbers for numbers in self.entered if not all(self.lines[number - 1].is_struck for number in numbers))
+        *_, last = (
+            numbers
+            for numbers in self.entered
+            if not all(self.lines[number - 1].is_struck for number in numbers)
+        )
         for number in last:
             line = self.lines[number - 1]
             if line.is_struck:
@@ -122,7 +138,12 @@ class Model:
 
     def enter_letters(self, ballots: list[tuple[int, str]], *, is_typed: bool = False) -> None:
         """One act that enters these ballots of letters, in their order; all arrived before any close. Each letter is dealt with as a whole."""
-        self.enter([text for _, text in ballots], is_late=False, from_file=False, letters=[number for number, _ in ballots])
+        self.enter(
+            [text for _, text in ballots],
+            is_late=False,
+            from_file=False,
+            letters=[number for number, _ in ballots],
+        )
         for envelope, (number, _) in zip(self.entered[-1], ballots):
             letter = self.letters[number - 1]
             letter.entered.append(envelope)
@@ -135,20 +156,36 @@ class Model:
     def without_ballot(self, number: int) -> list[str]:
         """Who has the address of a letter, and has no ballot of it that is not struck."""
         letter = self.letters[number - 1]
-        having = [self.elector_of(envelope) for envelope in letter.entered if not self.lines[envelope - 1].is_struck]
+        having = [
+            self.elector_of(envelope)
+            for envelope in letter.entered
+            if not self.lines[envelope - 1].is_struck
+        ]
         return [name for name in letter.electors if name not in having]
 
     def with_a_ballot(self) -> list[int]:
         """The letters that wait, and whose own ballot can be entered: none can while the vote is closed."""
         if self.is_closed:
             return []
-        return [number for number in self.waiting if self.letters[number - 1].ranks and self.letters[number - 1].elector in self.without_ballot(number)]
+        return [
+            number
+            for number in self.waiting
+            if self.letters[number - 1].ranks
+            and self.letters[number - 1].elector in self.without_ballot(number)
+        ]
 
     def needs_force(self, number: int) -> bool:
         """Whether the elector of a letter has a later ballot, or had one that was typed for it."""
         letter = self.letters[number - 1]
-        later = (line for line in self.lines if not (line.is_struck or line.is_late) and (line.letter is None or line.letter > number))
-        return letter.is_typed.get(letter.elector, False) or any(line.text in (f"{letter.elector} {ranks}" for ranks in RANKS) for line in later)
+        later = (
+            line
+            for line in self.lines
+            if not (line.is_struck or line.is_late)
+            and (line.letter is None or line.letter > number)
+        )
+        return letter.is_typed.get(letter.elector, False) or any(
+            line.text in (f"{letter.elector} {ranks}" for ranks in RANKS) for line in later
+        )
 
     @property
     def waiting(self) -> list[int]:
@@ -156,7 +193,10 @@ class Model:
 
     def exported(self) -> tuple[str, str]:
         kept = [line for line in self.lines if not line.is_struck]
-        return tuple("".join(f"{line.text}\n" for line in kept if line.is_late == is_late) for is_late in (False, True))
+        return tuple(
+            "".join(f"{line.text}\n" for line in kept if line.is_late == is_late)
+            for is_late in (False, True)
+        )
 
 
 @dataclasses.dataclass
@@ -174,7 +214,12 @@ class SequencesTest(LettersTest):
     # ------------------------------------------------------------ the steps
     def step(self, model: Model, chance: random.Random) -> Step:
         """A command that can be given now, with what it does."""
-        steps = [self.adding] * 4 + [self.desk] * 3 + [self.mailing, self.entering, self.deciding] * 2 + [self.typing] * 4
+        steps = (
+            [self.adding] * 4
+            + [self.desk] * 3
+            + [self.mailing, self.entering, self.deciding] * 2
+            + [self.typing] * 4
+        )
         steps += [self.undoing, self.striking, self.closing, self.reopening]
         while True:
             after = copy.deepcopy(model)
@@ -185,7 +230,9 @@ class SequencesTest(LettersTest):
 
     def texts(self, chance: random.Random, most: int) -> list[str]:
         names = [*elections.NAMES, "nobody"]
-        made = [f"{chance.choice(names)} {chance.choice(RANKS)}" for _ in range(chance.randint(1, most))]
+        made = [
+            f"{chance.choice(names)} {chance.choice(RANKS)}" for _ in range(chance.randint(1, most))
+        ]
         return [text if chance.random() < 0.9 else text[: -chance.randint(1, 3)] for text in made]
 
     def came_words(self, model: Model, chance: random.Random) -> tuple[list[str], bool]:
@@ -215,7 +262,9 @@ class SequencesTest(LettersTest):
         """Letters that wait: other words are above the ballot, or there is none. Each has a second of its own."""
         box = ""
         for number in range(len(model.letters) + 1, len(model.letters) + chance.randint(1, 3) + 1):
-            letter = Letter(chance.choice([*elections.NAMES, *COUPLE * 4]), chance.choice([*RANKS, ""]))
+            letter = Letter(
+                chance.choice([*elections.NAMES, *COUPLE * 4]), chance.choice([*RANKS, ""])
+            )
             text = f"My ballot:\n\n{letter.ballot}" if letter.ranks else "I am for the lake."
             time = f"Mon, 23 Nov 2026 10:{number // 60:02}:{number % 60:02} +0000"
             subject = f"My ballot [{elections.ANY_MARK}-{elections.any_own(letter.elector)}]"
@@ -233,27 +282,40 @@ class SequencesTest(LettersTest):
         chosen = chance.sample(numbers, chance.randint(1, len(numbers)))
         force = ["--force"] if len(chosen) == 1 and chance.random() < 0.7 else []
         if force or not any(map(model.needs_force, chosen)):
-            model.enter_letters([(number, model.letters[number - 1].ballot) for number in sorted(chosen)])
+            model.enter_letters(
+                [(number, model.letters[number - 1].ballot) for number in sorted(chosen)]
+            )
         return Step(["held", *map(str, chosen), "--enter", "--yes", *force], None, [model])
 
     def deciding(self, model: Model, chance: random.Random) -> Step | None:
         """Some letters are set aside, or wait again; none of which a ballot is entered."""
-        numbers = [number for number, letter in enumerate(model.letters, start=1) if letter.state != "entered"]
+        numbers = [
+            number
+            for number, letter in enumerate(model.letters, start=1)
+            if letter.state != "entered"
+        ]
         if not numbers:
             return None
-        chosen, (word, state) = chance.sample(numbers, min(2, len(numbers))), chance.choice([("--set-aside", "set aside"), ("--wait", "waits again")])
+        chosen, (word, state) = chance.sample(numbers, min(2, len(numbers))), chance.choice(
+            [("--set-aside", "set aside"), ("--wait", "waits again")]
+        )
         for number in chosen:
             model.letters[number - 1].state = state
         return Step(["held", *map(str, chosen), word], None, [model])
 
     def typing(self, model: Model, chance: random.Random) -> Step | None:
         """What was read in a letter: the ballots of one or of both who sent it, also after it went in."""
-        numbers = [number for number in range(1, len(model.letters) + 1) if model.without_ballot(number)]
+        numbers = [
+            number for number in range(1, len(model.letters) + 1) if model.without_ballot(number)
+        ]
         if not numbers or model.is_closed:
             return None
         number = chance.choice(numbers)
         names = model.without_ballot(number)
-        ballots = [f"{name} {chance.choice(RANKS)}" for name in chance.sample(names, chance.randint(1, len(names)))]
+        ballots = [
+            f"{name} {chance.choice(RANKS)}"
+            for name in chance.sample(names, chance.randint(1, len(names)))
+        ]
         model.enter_letters([(number, ballot) for ballot in ballots], is_typed=True)
         words = [word for ballot in ballots for word in ("--as", ballot)]
         return Step(["held", str(number), *words, "--force"], None, [model])
@@ -273,7 +335,9 @@ class SequencesTest(LettersTest):
         letter = model.lines[number - 1].letter
         if letter is not None and model.letters[letter - 1].state == "entered":
             model.letters[letter - 1].state = "struck"
-        return Step(["strike", str(number), "--because", "it was taken down wrongly"], None, [model])
+        return Step(
+            ["strike", str(number), "--because", "it was taken down wrongly"], None, [model]
+        )
 
     def closing(self, model: Model, chance: random.Random) -> Step | None:
         if model.is_closed:
@@ -299,10 +363,20 @@ class SequencesTest(LettersTest):
             return step.models[-1], False
         when = chance.randint(1, MAX_CALLS)
         if kind < 0.8:
-            ended = self.traced("-e", f"inject={CHANGES}:signal=KILL:when={when}", words=step.words, given=step.given or "")
+            ended = self.traced(
+                "-e",
+                f"inject={CHANGES}:signal=KILL:when={when}",
+                words=step.words,
+                given=step.given or "",
+            )
             is_cut_off = ended.status in (-signal.SIGKILL, 128 + signal.SIGKILL)
         else:
-            ended = self.traced("-e", f"inject={WRITES}:error=ENOSPC:when={chance.randint(1, 20)}+", words=step.words, given=step.given or "")
+            ended = self.traced(
+                "-e",
+                f"inject={WRITES}:error=ENOSPC:when={chance.randint(1, 20)}+",
+                words=step.words,
+                given=step.given or "",
+            )
             is_cut_off = ended.status == 7
             self.assertIn(ended.status, (0, 7, 9), ended)
         held = self.held(step, ended)
@@ -314,10 +388,21 @@ class SequencesTest(LettersTest):
         """The model that the book is in after a command that may have been cut off; what it told is in it."""
         exported, numbers = self.exported(), self.numbers()
         told = {int(number) for number, _ in REPLY.findall(ended.output)}
-        fitting = [model for model in step.models if (model.exported(), len(model.waiting)) == (exported, numbers["waiting"])]
+        fitting = [
+            model
+            for model in step.models
+            if (model.exported(), len(model.waiting)) == (exported, numbers["waiting"])
+        ]
         self.assertTrue(fitting, (step, ended, exported, numbers))
         # of models with the same lines the last one: a close that was killed is asked of the book below
-        held = next((model for model in reversed(fitting) if model.is_closed == (numbers["stage"] in ("closed", "published"))), None)
+        held = next(
+            (
+                model
+                for model in reversed(fitting)
+                if model.is_closed == (numbers["stage"] in ("closed", "published"))
+            ),
+            None,
+        )
         self.assertIsNotNone(held, (step, ended))
         if told:
             self.assertLessEqual(max(told), len(held.lines), (step, ended))
@@ -329,12 +414,27 @@ class SequencesTest(LettersTest):
         out = self.scratch / "out"
         files = ["--poll", out / "poll.toml", "--ballots", out / "ballots.txt"]
         standing = self.debvote("standing", *files).output.splitlines()
-        replies = [line.split(" ", 1)[1] for line in self.debvote("steps", *files).output.splitlines()]
+        replies = [
+            line.split(" ", 1)[1] for line in self.debvote("steps", *files).output.splitlines()
+        ]
         valid = sum(reply in ("counted", "replaced") for reply in replies)
         late = len((out / "late.txt").read_text().splitlines())
-        found = (status["lines"], status["valid"], status["refused"], status["late"], status["voters"])
+        found = (
+            status["lines"],
+            status["valid"],
+            status["refused"],
+            status["late"],
+            status["voters"],
+        )
         self.assertEqual(found, (len(replies), valid, len(replies) - valid, late, len(standing)))
-        self.assertEqual(status["without_ballot"], [name for name in elections.NAMES if name not in {line.split()[0] for line in standing}])
+        self.assertEqual(
+            status["without_ballot"],
+            [
+                name
+                for name in elections.NAMES
+                if name not in {line.split()[0] for line in standing}
+            ],
+        )
         self.done("log", "--check")
 
     def sequence(self, seed: int) -> None:
@@ -349,7 +449,10 @@ class SequencesTest(LettersTest):
 
 # a class for each few sequences, so that they run side by side
 for first in range(1, SEQUENCES + 1, 3):
-    tests = {f"test_{seed}": functools.partialmethod(SequencesTest.sequence, seed) for seed in range(first, min(first + 3, SEQUENCES + 1))}
+    tests = {
+        f"test_{seed}": functools.partialmethod(SequencesTest.sequence, seed)
+        for seed in range(first, min(first + 3, SEQUENCES + 1))
+    }
     globals()[f"Sequences{first}"] = type(f"Sequences{first}", (SequencesTest,), tests)
 del first, tests
 
@@ -375,7 +478,10 @@ class EightDesks(elections.ElectionTest):
             number = int(reply.split()[0])
             self.assertNotIn(number, told, "told twice")
             told[number] = line
-        self.assertIn(f"This desk has entered {self.LINES} lines (1 counted, {self.LINES - 1} replaced).\n", desk.communicate()[0])
+        self.assertIn(
+            f"This desk has entered {self.LINES} lines (1 counted, {self.LINES - 1} replaced).\n",
+            desk.communicate()[0],
+        )
         self.assertEqual(desk.returncode, 0)
         return self.LINES
 

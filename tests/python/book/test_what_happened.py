@@ -83,10 +83,16 @@ class Model:
 
     def __init__(self) -> None:
         self.now, self.end, self.asked, self.is_closed = CALLED, END, CALLED, False
-        self.lines, self.letters, self.closes = list[Line](), list[Letter](), list[datetime.datetime]()
+        self.lines, self.letters, self.closes = (
+            list[Line](),
+            list[Letter](),
+            list[datetime.datetime](),
+        )
         # the letters that a close or a publication left waiting; and what a page tells, of an undo its lines
         self.left = set[Letter]()
-        self.told: list[str | list[Line]] = [f"The call was made; one could vote until {time_in_words(END)}."]
+        self.told: list[str | list[Line]] = [
+            f"The call was made; one could vote until {time_in_words(END)}."
+        ]
 
     def in_time(self) -> list[Line]:
         return [line for line in self.lines if line.is_in_time]
@@ -104,62 +110,131 @@ class Model:
     def becomes(self, letter: Letter) -> str:
         if letter.state:
             return "waits" if letter.state == "by undo" else "is done"
-        if not (letter.is_plain and letter.ranks and CALLED <= letter.time and self.is_early(letter)):
+        if not (
+            letter.is_plain and letter.ranks and CALLED <= letter.time and self.is_early(letter)
+        ):
             return "waits"
-        ballots = [line for line in self.in_time() if line.is_ballot and line.name == letter.elector]
-        later = [line for line in ballots if line.time > letter.time or line.time == letter.time and line.text.split()[1] != letter.ranks]
+        ballots = [
+            line for line in self.in_time() if line.is_ballot and line.name == letter.elector
+        ]
+        later = [
+            line
+            for line in ballots
+            if line.time > letter.time
+            or line.time == letter.time
+            and line.text.split()[1] != letter.ranks
+        ]
         if later:
-            return "is passed over" if any(line.letter and line.time > letter.time for line in later) else "waits"
+            return (
+                "is passed over"
+                if any(line.letter and line.time > letter.time for line in later)
+                else "waits"
+            )
         return "waits" if self.is_closed else "goes in"
 
     def waiting(self, *, in_time: bool = False) -> list[Letter]:
         """The letters that wait, also for the next `add`; or those that came in time."""
-        return [one for one in self.letters if self.becomes(one) in ("waits", "goes in") and (self.is_early(one) or not in_time)]
+        return [
+            one
+            for one in self.letters
+            if self.becomes(one) in ("waits", "goes in") and (self.is_early(one) or not in_time)
+        ]
 
     def stopping(self) -> list[int]:
-        return [self.letters.index(letter) + 1 for letter in self.waiting(in_time=True) if letter not in self.left]
+        return [
+            self.letters.index(letter) + 1
+            for letter in self.waiting(in_time=True)
+            if letter not in self.left
+        ]
 
     def is_lost(self, line: Line) -> bool:
         """Whether an undo took a ballot in time out, and its elector has no later one with the same ranks."""
         later = self.lines[self.lines.index(line) :]
-        return line.out == "undo" and line.is_ballot and not line.is_late and not any(one.is_in_time and one.text == line.text for one in later)
+        return (
+            line.out == "undo"
+            and line.is_ballot
+            and not line.is_late
+            and not any(one.is_in_time and one.text == line.text for one in later)
+        )
 
     def replaces_as_late(self, line: Line) -> bool:
         """Whether a line in time was late before, and replaced another ballot."""
         before = self.lines[: self.lines.index(line)]
-        others = [one.text for one in before if one.is_in_time and one.is_ballot and one.name == line.name and line.is_ballot]
+        others = [
+            one.text
+            for one in before
+            if one.is_in_time and one.is_ballot and one.name == line.name and line.is_ballot
+        ]
         was_late = any(one in self.late() and one.text == line.text for one in before)
-        return line.is_in_time and not line.letter and was_late and others[-1:] not in ([], [line.text])
+        return (
+            line.is_in_time
+            and not line.letter
+            and was_late
+            and others[-1:] not in ([], [line.text])
+        )
 
     def numbers(self) -> dict[str, object]:
         """What `status --json` has to say."""
         lines, standing = self.in_time(), self.standing()
         valid = sum(line.is_ballot for line in lines)
         return {
-            "lines": len(lines), "valid": valid, "refused": len(lines) - valid, "voters": len(standing), "late": len(self.late()),
-            "waiting": len(self.waiting()), "stopping": self.stopping(), "struck": sum(line.out == "strike" for line in self.lines),
-            "taken_back": sum(map(self.is_lost, self.lines)), "without_ballot": [name for name in elections.NAMES if name not in standing],
-        }  # fmt: skip
+            "lines": len(lines),
+            "valid": valid,
+            "refused": len(lines) - valid,
+            "voters": len(standing),
+            "late": len(self.late()),
+            "waiting": len(self.waiting()),
+            "stopping": self.stopping(),
+            "struck": sum(line.out == "strike" for line in self.lines),
+            "taken_back": sum(map(self.is_lost, self.lines)),
+            "without_ballot": [name for name in elections.NAMES if name not in standing],
+        }
 
     def all_told(self) -> list[str]:
         """The acts that a page tells: of an undo what is lost by it; and how many lines came after the end, and count."""
         found = list[str]()
         for one in self.told:
-            lost = [] if isinstance(one, str) else [self.lines.index(line) + 1 for line in one if self.is_lost(line)]
+            lost = (
+                []
+                if isinstance(one, str)
+                else [self.lines.index(line) + 1 for line in one if self.is_lost(line)]
+            )
             back = "The secretary took back ballots that had been entered. Not entered again as they were: envelopes"
             found += [one] if isinstance(one, str) else [f"{back} {in_runs(lost)}."] * bool(lost)
-        after = sum(line.time > self.end and (line.letter is not None or not line.closes) for line in self.in_time())
-        words = [f"{lines} in time, since the vote was not closed yet." for lines in ("line came after the end, and is", "lines came after the end, and are")]
+        after = sum(
+            line.time > self.end and (line.letter is not None or not line.closes)
+            for line in self.in_time()
+        )
+        words = [
+            f"{lines} in time, since the vote was not closed yet."
+            for lines in ("line came after the end, and is", "lines came after the end, and are")
+        ]
         return found + [sentence(after, *words).strip()] * bool(after)
 
-    def line(self, text: str, *, is_late: bool, letter: Letter | None = None, is_of_file: bool = False) -> None:
-        self.lines.append(Line(text, self.now, len(self.closes), letter.time if letter else self.now, is_late, is_of_file, letter))
+    def line(
+        self, text: str, *, is_late: bool, letter: Letter | None = None, is_of_file: bool = False
+    ) -> None:
+        self.lines.append(
+            Line(
+                text,
+                self.now,
+                len(self.closes),
+                letter.time if letter else self.now,
+                is_late,
+                is_of_file,
+                letter,
+            )
+        )
 
     def new_of(self, texts: list[str], is_late: bool) -> list[str]:
         """The lines of a file that did not come in files as often before: a late one did not come in time."""
         files = (line for line in self.lines if line.is_of_file and line.out != "undo")
         came = [line.text for line in files if is_late or not line.is_late or line.out]
-        return [text for place, text in enumerate(texts) if texts[: place + 1].count(text) > came.count(text)]
+        return [
+            text
+            for place, text in enumerate(texts)
+            if texts[: place + 1].count(text) > came.count(text)
+        ]
 
     def enter(self, letter: Letter, ranks: str) -> None:
         """A ballot of a letter, which is late after a close, or if it arrived after the first one."""
@@ -181,20 +256,41 @@ class Model:
 
     def close(self) -> None:
         waiting, number = self.waiting(in_time=True), len(self.closes)
-        is_asked = self.asked > self.end if self.now >= self.end else self.now - self.asked <= datetime.timedelta(minutes=10)
+        is_asked = (
+            self.asked > self.end
+            if self.now >= self.end
+            else self.now - self.asked <= datetime.timedelta(minutes=10)
+        )
         is_stopped = bool(self.stopping()) or not (self.closes or is_asked)
-        checksum = hashlib.sha256("".join(f"{line.text}\n" for line in self.in_time()).encode()).hexdigest()
+        checksum = hashlib.sha256(
+            "".join(f"{line.text}\n" for line in self.in_time()).encode()
+        ).hexdigest()
         text = f"The vote was closed. Lines in time: {len(self.in_time())}. Checksum: {checksum}."
-        text += " That was before the time until which one could vote." if self.now < self.end else ""
-        text += sentence(len(waiting), "letter that had arrived in time was left waiting.", "letters that had arrived in time were left waiting.")
-        text += sentence(len(self.waiting()) - len(waiting), *(f"letter{s} that had arrived after the end did not go in." for s in ("", "s")))
+        text += (
+            " That was before the time until which one could vote." if self.now < self.end else ""
+        )
+        text += sentence(
+            len(waiting),
+            "letter that had arrived in time was left waiting.",
+            "letters that had arrived in time were left waiting.",
+        )
+        text += sentence(
+            len(self.waiting()) - len(waiting),
+            *(f"letter{s} that had arrived after the end did not go in." for s in ("", "s")),
+        )
         if self.closes:
             came = [line for line in self.lines if line.closes == number and not line.is_late]
             out = sum(line.closes_at_out == number and not line.is_late for line in self.lines)
             text += f" Since the close before this one, lines in time that came in: {len(came)}; that were taken out: {out}."
             again = "late {} entered again, as {} that had come before the first close, and replaced {}."
-            one, many = ("line was", "one", "another ballot of its elector"), ("lines were", "ones", "other ballots of their electors")
-            text += sentence(sum(map(self.replaces_as_late, came)), again.format(*one), again.format(*many))
+            one, many = ("line was", "one", "another ballot of its elector"), (
+                "lines were",
+                "ones",
+                "other ballots of their electors",
+            )
+            text += sentence(
+                sum(map(self.replaces_as_late, came)), again.format(*one), again.format(*many)
+            )
         self.told.append(text + f" {BECAUSE} it is time" * is_stopped)
         self.left |= {*waiting}
         self.closes.append(self.now)
@@ -215,7 +311,19 @@ class WhatHappenedTest(elections.ElectionTest):
         self.set_time(CALLED)
         folder, cls = super().made(), type(self)
         host = cls.enterClassContext(Liar(cls.answers))
-        self.done("call", "--until", f"{END:%Y-%m-%d %H:%M}", "--zone", "UTC", "--to", "vote@club.example", "--at", host.at, "--box", cwd=folder)
+        self.done(
+            "call",
+            "--until",
+            f"{END:%Y-%m-%d %H:%M}",
+            "--zone",
+            "UTC",
+            "--to",
+            "vote@club.example",
+            "--at",
+            host.at,
+            "--box",
+            cwd=folder,
+        )
         script = (folder / "call/vote.php").read_bytes().partition(b"__halt_compiler();\n")[2]
         cls.begun = f"{script.split()[0].decode()} {hashlib.sha256(script).hexdigest()}"
         cls.page = (folder / "call/index.html").read_bytes()
@@ -229,7 +337,11 @@ class WhatHappenedTest(elections.ElectionTest):
     @classmethod
     def answers(cls, request: bytes) -> list[bytes]:
         is_asking = request.startswith(b"POST")
-        return [answered(f"box 2 {cls.begun} {cls.time}\n{cls.records}".encode() if is_asking else cls.page)]
+        return [
+            answered(
+                f"box 2 {cls.begun} {cls.time}\n{cls.records}".encode() if is_asking else cls.page
+            )
+        ]
 
     def set_time(self, time: datetime.datetime) -> None:
         self.set_clock(time.isoformat())
@@ -246,25 +358,47 @@ class WhatHappenedTest(elections.ElectionTest):
         texts = [text if self.chance.random() < 0.9 else text[:-2] for text in made]
         for text in model.new_of(texts, is_late) if is_of_file else texts:
             model.line(text, is_late=is_late, is_of_file=is_of_file)
-        return [*(["add", "--yes", "-"] if is_of_file else ["desk"]), "--force", *words], "".join(f"{text}\n" for text in texts)
+        return [*(["add", "--yes", "-"] if is_of_file else ["desk"]), "--force", *words], "".join(
+            f"{text}\n" for text in texts
+        )
 
     def mailing(self) -> Step:
         """The whole mailbox, with some new letters."""
         for _ in range(self.chance.randint(0 if self.mail else 1, 3)):
             time = self.model.now - datetime.timedelta(seconds=self.chance.randint(0, 7200))
-            one = Letter(self.chance.choice(VOTERS), self.chance.choice([*RANKS, ""]), time, self.chance.random() < 0.8)
+            one = Letter(
+                self.chance.choice(VOTERS),
+                self.chance.choice([*RANKS, ""]),
+                time,
+                self.chance.random() < 0.8,
+            )
             self.model.letters.append(one)
             text = f"{'' if one.is_plain else 'This is my choice:'}\n{f'{one.elector} {one.ranks}' if one.ranks else 'I am for the lake.'}\n"
-            self.mail.append(letters.letter(one.elector, text, number=len(self.model.letters), time=f"{time:%a, %d %b %Y %H:%M:%S} +0000"))
+            self.mail.append(
+                letters.letter(
+                    one.elector,
+                    text,
+                    number=len(self.model.letters),
+                    time=f"{time:%a, %d %b %Y %H:%M:%S} +0000",
+                )
+            )
         self.write("mail", self.of_this_vote(letters.mailbox(*self.mail)))
         self.model.offer()
         return ["add", "--yes", "mail"], None
 
     def click(self) -> None:
-        one = Letter(self.chance.choice(VOTERS), self.chance.choice(RANKS), self.model.now, is_click=True)
+        one = Letter(
+            self.chance.choice(VOTERS), self.chance.choice(RANKS), self.model.now, is_click=True
+        )
         self.clicks.append(one)
-        link, mark, number = self.links[one.elector], self.begun.split()[0], self.records.count("Message-ID")
-        inside = sealing.inside(f"{one.elector} {one.ranks}", link, f"{one.time:%Y-%m-%dT%H:%M:%S}.000Z")
+        link, mark, number = (
+            self.links[one.elector],
+            self.begun.split()[0],
+            self.records.count("Message-ID"),
+        )
+        inside = sealing.inside(
+            f"{one.elector} {one.ranks}", link, f"{one.time:%Y-%m-%dT%H:%M:%S}.000Z"
+        )
         text = sealing.sealed(self.seal, mark, f"{number:032x}", inside)
         type(self).records += sealing.record(mark, link, number, one.time.isoformat(), text)
 
@@ -279,41 +413,81 @@ class WhatHappenedTest(elections.ElectionTest):
     def deciding(self) -> Step | None:
         """The ballot of a letter that waits is entered, or one is typed if it has none."""
         model, ranks = self.model, self.chance.choice(RANKS)
-        found = [letter for letter in model.waiting() if not (model.is_closed and model.is_early(letter))]
+        found = [
+            letter for letter in model.waiting() if not (model.is_closed and model.is_early(letter))
+        ]
         if not found:
             return None
         letter = found[-1]
         model.enter(letter, letter.ranks or ranks)
-        number, how = model.letters.index(letter) + 1, ["--enter"] if letter.ranks else ["--as", f"{letter.elector} {ranks}"]
+        number, how = model.letters.index(letter) + 1, ["--enter"] if letter.ranks else [
+            "--as",
+            f"{letter.elector} {ranks}",
+        ]
         return ["held", str(number), *how, "--yes", "--force"], None
 
     def taking_out(self) -> Step | None:
-        model, left, is_undo = self.model, [line for line in self.model.lines if not line.out], self.chance.random() < 0.6
+        model, left, is_undo = (
+            self.model,
+            [line for line in self.model.lines if not line.out],
+            self.chance.random() < 0.6,
+        )
         if model.is_closed or not left:
             return None
-        lines = [line for line in left if line.entered == left[-1].entered] if is_undo else [self.chance.choice(left)]
+        lines = (
+            [line for line in left if line.entered == left[-1].entered]
+            if is_undo
+            else [self.chance.choice(left)]
+        )
         number = model.lines.index(lines[0]) + 1
         model.take_out(lines, "undo" if is_undo else "strike")
-        model.told.append(lines if is_undo else f"The secretary struck envelope {number}: its line does not count. {BECAUSE} it was torn")
-        return (["undo", "--yes"] if is_undo else ["strike", str(number), "--because", "it was torn"]), None
+        model.told.append(
+            lines
+            if is_undo
+            else f"The secretary struck envelope {number}: its line does not count. {BECAUSE} it was torn"
+        )
+        return (
+            ["undo", "--yes"] if is_undo else ["strike", str(number), "--because", "it was torn"]
+        ), None
 
     def timing(self) -> Step:
         model = self.model
         if model.is_closed:
             model.is_closed = False
-            model.told.append(f"The vote was opened again, for what had come before the first close. {BECAUSE} a bag")
+            model.told.append(
+                f"The vote was opened again, for what had come before the first close. {BECAUSE} a bag"
+            )
             return ["reopen", "--because", "a bag"], None
         if not model.closes and self.chance.random() < 0.4:
-            model.end = max(model.now, model.end).replace(second=0) + datetime.timedelta(minutes=self.chance.randint(1, 120))
-            model.told.append(f"The time was extended: one could vote until {time_in_words(model.end)}.")
+            model.end = max(model.now, model.end).replace(second=0) + datetime.timedelta(
+                minutes=self.chance.randint(1, 120)
+            )
+            model.told.append(
+                f"The time was extended: one could vote until {time_in_words(model.end)}."
+            )
             return ["call", "--until", f"{model.end:%Y-%m-%d %H:%M}", "--zone", "UTC"], None
         model.close()
-        return ["close", *["--early"] * (model.now < model.end), "--force", "--because", "it is time"], None
+        return [
+            "close",
+            *["--early"] * (model.now < model.end),
+            "--force",
+            "--because",
+            "it is time",
+        ], None
 
     def played(self, seed: int) -> None:
-        self.chance, self.model, self.mail, self.clicks = random.Random(seed), Model(), list[bytes](), list[Letter]()
+        self.chance, self.model, self.mail, self.clicks = (
+            random.Random(seed),
+            Model(),
+            list[bytes](),
+            list[Letter](),
+        )
         type(self).records, self.earlier = "", list[str]()
-        steps = [self.entering] * 5 + [self.mailing] * 4 + [self.asking, self.deciding, self.taking_out, self.timing] * 2
+        steps = (
+            [self.entering] * 5
+            + [self.mailing] * 4
+            + [self.asking, self.deciding, self.taking_out, self.timing] * 2
+        )
         for place in range(LENGTH):
             self.model.now += datetime.timedelta(seconds=self.chance.randint(1, 4500))
             self.set_time(self.model.now)
@@ -338,30 +512,63 @@ class WhatHappenedTest(elections.ElectionTest):
     def publish(self) -> None:
         model, folder = self.model, self.folder / f"result-{len(self.earlier)}"
         self.write("about", f"This is publication {len(self.earlier)}.\n")
-        ended = self.election("publish", "--about", "about", "--force", "--yes", "--because", "it is wanted", folder.name)
+        ended = self.election(
+            "publish",
+            "--about",
+            "about",
+            "--force",
+            "--yes",
+            "--because",
+            "it is wanted",
+            folder.name,
+        )
         self.assertIn(ended.status, (0, 1), ended)
         for name, lines in ("ballots.txt", model.in_time()), ("late.txt", model.late()):
-            self.assertEqual((folder / name).read_text(), "".join(f"{line.text}\n" for line in lines))
-        self.assertEqual({*(folder / "standing.txt").read_text().splitlines()}, {*model.standing().values()})
-        page, letter = (folder / "index.html").read_text(), " ".join(self.read("letters/result.txt").decode().split())
+            self.assertEqual(
+                (folder / name).read_text(), "".join(f"{line.text}\n" for line in lines)
+            )
+        self.assertEqual(
+            {*(folder / "standing.txt").read_text().splitlines()}, {*model.standing().values()}
+        )
+        page, letter = (folder / "index.html").read_text(), " ".join(
+            self.read("letters/result.txt").decode().split()
+        )
         done = page_parts.sections_of(page)["What-was-done"]
-        told = [item.text().partition("): ")[2] for item in done.all("li")] + [text.text() for text in done.all("p") if "after the end" in text.text()]
+        told = [item.text().partition("): ")[2] for item in done.all("li")] + [
+            text.text() for text in done.all("p") if "after the end" in text.text()
+        ]
         self.assertEqual(told, model.all_told())
-        self.assertEqual([text for text in told if re.sub("words: (.*)", r"words: (\1)", text) not in letter], [])
-        earlier = re.findall("<p>This result takes the place of an earlier one. .*?: (.*?)</p>", re.sub("</?(?:code|bdi)>", "", page), re.S)
-        self.assertEqual((earlier, letter.count("of an earlier one.")), (self.earlier, len(earlier)))
-        self.assertEqual(re.findall(r"<li><b>(\d+)</b> came late</li>", page), [str(len(model.late()))] * bool(model.late()))
+        self.assertEqual(
+            [text for text in told if re.sub("words: (.*)", r"words: (\1)", text) not in letter], []
+        )
+        earlier = re.findall(
+            "<p>This result takes the place of an earlier one. .*?: (.*?)</p>",
+            re.sub("</?(?:code|bdi)>", "", page),
+            re.S,
+        )
+        self.assertEqual(
+            (earlier, letter.count("of an earlier one.")), (self.earlier, len(earlier))
+        )
+        self.assertEqual(
+            re.findall(r"<li><b>(\d+)</b> came late</li>", page),
+            [str(len(model.late()))] * bool(model.late()),
+        )
         numbers = re.findall(r"\b\d\b", (folder / "sheet.txt").read_text().splitlines()[-1])
         left = ", ".join(OPTIONS[int(number) - 1] for number in numbers)
         checksum = hashlib.sha256((folder / "SHA256SUMS").read_bytes()).hexdigest()
         how = f"{'A tie' if ended.status else 'Winner'}: {left}."
-        self.earlier.append(f"A result was published, whose SHA256SUMS has the checksum {checksum}. {how}")
+        self.earlier.append(
+            f"A result was published, whose SHA256SUMS has the checksum {checksum}. {how}"
+        )
         model.told.append(self.earlier[-1])
         model.left |= {*model.waiting(in_time=True)} if model.is_closed else {*()}
 
 
 # a class for each few elections, so that they run side by side
 for first in range(1, ELECTIONS + 1, IN_A_CLASS):
-    tests = {f"test_{seed}": functools.partialmethod(WhatHappenedTest.played, seed) for seed in range(first, min(first + IN_A_CLASS, ELECTIONS + 1))}
+    tests = {
+        f"test_{seed}": functools.partialmethod(WhatHappenedTest.played, seed)
+        for seed in range(first, min(first + IN_A_CLASS, ELECTIONS + 1))
+    }
     globals()[f"WhatHappened{first}"] = type(f"WhatHappened{first}", (WhatHappenedTest,), tests)
 del first, tests

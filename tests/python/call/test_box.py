@@ -8,7 +8,20 @@ import re
 import unittest
 import unittest.mock
 
-from debvote_tools.call.box import SCRIPT, SECRET_SENTENCES, SENTENCES, asking_word, key_of, list_digest, page_of, records_file, script_address, script_of, third_part, without_links
+from debvote_tools.call.box import (
+    SCRIPT,
+    SECRET_SENTENCES,
+    SENTENCES,
+    asking_word,
+    key_of,
+    list_digest,
+    page_of,
+    records_file,
+    script_address,
+    script_of,
+    third_part,
+    without_links,
+)
 from debvote_tools.cli.faults import Fault
 from debvote_tools.inbox.box_records import MOST
 from debvote_tools.poll.sealed import OWN_LENGTH, OWN_SIGNS, new_own_mark
@@ -59,11 +72,15 @@ class Links(unittest.TestCase):
     def test_what_a_page_posts_is_of_its_poll_and_its_book(self) -> None:
         digest = hashlib.sha256(hmac.digest(KEY, f"page {MARK}".encode(), "sha256")).hexdigest()
         self.assertEqual(page_of(KEY, MARK), digest[:16])
-        self.assertEqual(len({page_of(KEY, MARK), page_of(KEY, "f" * 16), page_of(b"x" * 32, MARK)}), 3)
+        self.assertEqual(
+            len({page_of(KEY, MARK), page_of(KEY, "f" * 16), page_of(b"x" * 32, MARK)}), 3
+        )
 
     def test_what_may_be_a_link_is_left_out_where_the_book_can_not_be_read(self) -> None:
         book, link = unittest.mock.Mock(), third_part(KEY, "ada", OWNS["ada"])
-        book.value.side_effect = book.rows.side_effect = Fault(None, "the book is damaged", "restore it")
+        book.value.side_effect = book.rows.side_effect = Fault(
+            None, "the book is damaged", "restore it"
+        )
         said = f"[{MARK}] {{}} {OWNS['ada']}"
         self.assertEqual(without_links(book, said.format(link)), said.format(".."))
 

@@ -36,13 +36,19 @@ class DraftTest(unittest.TestCase):
     maxDiff = None
 
     def setUp(self) -> None:
-        self.folder = pathlib.Path(self.enterContext(tempfile.TemporaryDirectory(prefix="debvote-draft-")))
+        self.folder = pathlib.Path(
+            self.enterContext(tempfile.TemporaryDirectory(prefix="debvote-draft-"))
+        )
         self.write("poll.toml", GERMAN)
 
     def write(self, name: str, content: str | bytes) -> None:
-        (self.folder / name).write_bytes(content if isinstance(content, bytes) else content.encode())
+        (self.folder / name).write_bytes(
+            content if isinstance(content, bytes) else content.encode()
+        )
 
-    def draft(self, poll: str | bytes | None = None, texts: dict[str, str | bytes] | None = None) -> DraftPoll:
+    def draft(
+        self, poll: str | bytes | None = None, texts: dict[str, str | bytes] | None = None
+    ) -> DraftPoll:
         """The draft of a poll, and of texts by the names of their files."""
         if poll is not None:
             self.write("poll.toml", poll)
@@ -64,14 +70,30 @@ class DraftTest(unittest.TestCase):
     def explained(self, draft: DraftPoll, roll: list[str] = ROLL) -> str:
         """What debvote says of the poll as it would be sealed."""
         words = [elections.PROGRAM, "explain", "--poll", "/dev/stdin"]
-        return subprocess.run(words, input=sealed_form(draft, roll, "de"), stdout=subprocess.PIPE).stdout.decode()
+        return subprocess.run(
+            words, input=sealed_form(draft, roll, "de"), stdout=subprocess.PIPE
+        ).stdout.decode()
 
 
 class Sealed(DraftTest):
     def test_in_any_language(self) -> None:
-        plain, shown = ("Am See", "Ueber der Bruecke", "Option 3"), ("Am See", "Über der Brücke", "李", "Weiter diskutieren")
-        wanted = SealedPoll("Wo wir uns im Fruehling treffen", plain, (1, 1, 3), "Weiter diskutieren", 1, tuple(ROLL))
-        wanted = dataclasses.replace(wanted, shown_title="Wo wir uns im Frühling treffen", shown_options=shown)
+        plain, shown = ("Am See", "Ueber der Bruecke", "Option 3"), (
+            "Am See",
+            "Über der Brücke",
+            "李",
+            "Weiter diskutieren",
+        )
+        wanted = SealedPoll(
+            "Wo wir uns im Fruehling treffen",
+            plain,
+            (1, 1, 3),
+            "Weiter diskutieren",
+            1,
+            tuple(ROLL),
+        )
+        wanted = dataclasses.replace(
+            wanted, shown_title="Wo wir uns im Frühling treffen", shown_options=shown
+        )
         self.assertEqual(seal(self.draft(), ROLL, "de"), wanted)
         self.assertIn("poll ok: 4 options, 3 electors", self.explained(self.draft()))
 
@@ -79,25 +101,39 @@ class Sealed(DraftTest):
         sealed = sealed_form(self.draft(PLAIN + 'wording = "more_than"\n'), ["ada"], "en")
         self.assertEqual(sealed.decode(), PLAIN + 'wording = "more_than"\nroll = ["ada"]\n')
         # the title alone, or an option alone
-        self.assertEqual(seal(self.draft(PLAIN.replace("Fruhling", "Frühling")), ROLL, "de").shown_options, ())
+        self.assertEqual(
+            seal(self.draft(PLAIN.replace("Fruhling", "Frühling")), ROLL, "de").shown_options, ()
+        )
         poll = seal(self.draft(PLAIN.replace("diskutieren", "schwätzen")), ROLL, "de")
-        self.assertEqual((poll.shown_title, poll.default, poll.shown_options[3]), (None, "Weiter schwaetzen", "Weiter schwätzen"))
+        self.assertEqual(
+            (poll.shown_title, poll.default, poll.shown_options[3]),
+            (None, "Weiter schwaetzen", "Weiter schwätzen"),
+        )
         # blanks around a name do not count
         poll = seal(self.draft(GERMAN.replace('"Am See"', '" Am See\u00a0"')), ROLL, "de")
         self.assertEqual((poll.options[0], poll.shown_options[0]), ("Am See", "Am See"))
 
     def test_all_that_may_be_set(self) -> None:
-        draft = self.draft("\ufeff" + GERMAN + 'wording = "at_least"\nsecret = true\n', {"2.txt": "Schön.\n"})
+        draft = self.draft(
+            "\ufeff" + GERMAN + 'wording = "at_least"\nsecret = true\n', {"2.txt": "Schön.\n"}
+        )
         more = {"deadline": "2026-12-04T18:00:00+01:00", "address": "vote@x"}
         sealed, poll = sealed_form(draft, ROLL, "de", **more), seal(self.draft(GERMAN), ROLL, "de")
-        wanted = dataclasses.replace(poll, **more, secret=True, wording="at_least", explanations=("", "Schön.\n", ""))
+        wanted = dataclasses.replace(
+            poll, **more, secret=True, wording="at_least", explanations=("", "Schön.\n", "")
+        )
         self.assertEqual((read_plain(sealed), wanted.as_bytes()), (wanted, sealed))
         keys = "title options ratios default quorum wording roll deadline address secret shown_title shown_options explanations"
-        self.assertEqual([line.split(" = ")[0] for line in sealed.decode().splitlines()], keys.split())
+        self.assertEqual(
+            [line.split(" = ")[0] for line in sealed.decode().splitlines()], keys.split()
+        )
         self.assertIs(seal(self.draft(GERMAN + "secret = false\n"), ROLL, "de").secret, False)
         # it is TOML also where a text has what TOML does not take as it is
         odd = dataclasses.replace(wanted, explanations=("", "\x7f", ""))
-        self.assertEqual((tomllib.loads(odd.as_bytes().decode())["explanations"][1], read_plain(odd.as_bytes())), ("\x7f", odd))
+        self.assertEqual(
+            (tomllib.loads(odd.as_bytes().decode())["explanations"][1], read_plain(odd.as_bytes())),
+            ("\x7f", odd),
+        )
 
 
 class Explained(DraftTest):
@@ -105,23 +141,51 @@ class Explained(DraftTest):
 
     def test_what_is_missing_empty_of_a_wrong_type_or_out_of_range(self) -> None:
         missing = "key {}: it is missing".format
-        types = {"title": "3", "options": '["a", 1]', "ratios": '"x"', "default": "[]", "quorum": "1.5", "wording": "false", "options ": "true"}
+        types = {
+            "title": "3",
+            "options": '["a", 1]',
+            "ratios": '"x"',
+            "default": "[]",
+            "quorum": "1.5",
+            "wording": "false",
+            "options ": "true",
+        }
         for poll, *wanted in [
             (PLAIN.replace("quorum", "# quorum"), missing("quorum")),
             (PLAIN.replace("title", "# title"), missing("title")),
-            (PLAIN.replace('"Am See"', '""').replace('"Wo wir uns im Fruhling treffen"', '""'), "title: ", "name of option 1: "),
+            (
+                PLAIN.replace('"Am See"', '""').replace('"Wo wir uns im Fruhling treffen"', '""'),
+                "title: ",
+                "name of option 1: ",
+            ),
             ("", *map(missing, ("title", "options", "ratios", "default", "quorum"))),
             (PLAIN.replace("quorum = 1", "quorum = 11"), "quorum: "),
             (PLAIN.replace("[1, 1, 3]", "[1, 3]"), "ratios: 2 found; "),
-            *((re.sub(rf"(?m)^{key.strip()} = .*\n", "", PLAIN) + f"{key} = {value}\n", f"key {key.strip()}: ") for key, value in types.items()),
+            *(
+                (
+                    re.sub(rf"(?m)^{key.strip()} = .*\n", "", PLAIN) + f"{key} = {value}\n",
+                    f"key {key.strip()}: ",
+                )
+                for key, value in types.items()
+            ),
         ]:
             with self.subTest(poll):
                 draft = self.draft(poll)
                 self.assertEqual(draft.faults, [])
-                found = [line for line in self.explained(draft).splitlines() if line.startswith("poll: ")]
-                self.assertEqual([any(line.startswith(f"poll: {part}") for line in found) for part in wanted], [True] * len(wanted), found)
+                found = [
+                    line for line in self.explained(draft).splitlines() if line.startswith("poll: ")
+                ]
+                self.assertEqual(
+                    [any(line.startswith(f"poll: {part}") for line in found) for part in wanted],
+                    [True] * len(wanted),
+                    found,
+                )
                 # a value of a wrong type may be told with what it makes of others
-                self.assertTrue(len(found) == len(wanted) or wanted[0] in [f"key {key.strip()}: " for key in types], found)
+                self.assertTrue(
+                    len(found) == len(wanted)
+                    or wanted[0] in [f"key {key.strip()}: " for key in types],
+                    found,
+                )
         self.assertIn("poll: size of roll: ", self.explained(self.draft(GERMAN), []))
 
 
@@ -130,7 +194,11 @@ class Faults(DraftTest):
         extra = 'deadline = "x"\naddress = "x"\nroll = []\nlast_envelope = 1\nqorum = 2\nnotes = ""\nexplanations = []\n[more]\nwording = 1\n'
         draft = self.draft(GERMAN + extra)
         wanted = [
-            ("poll.toml: the key `deadline` is not written here", "call --until", "then run debvote-election check"),
+            (
+                "poll.toml: the key `deadline` is not written here",
+                "call --until",
+                "then run debvote-election check",
+            ),
             ("`address`", "call --to"),
             ("`roll`", "members.csv"),
             ("`last_envelope`", "close"),
@@ -140,25 +208,45 @@ class Faults(DraftTest):
         self.assert_faults(draft.faults, *wanted)
         self.assertEqual({fault.status for fault in draft.faults}, {Status.BAD_POLL})
         # of the others debvote speaks
-        self.assertEqual(self.explained(draft).splitlines(), ["poll: key notes is not read", "poll: key qorum is not read", "poll ok: 4 options, 3 electors"])
+        self.assertEqual(
+            self.explained(draft).splitlines(),
+            [
+                "poll: key notes is not read",
+                "poll: key qorum is not read",
+                "poll ok: 4 options, 3 electors",
+            ],
+        )
         self.assertNotIn(b"deadline", sealed_form(draft, ROLL, "de"))
 
     def test_keys_that_no_poll_has(self) -> None:
         draft = self.draft(GERMAN.replace("quorum", "qorum") + '"a \\" =\u00e4" = [1]\n')
         self.assertEqual(draft.faults, [])
         found = self.explained(draft)
-        for part in ("poll: key quorum: it is missing", "poll: key qorum is not read; did you mean quorum?", "poll: key a \" ="):
+        for part in (
+            "poll: key quorum: it is missing",
+            "poll: key qorum is not read; did you mean quorum?",
+            'poll: key a " =',
+        ):
             self.assertIn(part, found)
 
     def test_values_that_no_poll_has(self) -> None:
-        for key, value in {"quorum": "2026-01-01", "title": "{a = 1}", "ratios": "[nan]", "quorum ": "9223372036854775808"}.items():
-            lines = [line for line in GERMAN.splitlines() if not line.startswith(f"{key.strip()} = ")]
+        for key, value in {
+            "quorum": "2026-01-01",
+            "title": "{a = 1}",
+            "ratios": "[nan]",
+            "quorum ": "9223372036854775808",
+        }.items():
+            lines = [
+                line for line in GERMAN.splitlines() if not line.startswith(f"{key.strip()} = ")
+            ]
             draft = self.draft("\n".join([*lines, f"{key} = {value}"]))
             self.assert_faults(draft.faults, (f"`{key.strip()}` has a value of a wrong kind",))
             self.assertIn(f"poll: key {key.strip()}: it is missing", self.explained(draft))
         for value in ("1", '"true"', "[]"):
             draft = self.draft(GERMAN + f"secret = {value}\n")
-            self.assert_faults(draft.faults, ("`secret` is neither true nor false", "secret = true"))
+            self.assert_faults(
+                draft.faults, ("`secret` is neither true nor false", "secret = true")
+            )
             self.assertNotIn(b"secret", sealed_form(draft, ROLL, "de"))
 
     def test_a_poll_that_can_not_be_read(self) -> None:
@@ -180,34 +268,76 @@ class Faults(DraftTest):
 
 class Texts(DraftTest):
     def test_texts(self) -> None:
-        draft = self.draft(texts={"3.txt": "\ufeffC\r\n\n\tx\n", "1.txt": "ä: \u05d0\n", ".1.txt.swp": "", "1.txt~": "", "#1.txt#": ""})
-        self.assertEqual((draft.faults, dict(draft.texts)), ([], {1: "ä: \u05d0\n", 3: "C\n\n\tx\n"}))
+        draft = self.draft(
+            texts={
+                "3.txt": "\ufeffC\r\n\n\tx\n",
+                "1.txt": "ä: \u05d0\n",
+                ".1.txt.swp": "",
+                "1.txt~": "",
+                "#1.txt#": "",
+            }
+        )
+        self.assertEqual(
+            (draft.faults, dict(draft.texts)), ([], {1: "ä: \u05d0\n", 3: "C\n\n\tx\n"})
+        )
         self.assertEqual(seal(draft, ROLL, "de").explanations, ("ä: \u05d0\n", "", "C\n\n\tx\n"))
 
     def test_all_that_is_no_text(self) -> None:
-        texts = {"0.txt": "x", "01.txt": "x", "1.md": "x", "1.txt": "\n \n", "2.txt": b"a\n\xff", "3.txt": "a\n\nb\u202e", "4.txt": "the default"}
+        texts = {
+            "0.txt": "x",
+            "01.txt": "x",
+            "1.md": "x",
+            "1.txt": "\n \n",
+            "2.txt": b"a\n\xff",
+            "3.txt": "a\n\nb\u202e",
+            "4.txt": "the default",
+        }
         wanted = [
-            *(("/0.txt: it is not the text of an option", "1.txt to 3.txt"), ("/01.txt: it is not the text",), ("/1.md: it is not the text",)),
-            *(("/1.txt: it is empty",), ("/2.txt:2: it is not in UTF-8",), ("/3.txt:3: ", "U+202E"), ("/4.txt: it is not the text",)),
+            *(
+                ("/0.txt: it is not the text of an option", "1.txt to 3.txt"),
+                ("/01.txt: it is not the text",),
+                ("/1.md: it is not the text",),
+            ),
+            *(
+                ("/1.txt: it is empty",),
+                ("/2.txt:2: it is not in UTF-8",),
+                ("/3.txt:3: ", "U+202E"),
+                ("/4.txt: it is not the text",),
+            ),
         ]
         self.assert_faults(self.draft(texts=texts).faults, *wanted)
         for odd in ("\x0b", "\r", "\x85", "\u2028", "\u2067", "\ue000", "\x00"):
-            self.assert_faults(self.draft(texts={"1.txt": f"a\nb{odd}c"}).faults, (f"/1.txt:2: it has the character U+{ord(odd):04X}",))
+            self.assert_faults(
+                self.draft(texts={"1.txt": f"a\nb{odd}c"}).faults,
+                (f"/1.txt:2: it has the character U+{ord(odd):04X}",),
+            )
 
     def test_their_size_together(self) -> None:
         half = "x" * 262_144
         self.assertEqual(self.draft(texts={"1.txt": half, "2.txt": half}).faults, [])
-        self.assert_faults(self.draft(texts={"1.txt": half, "2.txt": half, "3.txt": "y"}).faults, ("texts: the texts have 524289 bytes",))
-        self.assert_faults(self.draft(texts={"1.txt": "x" * 524_289}).faults, ("/1.txt: it is longer than 524288 bytes",))
+        self.assert_faults(
+            self.draft(texts={"1.txt": half, "2.txt": half, "3.txt": "y"}).faults,
+            ("texts: the texts have 524289 bytes",),
+        )
+        self.assert_faults(
+            self.draft(texts={"1.txt": "x" * 524_289}).faults,
+            ("/1.txt: it is longer than 524288 bytes",),
+        )
 
     def test_what_is_no_file_or_no_folder(self) -> None:
         """A pipe would keep its reader waiting."""
         self.write("texts", "x")
-        self.assert_faults(draft_in(Election(self.folder, elections.PROGRAM.parent)).faults, ("texts: Not a directory",))
+        self.assert_faults(
+            draft_in(Election(self.folder, elections.PROGRAM.parent)).faults,
+            ("texts: Not a directory",),
+        )
         (self.folder / "texts").unlink()
         (self.folder / "texts").mkdir()
         os.mkfifo(self.folder / "texts" / "1.txt")
-        self.assert_faults(draft_in(Election(self.folder, elections.PROGRAM.parent)).faults, ("/1.txt: it is no plain file; put a readable file there, or remove it",))
+        self.assert_faults(
+            draft_in(Election(self.folder, elections.PROGRAM.parent)).faults,
+            ("/1.txt: it is no plain file; put a readable file there, or remove it",),
+        )
         (self.folder / "poll.toml").unlink()
         os.mkfifo(self.folder / "poll.toml")
         with self.assertRaisesRegex(Fault, "poll.toml: it is no plain file; write it"):
@@ -226,7 +356,11 @@ class Confusing(DraftTest):
             self.assertEqual(self.faults(GERMAN.replace("Am See", name)), [])
 
     def test_names_of_options_and_of_the_title(self) -> None:
-        poll = GERMAN.replace('"李"', '"ueber der BRUCKE", "UBER DER BRÜCKE"').replace("treffen", "\\u202e").replace("Weiter", "x" * 200)
+        poll = (
+            GERMAN.replace('"李"', '"ueber der BRUCKE", "UBER DER BRÜCKE"')
+            .replace("treffen", "\\u202e")
+            .replace("Weiter", "x" * 200)
+        )
         wanted = [
             ("poll.toml: the title, ", "U+202E", "then run debvote-election check"),
             ("option 5, ", "characters; at most 200 are allowed"),
@@ -237,21 +371,34 @@ class Confusing(DraftTest):
     def test_words_of_a_motion_with_accents(self) -> None:
         poll = 'title = "The fee"\noptions = ["Raise it"]\nratios = [1]\ndefault = "No, as it is"\nquorum = 0\nmotion = true\n'
         for change, faults in (
-            (("No, as", "SI\u0301: as"), ["the default option of a motion begins with a word for yes"]),
-            (("Raise", "Abstenci\u00f3n o"), ["the option of a motion begins with a word for no or abstention"]),
+            (
+                ("No, as", "SI\u0301: as"),
+                ["the default option of a motion begins with a word for yes"],
+            ),
+            (
+                ("Raise", "Abstenci\u00f3n o"),
+                ["the option of a motion begins with a word for no or abstention"],
+            ),
             (("No, as", "Si as"), []),
         ):
-            self.assert_faults(self.faults(poll.replace(*change), "es"), *((fault,) for fault in faults))
+            self.assert_faults(
+                self.faults(poll.replace(*change), "es"), *((fault,) for fault in faults)
+            )
 
 
 class NewPoll(DraftTest):
     def test_it_is_filled_in_by_its_own_examples(self) -> None:
         text = NEW_POLL.read_text()
-        self.assertEqual(tomllib.loads(text), {"title": "", "options": [], "ratios": [], "default": ""})
+        self.assertEqual(
+            tomllib.loads(text), {"title": "", "options": [], "ratios": [], "default": ""}
+        )
         self.assertLess(max(map(len, text.splitlines())), 111)
         self.assertEqual(self.draft(text).faults, [])
         examples = re.findall(r"(?m)^#     (\w+)( = .*)$", text)
-        self.assertEqual([key for key, _ in examples], ["options", "ratios", "default", "title", "options", "ratios", "default", "motion"])
+        self.assertEqual(
+            [key for key, _ in examples],
+            ["options", "ratios", "default", "title", "options", "ratios", "default", "motion"],
+        )
         for options, given in ((4, [("title", ' = "Frühling"'), *examples[:3]]), (2, examples[3:])):
             # a poll that is no motion has no line for it
             filled = text + "motion =\n"

@@ -8,7 +8,11 @@ from debvote_tools.call.members import Member, Roll, roll_of
 from debvote_tools.cli.faults import Fault
 
 KEY = "0123456789ABCDEF0123456789ABCDEF01234567"
-KNOWN = [Elector(1, "ada", 1, "Ada L", ("a@x",)), Elector(2, "ben", 2, "Ben", ("b@x",), KEY), Elector(3, "zoe", 3, "Zoë", ())]
+KNOWN = [
+    Elector(1, "ada", 1, "Ada L", ("a@x",)),
+    Elector(2, "ben", 2, "Ben", ("b@x",), KEY),
+    Elector(3, "zoe", 3, "Zoë", ()),
+]
 SAME = ["Ada L;a@x", f"Ben;b@x;;{KEY}", "Zoë"]
 
 
@@ -32,7 +36,13 @@ def changes_of(roll: Roll) -> list[tuple[str, list[str]]]:
 class RollTest(unittest.TestCase):
     maxDiff = None
 
-    def roll(self, *rows: str, known: list[Elector] | None = None, language: str = "en", is_called: bool = False) -> Roll:
+    def roll(
+        self,
+        *rows: str,
+        known: list[Elector] | None = None,
+        language: str = "en",
+        is_called: bool = False,
+    ) -> Roll:
         """The roll of rows of who, mail, name and key; the first is on line 2."""
         data = "\n".join(["who;mail;name;key", *rows]).encode()
         self.faults: list[Fault] = []
@@ -43,7 +53,9 @@ class RollTest(unittest.TestCase):
             return Roll(())
 
     def assert_named(self, roll: Roll, *names: str) -> None:
-        self.assertEqual(([fault.words for fault in self.faults], names_of(roll.electors)), ([], list(names)))
+        self.assertEqual(
+            ([fault.words for fault in self.faults], names_of(roll.electors)), ([], list(names))
+        )
 
     def assert_faults(self, roll: Roll, *wanted: tuple[str, ...]) -> None:
         self.assertEqual(len(self.faults), len(wanted), [fault.words for fault in self.faults])
@@ -58,22 +70,48 @@ class Proposals(RollTest):
         self.assert_named(self.roll("Zoë Müller", "Ann", language="fr"), "zoe-muller", "ann")
 
     def test_an_address_where_nothing_is_left_of_who(self) -> None:
-        self.assertEqual(names_of(self.roll("李明;x@y Li.Ming@x", "...;dot@x").electors), ["x", "dot"])
-        self.assert_faults(self.roll("李明", "李;李@x", "Ada"), (":2: no name can be made from 李明",), (":3: no name",))
+        self.assertEqual(
+            names_of(self.roll("李明;x@y Li.Ming@x", "...;dot@x").electors), ["x", "dot"]
+        )
+        self.assert_faults(
+            self.roll("李明", "李;李@x", "Ada"), (":2: no name can be made from 李明",), (":3: no name",)
+        )
 
     def test_who_would_get_one_name_gets_a_number(self) -> None:
-        self.assert_named(self.roll("Ann Lee", "Ánn Lee", "Ann-Lee", "Bo"), "ann-lee-1", "ann-lee-2", "ann-lee-3", "bo")
-        self.assert_named(self.roll(f"{'a' * 32} b", f"{'a' * 33}"), "a" * 30 + "-1", "a" * 30 + "-2")
-        self.assert_named(self.roll("a" * 31 + " b", "Maximiliane " * 5), "a" * 31, "maximiliane-maximiliane-maximili")
+        self.assert_named(
+            self.roll("Ann Lee", "Ánn Lee", "Ann-Lee", "Bo"),
+            "ann-lee-1",
+            "ann-lee-2",
+            "ann-lee-3",
+            "bo",
+        )
+        self.assert_named(
+            self.roll(f"{'a' * 32} b", f"{'a' * 33}"), "a" * 30 + "-1", "a" * 30 + "-2"
+        )
+        self.assert_named(
+            self.roll("a" * 31 + " b", "Maximiliane " * 5),
+            "a" * 31,
+            "maximiliane-maximiliane-maximili",
+        )
 
     def test_names_of_others_are_not_taken(self) -> None:
         gone = Elector(7, "ann-3", None, "Ann Z", ())
-        self.assert_named(self.roll("Ann", "Other;;ann", "Another;;ann-2", "Ann.", known=[gone]), "ann-4", "ann", "ann-2", "ann-5")
-        self.assertEqual([elector.proposal for elector in self.roll("Ann", "Other;;ann").electors], ["ann", ""])
+        self.assert_named(
+            self.roll("Ann", "Other;;ann", "Another;;ann-2", "Ann.", known=[gone]),
+            "ann-4",
+            "ann",
+            "ann-2",
+            "ann-5",
+        )
+        self.assertEqual(
+            [elector.proposal for elector in self.roll("Ann", "Other;;ann").electors], ["ann", ""]
+        )
 
     def test_ten_thousand_of_one_name(self) -> None:
         marks = str.maketrans("01", "!?")
-        names = names_of(self.roll(*(f"Ann {number:b}".translate(marks) for number in range(10_000))).electors)
+        names = names_of(
+            self.roll(*(f"Ann {number:b}".translate(marks) for number in range(10_000))).electors
+        )
         self.assertEqual((names[0], names[-1], len({*names})), ("ann-1", "ann-10000", 10_000))
 
 
@@ -81,7 +119,10 @@ class Known(RollTest):
     def test_a_name_stays_with_its_person(self) -> None:
         roll = self.roll("Zoë", "Ben B;;ben", "Ada L;a@x", "Dan", known=KNOWN)
         self.assert_named(roll, "zoe", "ben", "ada", "dan")
-        self.assertEqual((numbers_of(roll), changes_of(roll)), ([3, 2, 1, None], [("ben", ["who", "address", "key"])]))
+        self.assertEqual(
+            (numbers_of(roll), changes_of(roll)),
+            ([3, 2, 1, None], [("ben", ["who", "address", "key"])]),
+        )
         self.assertEqual((names_of(new_of(roll)), roll.gone), (["dan"], []))
 
     def test_who_is_renamed_keeps_the_name_in_the_list(self) -> None:
@@ -89,12 +130,16 @@ class Known(RollTest):
         self.assert_named(roll, "ada", "ben", "zoe-2")
         self.assertEqual((names_of(new_of(roll)), names_of(roll.gone)), (["zoe-2"], ["zoe"]))
         roll = self.roll(*SAME[:2], "Zoe;;zoe", known=KNOWN)
-        self.assertEqual((changes_of(roll)[-1], new_of(roll), roll.gone), (("zoe", ["who"]), [], []))
+        self.assertEqual(
+            (changes_of(roll)[-1], new_of(roll), roll.gone), (("zoe", ["who"]), [], [])
+        )
 
     def test_the_same_list_changes_nothing(self) -> None:
         roll = self.roll(*SAME, known=KNOWN)
         proposed = [elector for elector in roll.electors if elector.proposal]
-        self.assertEqual((changes_of(roll), new_of(roll), roll.gone, proposed, self.faults), ([], [], [], [], []))
+        self.assertEqual(
+            (changes_of(roll), new_of(roll), roll.gone, proposed, self.faults), ([], [], [], [], [])
+        )
 
     def test_a_new_name_for_the_same_person(self) -> None:
         roll = self.roll("Ada L;A@x;ada.l", *SAME[1:], known=KNOWN)
@@ -107,36 +152,62 @@ class Known(RollTest):
         left = [KNOWN[0], KNOWN[1], Elector(3, "zoe", None, "Zoë", ())]
         roll = self.roll(*SAME, "Zoe", known=left)
         self.assert_named(roll, "ada", "ben", "zoe", "zoe-2")
-        self.assertEqual((names_of(new_of(roll)), numbers_of(roll)[2:], roll.gone), (["zoe", "zoe-2"], [3, None], []))
+        self.assertEqual(
+            (names_of(new_of(roll)), numbers_of(roll)[2:], roll.gone),
+            (["zoe", "zoe-2"], [3, None], []),
+        )
         self.assertEqual(self.roll(*SAME[:2], known=left).gone, [])
         roll = self.roll(*SAME[:2], "Zoë;new@x", known=left)
         self.assertEqual((changes_of(roll), names_of(new_of(roll))), ([], ["zoe"]))
 
     def test_of_two_namesakes_that_of_the_last_list_is_meant(self) -> None:
-        self.assert_named(self.roll("Ann", known=[Elector(1, "ann-1", None, "Ann", ()), Elector(2, "ann-2", 1, "Ann", ())]), "ann-2")
-        roll = self.roll("Ann", known=[Elector(1, "ann-1", 1, "Ann", ()), Elector(2, "ann-2", 2, "Ann", ())])
+        self.assert_named(
+            self.roll(
+                "Ann",
+                known=[Elector(1, "ann-1", None, "Ann", ()), Elector(2, "ann-2", 1, "Ann", ())],
+            ),
+            "ann-2",
+        )
+        roll = self.roll(
+            "Ann", known=[Elector(1, "ann-1", 1, "Ann", ()), Elector(2, "ann-2", 2, "Ann", ())]
+        )
         self.assertEqual((numbers_of(roll), len(roll.gone)), ([None], 2))
 
     def test_who_is_not_named_is_nobody_else(self) -> None:
-        roll = self.roll(";;y", "Ben;;ben", known=[Elector(1, "x", 1, "", ()), Elector(2, "ben", 2, "", ())])
+        roll = self.roll(
+            ";;y", "Ben;;ben", known=[Elector(1, "x", 1, "", ()), Elector(2, "ben", 2, "", ())]
+        )
         self.assert_named(roll, "y", "ben")
         self.assertEqual((numbers_of(roll), names_of(roll.gone)), ([None, 2], ["x"]))
 
     def test_two_with_one_who_need_names_of_their_own(self) -> None:
-        self.assert_faults(self.roll("Ann", "Bo", " Ann "), (":2: lines 2, 4 have the same `who`: Ann", "under `name`"))
+        self.assert_faults(
+            self.roll("Ann", "Bo", " Ann "),
+            (":2: lines 2, 4 have the same `who`: Ann", "under `name`"),
+        )
         self.assert_faults(self.roll("Ann;;ann", "Ann"), (":3: lines 2, 3 have the same `who`",))
-        self.assert_faults(self.roll("Zoë", "Zoe\u0308"), (":2: lines 2, 3 have the same `who`: Zoë",))
+        self.assert_faults(
+            self.roll("Zoë", "Zoe\u0308"), (":2: lines 2, 3 have the same `who`: Zoë",)
+        )
         self.assert_named(self.roll("Ann;;ann", "Ann;;bo"), "ann", "bo")
-        self.assert_faults(self.roll(";a@x", ";b@x", f";;;{KEY}"), *((f":{line}: it has no `who`",) for line in (2, 3, 4)))
+        self.assert_faults(
+            self.roll(";a@x", ";b@x", f";;;{KEY}"),
+            *((f":{line}: it has no `who`",) for line in (2, 3, 4)),
+        )
 
     def test_a_name_that_belongs_to_another(self) -> None:
-        self.assert_faults(self.roll("Ada L;;ben", "Ben;b@x", known=KNOWN), (":2: `ben` is the name of Ben (line 3) already", "write another name"))
+        self.assert_faults(
+            self.roll("Ada L;;ben", "Ben;b@x", known=KNOWN),
+            (":2: `ben` is the name of Ben (line 3) already", "write another name"),
+        )
         # where the other has gone, or is spelled anew, it is theirs
         self.assert_named(self.roll("Benjamin;;ben", known=KNOWN), "ben")
 
     def test_names_and_keys_that_two_have(self) -> None:
         roll = self.roll(f"Ada;;x;{KEY}", "Bo;;y", f"Cy;;x;{KEY}")
-        self.assert_faults(roll, (":4: lines 2, 4 have the same name: x",), (":4: lines 2, 4 have the same key",))
+        self.assert_faults(
+            roll, (":4: lines 2, 4 have the same name: x",), (":4: lines 2, 4 have the same key",)
+        )
 
     def test_too_many(self) -> None:
         rows = [f"Elector {number}" for number in range(10_001)]
@@ -145,7 +216,9 @@ class Known(RollTest):
         self.assertEqual(self.faults, [])
 
     def test_the_faults_of_the_list_are_among_them(self) -> None:
-        self.assert_faults(self.roll("Ann;no", "Ann"), (":2: `no` is not a mail address",), (":2: lines 2, 3",))
+        self.assert_faults(
+            self.roll("Ann;no", "Ann"), (":2: `no` is not a mail address",), (":2: lines 2, 3",)
+        )
         self.assert_faults(self.roll(), ("there is nobody on it",))
 
 
@@ -159,13 +232,27 @@ class AfterTheCall(RollTest):
         self.assertEqual(changes_of(roll), [("ben", ["address", "key"]), ("zoe", ["address"])])
 
     def test_the_people_stay(self) -> None:
-        self.assert_faults(self.called(SAME[1]), ("missing: ada (Ada L), zoe (Zoë)", "only addresses and keys may change"))
+        self.assert_faults(
+            self.called(SAME[1]),
+            ("missing: ada (Ada L), zoe (Zoë)", "only addresses and keys may change"),
+        )
         self.assert_faults(self.called(*SAME, "Dan"), ("new: dan (Dan)",))
-        self.assert_faults(self.called("Ada L;a@x;ada.l", *SAME[1:]), (":2: ada.l (Ada L) was ada",))
+        self.assert_faults(
+            self.called("Ada L;a@x;ada.l", *SAME[1:]), (":2: ada.l (Ada L) was ada",)
+        )
         self.assert_faults(self.called("Eve;a@x;ada", *SAME[1:]), (":2: ada (Eve) was Ada L",))
-        self.assert_faults(self.called("Ada L;a@x", SAME[1], "Zoe;;zoe"), (":4: zoe (Zoe) was Zoë",))
+        self.assert_faults(
+            self.called("Ada L;a@x", SAME[1], "Zoe;;zoe"), (":4: zoe (Zoe) was Zoë",)
+        )
         self.assert_named(self.called(*SAME[:2], "Zoe\u0308"), "ada", "ben", "zoe")
         # another person in the place of one
-        self.assert_faults(self.called(*SAME[:2], "Eve;z@x"), ("missing: zoe (Zoë)",), ("new: eve (Eve)",))
+        self.assert_faults(
+            self.called(*SAME[:2], "Eve;z@x"), ("missing: zoe (Zoë)",), ("new: eve (Eve)",)
+        )
         # who was gone before the call is new
-        self.assert_faults(self.roll(*SAME, "Dan", known=[*KNOWN, Elector(4, "dan", None, "Dan", ())], is_called=True), ("new: dan (Dan)",))
+        self.assert_faults(
+            self.roll(
+                *SAME, "Dan", known=[*KNOWN, Elector(4, "dan", None, "Dan", ())], is_called=True
+            ),
+            ("new: dan (Dan)",),
+        )

@@ -15,14 +15,18 @@ class MembersTest(unittest.TestCase):
     maxDiff = None
 
     def read(self, content: str | bytes) -> tuple[list[members.Member], list[Fault]]:
-        found, wrong = members.members_of(content if isinstance(content, bytes) else content.encode(), "members.csv")
+        found, wrong = members.members_of(
+            content if isinstance(content, bytes) else content.encode(), "members.csv"
+        )
         return found, members.faults_of("members.csv", wrong)
 
     def assert_rows(self, content: str | bytes, *wanted: tuple[int, str, str, str]) -> None:
         """Line, name, who and addresses of each member, and no fault."""
         found, faults = self.read(content)
         self.assertEqual([fault.words for fault in faults], [])
-        self.assertEqual([(row.line, row.name, row.who, " ".join(row.addresses)) for row in found], list(wanted))
+        self.assertEqual(
+            [(row.line, row.name, row.who, " ".join(row.addresses)) for row in found], list(wanted)
+        )
 
     def assert_faults(self, content: str | bytes, *wanted: tuple[str, ...]) -> None:
         """The parts of each fault, all of which stop the run."""
@@ -30,7 +34,11 @@ class MembersTest(unittest.TestCase):
             _, faults = self.read(content)
         except Fault as fault:
             faults = [fault, *fault.others]
-        self.assertEqual([fault.status for fault in faults], [Status.DOUBT] * len(wanted), [fault.words for fault in faults])
+        self.assertEqual(
+            [fault.status for fault in faults],
+            [Status.DOUBT] * len(wanted),
+            [fault.words for fault in faults],
+        )
         for fault, parts in zip(faults, wanted):
             for part in (*parts, "then run debvote-election roll again"):
                 self.assertIn(part, str(fault.words))
@@ -40,9 +48,18 @@ class Read(MembersTest):
     def test_delimiters_encodings_heads_and_cells(self) -> None:
         text = "who;mail\r\nZoë Ł. 李;zoe@x\r\n"
         encodings = [text.encode(), codecs.BOM_UTF8 + text.encode()]
-        encodings += [mark + text.encode(name) for mark, name in ((codecs.BOM_UTF16_LE, "utf-16-le"), (codecs.BOM_UTF16_BE, "utf-16-be"))]
+        encodings += [
+            mark + text.encode(name)
+            for mark, name in (
+                (codecs.BOM_UTF16_LE, "utf-16-le"),
+                (codecs.BOM_UTF16_BE, "utf-16-be"),
+            )
+        ]
         for content, *row in [
-            *((f"name{mark}who{mark}mail\nada{mark}Ada L{mark}ada@x\n", "ada", "Ada L", "ada@x") for mark in (",", ";", "\t")),
+            *(
+                (f"name{mark}who{mark}mail\nada{mark}Ada L{mark}ada@x\n", "ada", "Ada L", "ada@x")
+                for mark in (",", ";", "\t")
+            ),
             *((data, "", "Zoë Ł. 李", "zoe@x") for data in encodings),
             # columns in any order and spelling
             ('note, MAIL ,"Name",age,\tWho\nx,ada@x,ada,3,Ada L\n', "ada", "Ada L", "ada@x"),
@@ -54,7 +71,11 @@ class Read(MembersTest):
             ("First Name,Last Name,MAIL\nAda,L,a@x\n", "", "Ada L", "a@x"),
             ("Nom\tPrénom\tCourriel\nL\tAda\ta@x\n", "", "Ada L", "a@x"),
             ("NOMBRE,apellidos,correo\nAda,L M,a@x\n", "", "Ada L M", "a@x"),
-            *((f"{head};{mail}\nAda L;a@x\n", "", "Ada L", "a@x") for head in ("Nom", "Nombre", "Name") for mail in ("Mail", "E-Mail-Adresse")),
+            *(
+                (f"{head};{mail}\nAda L;a@x\n", "", "Ada L", "a@x")
+                for head in ("Nom", "Nombre", "Name")
+                for mail in ("Mail", "E-Mail-Adresse")
+            ),
             ("Name,Email Address\nAda L,a@x\n", "", "Ada L", "a@x"),
             ("Nombre,Correo electrónico\nAda L,a@x\n", "", "Ada L", "a@x"),
             # `name` has the names on the roll where something else has the real ones
@@ -80,7 +101,12 @@ class Read(MembersTest):
         text = "\n,,\nname,who,mail,,\n,,,,\nada,Ada,,,\n\n   \nben\ncleo,,c@x,,,,,,\n,,,,"
         self.assert_rows(text, (5, "ada", "Ada", ""), (8, "ben", "", ""), (9, "cleo", "", "c@x"))
         text = 'name,who,mail\nada,"Lovelace, Ada",a@x\n"ben", "Ben ""the"" B","b@x"\ncleo,Cleo "C" C,c@x\ndan,"",""\n'
-        wanted = [(2, "ada", "Lovelace, Ada", "a@x"), (3, "ben", 'Ben "the" B', "b@x"), (4, "cleo", 'Cleo "C" C', "c@x"), (5, "dan", "", "")]
+        wanted = [
+            (2, "ada", "Lovelace, Ada", "a@x"),
+            (3, "ben", 'Ben "the" B', "b@x"),
+            (4, "cleo", 'Cleo "C" C', "c@x"),
+            (5, "dan", "", ""),
+        ]
         self.assert_rows(text, *wanted)
 
     def test_line_ends_within_a_cell_keep_the_numbers_of_lines(self) -> None:
@@ -90,9 +116,21 @@ class Read(MembersTest):
 
     def test_several_addresses(self) -> None:
         text = 'who,mail\nAda,a@x b@x\nBen,"b@x, c@x;d@x"\nCleo,"Lovelace, Cleo <c@x>; <d@x>"\nDan,mailto:d@x d@x\n'
-        self.assertEqual([row.addresses for row in self.read(text)[0]], [("a@x", "b@x"), ("b@x", "c@x", "d@x"), ("c@x", "d@x"), ("d@x",)])
+        self.assertEqual(
+            [row.addresses for row in self.read(text)[0]],
+            [("a@x", "b@x"), ("b@x", "c@x", "d@x"), ("c@x", "d@x"), ("d@x",)],
+        )
         # and the fingerprint of a key
-        self.assertEqual([row.key for row in self.read(f"who,mail,key\nAda,,{KEY[:20].lower()} {KEY[20:]}\nBen,,\n")[0]], [KEY, ""])
+        self.assertEqual(
+            [
+                row.key
+                for row in self.read(f"who,mail,key\nAda,,{KEY[:20].lower()} {KEY[20:]}\nBen,,\n")[
+                    0
+                ]
+            ],
+            [KEY, ""],
+        )
+
 
 class Unread(MembersTest):
     def test_faults_of_the_file(self) -> None:
@@ -102,17 +140,33 @@ class Unread(MembersTest):
             (b"PK\x03\x04\x14\0", ("a ZIP", "not CSV", "save it again as CSV in UTF-8")),
             (b"\xd0\xcf\x11\xe0\xa1\xb1", ("spreadsheet, not CSV",)),
             (b"%PDF-1.7", ("a PDF",)),
-            ("who,mail\nZoë,z@x\n".encode("latin-1"), ("members.csv:2: ", "Latin-1", "Zoë,z@x", "UTF-8")),
+            (
+                "who,mail\nZoë,z@x\n".encode("latin-1"),
+                ("members.csv:2: ", "Latin-1", "Zoë,z@x", "UTF-8"),
+            ),
             ("who,mail\nZoë,z@x\n".encode("utf-16-le"), ("nor in UTF-16 with a byte-order mark",)),
             (codecs.BOM_UTF16_LE + "who,mail\n".encode("utf-16-le") + b"x", ("UTF-16",)),
             # a head line without a column, or with one twice
-            ("name,who,post\nada,Ada,a@x\n", ("members.csv:1: ", "no column `mail`", "`name`, `who`, `post`")),
+            (
+                "name,who,post\nada,Ada,a@x\n",
+                ("members.csv:1: ", "no column `mail`", "`name`, `who`, `post`"),
+            ),
             ("Nachname,mail\nAda,a@x\n", ("no column `who`; it has `Nachname`, `mail`",)),
-            ("ada,Ada,a@x\n", ("no column `who` and no column `mail`; it has `ada`, `Ada`, `a@x`", "real names")),
+            (
+                "ada,Ada,a@x\n",
+                ("no column `who` and no column `mail`; it has `ada`, `Ada`, `a@x`", "real names"),
+            ),
             ("ada;Ada;a@x\n", ("it has `ada`, `Ada`, `a@x`",)),
             ("Name,E-Mail,email\n", (":1: ", "column `email` twice")),
-            ("\nwho,mail,Who,name,NAME\n,,,,\n", (":2: ", "column `who` twice"), (":2: ", "column `name` twice")),
-            *((content, ("there is nobody on it",)) for content in ("who,mail\n,,\n", members.NEW_MEMBERS)),
+            (
+                "\nwho,mail,Who,name,NAME\n,,,,\n",
+                (":2: ", "column `who` twice"),
+                (":2: ", "column `name` twice"),
+            ),
+            *(
+                (content, ("there is nobody on it",))
+                for content in ("who,mail\n,,\n", members.NEW_MEMBERS)
+            ),
         ]:
             with self.subTest(content):
                 self.assert_faults(content, *wanted)
@@ -150,22 +204,54 @@ class Rows(MembersTest):
         self.assertEqual([row.line for row in self.read(text)[0]], [2, 3, 4, 6, 7, 9, 10, 11])
 
     def test_a_row_with_semicolons_below_a_head_with_commas(self) -> None:
-        said = ":2: `Ada;ada@x` has a semicolon, and the header line has commas", "put a comma between the cells of this line too"
+        said = (
+            ":2: `Ada;ada@x` has a semicolon, and the header line has commas",
+            "put a comma between the cells of this line too",
+        )
         self.assert_faults("who,mail\nAda;ada@x\nBen,ben@x\n", said)
-        self.assert_faults("who,mail,name\nAda,ada@x,ada;b\n", ("`ada;b` has a semicolon",), ("`ada;b` cannot be a name",))
+        self.assert_faults(
+            "who,mail,name\nAda,ada@x,ada;b\n",
+            ("`ada;b` has a semicolon",),
+            ("`ada;b` cannot be a name",),
+        )
         self.assert_faults(f"who,mail,name\nAda,,{'a' * 33}\n", (":2: ", "cannot be a name"))
 
     def test_a_sum_below_the_members(self) -> None:
-        for row in ("Total,", "TOTAL: 3,", "Summe,3", ",Insgesamt", "Gesamtsumme = 3,", "Somme : 3,", "Suma 3,", "Subtotal,", "Anzahl: 1.000,"):
+        for row in (
+            "Total,",
+            "TOTAL: 3,",
+            "Summe,3",
+            ",Insgesamt",
+            "Gesamtsumme = 3,",
+            "Somme : 3,",
+            "Suma 3,",
+            "Subtotal,",
+            "Anzahl: 1.000,",
+        ):
             with self.subTest(row=row):
                 first = next(filter(None, row.split(",")))
-                self.assert_faults(f"who,mail\nAda,ada@x\n{row}\n", (f":3: `{first}` is a sum and no member; take the line out",))
+                self.assert_faults(
+                    f"who,mail\nAda,ada@x\n{row}\n",
+                    (f":3: `{first}` is a sum and no member; take the line out",),
+                )
         self.assert_faults("nr,who,mail\n1,Ada,a@x\nTotal,1,\n", (":3: `Total` is a sum",))
         wanted = (2, "", "Anna Total", ""), (3, "", "Summ", ""), (4, "", "Suma", "s@x")
         self.assert_rows("who,mail\nAnna Total,\nSumm,\nSuma,s@x\n", *wanted)
 
     def test_characters_that_were_lost(self) -> None:
-        self.assert_faults("who,mail\nZo\ufffd,z@x\n", (":2: `Zo\ufffd` has lost a character when it was saved (U+FFFD); write the ",))
-        for end, (sign, shown) in itertools.product((b"\n", b"\r\n", b"\r"), ((b"\xeb", "Zo\u00eb,z@x"), (b"\x81", "Zo"))):
-            self.assert_faults(b"who,mail%bAda,%bZo%b,z@x%b" % (end, end, sign, end), ("members.csv:3: it is not in UTF-8", shown))
-        self.assert_faults("who,mail,,\nLovelace, Ada,a@x,\n", (":2: `a@x` is after",), (":2: `Ada` is not a mail address",))
+        self.assert_faults(
+            "who,mail\nZo\ufffd,z@x\n",
+            (":2: `Zo\ufffd` has lost a character when it was saved (U+FFFD); write the ",),
+        )
+        for end, (sign, shown) in itertools.product(
+            (b"\n", b"\r\n", b"\r"), ((b"\xeb", "Zo\u00eb,z@x"), (b"\x81", "Zo"))
+        ):
+            self.assert_faults(
+                b"who,mail%bAda,%bZo%b,z@x%b" % (end, end, sign, end),
+                ("members.csv:3: it is not in UTF-8", shown),
+            )
+        self.assert_faults(
+            "who,mail,,\nLovelace, Ada,a@x,\n",
+            (":2: `a@x` is after",),
+            (":2: `Ada` is not a mail address",),
+        )

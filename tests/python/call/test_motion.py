@@ -34,29 +34,48 @@ class Checked(MotionTest):
     def test_what_is_shown(self) -> None:
         said = self.told("check")
         self.assertIn("\nA motion, yes: Raise the fee to 72 Euro, no: No, as it is\n", said)
-        self.assertIn("\nNote: these real names end in a word of the motion, and a name is no ballot: Kim No\n", said)
+        self.assertIn(
+            "\nNote: these real names end in a word of the motion, and a name is no ballot: Kim No\n",
+            said,
+        )
         self.new_poll(("motion = true", "motion = false"))
         said = self.told("check")
         self.assertNotRegex(said, "motion|Kim")
 
     def test_what_is_refused(self) -> None:
         for change, fault in (
-            (('["Raise the fee to 72 Euro"]\nratios = [1]', '["A", "B"]\nratios = [1, 1]'), "a motion has one option beside the default"),
-            (("Raise", "NO: raise"), "the option of a motion begins with a word for no or abstention"),
-            (("Raise", "Abstain"), "the option of a motion begins with a word for no or abstention"),
+            (
+                ('["Raise the fee to 72 Euro"]\nratios = [1]', '["A", "B"]\nratios = [1, 1]'),
+                "a motion has one option beside the default",
+            ),
+            (
+                ("Raise", "NO: raise"),
+                "the option of a motion begins with a word for no or abstention",
+            ),
+            (
+                ("Raise", "Abstain"),
+                "the option of a motion begins with a word for no or abstention",
+            ),
             (("No, as", "Yes! as"), "the default option of a motion begins with a word for yes"),
             (("motion = true", "motion = 1"), "`motion` is neither true nor false"),
         ):
             self.new_poll(change)
             self.assert_fault(self.election("check"), 3, fault, "poll.toml")
         # words of a language that is neither that of the election nor English, and other words that begin so
-        for change in (("Raise", "Nein, raise"), ("Raise", "Noise"), ("No, as", "Oui, as"), ("No, as", "Yesterday")):
+        for change in (
+            ("Raise", "Nein, raise"),
+            ("Raise", "Noise"),
+            ("No, as", "Oui, as"),
+            ("No, as", "Yesterday"),
+        ):
             self.new_poll(change)
             self.told("check")
         self.new_poll()
         self.write("members.csv", "who,name,mail\nAda,ada,\nX,no,\nY,yes,\n")
         self.told("roll")
-        self.assert_fault(self.election("check"), 3, "a name on the roll is a word of the motion: no, yes")
+        self.assert_fault(
+            self.election("check"), 3, "a name on the roll is a word of the motion: no, yes"
+        )
         self.new_poll(("motion = true\n", ""))
         self.told("check")
 
@@ -68,13 +87,19 @@ class Sealed(MotionTest):
         poll = self.read("call/poll.toml")
         self.assertNotIn(b"motion", poll)
         self.assertEqual(self.debvote("explain", "--poll", "call/poll.toml").status, 0)
-        self.assertEqual(self.rows("SELECT name, data FROM sealed WHERE name = 'motion'"), [("motion", b"")])
+        self.assertEqual(
+            self.rows("SELECT name, data FROM sealed WHERE name = 'motion'"), [("motion", b"")]
+        )
         self.told("call", "--take-back")
         self.new_poll(("motion = true\n", ""))
         self.told("call", "--to", "vote@club.example")
         self.assertEqual(self.read("call/poll.toml"), poll)
         self.told("add", "--force", "-", given="ada yes\n")
-        self.assertIn("1 bad shape", self.told("status") + self.told("add", "--force", "-", given="ben no\n").replace("2 bad", "1 bad"))
+        self.assertIn(
+            "1 bad shape",
+            self.told("status")
+            + self.told("add", "--force", "-", given="ben no\n").replace("2 bad", "1 bad"),
+        )
 
     def test_in_a_secret_vote(self) -> None:
         self.write("poll.toml", f"{self.poll}secret = true\n")
@@ -85,7 +110,9 @@ class Sealed(MotionTest):
         self.told("close", "--early", "--yes")
         self.told("publish")
         letter = self.read("letters/result.txt").decode().replace("\n", " ")
-        self.assertIn("Winner: Option 2: No, as it is. 0 yes, 1 no. More had to say yes than no.", letter)
+        self.assertIn(
+            "Winner: Option 2: No, as it is. 0 yes, 1 no. More had to say yes than no.", letter
+        )
         self.assertIn("2 of 2 voted, 1 abstained.", letter)
         self.assertIn(b"<code>2,1</code>: No</li>", self.read("result/index.html"))
 
@@ -103,7 +130,20 @@ class InLetters(MotionTest):
             self.told("roll")
             self.told("call", "--to", "vote@club.example")
             self.told("letters", "call")
-            letters = [data.decode() for name, data in self.contents().items() if name.endswith((".eml", "call.txt"))]
-            printed = html.unescape(next(data.decode() for name, data in self.contents().items() if name.endswith("print.html")))
+            letters = [
+                data.decode()
+                for name, data in self.contents().items()
+                if name.endswith((".eml", "call.txt"))
+            ]
+            printed = html.unescape(
+                next(
+                    data.decode()
+                    for name, data in self.contents().items()
+                    if name.endswith("print.html")
+                )
+            )
             said = f": {', '.join(words)})"
-            self.assertEqual((len(letters), sum(map(str.count, letters, [said] * 2)), printed.count(said)), (2, 0, 1))
+            self.assertEqual(
+                (len(letters), sum(map(str.count, letters, [said] * 2)), printed.count(said)),
+                (2, 0, 1),
+            )

@@ -35,13 +35,21 @@ class Vector(unittest.TestCase):
         self.assertEqual(key_pair(KEY, MARK)[0], public)
         self.assertEqual(base64.b64encode(sealing.point_of(private)).decode(), public)
         self.assertEqual(personal_link(KEY, "ada", "23456789ab"), LINK)
-        self.assertEqual(sealing.proof_of(MARK, LINK), "7fc11d37c41c92d9f0935e48802746f48d4e3e4e596863d19cdcd1ba4fce7630")
-        self.assertEqual(proof_digest(MARK, LINK), "5ba958a001e63f16d6ca5272b03ad1ef53a65d8810320ea413823df2067b591a")
+        self.assertEqual(
+            sealing.proof_of(MARK, LINK),
+            "7fc11d37c41c92d9f0935e48802746f48d4e3e4e596863d19cdcd1ba4fce7630",
+        )
+        self.assertEqual(
+            proof_digest(MARK, LINK),
+            "5ba958a001e63f16d6ca5272b03ad1ef53a65d8810320ea413823df2067b591a",
+        )
 
     def test_a_sealed_ballot(self) -> None:
         self.assertEqual(key_pair(KEY, MARK)[1](NUMBER, SEALED), INSIDE)
         # and the tests seal as the page does
-        self.assertEqual(sealing.sealed(key_pair(KEY, MARK)[0], MARK, NUMBER, INSIDE, own=2), SEALED)
+        self.assertEqual(
+            sealing.sealed(key_pair(KEY, MARK)[0], MARK, NUMBER, INSIDE, own=2), SEALED
+        )
 
     def test_each_poll_and_each_book_has_keys_of_its_own(self) -> None:
         pairs = [(KEY, MARK), (KEY, "f" * 16), (b"x" * 32, MARK)]
@@ -71,9 +79,15 @@ class Refused(unittest.TestCase):
             "more": data + bytes(3),
         }
         for place in (0, 30, 64, 65, 100, len(data) - 1):
-            changed[f"a sign at {place}"] = data[:place] + bytes([data[place] ^ 4]) + data[place + 1 :]
+            changed[f"a sign at {place}"] = (
+                data[:place] + bytes([data[place] ^ 4]) + data[place + 1 :]
+            )
         texts = {what: base64.urlsafe_b64encode(one).decode() for what, one in changed.items()}
-        texts |= {"a sign of its own": SEALED[:-1] + "+", "cut": SEALED[:-1], "\u00b9": SEALED[:-1] + "\u00b9"}
+        texts |= {
+            "a sign of its own": SEALED[:-1] + "+",
+            "cut": SEALED[:-1],
+            "\u00b9": SEALED[:-1] + "\u00b9",
+        }
         for what, text in texts.items():
             with self.subTest(what), self.assertRaises(ValueError):
                 key_pair(KEY, MARK)[1](NUMBER, text)
@@ -81,7 +95,9 @@ class Refused(unittest.TestCase):
             key_pair(KEY, MARK)[1](f"{2:032x}", SEALED)
 
     def test_a_text_that_is_not_ascii(self) -> None:
-        text = sealing.sealed(key_pair(KEY, MARK)[0], MARK, NUMBER, INSIDE.replace("1,2", "\u00b9,2"))
+        text = sealing.sealed(
+            key_pair(KEY, MARK)[0], MARK, NUMBER, INSIDE.replace("1,2", "\u00b9,2")
+        )
         with self.assertRaises(ValueError):
             key_pair(KEY, MARK)[1](NUMBER, text)
 

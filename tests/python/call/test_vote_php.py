@@ -10,15 +10,35 @@ import pathlib
 import re
 import subprocess
 import tempfile
-import time
 import unittest
 
-from debvote_tools.call.box import END_OF_CODE, SCRIPT, asking_word, list_digest, page_of, proof_digest, script_of, third_part
+from debvote_tools.call.box import (
+    END_OF_CODE,
+    SCRIPT,
+    asking_word,
+    list_digest,
+    page_of,
+    proof_digest,
+    script_of,
+    third_part,
+)
 from debvote_tools.poll.questions import LABELS
 from debvote_tools.text.rendering import resources
 
 from tests.support import sealing
-from tests.support.web_host import END, FILE, FIRST, KEY, LINKS, MARK, NEEDS_PHP, OWNS, PAGE, STRACE, WORD
+from tests.support.web_host import (
+    END,
+    FILE,
+    FIRST,
+    KEY,
+    LINKS,
+    MARK,
+    NEEDS_PHP,
+    OWNS,
+    PAGE,
+    STRACE,
+    WORD,
+)
 from tests.support.web_host import ASK, HOST_OFF, Answer, BoxTest, Host
 from tests.support.web_host import ballot, clock_of_php, place_of, record, request_of
 
@@ -31,19 +51,32 @@ for one in ("enable=1", "enable_cli=1", "validate_timestamps=0", "file_update_pr
     CACHE += ["-d", f"opcache.{one}"]
 
 
-
 def digest_of(name: str) -> str:
     """That of the proof of an elector, as the host knows it."""
     return proof_digest(MARK, place_of(name))
 
 
 # bodies that are no request of the page
-GOOD, OF_ADA, PROOF = ballot("ada", "1,2", 77), LINKS["ada"], sealing.proof_of(MARK, place_of("ada")).encode()
+GOOD, OF_ADA, PROOF = (
+    ballot("ada", "1,2", 77),
+    LINKS["ada"],
+    sealing.proof_of(MARK, place_of("ada")).encode(),
+)
 ASKED = ["ada 1,2", "ask", "ask ", f"ASK {WORD}", f"ask {WORD.upper()}", f"ask {WORD[:-1]}"]
 ASKED += [f"ask {WORD}0", f" ask {WORD}"]
 # of what is sealed, what of it may be another sign
 SEALED = GOOD.splitlines()[1]
-OTHERS = [b"=", b"+", b"/", b" ", b"\x00", b"\xb9", b"<?php phpinfo(); ?>", b"\n\n", b"../../etc/passwd"]
+OTHERS = [
+    b"=",
+    b"+",
+    b"/",
+    b" ",
+    b"\x00",
+    b"\xb9",
+    b"<?php phpinfo(); ?>",
+    b"\n\n",
+    b"../../etc/passwd",
+]
 BAD = [
     *(b"", b"\n", b'{"line": "ada 1,2"}', b"\xff" * 40, b"line=ada+1,2&link=" + OF_ADA.encode()),
     *(ASK[:-1], ASK + b"\n", b"a=" + ASK, *map(request_of, ASKED)),
@@ -100,7 +133,12 @@ class Requests(BoxTest):
         wanted += record("ben-lee", "ben-lee A 1,2 B 2,1,3", 2, second)
         self.assertEqual(self.file.read_text(), FIRST.decode() + wanted)
         self.assertEqual(host.ask().text.partition("\n")[2], wanted)
-        owners = ("ada", "2" * 16), ("ada", LINKS["ben-lee"]), ("zoe", LINKS["ada"]), (MARK, "2" * 16)
+        owners = (
+            ("ada", "2" * 16),
+            ("ada", LINKS["ben-lee"]),
+            ("zoe", LINKS["ada"]),
+            (MARK, "2" * 16),
+        )
         unknown = [ballot(name, "1,2", 3, link) for name, link in owners]
         # what the host knows is no proof
         unknown += [GOOD.replace(PROOF, other) for other in (b"0" * 64, digest_of("ada").encode())]
@@ -158,7 +196,9 @@ class Requests(BoxTest):
 
     def test_other_kinds_of_content_and_a_request_that_names_a_file(self) -> None:
         host = self.host()
-        application = [f"application/{kind}" for kind in ("x-www-form-urlencoded", "json", "octet-stream")]
+        application = [
+            f"application/{kind}" for kind in ("x-www-form-urlencoded", "json", "octet-stream")
+        ]
         kinds = [*application, "text/plain;charset=UTF-8"]
         for number, kind in enumerate(kinds):
             how = {"Content_Type": kind, "Origin": "https://else.example"}
@@ -274,7 +314,9 @@ class Requests(BoxTest):
         then, one = "2026-11-28T12:00:00Z", f"<{1:032x}@"
         many = record("ben-lee", "ben-lee 1,2", 1, then).replace(digest_of("ben-lee"), "f" * 64)
         numbers = (f"<{number:032x}@" for number in range(10_000, 20_000))
-        self.file.write_text(FIRST.decode() + "".join(many.replace(one, number) for number in numbers))
+        self.file.write_text(
+            FIRST.decode() + "".join(many.replace(one, number) for number in numbers)
+        )
         before = host.seconds()
         for number in range(OF_A_LINK):
             self.received(host.send(ballot("ada", "1,2", number)))
@@ -501,15 +543,21 @@ class Killed(BoxTest):
     def test_an_asking_that_is_killed_holds_up_no_click(self) -> None:
         """The first one makes the file."""
         other = self.host()
-        calls = [(call, count) for call, count, line in self.calls_of(ASK) if str(self.folder) in line]
+        calls = [
+            (call, count) for call, count, line in self.calls_of(ASK) if str(self.folder) in line
+        ]
         self.assertGreater(len(calls), 10)
         for number, (call, count) in enumerate(calls):
             self.file.unlink(missing_ok=True)
-            with self.traced("-o", "/dev/null", "-e", f"inject={call}:signal=KILL:when={count}") as host:
+            with self.traced(
+                "-o", "/dev/null", "-e", f"inject={call}:signal=KILL:when={count}"
+            ) as host:
                 # the last ones are after the answer
                 self.assertIn(host.ask().status, (0, 200), (call, count))
                 host.process.wait(60)
-            self.assertEqual(other.send(ballot("ada", "1,2", number)).word, "received", (call, count))
+            self.assertEqual(
+                other.send(ballot("ada", "1,2", number)).word, "received", (call, count)
+            )
             self.assertEqual(other.lines(), ["ada 1,2"], (call, count))
 
     def test_a_disk_that_breaks(self) -> None:

@@ -24,9 +24,13 @@ class Count(elections.ElectionTest):
 
     def assert_counted(self, words: tuple[str, ...], status: int, *parts: str) -> None:
         """The sheet alone goes to standard output, and the sentence on standard error has these parts."""
-        out, ended = self.scratch / f"out{len(os.listdir(self.scratch))}", self.election("count", *words)
+        out, ended = self.scratch / f"out{len(os.listdir(self.scratch))}", self.election(
+            "count", *words
+        )
         self.done("export", out)
-        sheet = self.debvote("count", "--poll", out / "poll.toml", "--ballots", out / "ballots.txt", *words).output
+        sheet = self.debvote(
+            "count", "--poll", out / "poll.toml", "--ballots", out / "ballots.txt", *words
+        ).output
         self.assertNotEqual(sheet, "")
         self.assertEqual(ended.output, sheet)
         self.assert_fault(ended, status, "Next: ", *parts)
@@ -34,7 +38,11 @@ class Count(elections.ElectionTest):
     def test_an_option_that_has_won(self) -> None:
         self.add(WON)
         before = self.contents()
-        self.assert_counted((), 0, "this is not the result yet: when the vote is over, run debvote-election close, then debvote-election publish")
+        self.assert_counted(
+            (),
+            0,
+            "this is not the result yet: when the vote is over, run debvote-election close, then debvote-election publish",
+        )
         self.assertEqual(self.contents(), before)
         self.done("close")
         self.assert_counted((), 0, "Next: debvote-election publish")
@@ -46,26 +54,58 @@ class Count(elections.ElectionTest):
         cast = "--cast-by WHO --cast-on DATE"
         choose = "it is a tie between 'At the lake', Hall; the holder of the casting vote chooses one of them: "
         choose += f"debvote-election publish --casting 'At the lake' {cast} or debvote-election publish --casting Hall {cast}\n"
-        self.assert_counted((), 1, "Next: this is not the result yet: when the vote is over, run debvote-election close; now " + choose)
+        self.assert_counted(
+            (),
+            1,
+            "Next: this is not the result yet: when the vote is over, run debvote-election close; now "
+            + choose,
+        )
         self.done("close")
         self.add("fay 1,2,4,3\n")
         self.assert_counted((), 1, f"Next: {choose}")
-        self.assert_counted(("--casting", "Hall"), 0, f"Next: debvote-election publish --casting Hall {cast}\n")
-        self.assert_counted(("--casting", "Further discussion"), 8, "'Further discussion' is not among them")
+        self.assert_counted(
+            ("--casting", "Hall"), 0, f"Next: debvote-election publish --casting Hall {cast}\n"
+        )
+        self.assert_counted(
+            ("--casting", "Further discussion"), 8, "'Further discussion' is not among them"
+        )
         ended = self.election("count", "--casting", "Hall", "--casting", "At the lake")
-        self.assert_fault(ended, 8, "--casting='At the lake': it has the casting vote Hall already; nothing was counted: give one of them")
+        self.assert_fault(
+            ended,
+            8,
+            "--casting='At the lake': it has the casting vote Hall already; nothing was counted: give one of them",
+        )
         ended = self.election("count", "--casting", "Nowhere")
-        self.assert_fault(ended, 8, "no option has this name", "'At the lake', Hall, 'Sell the house and meet there'")
+        self.assert_fault(
+            ended,
+            8,
+            "no option has this name",
+            "'At the lake', Hall, 'Sell the house and meet there'",
+        )
 
     def test_the_names_of_options(self) -> None:
         """A casting vote is for a plain name, or for the name that people read; a text that is both, of two options, is neither."""
-        poll = SealedPoll("T", ("Groesse", "Option 2"), (1, 1), "None", 0, ("ada",), shown_options=("Gr\u00f6\u00dfe", "Groesse", "Keins"))
+        poll = SealedPoll(
+            "T",
+            ("Groesse", "Option 2"),
+            (1, 1),
+            "None",
+            0,
+            ("ada",),
+            shown_options=("Gr\u00f6\u00dfe", "Groesse", "Keins"),
+        )
         questions = Questions({"": poll})
         given = ("Gr\u00f6\u00dfe", "Option 2", "Keins", "None")
-        self.assertEqual([castings_in([name], questions)[""] for name in given], ["Groesse", "Option 2", "None", "None"])
+        self.assertEqual(
+            [castings_in([name], questions)[""] for name in given],
+            ["Groesse", "Option 2", "None", "None"],
+        )
         with self.assertRaises(Fault) as raised:
             castings_in(["Groesse"], questions)
-        self.assertIn("two options have this name; nothing was changed: give one of these names, exactly as written here: Groesse, 'Option 2'", raised.exception.words)
+        self.assertIn(
+            "two options have this name; nothing was changed: give one of these names, exactly as written here: Groesse, 'Option 2'",
+            raised.exception.words,
+        )
 
     def test_a_casting_vote_where_there_is_no_tie(self) -> None:
         self.add("ada 1,2,4,3\n")
@@ -80,5 +120,7 @@ class Count(elections.ElectionTest):
             with subprocess.Popen(["true"], stdin=subprocess.PIPE) as other:
                 other.wait()
                 command = [sys.executable, elections.ELECTION, *words.split()]
-                ended = subprocess.run(command, stdout=other.stdin, stderr=subprocess.PIPE, cwd=self.folder, env=env)
+                ended = subprocess.run(
+                    command, stdout=other.stdin, stderr=subprocess.PIPE, cwd=self.folder, env=env
+                )
             self.assertEqual((ended.returncode, ended.stderr), (7, b""), words)

@@ -7,7 +7,8 @@ import sys
 import time
 
 from tests.support import elections
-from tests.support.called import HALL, LAKE, OTHER_RANKS, RANKS, CalledTest
+from tests.support.called import HALL, LAKE, CalledTest
+from tests.support.letters import OTHER_RANKS, RANKS
 from tests.support.terminal import Terminal
 
 CAST = "Enter it? [y/n] "
@@ -31,19 +32,38 @@ class TerminalTest(CalledTest):
 
 class AtATerminal(TerminalTest):
     def test_a_ballot_is_shown_and_cast(self) -> None:
-        desk = self.at_terminal("  1 At the lake\n  2 In the town hall\n  3 Sell the house and meet there\n  4 Further discussion\n"
-                                "Type a ballot as ada 2,3,4,1 (the elector, then a rank for each option in this order); q ends.\n")
+        desk = self.at_terminal(
+            "  1 At the lake\n  2 In the town hall\n  3 Sell the house and meet there\n  4 Further discussion\n"
+            "Type a ballot as ada 2,3,4,1 (the elector, then a rank for each option in this order); q ends.\n"
+        )
         before, changed = self.last_act(), "desk:1: `Ada 1, 2,4,3` was changed to `ada 1,2,4,3`\n"
-        self.assertTrue(desk.after("Ada 1, 2,4,3\n", CAST).endswith(f"{changed}ada: {LAKE}\n{CAST}"))
+        self.assertTrue(
+            desk.after("Ada 1, 2,4,3\n", CAST).endswith(f"{changed}ada: {LAKE}\n{CAST}")
+        )
         self.assertEqual(self.last_act(), before)
         self.assertEqual(desk.after("y\n", "Ballot: "), "y\n1 counted  ada\nBallot: ")
         self.assertEqual(self.lines(), [f"ada {RANKS}"])
-        self.assertIn(f"ada has a ballot, which will be replaced: {LAKE}\n", desk.after(f"ada {OTHER_RANKS}\n", CAST))
+        self.assertIn(
+            f"ada has a ballot, which will be replaced: {LAKE}\n",
+            desk.after(f"ada {OTHER_RANKS}\n", CAST),
+        )
         self.assertIn("\n2 replaced  ada\n", desk.after("YES\n", "Ballot: "))
-        self.assertIn("This desk has entered 2 lines (1 counted, 1 replaced).\nNext: debvote-election status\n", self.end(desk, "q\n"))
+        self.assertIn(
+            "This desk has entered 2 lines (1 counted, 1 replaced).\nNext: debvote-election status\n",
+            self.end(desk, "q\n"),
+        )
         self.assertEqual(self.acts(), [("desk", {"lines": 1})] * 2)
-        found = [(envelope.elector, envelope.source, envelope.time, envelope.is_late) for envelope in self.envelopes()]
-        self.assertEqual(found, [(self.elector("ada"), None, act.time, False) for act in self.book.acts()[self.first_act - 1 :]])
+        found = [
+            (envelope.elector, envelope.source, envelope.time, envelope.is_late)
+            for envelope in self.envelopes()
+        ]
+        self.assertEqual(
+            found,
+            [
+                (self.elector("ada"), None, act.time, False)
+                for act in self.book.acts()[self.first_act - 1 :]
+            ],
+        )
 
     def test_a_no_forgets_and_another_answer_is_asked_again(self) -> None:
         """The end of the input and an interrupt are a no, too."""
@@ -69,11 +89,16 @@ class AtATerminal(TerminalTest):
         }.items():
             shown = desk.after(f"{line}\nperhaps\nn\n", CAST_REFUSED)
             # the terminal shows what was typed ahead before it or behind it
-            self.assertRegex(shown, rf"\n(n\n)?It would be refused: {re.escape(words)}\nA ballot line of this poll: `ada 2,3,4,1`: [^\n]*; 1 is the best\nIt would")
+            self.assertRegex(
+                shown,
+                rf"\n(n\n)?It would be refused: {re.escape(words)}\nA ballot line of this poll: `ada 2,3,4,1`: [^\n]*; 1 is the best\nIt would",
+            )
             # the question is asked in the same words again
             desk.until(CAST_REFUSED)
             desk.until("Ballot: ")
-        self.assertIn("1 bad not on roll  gsu 1,2,3,4\n", desk.after("gsu 1,2,3,4\ny\n", "Ballot: "))
+        self.assertIn(
+            "1 bad not on roll  gsu 1,2,3,4\n", desk.after("gsu 1,2,3,4\ny\n", "Ballot: ")
+        )
         self.end(desk, "q\n")
         self.assertEqual(self.lines(), ["gsu 1,2,3,4"])
 
@@ -84,11 +109,17 @@ class AtATerminal(TerminalTest):
         self.assertIn("1 counted  ada\n", second.after("y\n", "Ballot: "))
         # what was agreed to is another thing now, so it is asked anew
         shown = first.after("y\n", CAST)
-        self.assertIn("Nothing was done: another command changed the election meanwhile. Now it is so:\n", shown)
+        self.assertIn(
+            "Nothing was done: another command changed the election meanwhile. Now it is so:\n",
+            shown,
+        )
         self.assertIn(f"ada has a ballot, which will be replaced: {LAKE}\n", shown)
         self.assertEqual(self.lines(), [f"ada {RANKS}"])
         self.assertIn("2 replaced  ada\n", first.after("y\n", "Ballot: "))
-        self.assertIn(f"ada has a ballot, which will be replaced: {LAKE}\n", second.after(f"ada {OTHER_RANKS}\n", CAST))
+        self.assertIn(
+            f"ada has a ballot, which will be replaced: {LAKE}\n",
+            second.after(f"ada {OTHER_RANKS}\n", CAST),
+        )
         # a ballot that is struck meanwhile changes it, too
         self.told("strike", 2, "--because", "a test")
         second.after("y\n", CAST)
@@ -108,11 +139,16 @@ class AtATerminal(TerminalTest):
         self.assertEqual(self.late_lines(), [])
         self.assertIn("3 late  cleo\n", desk.after("y\n", "Ballot: "))
         self.end(desk, "q\n")
-        self.assertEqual((self.lines(), self.late_lines()), ([f"ben {RANKS}", f"ada {RANKS}"], [f"cleo {RANKS}"]))
+        self.assertEqual(
+            (self.lines(), self.late_lines()), ([f"ben {RANKS}", f"ada {RANKS}"], [f"cleo {RANKS}"])
+        )
         desk = Terminal(self)
         self.assertIn("Note: the vote was closed at ", desk.until("; what is entered now is late."))
         desk.until("Ballot: ")
-        self.assertRegex(desk.after(f"ada {OTHER_RANKS}\n", CAST), rf"\nada: {HALL}\nIt is late, and will not count\.\n")
+        self.assertRegex(
+            desk.after(f"ada {OTHER_RANKS}\n", CAST),
+            rf"\nada: {HALL}\nIt is late, and will not count\.\n",
+        )
         self.assertIn("4 late  ada\n", self.end(desk, "y\nq\n"))
 
     def test_the_end_meanwhile(self) -> None:
@@ -120,7 +156,9 @@ class AtATerminal(TerminalTest):
         desk = self.at_terminal()
         self.assertNotIn("Note: ", desk.after(f"ada {RANKS}\ny\n", "Ballot: "))
         self.act("extend", {"until": "2020-12-04T18:00:00+01:00"})
-        end = re.escape("Note: the announced end of the vote, Friday, 4 December 2020, 18:00 (UTC+01:00), has passed; what is entered still counts ")
+        end = re.escape(
+            "Note: the announced end of the vote, Friday, 4 December 2020, 18:00 (UTC+01:00), has passed; what is entered still counts "
+        )
         self.assertRegex(desk.after(f"ben {RANKS}\ny\n", "Ballot: "), rf"{end}.*\n2 counted  ben\n")
         self.assertNotIn("Note: ", desk.after(f"cleo {RANKS}\ny\n", "Ballot: "))
         self.told("close")
@@ -131,11 +169,19 @@ class AtATerminal(TerminalTest):
         """The options have other numbers now."""
         desk = self.at_terminal()
         self.told("call", "--take-back")
-        self.write("poll.toml", self.poll.replace('"At the lake", "In the town hall"', '"In the town hall", "At the lake"'))
+        self.write(
+            "poll.toml",
+            self.poll.replace(
+                '"At the lake", "In the town hall"', '"In the town hall", "At the lake"'
+            ),
+        )
         self.told("call", "--to", "vote@club.example")
         desk.type(f"ada {RANKS}\nn\nq\n")
         output, status = desk.end()
-        self.assertIn("the call for votes was made anew meanwhile; nothing was entered: run the command again", output)
+        self.assertIn(
+            "the call for votes was made anew meanwhile; nothing was entered: run the command again",
+            output,
+        )
         self.assertEqual((status, self.lines()), (9, []))
 
     def test_after_reopen_it_asks_once(self) -> None:
@@ -143,14 +189,20 @@ class AtATerminal(TerminalTest):
         self.told("close")
         self.told("reopen", "--because", "a bag was forgotten")
         asked = "Did this come before that close? [y/n] "
-        for answer, replies in (("y", ("1 counted  ada\n", "2 counted  ben\n")), ("n", ("3 late  ada\n", "4 late  ben\n"))):
+        for answer, replies in (
+            ("y", ("1 counted  ada\n", "2 counted  ben\n")),
+            ("n", ("3 late  ada\n", "4 late  ben\n")),
+        ):
             desk = Terminal(self)
             desk.until(asked)
             desk.after(f"{answer}\n", "Ballot: ")
             for name, reply in zip(("ada", "ben"), replies):
                 desk.after(f"{name} {RANKS}\ny\n", reply)
             self.end(desk, "q\n")
-        self.assertEqual([detail["came_before_close"] for name, detail in self.acts() if name == "desk"], [True, True, False, False])
+        self.assertEqual(
+            [detail["came_before_close"] for name, detail in self.acts() if name == "desk"],
+            [True, True, False, False],
+        )
         self.assertEqual((len(self.lines()), len(self.late_lines())), (2, 2))
         # so does a desk that was there before
         before.after(f"ada {RANKS}\n", asked)
@@ -159,35 +211,67 @@ class AtATerminal(TerminalTest):
 
     def test_notes_at_its_head(self) -> None:
         self.act("extend", {"until": "2020-12-04T18:00:00+01:00"})
-        end = "the announced end of the vote, Friday, 4 December 2020, 18:00 (UTC+01:00), has passed"
-        self.assertIn("1 counted  ada\n", self.end(self.at_terminal(f"Note: {end}; what is entered still counts until "), f"ada {RANKS}\ny\nq\n"))
+        end = (
+            "the announced end of the vote, Friday, 4 December 2020, 18:00 (UTC+01:00), has passed"
+        )
+        self.assertIn(
+            "1 counted  ada\n",
+            self.end(
+                self.at_terminal(f"Note: {end}; what is entered still counts until "),
+                f"ada {RANKS}\ny\nq\n",
+            ),
+        )
         self.act("announce", {"signed": True}, {"keyring": b"keys"})
-        self.at_terminal("Note: in this vote letters must be signed, and a desk checks no signature: ")
+        self.at_terminal(
+            "Note: in this vote letters must be signed, and a desk checks no signature: "
+        )
 
 
 class NamesAreCompleted(TerminalTest):
-    names = ["anna-meier", "anna-schmidt", "ben", "benno", "clara-müller-lange", *(f"elector-{number}" for number in range(11))]
+    names = [
+        "anna-meier",
+        "anna-schmidt",
+        "ben",
+        "benno",
+        "clara-müller-lange",
+        *(f"elector-{number}" for number in range(11)),
+    ]
 
     def test_a_part_of_one_name(self) -> None:
         desk = self.at_terminal()
         # a tab, as whoever knows it from a shell types it
-        for typed in ("Clara 1,2,4,3", "lang\t1,2,4,3", "LANGE Clara 1,2, 4,3", "Clara Müller 1,2,4,3", "clara muller\t1, 2,4,3"):
+        for typed in (
+            "Clara 1,2,4,3",
+            "lang\t1,2,4,3",
+            "LANGE Clara 1,2, 4,3",
+            "Clara Müller 1,2,4,3",
+            "clara muller\t1, 2,4,3",
+        ):
             shown = desk.after(f"{typed}\n", CAST)
-            self.assertIn("` was completed to `clara-muller-lange`\nclara-muller-lange: At the lake, ", shown)
+            self.assertIn(
+                "` was completed to `clara-muller-lange`\nclara-muller-lange: At the lake, ", shown
+            )
             desk.after("n\n", "Ballot: ")
         # one that is whole
         self.assertRegex(desk.after("ben 1,2,4,3\n", CAST), "(?m)^(Ballot: )?ben: At the lake, ")
-        refused = "completed to `clara-muller-lange`\nIt would be refused: clara-muller-lange 1 2 4 3: "
+        refused = (
+            "completed to `clara-muller-lange`\nIt would be refused: clara-muller-lange 1 2 4 3: "
+        )
         self.assertIn(refused, desk.after("n\nclara 1 2 4 3\n", CAST_REFUSED))
         # what has no ranks, and what is part of no name
         for typed in ("clara x", "anna lange 1,2,4,3", "Clara Meier 1,2,4,3"):
-            self.assertIn(f"Ballot: It would be refused: {typed}: bad ", desk.after(f"n\n{typed}\n", CAST_REFUSED))
+            self.assertIn(
+                f"Ballot: It would be refused: {typed}: bad ",
+                desk.after(f"n\n{typed}\n", CAST_REFUSED),
+            )
         self.end(desk, "n\nq\n")
 
     def test_of_several_one_is_chosen(self) -> None:
         desk = self.at_terminal()
         listed = "`anna` is part of 2 names:\n  1 anna-meier (Anna-Meier)\n  2 anna-schmidt (Anna-Schmidt)\n"
-        self.assertIn(listed, desk.after("Anna 1,2,4,3\n", "Type the number of one, or n for none: "))
+        self.assertIn(
+            listed, desk.after("Anna 1,2,4,3\n", "Type the number of one, or n for none: ")
+        )
         self.assertIn("\nanna-schmidt: At the lake, ", desk.after("2\n", CAST))
         desk.after("y\n", "Ballot: ")
         for answer in ("n\n", "3\n", "0\n", "\n", "ben 1,2,3,4\n", "\x04"):
@@ -195,7 +279,10 @@ class NamesAreCompleted(TerminalTest):
             desk.after(answer, "It was not entered.\nBallot: ")
         shown = desk.after("elector 1,2,4,3\n", "for none: ")
         self.assertIn("`elector` is part of 11 names:\n  1 elector-0 (Elector-0)\n", shown)
-        self.assertTrue(shown.endswith("\n  9 elector-8 (Elector-8)\nType the number of one, or n for none: "), shown)
+        self.assertTrue(
+            shown.endswith("\n  9 elector-8 (Elector-8)\nType the number of one, or n for none: "),
+            shown,
+        )
         self.end(desk, "10\nq\n")
         self.assertEqual(self.lines(), ["anna-schmidt 1,2,4,3"])
 
@@ -225,16 +312,22 @@ class WholeNames(TerminalTest):
         shown = desk.after(f"Anna  Meier {RANKS}\n", CAST)
         self.assertIn(f"` was changed to `meier {RANKS}`\nmeier: At the lake, ", shown)
         desk.after("n\n", "Ballot: ")
-        self.assertIn("`meier Anna` is part of 2 names:", desk.after(f"Meier Anna {RANKS}\n", "for none: "))
+        self.assertIn(
+            "`meier Anna` is part of 2 names:", desk.after(f"Meier Anna {RANKS}\n", "for none: ")
+        )
         desk.after("n\n", "Ballot: ")
         listed = desk.after(f"Ben Müller {RANKS}\n", "for none: ")
-        self.assertIn("` is part of 2 names:\n  1 ben-1 (Ben Müller)\n  2 ben-2 (Ben Müller)\n", listed)
+        self.assertIn(
+            "` is part of 2 names:\n  1 ben-1 (Ben Müller)\n  2 ben-2 (Ben Müller)\n", listed
+        )
         self.assertIn("\nben-2: At the lake, ", desk.after("2\n", CAST))
         listed = "` is part of 2 names:\n  1 max (Maximilian Mayer)\n  2 max-2 (Max)\n"
         self.assertIn(listed, desk.after(f"n\nMax {RANKS}\n", "for none: "))
         self.assertIn("\nmax-2: At the lake, ", desk.after("2\n", CAST))
         # as it stands on the roll it is that of one
-        self.assertRegex(desk.after(f"n\nmax {RANKS}\n", CAST), "(?m)^(Ballot: )?max: At the lake, ")
+        self.assertRegex(
+            desk.after(f"n\nmax {RANKS}\n", CAST), "(?m)^(Ballot: )?max: At the lake, "
+        )
         self.end(desk, "n\nq\n")
 
 
@@ -242,12 +335,18 @@ class FromAPipe(CalledTest):
     def test_each_line_is_answered_at_once(self) -> None:
         desk = self.desk()
         for number, name in enumerate(("ada", "ben", "cleo"), start=1):
-            self.assertEqual((self.answer(desk, f"{name} {RANKS}\n"), len(self.lines())), (f"{number} counted  {name}: {LAKE}\n", number))
+            self.assertEqual(
+                (self.answer(desk, f"{name} {RANKS}\n"), len(self.lines())),
+                (f"{number} counted  {name}: {LAKE}\n", number),
+            )
         self.told("close")
         self.assertTrue(self.answer(desk, f"dan {RANKS}\n").startswith("4 late  dan: "))
         output, faults = desk.communicate()
         self.assertIn("This desk has entered 4 lines (3 counted, 1 late).\n", output)
-        self.assertEqual((desk.returncode, faults, len(self.lines()), self.late_lines()), (0, "", 3, [f"dan {RANKS}"]))
+        self.assertEqual(
+            (desk.returncode, faults, len(self.lines()), self.late_lines()),
+            (0, "", 3, [f"dan {RANKS}"]),
+        )
 
     def answer(self, desk: subprocess.Popen[str], text: str) -> str:
         """The next line of a desk after it is sent this."""
@@ -262,14 +361,20 @@ class FromAPipe(CalledTest):
         desk.stdin.flush()
         time.sleep(0.1)
         output, _ = desk.communicate(",4,3\rcleo 1,2,4,3")
-        self.assertEqual(re.findall(r"(?m)^\d (\w+  \w+): |(it is empty)", output), [("counted  ben", ""), ("counted  cleo", "")])
+        self.assertEqual(
+            re.findall(r"(?m)^\d (\w+  \w+): |(it is empty)", output),
+            [("counted  ben", ""), ("counted  cleo", "")],
+        )
         self.assertEqual(self.lines(), ["ada 1,2,4,3", "ben 1,2,4,3", "cleo 1,2,4,3"])
 
     def test_lines_are_taken_as_add_takes_them(self) -> None:
         output = self.told("desk", given=b"Ada 1,2,4,3\r\n\nq\ny\ngsu 1,2,4,3\n")
         changed = "desk:1: `Ada 1,2,4,3` was changed to `ada 1,2,4,3`\n"
         words = "2 bad shape  q: column 2: end of line; a ballot has a space there, or more of the name: a to z, 0 to 9, . or -\n"
-        empty, unknown = "desk:2: it is empty, and was left out\n", "gsu is not on the roll\nA ballot line of this poll: "
+        empty, unknown = (
+            "desk:2: it is empty, and was left out\n",
+            "gsu is not on the roll\nA ballot line of this poll: ",
+        )
         for part in (f"{changed}1 counted  ada: ", empty, words, unknown):
             self.assertIn(part, output)
         self.assertEqual(self.lines(), ["ada 1,2,4,3", "q", "y", "gsu 1,2,4,3"])
@@ -289,16 +394,27 @@ class FromAPipe(CalledTest):
         """The columns may stand in another order than the options. Nothing of what came in one go with it goes in."""
         said = "desk: the lines look like a table; its columns may stand in another order than the options; "
         rows = "Name None,Sell,Repair,Dinghy\nada 4,1,2,3\n"
-        self.assert_refused(("desk",), 4, said, "write each line as a name and its ranks in the order of the options", given=rows)
+        self.assert_refused(
+            ("desk",),
+            4,
+            said,
+            "write each line as a name and its ranks in the order of the options",
+            given=rows,
+        )
         self.assertEqual(self.lines(), [])
         desk = self.desk()
-        self.assertTrue(self.answer(desk, "Name None,Sell,Repair,Dinghy\n").startswith("1 bad shape  Name"))
+        self.assertTrue(
+            self.answer(desk, "Name None,Sell,Repair,Dinghy\n").startswith("1 bad shape  Name")
+        )
         output, faults = desk.communicate("ada 4,1,2,3\n")
         self.assertIn(said, output + (faults or ""))
         self.assertEqual(self.lines(), ["Name None,Sell,Repair,Dinghy"])
         self.assert_refused(("desk",), 4, said, given=f"ada 4,1,2,3\n{rows}")
         desk = self.desk()
-        for line, reply in ((f"ben {RANKS}", "2 counted  ben"), ("Name A/B/C/D", "3 bad shape  Name")):
+        for line, reply in (
+            (f"ben {RANKS}", "2 counted  ben"),
+            ("Name A/B/C/D", "3 bad shape  Name"),
+        ):
             self.assertTrue(self.answer(desk, f"{line}\n").startswith(reply))
         self.assertIn(said, "".join(desk.communicate("dan\nada 4,1,2,3\n")))
         self.assertEqual(len(self.lines()), 3)
@@ -307,13 +423,27 @@ class FromAPipe(CalledTest):
 
     def test_many_lines_in_one_go(self) -> None:
         lines = [f"ada {number // 99 + 1},{number % 99 + 1},1,2" for number in range(9000)]
-        envelopes = [int(found) for found in re.findall(r"(?m)^(\d+) (?:counted|replaced)  ", self.told("desk", given="\n".join(lines)))]
+        envelopes = [
+            int(found)
+            for found in re.findall(
+                r"(?m)^(\d+) (?:counted|replaced)  ", self.told("desk", given="\n".join(lines))
+            )
+        ]
         self.assertEqual((envelopes, self.lines()), (list(range(1, 9001)), lines))
 
     def test_lines_that_came_before_are_cast_again(self) -> None:
-        self.told("add", given="".join(f"{name} {RANKS}\n{name} {OTHER_RANKS}\n" for name in self.names[:4]))
-        replies = re.findall(r"(?m)^\d+ (counted|replaced)  (\w+): ", self.told("desk", given="".join(f"{name} {RANKS}\n" for name in self.names)))
-        self.assertEqual(replies, [("replaced" if name in self.names[:4] else "counted", name) for name in self.names])
+        self.told(
+            "add",
+            given="".join(f"{name} {RANKS}\n{name} {OTHER_RANKS}\n" for name in self.names[:4]),
+        )
+        replies = re.findall(
+            r"(?m)^\d+ (counted|replaced)  (\w+): ",
+            self.told("desk", given="".join(f"{name} {RANKS}\n" for name in self.names)),
+        )
+        self.assertEqual(
+            replies,
+            [("replaced" if name in self.names[:4] else "counted", name) for name in self.names],
+        )
 
     def test_an_interrupt_ends_it_as_q_does(self) -> None:
         desk = self.desk()
@@ -330,16 +460,24 @@ class FromAPipe(CalledTest):
         desk.stdin.write("ben 1,2,4,3\n")
         desk.stdin.flush()
         faults = desk.stderr.read()
-        said = "the output failed; the ballots to be reported were entered nevertheless (envelope 2)"
+        said = (
+            "the output failed; the ballots to be reported were entered nevertheless (envelope 2)"
+        )
         self.assert_fault(elections.Ended("", faults, desk.wait()), 7, said)
         self.assertEqual(self.lines(), ["ada 1,2,4,3", "ben 1,2,4,3"])
 
     def test_an_add_beside_desks(self) -> None:
         desk = self.desk()
-        self.write("many", "".join(f"ben {a},{b},1,2\n" for a in range(1, 40) for b in range(1, 40)))
+        self.write(
+            "many", "".join(f"ben {a},{b},1,2\n" for a in range(1, 40) for b in range(1, 40))
+        )
         words = [sys.executable, elections.ELECTION, "add", "many"]
-        adding = subprocess.Popen(words, cwd=self.folder, env=elections.environment(), stdout=subprocess.DEVNULL)
+        adding = subprocess.Popen(
+            words, cwd=self.folder, env=elections.environment(), stdout=subprocess.DEVNULL
+        )
         while adding.poll() is None:
             self.assertRegex(self.answer(desk, f"ada {RANKS}\n"), r"^\d+ (counted|replaced)  ada: ")
         desk.communicate()
-        self.assertEqual((adding.returncode, sum(line.startswith("ben ") for line in self.lines())), (0, 39 * 39))
+        self.assertEqual(
+            (adding.returncode, sum(line.startswith("ben ") for line in self.lines())), (0, 39 * 39)
+        )

@@ -4,7 +4,8 @@ import re
 
 from debvote_tools.book import queries
 
-from tests.support.called import HALL, LAKE, OTHER_RANKS, RANKS, CalledTest
+from tests.support.called import HALL, LAKE, CalledTest
+from tests.support.letters import OTHER_RANKS, RANKS
 
 
 class Show(CalledTest):
@@ -36,14 +37,33 @@ class Show(CalledTest):
             f"The current ballot: {HALL}",
             "  closed, TIME, to ada@club.example: written",
         ]
-        of_ben = [f"  envelope 2, TIME: {LAKE}", f"The current ballot: {LAKE}", "  closed, TIME, to ben@club.example: written"]
+        of_ben = [
+            f"  envelope 2, TIME: {LAKE}",
+            f"The current ballot: {LAKE}",
+            "  closed, TIME, to ben@club.example: written",
+        ]
         self.assertEqual((self.shown(), self.shown("ben")[1:]), (wanted, of_ben))
-        self.assertEqual(self.shown("cleo"), ["cleo: Cleo cleo@club.example", "The current ballot: none", "  closed, TIME, to cleo@club.example: written"])
+        self.assertEqual(
+            self.shown("cleo"),
+            [
+                "cleo: Cleo cleo@club.example",
+                "The current ballot: none",
+                "  closed, TIME, to cleo@club.example: written",
+            ],
+        )
         # a ballot of a letter has the time of the letter, and its place
         with self.book.act("add") as act:
             time = act.time.replace(year=2020)
-            queries.add_envelopes(act, [queries.NewEnvelope(f"ada {RANKS}".encode(), time=time)], [self.elector("ada")], is_late=False)
-        self.assertEqual(self.told("show", "ada").splitlines()[1], f"  envelope 8, {time:%Y-%m-%d %H:%M:%S} UTC: {LAKE}")
+            queries.add_envelopes(
+                act,
+                [queries.NewEnvelope(f"ada {RANKS}".encode(), time=time)],
+                [self.elector("ada")],
+                is_late=False,
+            )
+        self.assertEqual(
+            self.told("show", "ada").splitlines()[1],
+            f"  envelope 8, {time:%Y-%m-%d %H:%M:%S} UTC: {LAKE}",
+        )
 
     def test_what_became_of_a_late_line(self) -> None:
         """It was entered again, and counts so, or was replaced since; another one was not."""
@@ -51,23 +71,54 @@ class Show(CalledTest):
         self.told("close")
         self.told("desk", given=f"ada {OTHER_RANKS}\nben 1,1,1,1\ncleo {RANKS}\n")
         self.told("reopen", "--because", "they came in time")
-        self.told("add", "--came-before-close", "yes", "--force", given=f"ada {OTHER_RANKS}\ncleo {RANKS}\ncleo {OTHER_RANKS}\n")
-        self.assertIn(f"  envelope 3, TIME (late; entered again as 6: counts): {HALL}", self.shown())
-        self.assertEqual([line for line in self.shown("ben") if "(late)" in line], [self.shown("ben")[2]])
-        self.assertIn(f"  envelope 5, TIME (late; entered again as 7: replaced): {LAKE}", self.shown("cleo"))
+        self.told(
+            "add",
+            "--came-before-close",
+            "yes",
+            "--force",
+            given=f"ada {OTHER_RANKS}\ncleo {RANKS}\ncleo {OTHER_RANKS}\n",
+        )
+        self.assertIn(
+            f"  envelope 3, TIME (late; entered again as 6: counts): {HALL}", self.shown()
+        )
+        self.assertEqual(
+            [line for line in self.shown("ben") if "(late)" in line], [self.shown("ben")[2]]
+        )
+        self.assertIn(
+            f"  envelope 5, TIME (late; entered again as 7: replaced): {LAKE}", self.shown("cleo")
+        )
 
     def test_who_is_meant(self) -> None:
         for name in ("Ada", "ADA", " ada "):
             self.assertEqual(self.shown(name)[0], "ada: Ada ada@club.example")
-        self.assert_fault(self.election("show", "zoe\x1b[2J"), 9, "show: no elector on the roll is `zoe\\u001B[2J`; debvote-election status --electors lists the names")
+        self.assert_fault(
+            self.election("show", "zoe\x1b[2J"),
+            9,
+            "show: no elector on the roll is `zoe\\u001B[2J`; debvote-election status --electors lists the names",
+        )
         with self.book.act("addresses") as act:
             for elector in queries.electors(self.book)[:2]:
-                queries.put_electors(act, [queries.Elector(elector.number, elector.name, elector.position, "Kim Kim", ())])
-        self.assert_fault(self.election("show", "kim kim"), 9, "several electors have the name kim kim; name one of ada, ben")
+                queries.put_electors(
+                    act,
+                    [
+                        queries.Elector(
+                            elector.number, elector.name, elector.position, "Kim Kim", ()
+                        )
+                    ],
+                )
+        self.assert_fault(
+            self.election("show", "kim kim"),
+            9,
+            "several electors have the name kim kim; name one of ada, ben",
+        )
         self.assertEqual(self.shown()[0], "ada: Kim Kim")
         # as `add` and a desk: a name on the roll with a capital letter may be the real one of somebody else
         with self.book.act("addresses") as act:
             dan = queries.electors(self.book)[3]
             queries.put_electors(act, [dan._replace(who="Cleo")])
-        self.assert_fault(self.election("show", "Cleo"), 9, "show: several electors have the name Cleo; name one of cleo, dan")
+        self.assert_fault(
+            self.election("show", "Cleo"),
+            9,
+            "show: several electors have the name Cleo; name one of cleo, dan",
+        )
         self.assertEqual(self.shown("cleo")[0], "cleo: Cleo cleo@club.example")

@@ -7,7 +7,8 @@ from debvote_tools.book import queries
 from debvote_tools.inbox.letter_lines import to_json
 
 from tests.support import elections, letters
-from tests.support.called import HALL, LAKE, OTHER_RANKS, RANKS, CalledTest
+from tests.support.called import HALL, LAKE, CalledTest
+from tests.support.letters import OTHER_RANKS, RANKS
 from tests.support.questions import QuestionsTest
 from tests.support.terminal import Terminal
 
@@ -20,7 +21,10 @@ class Undo(CalledTest):
         for act, numbers in ((first + 1, "3-5"), (first + 3, "6-8")):
             self.told("add", "monday")
             output = self.told("undo")
-            self.assertRegex(output, rf"^Took back 3 lines \(act {act}: add of monday, .* UTC, envelopes {numbers}\)\.\n")
+            self.assertRegex(
+                output,
+                rf"^Took back 3 lines \(act {act}: add of monday, .* UTC, envelopes {numbers}\)\.\n",
+            )
             self.assertIn(f"\n  ada, as before: {LAKE}\n  cleo: no ballot is left\n", output)
             self.assertEqual(self.lines(), [f"ada {RANKS}", f"ben {RANKS}"])
         self.told("desk", given=f"dan {RANKS}\n")
@@ -29,12 +33,26 @@ class Undo(CalledTest):
         self.assertRegex(self.told("undo"), said)
         # the one before that is not taken back yet; before it is none
         output = self.told("undo")
-        self.assertRegex(output, rf"^Took back 2 lines \(act {first}: add of standard input, .* UTC, envelopes 1-2\)\.\n")
+        self.assertRegex(
+            output,
+            rf"^Took back 2 lines \(act {first}: add of standard input, .* UTC, envelopes 1-2\)\.\n",
+        )
         self.assertTrue(output.endswith("\nNext: debvote-election status\n"), output)
         self.assertEqual(self.lines(), [])
-        self.assert_stops(self.election("undo"), self.last_act(), 9, "undo: there is nothing to take back; nothing was changed: ")
-        self.assertEqual([detail for name, detail in self.acts() if name == "undo"], [{"act": first + number} for number in (1, 3, 5, 0)])
-        self.assertEqual([envelope.struck for envelope in self.envelopes()], [first + 7] * 2 + [first + 2] * 3 + [first + 4] * 3 + [first + 6])
+        self.assert_stops(
+            self.election("undo"),
+            self.last_act(),
+            9,
+            "undo: there is nothing to take back; nothing was changed: ",
+        )
+        self.assertEqual(
+            [detail for name, detail in self.acts() if name == "undo"],
+            [{"act": first + number} for number in (1, 3, 5, 0)],
+        )
+        self.assertEqual(
+            [envelope.struck for envelope in self.envelopes()],
+            [first + 7] * 2 + [first + 2] * 3 + [first + 4] * 3 + [first + 6],
+        )
         self.book.demand_whole()
 
     def test_an_envelope_that_was_struck_already(self) -> None:
@@ -43,8 +61,13 @@ class Undo(CalledTest):
         for number in (3, 1):
             self.told("strike", number, "--because", "a test")
         left = "  ada: no ballot is left\n  cleo: no ballot is left\n"
-        self.assertRegex(self.told("undo"), rf"^Took back 2 lines \(act .*, envelopes 2, 4\)\.\n{left}Next: ")
-        self.assertEqual([envelope.struck for envelope in self.envelopes()], [self.first_act + act for act in (3, 4, 2, 4)])
+        self.assertRegex(
+            self.told("undo"), rf"^Took back 2 lines \(act .*, envelopes 2, 4\)\.\n{left}Next: "
+        )
+        self.assertEqual(
+            [envelope.struck for envelope in self.envelopes()],
+            [self.first_act + act for act in (3, 4, 2, 4)],
+        )
         # of an act of which nothing stands there is nothing to take back, but what came before it
         self.told("add", given=f"ada {RANKS}\n")
         self.told("desk", given=f"ben {RANKS}\n")
@@ -54,13 +77,20 @@ class Undo(CalledTest):
         self.told("desk", given=f"cleo {RANKS}\n")
         self.told("strike", 7, "--because", "a test")
         self.assertEqual(self.lines(), [])
-        self.assert_stops(self.election("undo"), self.last_act(), 9, "undo: there is nothing to take back; nothing was changed: ")
+        self.assert_stops(
+            self.election("undo"),
+            self.last_act(),
+            9,
+            "undo: there is nothing to take back; nothing was changed: ",
+        )
 
     def test_after_the_close_and_after_reopen(self) -> None:
         self.told("add", given=f"ada {RANKS}\n")
         self.told("close")
         said = " UTC, and its ballots stay; nothing was changed: if they are wrong, see debvote-election reopen"
-        self.assert_stops(self.election("undo"), self.last_act(), 9, "the vote was closed at ", said)
+        self.assert_stops(
+            self.election("undo"), self.last_act(), 9, "the vote was closed at ", said
+        )
         self.told("add", given=f"ben {RANKS}\n")
         self.told("reopen", "--because", "a bag was forgotten")
         # a late line counts for nothing when a later one is taken back, and has changed nothing that stands
@@ -96,12 +126,19 @@ class Undo(CalledTest):
                 [came] = letters.read(letters.letter(name, f"{name} {RANKS}"))
                 letter = act.insert("letter", source=source, identity=name, known=to_json(came))
                 act.insert("letter_state", letter=letter, state="entered")
-                queries.add_envelopes(act, [queries.NewEnvelope(f"{name} {RANKS}".encode(), "", source, letter)], [self.elector(name)], is_late=False)
+                queries.add_envelopes(
+                    act,
+                    [queries.NewEnvelope(f"{name} {RANKS}".encode(), "", source, letter)],
+                    [self.elector(name)],
+                    is_late=False,
+                )
         said = rf"Took back 2 lines \(act {self.first_act}: offer, (?s:.*)2 letters then wait again, as taken back: 1, 2\n"
         self.assertRegex(self.told("undo"), said)
         self.assertEqual(self.lines(), [])
         states = "SELECT letter, state FROM letter_state WHERE act = ? ORDER BY letter"
-        self.assertEqual(self.book.rows(states, self.last_act()), [(1, "taken back"), (2, "taken back")])
+        self.assertEqual(
+            self.book.rows(states, self.last_act()), [(1, "taken back"), (2, "taken back")]
+        )
 
 
 class Secret(CalledTest):
@@ -111,12 +148,19 @@ class Secret(CalledTest):
         self.told("add", given=f"ada {RANKS}\nben {RANKS}\ncleo {RANKS}\n")
         self.told("undo")
         self.told("add", given=f"ben {RANKS}\ncleo {OTHER_RANKS}\ndan {OTHER_RANKS}\n")
-        self.assertIn("\nStrikes: 0. Taken back, and not entered again as they were: 2.\n", self.told("status"))
+        self.assertIn(
+            "\nStrikes: 0. Taken back, and not entered again as they were: 2.\n",
+            self.told("status"),
+        )
         self.assertIn(" Taken back, and not entered again as they were: 2. End", self.told("close"))
         self.done("publish")
         for name in ("letters/result.txt", "result/index.html"):
             said = " ".join(self.read(name).decode().split())
-            self.assertIn("The secretary took back ballots that had been entered. Not entered again as they were: 2.", said, name)
+            self.assertIn(
+                "The secretary took back ballots that had been entered. Not entered again as they were: 2.",
+                said,
+                name,
+            )
             self.assertNotIn("envelopes 1", said)
 
 
@@ -132,7 +176,10 @@ class OfQuestions(QuestionsTest):
         told = {"A": [], "B": ["envelopes 2"], "C": ["envelopes 4"], "": ["envelopes 2 (B), 4 (C)"]}
         for label, envelopes in told.items():
             file = f"result/{label}/index.html" if label else "letters/result.txt"
-            found = re.findall(r"Not entered again as they were: (.*?)\.", " ".join(self.read(file).decode().split()))
+            found = re.findall(
+                r"Not entered again as they were: (.*?)\.",
+                " ".join(self.read(file).decode().split()),
+            )
             self.assertEqual(found, envelopes, file)
 
 
@@ -147,7 +194,10 @@ class AtATerminal(CalledTest):
         """It shows what would stand, and asks."""
         terminal = Terminal(self, "undo")
         shown = terminal.until("? [y/n] ")
-        self.assertRegex(shown, rf"^  ada, as before: {LAKE}\n  ben: no ballot would be left\nTake back 3 lines \(.*, envelopes 2-4\)\? ")
+        self.assertRegex(
+            shown,
+            rf"^  ada, as before: {LAKE}\n  ben: no ballot would be left\nTake back 3 lines \(.*, envelopes 2-4\)\? ",
+        )
         return terminal
 
     def end(self, terminal: Terminal, keys: str, status: int, *lines: str) -> str:
@@ -161,20 +211,30 @@ class AtATerminal(CalledTest):
         """No answer, at the end of the input, is a no; with --yes nothing is asked."""
         lines = f"ada {RANKS}", f"ada {OTHER_RANKS}", f"ben {RANKS}", "x"
         for keys in ("n\n", "\x04"):
-            self.assertIn(": you did not say yes; nothing was changed: ", self.end(self.asked(), keys, 9, *lines))
+            self.assertIn(
+                ": you did not say yes; nothing was changed: ",
+                self.end(self.asked(), keys, 9, *lines),
+            )
             self.assertEqual(self.last_act(), self.before)
         self.told("desk", given=f"ada {RANKS}\n")
         terminal = Terminal(self, "undo")
         self.assertIn(f"  ada, as before: {HALL}\n", terminal.until("? [y/n] "))
         self.end(terminal, "y\n", 0, *lines)
-        self.assertRegex(self.end(self.asked(), "y\n", 0, f"ada {RANKS}"), r"Took back 3 lines \(.*\)\.\nNext: ")
-        self.assertRegex(self.end(Terminal(self, "undo", "--yes"), "", 0), r"^[^[]*  ada: no ballot is left\n[^[]*$")
+        self.assertRegex(
+            self.end(self.asked(), "y\n", 0, f"ada {RANKS}"), r"Took back 3 lines \(.*\)\.\nNext: "
+        )
+        self.assertRegex(
+            self.end(Terminal(self, "undo", "--yes"), "", 0),
+            r"^[^[]*  ada: no ballot is left\n[^[]*$",
+        )
 
     def test_what_was_shown_is_what_is_taken_back(self) -> None:
         """Another act while it asks: it shows what would be taken back now, and asks anew."""
         terminal = self.asked()
         self.told("add", given=f"cleo {RANKS}\n")
-        self.assertIn("  cleo: no ballot would be left\nTake back 1 line (", terminal.after("y\n", "? [y/n] "))
+        self.assertIn(
+            "  cleo: no ballot would be left\nTake back 1 line (", terminal.after("y\n", "? [y/n] ")
+        )
         self.assertEqual(self.last_act(), self.before + 1)
         # another undo takes this one, and the one before is asked about again
         self.told("undo")
@@ -189,4 +249,7 @@ class AtATerminal(CalledTest):
     def test_a_close_meanwhile(self) -> None:
         terminal = self.asked()
         self.told("close")
-        self.assertIn("the vote was closed at ", self.end(terminal, "y\n", 9, f"ada {RANKS}", f"ada {OTHER_RANKS}", f"ben {RANKS}", "x"))
+        self.assertIn(
+            "the vote was closed at ",
+            self.end(terminal, "y\n", 9, f"ada {RANKS}", f"ada {OTHER_RANKS}", f"ben {RANKS}", "x"),
+        )

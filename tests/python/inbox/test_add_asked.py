@@ -5,7 +5,8 @@ import subprocess
 import sys
 
 from tests.support import elections
-from tests.support.called import LAKE, OTHER_RANKS, RANKS, CalledTest
+from tests.support.called import LAKE, CalledTest
+from tests.support.letters import OTHER_RANKS, RANKS
 from tests.support.terminal import Terminal
 
 MONDAY = f"ada {RANKS}\nben {RANKS}\n"
@@ -21,7 +22,10 @@ class AfterReopen(CalledTest):
 
     def asked(self) -> Terminal:
         terminal = Terminal(self, "add", "monday")
-        self.assertRegex(terminal.until(ASKED), r"^The vote was closed at [-\d]+ [:\d]+ UTC and opened again\. Did")
+        self.assertRegex(
+            terminal.until(ASKED),
+            r"^The vote was closed at [-\d]+ [:\d]+ UTC and opened again\. Did",
+        )
         return terminal
 
     def answer(self, terminal: Terminal, *keys: str, status: int = 0) -> str:
@@ -36,7 +40,10 @@ class AfterReopen(CalledTest):
         self.assertIn(f"1 counted  ada: {LAKE}\n", self.answer(self.asked(), "y\n"))
         self.told("undo")
         before = self.last_act()
-        self.assertIn("you did not say whether it came before the close; nothing was added: ", self.answer(self.asked(), "\x04", status=9))
+        self.assertIn(
+            "you did not say whether it came before the close; nothing was added: ",
+            self.answer(self.asked(), "\x04", status=9),
+        )
         self.assertEqual(self.last_act(), before)
         self.assertIn("3 late  ada: ", self.answer(self.asked(), "perhaps\n", "n\n"))
         self.assertEqual((self.lines(), len(self.late_lines())), ([], 2))
@@ -67,7 +74,9 @@ class AfterReopen(CalledTest):
 
     def test_what_came_at_the_terminal_itself(self) -> None:
         terminal = Terminal(self, "add")
-        terminal.until("Type the ballots, one on each line; to end, type Ctrl-D on an empty line.\n")
+        terminal.until(
+            "Type the ballots, one on each line; to end, type Ctrl-D on an empty line.\n"
+        )
         terminal.type(f"ada {RANKS}\n\x04")
         terminal.until(ASKED)
         self.assertIn("1 counted  ada: ", self.answer(terminal, "y\n"))
@@ -75,14 +84,26 @@ class AfterReopen(CalledTest):
 
 class BesideOthers(CalledTest):
     def adding(self, *words: str) -> subprocess.Popen:
-        pipes = {"stdin": subprocess.PIPE, "stdout": subprocess.PIPE, "stderr": subprocess.PIPE, "text": True}
-        run = subprocess.Popen([sys.executable, elections.ELECTION, "add", *words], cwd=self.folder, env=elections.environment(), **pipes)
+        pipes = {
+            "stdin": subprocess.PIPE,
+            "stdout": subprocess.PIPE,
+            "stderr": subprocess.PIPE,
+            "text": True,
+        }
+        run = subprocess.Popen(
+            [sys.executable, elections.ELECTION, "add", *words],
+            cwd=self.folder,
+            env=elections.environment(),
+            **pipes,
+        )
         self.addCleanup(run.wait)
         self.addCleanup(run.kill)
         return run
 
     def test_two_copies_of_one_file(self) -> None:
-        self.write("many", "".join(f"ada {a},{b},1,2\n" for a in range(1, 20) for b in range(1, 20)))
+        self.write(
+            "many", "".join(f"ada {a},{b},1,2\n" for a in range(1, 20) for b in range(1, 20))
+        )
         runs = [self.adding("many") for _ in range(4)]
         outputs = [run.communicate(timeout=elections.SECONDS) for run in runs]
         self.assertEqual([run.returncode for run in runs], [0] * 4, outputs)
@@ -99,18 +120,26 @@ class BesideOthers(CalledTest):
         for name, run in runs.items():
             output, faults = run.communicate(timeout=elections.SECONDS)
             self.assertEqual((run.returncode, faults), (0, ""))
-            first, second = (envelope.number for envelope in self.envelopes() if envelope.line.startswith(name.encode()))
+            first, second = (
+                envelope.number
+                for envelope in self.envelopes()
+                if envelope.line.startswith(name.encode())
+            )
             self.assertIn(f"{first} counted  {name}: {LAKE}\n", output)
             self.assertIn(f"\n{second} replaced  {name}: ", output)
 
     def test_lines_from_a_named_pipe_and_a_process_substitution(self) -> None:
         os.mkfifo(self.folder / "more")
         with subprocess.Popen(["sh", "-c", f"echo ada {RANKS} > {self.folder}/more"]):
-            self.assertIn("Added 1 line (1 counted).\n", self.told("add", "more", timeout=elections.SECONDS))
+            self.assertIn(
+                "Added 1 line (1 counted).\n", self.told("add", "more", timeout=elections.SECONDS)
+            )
         read_end, write_end = os.pipe()
         os.write(write_end, f"ben {RANKS}\n".encode())
         os.close(write_end)
-        ended = self.run_program(sys.executable, elections.ELECTION, "add", f"/dev/fd/{read_end}", pass_fds=(read_end,))
+        ended = self.run_program(
+            sys.executable, elections.ELECTION, "add", f"/dev/fd/{read_end}", pass_fds=(read_end,)
+        )
         os.close(read_end)
         self.assertEqual((ended.status, self.lines()), (0, [f"ada {RANKS}", f"ben {RANKS}"]), ended)
 
@@ -125,7 +154,10 @@ class BesideOthers(CalledTest):
             pipe.write(f"ada {RANKS}\n")
         output, faults = run.communicate(timeout=elections.SECONDS)
         self.assertEqual((output, run.returncode, self.last_act()), ("", 9, before))
-        self.assertIn("the call for votes was made anew meanwhile; nothing was added: run the command again", faults)
+        self.assertIn(
+            "the call for votes was made anew meanwhile; nothing was added: run the command again",
+            faults,
+        )
 
 
 class Look(CalledTest):
@@ -138,16 +170,24 @@ class Look(CalledTest):
         ended = self.election("add", *words, given=given)
         self.assertEqual((look.status, look.faults), (ended.status, ended.faults))
         if not ended.status:
-            replies, looked = ([line for line in one.output.splitlines() if line[:1].isdigit()] for one in (ended, look))
+            replies, looked = (
+                [line for line in one.output.splitlines() if line[:1].isdigit()]
+                for one in (ended, look)
+            )
             self.assertEqual(looked, replies)
-            added = next(line for line in ended.output.splitlines() if line.startswith("Added ")).removeprefix("Added ")
+            added = next(
+                line for line in ended.output.splitlines() if line.startswith("Added ")
+            ).removeprefix("Added ")
             self.assertIn(f"These would be {added} Nothing was changed.\n", look.output)
 
     def test_it_says_it(self) -> None:
         self.assert_look_says_it(given=MONDAY)
         self.assert_look_says_it(given=f"ada {OTHER_RANKS}\n{MONDAY}cleo {RANKS}\nGsu 1,2\n")
         self.told("strike", 1, "--because", "a test")
-        self.assertIn("  it goes in as it came; written as `gsu 1,2,3,4` it is refused too: ", self.told("add", "--look", given="Gsu 1,2,3,4\n"))
+        self.assertIn(
+            "  it goes in as it came; written as `gsu 1,2,3,4` it is refused too: ",
+            self.told("add", "--look", given="Gsu 1,2,3,4\n"),
+        )
         # what stops, and after the close
         self.write("wrong", f"Dear all,\nwe meet on Monday\nhal {RANKS}\n")
         self.assert_look_says_it("wrong")

@@ -4,7 +4,8 @@ import itertools
 
 from debvote_tools.book import queries
 
-from tests.support.called import OTHER_RANKS, RANKS, CalledTest
+from tests.support.called import CalledTest
+from tests.support.letters import OTHER_RANKS, RANKS
 
 MONDAY = "Ada 1,2,4,3\nben 1, 2,4,3\n"
 
@@ -17,9 +18,15 @@ class Before(CalledTest):
 
     def assert_ignored(self, count: int, new: int, *words: str, name: str = "more") -> str:
         """So many lines are ignored, and so many are new; returns what is told."""
-        lines = "1 line is ignored, since it" if count == 1 else f"{count} lines are ignored, since they"
+        lines = (
+            "1 line is ignored, since it"
+            if count == 1
+            else f"{count} lines are ignored, since they"
+        )
         output = self.told("add", *words, name)
-        self.assertIn(f"{name}: {lines} came before; {new} {'is' if new == 1 else 'are'} new\n", output)
+        self.assertIn(
+            f"{name}: {lines} came before; {new} {'is' if new == 1 else 'are'} new\n", output
+        )
         return output
 
     def test_the_same_lines_again(self) -> None:
@@ -29,7 +36,11 @@ class Before(CalledTest):
         self.assertNotIn("came before, and", output)
         # then it is no act, and the file is not kept a second time; nor are copies in any order, with other line ends and repairs
         self.assertEqual((self.last_act(), len(self.sources())), (before, 1))
-        for copy in ("\ufeff" + MONDAY.replace("\n", "\r\n"), "ben 1,2,4,3\nada 1,2,4,3\n", "ada 1, 2,4,3.\nben:1,2,4,3"):
+        for copy in (
+            "\ufeff" + MONDAY.replace("\n", "\r\n"),
+            "ben 1,2,4,3\nada 1,2,4,3\n",
+            "ada 1, 2,4,3.\nben:1,2,4,3",
+        ):
             self.write("more", copy)
             self.assert_ignored(2, 0)
         # of three equal lines one came before: whoever goes back to a first ballot sends it again
@@ -50,7 +61,12 @@ class Before(CalledTest):
         with self.book.act("add") as act:
             source = queries.keep_source(act, "inbox", b"letter")
             letter = act.insert("letter", source=source, identity="1", known="{}")
-            queries.add_envelopes(act, [queries.NewEnvelope(f"eve {RANKS}".encode(), "", source, letter)], [self.elector("eve")], is_late=False)
+            queries.add_envelopes(
+                act,
+                [queries.NewEnvelope(f"eve {RANKS}".encode(), "", source, letter)],
+                [self.elector("eve")],
+                is_late=False,
+            )
         self.told("desk", given=f"eve {OTHER_RANKS}\n")
         self.assertIn("12 replaced  eve: ", self.told("add", given=f"eve {RANKS}\n"))
         # refused lines are known by their text
@@ -103,7 +119,9 @@ class Before(CalledTest):
             self.assertEqual(self.lines(), [f"ben {RANKS}"])
             self.told("undo")
             output = self.assert_ignored(1, 1, name="monday")
-            self.assertEqual((said in output, f"\n{number} counted  ben: " in output), (True, True), output)
+            self.assertEqual(
+                (said in output, f"\n{number} counted  ben: " in output), (True, True), output
+            )
 
     def test_an_older_line_above_one_that_came_before(self) -> None:
         """The file says that the other one is the newer one. Below it a line is newer, and a third one again."""
@@ -114,12 +132,17 @@ class Before(CalledTest):
         self.assertIn("1 replaced", self.told("add", given=f"{newer}\n{older}\n"))
         self.told("add", given=f"{newer}\n{older}\n{newer}\n")
         self.assertEqual(self.lines()[2:], [newer, older, newer])
-        self.assertIn("6 replaced  cleo", self.told("add", "--force", given=f"cleo 1,1,4,3\n{newer}\n"))
+        self.assertIn(
+            "6 replaced  cleo", self.told("add", "--force", given=f"cleo 1,1,4,3\n{newer}\n")
+        )
 
     def test_another_ballot_has_come(self) -> None:
         self.told("desk", given=f"ada {OTHER_RANKS}\n")
         output = self.assert_ignored(2, 0, name="monday")
-        self.assertIn(f"\n  monday:1: `ada {RANKS}` came before, and ada has voted since (envelope 3)\n", output)
+        self.assertIn(
+            f"\n  monday:1: `ada {RANKS}` came before, and ada has voted since (envelope 3)\n",
+            output,
+        )
         self.assertNotIn("monday:2", output)
         self.assertEqual(len(self.lines()), 3)
         # the same ballot in a newer envelope is no change
@@ -132,7 +155,11 @@ class Before(CalledTest):
         self.told("add", "more")
         self.told("desk", given="cleo 1,1,1,1\n")
         output = self.assert_ignored(22, 0)
-        self.assertEqual((output.count(" came before, and cleo has voted since"), "\n  and 2 more\n" in output), (20, True), output)
+        self.assertEqual(
+            (output.count(" came before, and cleo has voted since"), "\n  and 2 more\n" in output),
+            (20, True),
+            output,
+        )
 
     def test_a_ballot_that_was_struck_or_late_is_nothing_since(self) -> None:
         # of equal lines the one that was struck came last

@@ -23,7 +23,16 @@ from debvote_tools.text import times
 from tests.support.elections import ElectionTest
 from tests.support.letters import read_in
 from tests.support.web_host import ASK, END, FIRST, KEY, MARK, NEEDS_PHP, OWNS, WORD, place_of
-from tests.support.web_host import BoxTest, Host, Liar, answered, ballot, firewall, passed_on, record
+from tests.support.web_host import (
+    BoxTest,
+    Host,
+    Liar,
+    answered,
+    ballot,
+    firewall,
+    passed_on,
+    record,
+)
 
 HOUR = datetime.timedelta(hours=1)
 DIGEST = "d" * 64
@@ -58,7 +67,9 @@ class Honest(BoxTest):
     def test_records_come_as_a_mailbox(self) -> None:
         host = self.host()
         self.assertEqual(ask(host.at, MARK, WORD)[1:], (0, list_digest(self.script), b""))
-        for number, (name, ranks) in enumerate((("ada", "1,2"), ("ben-lee", "2,1"), ("ada", "2,-")), start=1):
+        for number, (name, ranks) in enumerate(
+            (("ada", "1,2"), ("ben-lee", "2,1"), ("ada", "2,-")), start=1
+        ):
             self.assertEqual(host.send(ballot(name, ranks, number)).word, "received")
         before = times.now()
         asked = ask(f"{host.at}index.html", MARK, WORD)
@@ -66,7 +77,9 @@ class Honest(BoxTest):
         self.assertLessEqual(before, asked.time)
         self.assertEqual(asked.records, self.file.read_bytes().removeprefix(FIRST))
         letters = letters_of_file("box", asked.records)
-        self.assertEqual([(letter.is_parted_off, letter.why_not_read) for letter in letters], [(False, None)] * 3)
+        self.assertEqual(
+            [(letter.is_parted_off, letter.why_not_read) for letter in letters], [(False, None)] * 3
+        )
         read = [parse(letter) for letter in letters]
         self.assertEqual([letter.marks for letter in read], [((MARK, ""),)] * 3)
         # what is sealed is no trouble for who reads it as a letter
@@ -75,16 +88,29 @@ class Honest(BoxTest):
         digests = [proof_digest(MARK, place_of(name)) for name in ("ada", "ben-lee", "ada")]
         self.assertEqual([letter["X-Proof"] for letter in found], digests)
         # the last is in its own second, at the latest two after now
-        self.assertTrue(all(letter.arrived and abs(letter.arrived - before) < HOUR for letter in read))
+        self.assertTrue(
+            all(letter.arrived and abs(letter.arrived - before) < HOUR for letter in read)
+        )
         # the file itself, fetched from the host, has the same letters
-        self.assertEqual([letter.data for letter in letters_of_file("x", self.file.read_bytes())], [letter.data for letter in letters])
+        self.assertEqual(
+            [letter.data for letter in letters_of_file("x", self.file.read_bytes())],
+            [letter.data for letter in letters],
+        )
         self.assertTrue(are_letters(self.file.read_bytes()))
-        self.assertEqual([letter.data + b"\n" for letter in letters], [END.join([record.split(b"\n", 1)[1], b""]) for record in asked.records.split(END)[:-1]])
+        self.assertEqual(
+            [letter.data + b"\n" for letter in letters],
+            [
+                END.join([record.split(b"\n", 1)[1], b""])
+                for record in asked.records.split(END)[:-1]
+            ],
+        )
 
     def test_another_script_lies_there(self) -> None:
         test, host = AskingTest(), self.host()
         (self.folder / "vote.php").write_bytes(script_of(b"x" * 32, MARK, OWNS))
-        test.stopped(host.at, "it answers 403: unknown: another word", "upload vote.php of the folder call")
+        test.stopped(
+            host.at, "it answers 403: unknown: another word", "upload vote.php of the folder call"
+        )
         (self.folder / "vote.php").write_bytes(script_of(KEY, "f" * 16, OWNS))
         test.stopped(host.at, f"it is the web box of another vote, [{'f' * 16}]")
         # an older list is told by its digest alone
@@ -100,7 +126,11 @@ class Honest(BoxTest):
 
     def test_php_that_does_not_run(self) -> None:
         with Liar(lambda request: [answered(self.script)]) as host:
-            AskingTest().stopped(host.at, "it shows the script as a text: PHP does not run there", "take vote.php away")
+            AskingTest().stopped(
+                host.at,
+                "it shows the script as a text: PHP does not run there",
+                "take vote.php away",
+            )
 
 
 class Fetched(ElectionTest):
@@ -116,10 +146,14 @@ class Fetched(ElectionTest):
 
     def test_what_is_below_its_last_whole_record_is_none(self) -> None:
         """An empty box is a mailbox without letters, and a record that was cut off is passed over."""
-        one, two = (record(name, f"{name} 1,2,3,4", 1, "2026-11-28T12:00:00") for name in ("ada", "ben"))
+        one, two = (
+            record(name, f"{name} 1,2,3,4", 1, "2026-11-28T12:00:00") for name in ("ada", "ben")
+        )
         cut = [RawLetter("box, at its end", why_not_read=NotRead.CUT_OFF)]
         for line_end in (b"\n", b"\r\n"):
-            first, before, last = (data.replace(b"\n", line_end) for data in (FIRST, one.encode(), two.encode()))
+            first, before, last = (
+                data.replace(b"\n", line_end) for data in (FIRST, one.encode(), two.encode())
+            )
             self.assertTrue(are_letters(first))
             self.assertEqual(letters_of_file("box", first), [])
             [whole] = letters_of_file("box", first + before)
@@ -134,10 +168,17 @@ class Fetched(ElectionTest):
     def test_an_empty_box_and_a_cut_one(self) -> None:
         self.write("empty.php", FIRST)
         said = self.done("add", "--yes", "empty.php").output
-        self.assertIn("0 new letters; 0 came before.\n0 ballots of letters went in; 0 letters wait.\n", said)
-        self.write("cut.php", FIRST + record("ada", "ada 1,2,3,4", 1, "2026-11-28T12:00:00").encode()[:-2])
+        self.assertIn(
+            "0 new letters; 0 came before.\n0 ballots of letters went in; 0 letters wait.\n", said
+        )
+        self.write(
+            "cut.php", FIRST + record("ada", "ada 1,2,3,4", 1, "2026-11-28T12:00:00").encode()[:-2]
+        )
         said = self.done("add", "--yes", "cut.php").output
-        self.assertIn("cut.php, at its end: it is a record of the web box that was cut off, of which nobody was told that it arrived, and was passed over; ", said)
+        self.assertIn(
+            "cut.php, at its end: it is a record of the web box that was cut off, of which nobody was told that it arrived, and was passed over; ",
+            said,
+        )
         self.assertEqual(self.rows("SELECT count(*) FROM source"), [(0,)])
         self.done("close", "--early")
 
@@ -158,7 +199,11 @@ class Addresses(AskingTest):
             "vote/",
         ):
             with self.subTest(at):
-                self.stopped(at, "--box: the page needs an address by https that ends in / or .html", status=Status.BAD_WORDS)
+                self.stopped(
+                    at,
+                    "--box: the page needs an address by https that ends in / or .html",
+                    status=Status.BAD_WORDS,
+                )
 
 
 class Dishonest(AskingTest):
@@ -170,21 +215,50 @@ class Dishonest(AskingTest):
         moved = answered(b"", 301, "Location: https://else.example/vote.php")
         for sent, *parts in (
             (moved, "it sends on to https://else.example/vote.php", "--at of call"),
-            (answered(b"", 302, "Location: https://else.example/\x1b[31m"), "it sends on to https://else.example/\\u001B[31m"),
+            (
+                answered(b"", 302, "Location: https://else.example/\x1b[31m"),
+                "it sends on to https://else.example/\\u001B[31m",
+            ),
             (answered(b"", 308), "it sends on to nowhere"),
-            (answered(b"no\x1b[31m\nsuch  file", 404), "it answers 404: no\\u001B[31m such file", "upload vote.php"),
-            (answered(b"<b>Fatal error</b>: x", 500), "it answers 500: <b>Fatal error</b>: x", "PHP 8.1 or later"),
-            (answered(b"<?php\n// The box"), "it shows the script as a text: PHP does not run there"),
+            (
+                answered(b"no\x1b[31m\nsuch  file", 404),
+                "it answers 404: no\\u001B[31m such file",
+                "upload vote.php",
+            ),
+            (
+                answered(b"<b>Fatal error</b>: x", 500),
+                "it answers 500: <b>Fatal error</b>: x",
+                "PHP 8.1 or later",
+            ),
+            (
+                answered(b"<?php\n// The box"),
+                "it shows the script as a text: PHP does not run there",
+            ),
             (answered(b"\r\n<?php\n", 405), "it shows the script as a text"),
-            (answered(b"<!doctype html>" + b"x" * 9_000), "it does not answer as a web box: <!doctype html>xx"),
+            (
+                answered(b"<!doctype html>" + b"x" * 9_000),
+                "it does not answer as a web box: <!doctype html>xx",
+            ),
             (answered(b""), "it does not answer as a web box: "),
             (answered(b"\n" + good), "it does not answer as a web box: box 2 "),
             (answered(good.replace(b"box 2", b"box 1")), "it does not answer as a web box: box 1 "),
             (answered(good.replace(b"-", b"/")), "it does not answer as a web box: "),
-            (answered(re.sub(rb" 20\d\d-\d\d", b" 2026-13", good)), "it does not answer as a web box: "),
-            (answered(head(now, "f" * 16)), "it is the web box of another vote, [ffffffffffffffff]"),
+            (
+                answered(re.sub(rb" 20\d\d-\d\d", b" 2026-13", good)),
+                "it does not answer as a web box: ",
+            ),
+            (
+                answered(head(now, "f" * 16)),
+                "it is the web box of another vote, [ffffffffffffffff]",
+            ),
             # kept, such a time would stop each later command: no difference could be added to it
-            *((answered(re.sub(rb" 20\d\d-", f" {year}-".encode(), good)), "it does not answer as a web box: box 2 ") for year in ("0001", "1970", "2100", "9999")),
+            *(
+                (
+                    answered(re.sub(rb" 20\d\d-", f" {year}-".encode(), good)),
+                    "it does not answer as a web box: box 2 ",
+                )
+                for year in ("0001", "1970", "2100", "9999")
+            ),
             (answered(good, 201), "it answers 201: box 2 "),
             # an answer that was cut off, also where its length is not told
             (answered(good + RECORD)[:-1], "its answer was cut off", "run the command again"),
@@ -193,11 +267,17 @@ class Dishonest(AskingTest):
             (answered(good + b"x" + RECORD), "its answer was cut off"),
             (answered(good + RECORD[:-7]), "its answer was cut off"),
             (b"HTTP/1.1 200 OK\r\n\r\n" + good, "its answer was cut off"),
-            (b"HTTP/1.1 200 OK\r\nTransfer-Encoding: chunked\r\n\r\n6\r\nbox 2 \r\n", "its answer was cut off"),
+            (
+                b"HTTP/1.1 200 OK\r\nTransfer-Encoding: chunked\r\n\r\n6\r\nbox 2 \r\n",
+                "its answer was cut off",
+            ),
             (b"HTTP/1.1 200 OK\r\n", "its answer was cut off"),
             (b"220 mail.example \x1b[31m\r\n", "it does not answer: 220 mail.example \\u001B[31m"),
             (b"", "it does not answer: "),
-            (b"HTTP/1.1 200 OK\r\nX: " + b"x" * 70_000, "it does not answer: got more than 65536 bytes"),
+            (
+                b"HTTP/1.1 200 OK\r\nX: " + b"x" * 70_000,
+                "it does not answer: got more than 65536 bytes",
+            ),
         ):
             self.refuses([sent], *parts)
         with Liar(lambda request: []) as host:
@@ -209,7 +289,13 @@ class Dishonest(AskingTest):
 
     def test_a_whole_answer_in_pieces_is_taken(self) -> None:
         good = head(times.now()) + RECORD * 3
-        chunks = b"".join(b"%x\r\n%b\r\n" % (len(part), part) for part in (good[:50], good[50:300], good[300:])) + b"0\r\n\r\n"
+        chunks = (
+            b"".join(
+                b"%x\r\n%b\r\n" % (len(part), part)
+                for part in (good[:50], good[50:300], good[300:])
+            )
+            + b"0\r\n\r\n"
+        )
         for sent in (
             [answered(good)[place : place + 90] for place in range(0, 900, 90)],
             [b"HTTP/1.1 200 OK\r\nTransfer-Encoding: chunked\r\n\r\n", chunks],
@@ -220,15 +306,22 @@ class Dishonest(AskingTest):
 
     def test_the_word_goes_to_this_address_alone(self) -> None:
         with Liar(lambda request: [answered(head(times.now()))]) as other:
-            with Liar(lambda request: [answered(b"", 307, f"Location: {other.at}vote.php")]) as host:
+            with Liar(
+                lambda request: [answered(b"", 307, f"Location: {other.at}vote.php")]
+            ) as host:
                 self.stopped(host.at, f"it sends on to {other.at}vote.php")
                 [request] = host.requests
         self.assertEqual(other.requests, [])
-        self.assertTrue(request.startswith(b"POST /vote.php HTTP/1.1\r\n") and request.endswith(b"\r\n\r\n" + ASK))
+        self.assertTrue(
+            request.startswith(b"POST /vote.php HTTP/1.1\r\n")
+            and request.endswith(b"\r\n\r\n" + ASK)
+        )
         self.assertIn(b"\r\nContent-Type: application/x-www-form-urlencoded\r\n", request)
         self.assertNotIn(KEY.hex().encode(), request)
         # nor to a proxy that the environment names
-        with unittest.mock.patch.dict(os.environ, {"http_proxy": other.at, "HTTP_PROXY": other.at, "all_proxy": other.at}):
+        with unittest.mock.patch.dict(
+            os.environ, {"http_proxy": other.at, "HTTP_PROXY": other.at, "all_proxy": other.at}
+        ):
             with Liar(lambda request: [answered(head(times.now()))]) as host:
                 ask(host.at, MARK, WORD)
         self.assertEqual((other.requests, len(host.requests)), ([], 1))
@@ -245,13 +338,20 @@ class Dishonest(AskingTest):
         with unittest.mock.patch.object(box_records, "LONGEST_ANSWER", len(good + RECORD)):
             with Liar(lambda request: [answered(good + RECORD)]) as host:
                 self.assertEqual(ask(host.at, MARK, WORD).records, RECORD)
-            self.refuses([answered(good + RECORD * 2)], f"it answers more than {len(good + RECORD)} bytes")
+            self.refuses(
+                [answered(good + RECORD * 2)], f"it answers more than {len(good + RECORD)} bytes"
+            )
 
     def test_how_far_its_clock_is_off(self) -> None:
         """No more than is certain: the time that the answer took, before the host looked at its clock and
         after it, is no fault of the clock.
         """
-        for off, before, after, least, most in ((0, 0, 1.2, 0, 0), (0, 2.2, 0, 0, 0), (180, 0, 1.2, -180, -120), (-180, 0, 1.2, 120, 183)):
+        for off, before, after, least, most in (
+            (0, 0, 1.2, 0, 0),
+            (0, 2.2, 0, 0, 0),
+            (180, 0, 1.2, -180, -120),
+            (-180, 0, 1.2, 120, 183),
+        ):
 
             def lie(request: bytes) -> Iterable[bytes | float]:
                 yield before
@@ -284,7 +384,6 @@ class Said(unittest.TestCase):
             for note, line in zip(notes, said):
                 self.assertIn(f"Note: {note}", line)
 
-
     def test_what_is_said_of_records_that_nobody_can_open(self) -> None:
         """Of many electors the first are named."""
         names = [f"m{number}" for number in range(25)]
@@ -293,9 +392,14 @@ class Said(unittest.TestCase):
             (names[:2], "passed over, by the links of m0, m1, who are to vote again. "),
             (names, "m18, m19 and 5 more, who are to vote again."),
         ):
-            with unittest.mock.patch.multiple(box_records, last_box=lambda _: {"unopened": 30}, with_lost_records=lambda *_: lost):
+            with unittest.mock.patch.multiple(
+                box_records, last_box=lambda _: {"unopened": 30}, with_lost_records=lambda *_: lost
+            ):
                 words = box_records.unopened_words(unittest.mock.Mock())
-            self.assertIn("Note: 30 records can't be opened, or came above the 20 of a link, passed over", words)
+            self.assertIn(
+                "Note: 30 records can't be opened, or came above the 20 of a link, passed over",
+                words,
+            )
             self.assertIn(said, words)
 
 
@@ -324,7 +428,9 @@ class Lying(BoxTest):
         for name, change in {
             "drops": lambda body: body.replace(records[0], b""),
             "changes": lambda body: body.replace(b"X-Proof: ", b"X-Proof: 0"),
-            "backdates": lambda body: body.replace(b"Received: by box; ", b"Received: by box; Mon, 23 Nov 2026 10:00:00 +0000\nX: "),
+            "backdates": lambda body: body.replace(
+                b"Received: by box; ", b"Received: by box; Mon, 23 Nov 2026 10:00:00 +0000\nX: "
+            ),
             "votes": lambda body: body + records[1].replace(b"<00", b"<ff"),
         }.items():
             with self.subTest(name):
@@ -353,8 +459,25 @@ class Certificates(AskingTest):
 
         def made(name: str, subject: str) -> ssl.SSLContext:
             key, certificate = place / f"{name}.key", place / f"{name}.pem"
-            words = ["openssl", "req", "-x509", "-newkey", "rsa:2048", "-nodes", "-keyout", key, "-out", certificate, "-days", "2"]
-            subprocess.run([*words, "-subj", "/CN=x", "-addext", f"subjectAltName={subject}"], check=True, capture_output=True)
+            words = [
+                "openssl",
+                "req",
+                "-x509",
+                "-newkey",
+                "rsa:2048",
+                "-nodes",
+                "-keyout",
+                key,
+                "-out",
+                certificate,
+                "-days",
+                "2",
+            ]
+            subprocess.run(
+                [*words, "-subj", "/CN=x", "-addext", f"subjectAltName={subject}"],
+                check=True,
+                capture_output=True,
+            )
             context = ssl.SSLContext(ssl.PROTOCOL_TLS_SERVER)
             context.load_cert_chain(certificate, key)
             return context
@@ -364,11 +487,17 @@ class Certificates(AskingTest):
 
         right, other = made("right", "IP:127.0.0.1"), made("other", "DNS:else.example")
         with Liar(lie, right) as host:
-            self.stopped(host.at, "its certificate is not right: self-signed certificate", "the clock of this computer")
+            self.stopped(
+                host.at,
+                "its certificate is not right: self-signed certificate",
+                "the clock of this computer",
+            )
             self.assertEqual(host.requests, [])
             with unittest.mock.patch.dict(os.environ, {"SSL_CERT_FILE": str(place / "right.pem")}):
                 self.assertEqual(ask(host.at, MARK, WORD).records, RECORD)
-        with Liar(lie, other) as host, unittest.mock.patch.dict(os.environ, {"SSL_CERT_FILE": str(place / "other.pem")}):
+        with Liar(lie, other) as host, unittest.mock.patch.dict(
+            os.environ, {"SSL_CERT_FILE": str(place / "other.pem")}
+        ):
             self.stopped(host.at, "its certificate is not right: IP address mismatch")
             self.assertEqual(host.requests, [])
         # a server without TLS

@@ -31,10 +31,14 @@ class Asks(boxes.BoxElectionTest):
 
     def ending_soon(self, **clicks: str) -> dict[str, str]:
         """Called an hour ago, to end some seconds from now, and written to all, of whom some have clicked before the end: the links."""
-        self.set_clock(f"{datetime.datetime.now(datetime.UTC) - datetime.timedelta(hours=1):%Y-%m-%dT%H:%M:%S+00:00}")
+        self.set_clock(
+            f"{datetime.datetime.now(datetime.UTC) - datetime.timedelta(hours=1):%Y-%m-%dT%H:%M:%S+00:00}"
+        )
         self.done("call", "--to", "vote@club.example", "--at", self.host.at, "--box")
         self.clock = {}
-        self.end = datetime.datetime.now(datetime.UTC).replace(microsecond=0) + datetime.timedelta(seconds=15)
+        self.end = datetime.datetime.now(datetime.UTC).replace(microsecond=0) + datetime.timedelta(
+            seconds=15
+        )
         self.done("call", "--until", self.end.isoformat())
         self.upload()
         self.done("letters", "call")
@@ -65,7 +69,12 @@ class Asks(boxes.BoxElectionTest):
         self.click("ada", RANKS, self.links()["ada"])
         self.done("call", "--until", "2099-12-05 18:00")
         ended = self.election("letters", "call")
-        self.assert_fault(ended, 9, "nobody has seen yet whether the web box works", "upload the folder call, then run the command again")
+        self.assert_fault(
+            ended,
+            9,
+            "nobody has seen yet whether the web box works",
+            "upload the folder call, then run the command again",
+        )
         self.assertIn("Note: the page there is the one of before", ended.output)
         # what is new is kept, and enters nothing
         self.assertEqual((self.acts()[-1], self.standing()), ("letters", {}))
@@ -84,11 +93,16 @@ class Asks(boxes.BoxElectionTest):
         ended = self.election("close", "--yes")
         asked = len(self.acts())
         self.assertEqual(ended.status, 9)
-        self.assertEqual(ended.faults, f"debvote-election: the web box was asked, 4 new ballots are kept; act {asked} (letters) was done; {RUN_ADD}")
+        self.assertEqual(
+            ended.faults,
+            f"debvote-election: the web box was asked, 4 new ballots are kept; act {asked} (letters) was done; {RUN_ADD}",
+        )
         self.assertIn("The web box has 4 records.\n", ended.output)
         self.assertEqual((self.acts()[-1], self.standing()), ("letters", {}))
         # what is kept stops it until it is entered, and nothing is asked again
-        self.assert_fault(self.election("close"), 9, "these letters arrived in time, and wait: 1, 2, 3;")
+        self.assert_fault(
+            self.election("close"), 9, "these letters arrived in time, and wait: 1, 2, 3;"
+        )
         self.assertEqual(len(self.acts()), asked)
         self.done("add", "--box", "--yes")
         asked = len(self.acts())
@@ -156,7 +170,10 @@ class Asks(boxes.BoxElectionTest):
         links = self.begun()
         self.ahead()
         self.click("ada", RANKS, links["ada"])
-        self.assertIn("the web box was asked, 1 new ballot is kept; ", self.election("close", "--early", "--yes").faults)
+        self.assertIn(
+            "the web box was asked, 1 new ballot is kept; ",
+            self.election("close", "--early", "--yes").faults,
+        )
         self.ahead()
         self.done("add", "--box", "--yes")
         time.sleep(1.1)
@@ -212,7 +229,9 @@ class Next(boxes.BoxElectionTest):
         self.upload()
         self.assertEqual(self.next_of("add", "--box"), letters)
         self.done("letters", "call")
-        self.write("members.csv", elections.members_of(elections.NAMES).replace("ada@club", "ada@new"))
+        self.write(
+            "members.csv", elections.members_of(elections.NAMES).replace("ada@club", "ada@new")
+        )
         upload = "upload call/vote.php again, since these electors have new links; then debvote-election letters call, for the new addresses"
         self.assertEqual(self.next_of("roll", "--yes"), upload)
         self.assertEqual(self.next_of("roll", "--yes"), "debvote-election status")
@@ -241,35 +260,55 @@ class Receipts(boxes.BoxElectionTest):
 
     def test_whose_has_it(self) -> None:
         links = self.begun()
-        self.write("inbox.mbox", mailbox(*map(self.of_this_vote, (
-            self.writes("ada", 1),
-            # in her own name from elsewhere, and one of each
-            self.writes("ben", 2, f"ben {RANKS}", sender="x@else.example"),
-            self.writes("cleo", 3), self.writes("cleo", 4, f"cleo {RANKS}", sender="x@else.example"),
-            self.writes("dan", 5),
-        ))))  # fmt: skip
+        self.write(
+            "inbox.mbox",
+            mailbox(
+                *map(
+                    self.of_this_vote,
+                    (
+                        self.writes("ada", 1),
+                        # in her own name from elsewhere, and one of each
+                        self.writes("ben", 2, f"ben {RANKS}", sender="x@else.example"),
+                        self.writes("cleo", 3),
+                        self.writes("cleo", 4, f"cleo {RANKS}", sender="x@else.example"),
+                        self.writes("dan", 5),
+                    ),
+                )
+            ),
+        )
         self.done("add", "--yes", "inbox.mbox")
         self.click("eve", RANKS, links["eve"])
         self.done("add", "--box", "--yes")
         with_link = {name: set(boxes.LINK.findall(text)) for name, text in self.receipts().items()}
-        self.assertEqual({name: bool(found) for name, found in with_link.items()}, dict(ada=True, ben=False, cleo=False, dan=True, eve=False))
+        self.assertEqual(
+            {name: bool(found) for name, found in with_link.items()},
+            dict(ada=True, ben=False, cleo=False, dan=True, eve=False),
+        )
         self.assertEqual({link for _, _, link in with_link["ada"]}, {links["ada"]})
         # after the end nobody is invited to vote
         self.write("inbox.mbox", mailbox(self.of_this_vote(self.writes("ada", 6, "and more"))))
         self.done("add", "--yes", "inbox.mbox")
         self.set_clock("2099-12-04T18:00:01+01:00")
-        self.assertEqual({name for name, text in self.receipts().items() if boxes.LINK.search(text)}, set())
+        self.assertEqual(
+            {name for name, text in self.receipts().items() if boxes.LINK.search(text)}, set()
+        )
 
     def test_an_earlier_address_has_it_not(self) -> None:
         self.begun()
         # the address from which he wrote stays
-        self.write("inbox.mbox", mailbox(self.of_this_vote(self.writes("dan", 5, sender="home@dan.example"))))
+        self.write(
+            "inbox.mbox",
+            mailbox(self.of_this_vote(self.writes("dan", 5, sender="home@dan.example"))),
+        )
         self.done("add", "--yes", "inbox.mbox")
         self.write("members.csv", self.members.replace("dan@club", "dan@new"))
         self.done("roll", "--yes")
         self.upload()
         self.done("letters", "receipts")
-        texts = {email.message_from_bytes(file.read_bytes())["To"]: file.read_bytes() for file in (self.folder / "letters/receipts").rglob("*.eml")}
+        texts = {
+            email.message_from_bytes(file.read_bytes())["To"]: file.read_bytes()
+            for file in (self.folder / "letters/receipts").rglob("*.eml")
+        }
         self.assertEqual(sorted(texts), ["dan@club.example", "dan@new.example"])
         found = {to: bool(boxes.LINK.search(text.decode())) for to, text in texts.items()}
         self.assertEqual(found, {"dan@club.example": False, "dan@new.example": True})
@@ -288,11 +327,21 @@ class Secret(boxes.BoxElectionTest):
             self.click(name, RANKS, links[name])
         # and one that nobody can open
         proof = sealing.proof_of(self.mark(), self.place_of("cleo", links["cleo"]))
-        self.assertEqual(self.host.send(request_of(f"{self.page()} {proof} {950:032x}", "A" * 300)).word, "received")
+        self.assertEqual(
+            self.host.send(request_of(f"{self.page()} {proof} {950:032x}", "A" * 300)).word,
+            "received",
+        )
         self.off(700)
         command = [sys.executable, elections.ELECTION, "close", "--early"]
         env = elections.environment() | self.clock | {"XDG_STATE_HOME": str(self.state)}
-        ended = subprocess.run(command, cwd=self.folder, env=env, stdin=subprocess.DEVNULL, capture_output=True, text=True)
+        ended = subprocess.run(
+            command,
+            cwd=self.folder,
+            env=env,
+            stdin=subprocess.DEVNULL,
+            capture_output=True,
+            text=True,
+        )
         said = ended.stdout + ended.stderr
         self.assertIn("the web box was asked, 2 new ballots are kept; ", said)
         self.assertIn("Note: 1 record can't be opened, ", said)
@@ -300,4 +349,7 @@ class Secret(boxes.BoxElectionTest):
             self.assertNotIn(word, said)
         # at a terminal it says who is to vote again
         terminal = Terminal(self, "close", "--early")
-        self.assertIn("ballots came by the links of these electors that nobody can open, and no later ones: cleo", terminal.end()[0])
+        self.assertIn(
+            "ballots came by the links of these electors that nobody can open, and no later ones: cleo",
+            terminal.end()[0],
+        )

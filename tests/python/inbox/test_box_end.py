@@ -91,7 +91,9 @@ class End(boxes.BoxElectionTest):
             for part in parts:
                 self.assertIn(part, text)
             of_each = (text.count("it counts"), text.count(WAITS))
-            self.assertEqual(of_each, (READ in parts, any(part.startswith(WAITS) for part in parts)), text)
+            self.assertEqual(
+                of_each, (READ in parts, any(part.startswith(WAITS) for part in parts)), text
+            )
 
     def test_clicks_while_it_passes(self) -> None:
         links = self.begun_to_end_soon()
@@ -104,9 +106,13 @@ class End(boxes.BoxElectionTest):
         self.click("dan", OTHER, links["dan"])
         after = self.click("cleo", RANKS, links["cleo"]).text.split()[1]
         end = f"{self.end:%Y-%m-%dT%H:%M:%SZ}"
-        self.assertEqual((word, before < end < across <= after), ("received", True), (before, end, across, after))
+        self.assertEqual(
+            (word, before < end < across <= after), ("received", True), (before, end, across, after)
+        )
         # `close` asks, and stops, since two of them came in time
-        self.assertIn("the web box was asked, 5 new ballots are kept", self.election("close").faults)
+        self.assertIn(
+            "the web box was asked, 5 new ballots are kept", self.election("close").faults
+        )
         self.done("add", "--box", "--yes")
         said = self.done("held").output
         self.assertEqual(said.count(AFTER), 3, said)
@@ -156,7 +162,9 @@ class End(boxes.BoxElectionTest):
     def test_a_host_that_is_put_right_before_it_is_asked(self) -> None:
         self.demand_decided(180, ["ada"], "ben", ahead_at_the_end=0)
 
-    def demand_decided(self, ahead: int, counting: list[str], waiting: str, ahead_at_the_end: int | None = None) -> None:
+    def demand_decided(
+        self, ahead: int, counting: list[str], waiting: str, ahead_at_the_end: int | None = None
+    ) -> None:
         """Four electors click, before the end and after it, by four minutes and by one. What the clock
         of the host could take across the end waits, on either side of it.
         """
@@ -179,7 +187,9 @@ class End(boxes.BoxElectionTest):
         self.demand_told(**told, **{waiting: [LOOKED_AT]})
         # the secretary, who knows more, decides: before that nothing is closed
         number = CLICKING.index(waiting) + 1
-        self.assert_fault(self.election("close"), 9, f"these letters arrived in time, and wait: {number};")
+        self.assert_fault(
+            self.election("close"), 9, f"these letters arrived in time, and wait: {number};"
+        )
         self.done("held", str(number), "--enter")
         self.assertEqual(self.standing(), dict.fromkeys(sorted((*counting, waiting)), RANKS))
         self.demand_told(**{waiting: COUNTS})
@@ -187,7 +197,10 @@ class End(boxes.BoxElectionTest):
         self.done("held", str(len(CLICKING)), "--enter")
         self.done("close")
         self.done("publish")
-        self.assertIn("<p>1 line came after the end, and is in time, since the vote was not closed yet.</p>", self.read("result/index.html").decode())
+        self.assertIn(
+            "<p>1 line came after the end, and is in time, since the vote was not closed yet.</p>",
+            self.read("result/index.html").decode(),
+        )
 
     def test_a_clock_that_is_put_back_between_two_clicks(self) -> None:
         self.called()

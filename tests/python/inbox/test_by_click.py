@@ -45,11 +45,16 @@ class CallWithBox(elections.ElectionTest):
             (("--at", "http://club.example/vote/"), ["--box: the page needs"]),
             (("--at", "https://club.example/vote"), ["--box: the page needs"]),
             (("--at", "https://club.example/?a=/"), ["--box: the page needs"]),
-            (("--keyring", "x", "--at", "http://club.example/"), ["--box: the page needs", "--box: letters have to be signed", "x: No such file"]),
+            (
+                ("--keyring", "x", "--at", "http://club.example/"),
+                ["--box: the page needs", "--box: letters have to be signed", "x: No such file"],
+            ),
         ):
             with self.subTest(words=words):
                 ended = self.election("call", "--box", *words)
-                self.assertEqual((ended.status, len(ended.faults.splitlines())), (2, len(parts)), ended)
+                self.assertEqual(
+                    (ended.status, len(ended.faults.splitlines())), (2, len(parts)), ended
+                )
                 for part, line in zip(parts, ended.faults.splitlines()):
                     self.assertIn(part, line)
         self.assertEqual(self.contents(), before)
@@ -69,7 +74,10 @@ class CallWithBox(elections.ElectionTest):
         self.assert_fault(self.election("call", "--keyring", "x"), 9, fault)
         self.assertIn("0 * * * * XDG_STATE_HOME=", ended.output)
         self.assertIn(f"debvote-election add --folder {self.folder} --box --yes", ended.output)
-        self.assertIn("upload the files of call to https://club.example/vote/, vote.php too; then debvote-election letters --send sends the letters, or debvote-election letters call writes them, and tries first whether the page takes ballots; enter", ended.output)
+        self.assertIn(
+            "upload the files of call to https://club.example/vote/, vote.php too; then debvote-election letters --send sends the letters, or debvote-election letters call writes them, and tries first whether the page takes ballots; enter",
+            ended.output,
+        )
         script = self.read("call/vote.php")
         self.assertNotIn(b"vote.php", self.read("call/SHA256SUMS"))
         [(key,)] = self.rows("SELECT data FROM sealed WHERE name = 'box key'")
@@ -81,14 +89,23 @@ class CallWithBox(elections.ElectionTest):
         self.assertEqual(self.read("call/vote.php"), script)
         self.done("call", *boxes.UNTIL)
         self.assertEqual(self.read("call/vote.php"), script)
-        self.assertEqual(self.rows("SELECT count(*) FROM sealed WHERE name = 'call/vote.php'"), [(1,)])
+        self.assertEqual(
+            self.rows("SELECT count(*) FROM sealed WHERE name = 'call/vote.php'"), [(1,)]
+        )
         # a new address makes another script, a new key for signatures none
-        self.write("members.csv", elections.members_of(elections.NAMES).replace("ben@club", "ben@new"))
+        self.write(
+            "members.csv", elections.members_of(elections.NAMES).replace("ben@club", "ben@new")
+        )
         ended = self.done("roll", "--yes")
-        self.assertIn("\nNext: upload call/vote.php again, since these electors have new links; then debvote-election letters call", ended.output)
+        self.assertIn(
+            "\nNext: upload call/vote.php again, since these electors have new links; then debvote-election letters call",
+            ended.output,
+        )
         self.assertNotEqual(self.read("call/vote.php"), script)
         before, after = script.splitlines(), self.read("call/vote.php").splitlines()
-        self.assertEqual((len({*before} - {*after}), len({*after} - {*before}), len(before)), (1, 1, len(after)))
+        self.assertEqual(
+            (len({*before} - {*after}), len({*after} - {*before}), len(before)), (1, 1, len(after))
+        )
         # taken back: without --box there is no script, with it the key is the same
         self.done("call", "--take-back")
         self.done("call", *HTTPS)
@@ -98,7 +115,9 @@ class CallWithBox(elections.ElectionTest):
         self.assert_fault(self.election("add", "--box"), 2, "--box: the call was made without it")
         self.done("call", "--take-back")
         self.done("call", "--box", *HTTPS)
-        self.assertEqual(self.rows("SELECT DISTINCT data FROM sealed WHERE name = 'box key'"), [(key,)])
+        self.assertEqual(
+            self.rows("SELECT DISTINCT data FROM sealed WHERE name = 'box key'"), [(key,)]
+        )
         # the key is in nothing that leaves the book
         self.done("export", self.scratch / "out")
         files = [*self.folder.rglob("*"), *(self.scratch / "out").rglob("*")]
@@ -111,13 +130,24 @@ class CallWithBox(elections.ElectionTest):
 class Clicks(boxes.BoxElectionTest):
     def test_the_link_is_in_the_letters_to_its_elector_alone(self) -> None:
         self.begun()
-        files = {file: file.read_bytes() for file in self.folder.rglob("*") if file.is_file() and file.name != "election.db"}
+        files = {
+            file: file.read_bytes()
+            for file in self.folder.rglob("*")
+            if file.is_file() and file.name != "election.db"
+        }
         letters = {file: data for file, data in files.items() if file.suffix == ".eml"}
         self.assertEqual(len(letters), len(elections.NAMES))
         for file, data in letters.items():
             name, own, link = boxes.link_in(data)
             self.assertIn(f"-{own}]", data.partition(b"\n\n")[0].decode())
-            self.assertEqual([other for other, text in files.items() if link.encode() in text.replace(b"=\n", b"")], [file])
+            self.assertEqual(
+                [
+                    other
+                    for other, text in files.items()
+                    if link.encode() in text.replace(b"=\n", b"")
+                ],
+                [file],
+            )
             self.assertNotIn(link.encode(), data.partition(b"\n\n")[0])
 
     def test_clicks_letters_and_what_is_kept(self) -> None:
@@ -129,20 +159,35 @@ class Clicks(boxes.BoxElectionTest):
         # a look is no asking
         before = self.rows("SELECT * FROM act")
         ended = self.done("add", "--box", "--look")
-        self.assertIn("3 new letters; 0 came before.\n3 ballots of letters would go in; 0 letters wait.\nNothing was changed.", ended.output)
+        self.assertIn(
+            "3 new letters; 0 came before.\n3 ballots of letters would go in; 0 letters wait.\nNothing was changed.",
+            ended.output,
+        )
         self.assertIn("ben (web box, record 2): ", ended.output)
         self.assertEqual(self.rows("SELECT * FROM act"), before)
         # letters wait for the secretary, and are not entered by what cron runs
-        box = mailbox(self.of_this_vote(letter("cleo", "cleo 1,2,3,4\n", time=f"{time.strftime('%a, %d %b %Y %H:%M:%S')} +0000")))
+        box = mailbox(
+            self.of_this_vote(
+                letter(
+                    "cleo", "cleo 1,2,3,4\n", time=f"{time.strftime('%a, %d %b %Y %H:%M:%S')} +0000"
+                )
+            )
+        )
         self.write("inbox.mbox", box)
         self.assertEqual(self.election("add", "inbox.mbox").status, 9)
         ended = self.done("add", "--box", "--yes")
         self.assertIn("The web box has 3 records.\n3 new letters; 0 came before.\n", ended.output)
         self.assertNotIn("cleo", ended.output)
         self.assertEqual(self.standing(), {"ada": "4,3,2,1", "ben": "2,1,-,4"})
-        self.assertEqual(self.done("add", "--box", "--yes").output.splitlines()[:2], ["The web box has 3 records.", "0 new letters; 3 came before."])
+        self.assertEqual(
+            self.done("add", "--box", "--yes").output.splitlines()[:2],
+            ["The web box has 3 records.", "0 new letters; 3 came before."],
+        )
         first, second, third = self.boxes_kept()
-        self.assertEqual([(one["records"], one["gone"], one["unopened"]) for one in (first, second, third)], [(0, 0, 0), (3, 0, 0), (3, 0, 0)])
+        self.assertEqual(
+            [(one["records"], one["gone"], one["unopened"]) for one in (first, second, third)],
+            [(0, 0, 0), (3, 0, 0), (3, 0, 0)],
+        )
         self.assertEqual(first["list"], list_digest(self.read("call/vote.php")))
         # taken back, and asked again: that waits for whoever took it back
         self.done("undo")
@@ -155,12 +200,17 @@ class Clicks(boxes.BoxElectionTest):
 
     def test_a_link_that_a_new_one_has_replaced_waits_and_both_addresses_are_told(self) -> None:
         links = self.begun()
-        self.write("members.csv", elections.members_of(elections.NAMES).replace("ada@club", "ada@new"))
+        self.write(
+            "members.csv", elections.members_of(elections.NAMES).replace("ada@club", "ada@new")
+        )
         self.done("roll", "--yes")
         # the host has the older list
         self.click("ada", "1,2,3,4", links["ada"])
         ended = self.done("add", "--box", "--yes")
-        self.assertIn("Note: the web host has another vote.php than the folder call, as an older one: upload that of the folder", ended.output)
+        self.assertIn(
+            "Note: the web host has another vote.php than the folder call, as an older one: upload that of the folder",
+            ended.output,
+        )
         self.assertIn("with a link that is not that of ada now", ended.output)
         self.assertEqual(self.standing(), {})
         self.done("letters", "receipts")
@@ -178,10 +228,12 @@ class Clicks(boxes.BoxElectionTest):
 
     def test_a_backup_that_is_put_back(self) -> None:
         """The book lacks the link of a ballot that came: it is kept, and waits for whoever knows why."""
-        links = self.begun(ben="1,2,3,4")
+        self.begun(ben="1,2,3,4")
         self.done("add", "--box", "--yes")
         self.done("backup", self.scratch / "copy.db")
-        self.write("members.csv", elections.members_of(elections.NAMES).replace("ada@club", "ada@new"))
+        self.write(
+            "members.csv", elections.members_of(elections.NAMES).replace("ada@club", "ada@new")
+        )
         self.done("roll", "--yes")
         self.upload()
         self.done("add", "--box")
@@ -215,7 +267,9 @@ class Clicks(boxes.BoxElectionTest):
         self.begun()
         page, key = self.page(), self.rows("SELECT data FROM sealed WHERE name = 'box key'")
         self.done("call", "--take-back")
-        turned = elections.POLL.replace('"At the lake", "In the town hall"', '"In the town hall", "At the lake"')
+        turned = elections.POLL.replace(
+            '"At the lake", "In the town hall"', '"In the town hall", "At the lake"'
+        )
         self.assertNotEqual(turned, elections.POLL)
         self.write("poll.toml", turned)
         self.call()
@@ -235,11 +289,14 @@ class Clicks(boxes.BoxElectionTest):
         self.assertTrue(self.read("fetched.php").startswith(FIRST))
         ended = self.done("add", "--yes", "fetched.php")
         self.assertIn("2 new letters", ended.output)
-        self.assertEqual(ended.output.count("it is in the file of the web box, which others may have changed"), 2)
+        self.assertEqual(
+            ended.output.count("it is in the file of the web box, which others may have changed"), 2
+        )
         self.assertEqual(self.standing(), {})
         for text in self.receipts().values():
             self.assertRegex(
-                text, "A ballot of .* came by the page of the vote, with your link. It is not entered yet: the secretary has to look at it first. If "
+                text,
+                "A ballot of .* came by the page of the vote, with your link. It is not entered yet: the secretary has to look at it first. If ",
             )
         self.done("held", "1", "--enter", "--force")
         said = self.done("add", "--box", "--yes").output
@@ -252,10 +309,15 @@ class Clicks(boxes.BoxElectionTest):
         links = self.begun(ada="1,2,3,4")
         data = self.file().read_bytes()
         # whoever has the file can make none of another proof
-        other = data.removeprefix(FIRST).replace(proof_digest(self.mark(), self.place_of("ada", links["ada"])).encode(), b"2" * 64)
+        other = data.removeprefix(FIRST).replace(
+            proof_digest(self.mark(), self.place_of("ada", links["ada"])).encode(), b"2" * 64
+        )
         self.write("fetched.php", data + other)
         said = self.done("add", "--yes", "fetched.php").output
-        self.assertIn("it is a record of the web box that can't be opened, and was passed over; ask its elector to vote again\n", said)
+        self.assertIn(
+            "it is a record of the web box that can't be opened, and was passed over; ask its elector to vote again\n",
+            said,
+        )
         self.assertIn("1 new letter; 0 came before.", said)
         self.done("held", "1", "--set-aside")
         self.done("add", "--box", "--yes")
@@ -274,13 +336,17 @@ class Clicks(boxes.BoxElectionTest):
 
         def wrote(name: str, ranks: str, ago: int) -> bytes:
             arrived = time.strftime("%a, %d %b %Y %H:%M:%S +0000", time.gmtime(now - ago))
-            return self.of_this_vote(letter(name, f"{name} {ranks}\n", time=arrived, number=str(ago)))
+            return self.of_this_vote(
+                letter(name, f"{name} {ranks}\n", time=arrived, number=str(ago))
+            )
 
         self.click("ada", "1,2,3,4", links["ada"])
         self.click("ben", "1,2,3,4", links["ben"])
         self.done("add", "--box", "--yes")
         # an older letter is passed over, a later one counts
-        self.write("inbox.mbox", mailbox(wrote("ada", "4,3,2,1", 600), wrote("ben", "4,3,2,1", -20)))
+        self.write(
+            "inbox.mbox", mailbox(wrote("ada", "4,3,2,1", 600), wrote("ben", "4,3,2,1", -20))
+        )
         ended = self.done("add", "--yes", "inbox.mbox")
         self.assertIn("Passed over, since a later letter of its elector went in", ended.output)
         self.assertEqual(self.standing(), {"ada": "1,2,3,4", "ben": "4,3,2,1"})
@@ -292,14 +358,21 @@ class Clicks(boxes.BoxElectionTest):
                 self.click("ada", "1,2,3,4", links["ada"])
                 self.off(seconds)
                 ended = self.done("add", "--box", "--look")
-                self.assertRegex(ended.output, rf"its clock is 1[78]\d seconds {side} that of this computer")
+                self.assertRegex(
+                    ended.output, rf"its clock is 1[78]\d seconds {side} that of this computer"
+                )
         # a letter that came between: by which clock is it the later one? the one that is read second waits
         self.off(180)
         self.done("add", "--box", "--yes")
         arrived = time.strftime("%a, %d %b %Y %H:%M:%S +0000", time.gmtime(time.time() + 100))
-        self.write("inbox.mbox", mailbox(self.of_this_vote(letter("ada", "ada 4,3,2,1\n", time=arrived))))
+        self.write(
+            "inbox.mbox", mailbox(self.of_this_vote(letter("ada", "ada 4,3,2,1\n", time=arrived)))
+        )
         ended = self.done("add", "--yes", "inbox.mbox")
-        self.assertIn("the clock of the web host was off, so it may be earlier or later than another ballot of ada", ended.output)
+        self.assertIn(
+            "the clock of the web host was off, so it may be earlier or later than another ballot of ada",
+            ended.output,
+        )
         self.assertIn("; may have voted since\n", self.done("held").output)
         why = "its elector may have voted since, as the clock of the web host was off"
         self.assert_fault(self.election("held", "3", "--enter", "--yes"), 9, why)
@@ -319,7 +392,10 @@ class Clicks(boxes.BoxElectionTest):
                 arrived = time.strftime("%a, %d %b %Y %H:%M:%S +0000", between)
                 data = self.of_this_vote(letter(name, f"{name} 4,3,2,1\n", time=arrived))
                 self.write("inbox.mbox", mailbox(data))
-                self.assertIn(f"may be earlier or later than another ballot of {name}", self.done("add", "--yes", "inbox.mbox").output)
+                self.assertIn(
+                    f"may be earlier or later than another ballot of {name}",
+                    self.done("add", "--yes", "inbox.mbox").output,
+                )
 
     def test_a_dishonest_host(self) -> None:
         """What it makes or changes waits for nobody, and what it dates anew waits."""
@@ -345,13 +421,22 @@ class Clicks(boxes.BoxElectionTest):
             ("of nobody, and of another form", real + backdated + nobody + odd, 0, 2, 2, both),
             ("changed", real.replace(b"X-Proof", b"x-proof"), 2, 1, 0, both),
             ("replayed", replayed, 2, 0, 1, both),
-            ("again and again", FIRST + real.removeprefix(FIRST) * (MOST + 1), 2, 0, MOST + 1, both),
+            (
+                "again and again",
+                FIRST + real.removeprefix(FIRST) * (MOST + 1),
+                2,
+                0,
+                MOST + 1,
+                both,
+            ),
         ):
             with self.subTest(what):
                 self.file().write_bytes(data)
                 ended, kept = self.done("add", "--box", "--yes"), self.boxes_kept()[-1]
                 found = [kept[key] for key in ("gone", "unopened", "records")]
-                self.assertEqual((*found, {*kept["lost"]}), (gone, unopened, records, lost), ended.output)
+                self.assertEqual(
+                    (*found, {*kept["lost"]}), (gone, unopened, records, lost), ended.output
+                )
                 self.assertEqual(self.standing(), {"ada": "1,2,3,4"})
         self.assertIn("it is older than", self.done("held").output)
 
@@ -365,7 +450,10 @@ class Clicks(boxes.BoxElectionTest):
         data = self.file().read_bytes().removeprefix(FIRST)
         first, second, of_ben, later = [part + END for part in data.split(END)[:-1]]
         times = [one.splitlines()[:2] for one in (first, second)]
-        exchanged = [b"\n".join([*head, *one.splitlines()[2:], b""]) for one, head in ((second, times[0]), (first, times[1]))]
+        exchanged = [
+            b"\n".join([*head, *one.splitlines()[2:], b""])
+            for one, head in ((second, times[0]), (first, times[1]))
+        ]
         # of ben the second comes first
         self.file().write_bytes(FIRST + b"".join([*exchanged, later]))
         why = "by the clocks of their devices it is not later than a ballot of its elector that came before it"
@@ -385,12 +473,22 @@ class Clicks(boxes.BoxElectionTest):
         links = self.begun()
         now = datetime.datetime.now(datetime.UTC)
         hour = now - datetime.timedelta(minutes=11)
-        written = letter("ada", "ada 4,3,2,1\n", time=f"{now - datetime.timedelta(minutes=5):%a, %d %b %Y %H:%M:%S} +0000")
+        written = letter(
+            "ada",
+            "ada 4,3,2,1\n",
+            time=f"{now - datetime.timedelta(minutes=5):%a, %d %b %Y %H:%M:%S} +0000",
+        )
         self.write("inbox.mbox", mailbox(self.of_this_vote(written)))
         self.done("add", "--yes", "inbox.mbox")
         data = self.record("ada 1,2,3,4", links["ada"], 5, f"{now:%Y-%m-%dT%H:%M:%S}", hour)
         # within ten minutes nobody sees it
-        near = self.record("ben 1,2,3,4", links["ben"], 6, f"{now:%Y-%m-%dT%H:%M:%S}", now - datetime.timedelta(minutes=9))
+        near = self.record(
+            "ben 1,2,3,4",
+            links["ben"],
+            6,
+            f"{now:%Y-%m-%dT%H:%M:%S}",
+            now - datetime.timedelta(minutes=9),
+        )
         self.file().write_bytes(FIRST + data + near)
         self.off(1)
         said = self.done("add", "--box", "--yes").output
@@ -399,8 +497,16 @@ class Clicks(boxes.BoxElectionTest):
         # beside the time of the host `show` has that of the device, which is the one that its elector knows
         said, berlin = self.done("show", "ben").output, now.astimezone(BERLIN)
         nine = berlin - datetime.timedelta(minutes=9)
-        self.assertIn(f"envelope 2, {berlin:%Y-%m-%d %H:%M:%S} UTC+01:00, sent {nine:%Y-%m-%d %H:%M:%S} UTC+01:00: At the lake", said)
-        self.assertIn(f"{nine:%H:%M:%S} (UTC+01:00) has arrived. It counts" if nine.second else "has arrived. It counts", self.receipts()["ben"])
+        self.assertIn(
+            f"envelope 2, {berlin:%Y-%m-%d %H:%M:%S} UTC+01:00, sent {nine:%Y-%m-%d %H:%M:%S} UTC+01:00: At the lake",
+            said,
+        )
+        self.assertIn(
+            f"{nine:%H:%M:%S} (UTC+01:00) has arrived. It counts"
+            if nine.second
+            else "has arrived. It counts",
+            self.receipts()["ben"],
+        )
 
     def test_one_that_is_in_time_by_either_time_stops_a_close(self) -> None:
         links = self.begun()
@@ -409,22 +515,36 @@ class Clicks(boxes.BoxElectionTest):
         time.sleep(1.1)
         self.done("add", "--box")
         self.done("close", "--early")
-        for number, (name, arrived, sent) in enumerate((("ada", 900, 0), ("ben", 0, 900), ("dan", 900, 1800)), start=7):
+        for number, (name, arrived, sent) in enumerate(
+            (("ada", 900, 0), ("ben", 0, 900), ("dan", 900, 1800)), start=7
+        ):
             when, there = (now + datetime.timedelta(seconds=seconds) for seconds in (arrived, sent))
-            data = self.record(f"{name} 1,2,3,4", links[name], number, f"{when:%Y-%m-%dT%H:%M:%S}", there)
+            data = self.record(
+                f"{name} 1,2,3,4", links[name], number, f"{when:%Y-%m-%dT%H:%M:%S}", there
+            )
             self.file().write_bytes(self.file().read_bytes() + data)
         self.off(2000)
         self.done("add", "--box", "--yes")
-        self.assertEqual(self.election("count").faults.count("these letters arrived in time, and wait: 1, 2;"), 1, self.election("count").faults)
+        self.assertEqual(
+            self.election("count").faults.count("these letters arrived in time, and wait: 1, 2;"),
+            1,
+            self.election("count").faults,
+        )
 
     def test_what_was_asked_before_is_not_opened_again(self) -> None:
         links = self.begun(ada="1,2,3,4", ben="1,2,3,4")
         self.done("add", "--box", "--yes")
         [data, other] = [bytes(data) for data, in self.rows("SELECT data FROM source ORDER BY source")]  # type: ignore[arg-type]
-        record = self.file().read_bytes().removeprefix(FIRST).split(END)[0].partition(b"\n")[2] + END[:-1]
+        record = (
+            self.file().read_bytes().removeprefix(FIRST).split(END)[0].partition(b"\n")[2]
+            + END[:-1]
+        )
         fields = dict(line.split(b": ", 1) for line in data.partition(b"\n\n")[0].splitlines())
         self.assertEqual(fields[b"X-Sealed"].decode(), hashlib.sha256(record).hexdigest())
-        self.assertEqual((fields[b"X-Link"].decode(), data.partition(b"\n\n")[2]), (links["ada"], b"ada 1,2,3,4\n-- \n"))
+        self.assertEqual(
+            (fields[b"X-Link"].decode(), data.partition(b"\n\n")[2]),
+            (links["ada"], b"ada 1,2,3,4\n-- \n"),
+        )
         self.assertRegex(fields[b"X-Sent"], rb"^20\d\d-\d\d-\d\dT\d\d:\d\d:\d\d\.\d{3}Z$")
         # what a vote sets for its output is of no other test
         contextvars.copy_context().run(self.demand_known)
@@ -432,7 +552,9 @@ class Clicks(boxes.BoxElectionTest):
     def demand_known(self) -> None:
         """Nothing is opened, and all is there."""
         vote = Vote(Election(self.folder, PROGRAM.parent))
-        asked = box_records.Asked(datetime.datetime.now(datetime.UTC), 0, "", self.file().read_bytes().removeprefix(FIRST))
+        asked = box_records.Asked(
+            datetime.datetime.now(datetime.UTC), 0, "", self.file().read_bytes().removeprefix(FIRST)
+        )
         kept = queries.records_since(vote.book, 0)
         with unittest.mock.patch("debvote_tools.call.sealed_ballots.key_pair") as opening:
             letters, unopened = box_records.records_in(vote, asked, {}, kept)
@@ -446,7 +568,10 @@ class Clicks(boxes.BoxElectionTest):
         one = self.record("ben 1,2,3,4", links["ben"], 50, now)
         sealed = one.partition(b"\n\n")[2].partition(b"\n")[0]
         place, mark = self.place_of("ben", links["ben"]), self.mark()
-        digests = {name: proof_digest(mark, self.place_of(name, links[name])).encode() for name in ("ada", "ben")}
+        digests = {
+            name: proof_digest(mark, self.place_of(name, links[name])).encode()
+            for name in ("ada", "ben")
+        }
 
         def with_text(text: str) -> bytes:
             other = sealing.sealed(self.of_page("seal"), mark, f"{50:032x}", text)
@@ -457,15 +582,27 @@ class Clicks(boxes.BoxElectionTest):
             "another number": one.replace(b"<00", b"<01"),
             "another proof": one.replace(digests["ben"], digests["ada"]),
             "another mark": one.replace(mark.encode(), b"0" * 16),
-            "another key": one.replace(sealed, sealing.sealed(sealing.key_pair(b"x" * 32, mark)[0], mark, f"{50:032x}", f"ben 1,2,3,4\n{place}\n{sent}").encode()),
-            "a sign changed": one.replace(sealed, sealed[:150] + (b"B" if sealed[150:151] == b"A" else b"A") + sealed[151:]),
+            "another key": one.replace(
+                sealed,
+                sealing.sealed(
+                    sealing.key_pair(b"x" * 32, mark)[0],
+                    mark,
+                    f"{50:032x}",
+                    f"ben 1,2,3,4\n{place}\n{sent}",
+                ).encode(),
+            ),
+            "a sign changed": one.replace(
+                sealed, sealed[:150] + (b"B" if sealed[150:151] == b"A" else b"A") + sealed[151:]
+            ),
             "a cut tag": one.replace(sealed, sealed[:-4]),
             "two lines": with_text(f"ben 1,2,3,4\nben 4,3,2,1\n{place}\n{sent}"),
             "no line": with_text(f"{place}\n{sent}"),
             "an empty one": with_text(f"\n{place}\n{sent}"),
             "other digits": with_text(f"ben \u00b9,2,3,4\n{place}\n{sent}"),
             "another's line": with_text(f"ada 4,3,2,1\n{place}\n{sent}"),
-            "another's line, and that renamed": with_text(f"ada 4,3,2,1\n{place.replace('ben', 'ada')}\n{sent}"),
+            "another's line, and that renamed": with_text(
+                f"ada 4,3,2,1\n{place.replace('ben', 'ada')}\n{sent}"
+            ),
             "no time": with_text(f"ben 1,2,3,4\n{place}\n"),
             "no such time": with_text(f"ben 1,2,3,4\n{place}\n2026-13-01T12:00:00.000Z"),
             "more": with_text(f"ben 1,2,3,4\n{place}\n{sent}\nx"),
@@ -489,7 +626,11 @@ class Clicks(boxes.BoxElectionTest):
         links = self.begun()
         now = f"{datetime.datetime.now(datetime.UTC):%Y-%m-%dT%H:%M:%S}"
         forged = [
-            re.sub(rb"X-Proof: \w+", b"X-Proof: " + proof_digest(self.mark(), self.place_of(name, links[name])).encode(), one)
+            re.sub(
+                rb"X-Proof: \w+",
+                b"X-Proof: " + proof_digest(self.mark(), self.place_of(name, links[name])).encode(),
+                one,
+            )
             for name in elections.NAMES
             for number in range(2 * MOST)
             for one in [self.record(f"{name} 4,3,2,1", "2" * 16, 500 + number, now)]
@@ -509,29 +650,49 @@ class Clicks(boxes.BoxElectionTest):
         for number, name in enumerate(("ada", "ben"), start=900):
             proof = sealing.proof_of(self.mark(), self.place_of(name, links[name]))
             time.sleep(1.1)
-            self.assertEqual(self.host.send(request_of(f"{self.page()} {proof} {number:032x}", "A" * 300)).word, "received")
+            self.assertEqual(
+                self.host.send(request_of(f"{self.page()} {proof} {number:032x}", "A" * 300)).word,
+                "received",
+            )
         said = self.done("add", "--box", "--yes").output
-        self.assertIn("Note: 2 records can't be opened, or came above the 20 of a link, passed over, by the links of ada, ben, who are to vote again.", said)
+        self.assertIn(
+            "Note: 2 records can't be opened, or came above the 20 of a link, passed over, by the links of ada, ben, who are to vote again.",
+            said,
+        )
         self.assertEqual(json.loads(self.done("status", "--json").output)["lost"], ["ada", "ben"])
-        self.assertIn("Ballots that nobody can open, and no later ones, by the links of (2):\n  ada ben\n", self.done("status").output)
+        self.assertIn(
+            "Ballots that nobody can open, and no later ones, by the links of (2):\n  ada ben\n",
+            self.done("status").output,
+        )
         self.done("letters", "reminders")
         texts = {
             file.stem: " ".join(email.message_from_bytes(file.read_bytes()).get_payload(decode=True).decode().split())  # type: ignore[union-attr]
             for file in (self.folder / "letters/reminders").rglob("*.eml")
         }
-        lost, none = "A ballot came by your link that nobody can open: vote again.", "No ballot of yours that counts has come yet."
+        lost, none = (
+            "A ballot came by your link that nobody can open: vote again.",
+            "No ballot of yours that counts has come yet.",
+        )
         self.assertEqual({name for name, text in texts.items() if lost in text}, {"ada", "ben"})
-        self.assertEqual({name for name, text in texts.items() if none in text}, {*elections.NAMES} - {"ada"})
+        self.assertEqual(
+            {name for name, text in texts.items() if none in text}, {*elections.NAMES} - {"ada"}
+        )
         time.sleep(1.1)
         self.click("ada", "4,3,2,1", links["ada"])
         proof = sealing.proof_of(self.mark(), self.place_of("ada", links["ada"]))
         time.sleep(1.1)
-        self.assertEqual(self.host.send(request_of(f"{self.page()} {proof} {950:032x}", "A" * 300)).word, "received")
+        self.assertEqual(
+            self.host.send(request_of(f"{self.page()} {proof} {950:032x}", "A" * 300)).word,
+            "received",
+        )
         time.sleep(1.1)
         self.click("ada", "2,1,3,4", links["ada"])
         # who has a later ballot is not told to vote again, also if it came with the same asking
         said = self.done("add", "--box", "--yes").output
-        self.assertIn("Note: 3 records can't be opened, or came above the 20 of a link, passed over, by the links of ben, who are to vote again.", said)
+        self.assertIn(
+            "Note: 3 records can't be opened, or came above the 20 of a link, passed over, by the links of ben, who are to vote again.",
+            said,
+        )
         self.assertEqual(json.loads(self.done("status", "--json").output)["lost"], ["ben"])
         fault = "ballots came by the links of these electors that nobody can open, and no later ones: ben; nothing was changed"
         self.assert_fault(self.election("close", "--early"), 9, fault, "ask them to vote again")
@@ -593,7 +754,9 @@ class Clicks(boxes.BoxElectionTest):
         self.assertEqual(len(self.boxes_kept()), 1)
         self.click("ada", "1,2,3,4", links["ada"])
         now = datetime.datetime.now(datetime.UTC)
-        self.file().write_bytes(self.file().read_bytes() + self.record("ben 1,2,3,4", links["ben"], 99, time_, now))
+        self.file().write_bytes(
+            self.file().read_bytes() + self.record("ben 1,2,3,4", links["ben"], 99, time_, now)
+        )
         self.off(180)
         self.assertIn("1 ballot of letters went in", self.done("add", "--box", "--yes").output)
         self.assertIn("no Received line at its top says when it arrived", self.done("held").output)
@@ -601,7 +764,9 @@ class Clicks(boxes.BoxElectionTest):
 
     def test_no_request_has_the_key_and_two_ask_at_once(self) -> None:
         with Liar(lambda request: [passed_on(request, self.host)]) as between:
-            self.done("call", *boxes.UNTIL, "--to", "vote@club.example", "--at", between.at, "--box")
+            self.done(
+                "call", *boxes.UNTIL, "--to", "vote@club.example", "--at", between.at, "--box"
+            )
             self.upload()
             time.sleep(1.1)
             self.done("add", "--box")
@@ -641,7 +806,9 @@ class Clicks(boxes.BoxElectionTest):
             f"{links['ada']} is my code\nada 1,2\n",
             f"{place[1:]} 1,1,2,3\n{links['ada']} 1,1,2,3\n",
         ]
-        letters = [letter("ada", one, time=arrived, number=number) for number, one in enumerate(texts)]
+        letters = [
+            letter("ada", one, time=arrived, number=number) for number, one in enumerate(texts)
+        ]
         subject = f"Re: {self.host.at}{place} [{self.mark()}]"
         letters.append(letter("ada", "ada 1,2\n", time=arrived, number=9, subject=subject))
         self.write("inbox.mbox", mailbox(*letters))
@@ -656,15 +823,28 @@ class Clicks(boxes.BoxElectionTest):
         self.assertIn(f"ada/{own}/.. 1,1,2,3: column 4", said)
         self.assertIn(" .. 1,1,2,3: .. is not on the roll", said)
         self.done("letters", "receipts")
-        receipts = [email.message_from_bytes(file.read_bytes()) for file in (self.folder / "letters/receipts").rglob("*.eml")]
+        receipts = [
+            email.message_from_bytes(file.read_bytes())
+            for file in (self.folder / "letters/receipts").rglob("*.eml")
+        ]
         texts = [receipt.get_payload(decode=True).decode() for receipt in receipts]  # type: ignore[union-attr]
         # with the right line; the page has the link for ada alone, whose letters wait
-        self.assertEqual(sum(f"{name} _,_,_,_" in text for name in ("ada", "ben") for text in texts), 2)
-        self.assertEqual(sorted(boxes.LINK.findall(text) for text in texts), [[], [("ada", own, links["ada"])]])
+        self.assertEqual(
+            sum(f"{name} _,_,_,_" in text for name in ("ada", "ben") for text in texts), 2
+        )
+        self.assertEqual(
+            sorted(boxes.LINK.findall(text) for text in texts), [[], [("ada", own, links["ada"])]]
+        )
         for link in links.values():
             self.assertNotIn(link, said.lower())
             self.assertEqual(sum(text.lower().count(link) for text in texts), link == links["ada"])
-        self.assertTrue(any("A ballot of" in text and "came by the page of the vote, with your link" in " ".join(text.split()) for text in texts))
+        self.assertTrue(
+            any(
+                "A ballot of" in text
+                and "came by the page of the vote, with your link" in " ".join(text.split())
+                for text in texts
+            )
+        )
 
     def test_a_record_without_a_ballot_is_told_to_whose_link_it_is(self) -> None:
         """The page makes none, but whoever has the link can."""
@@ -675,7 +855,10 @@ class Clicks(boxes.BoxElectionTest):
         told = self.receipts()
         self.assertEqual({*told}, {"ada", "ben"})
         for text in told.values():
-            self.assertRegex(text, "A ballot of .* came by the page of the vote, with your link. It is not entered yet: ")
+            self.assertRegex(
+                text,
+                "A ballot of .* came by the page of the vote, with your link. It is not entered yet: ",
+            )
             self.assertIn("no line of it is a ballot of this vote.", text)
         self.assertIn("letter 1, from the page of the vote", self.done("show", "ada").output)
         self.assertNotIn("No receipt is about", self.done("letters", "receipts").output)
@@ -684,7 +867,9 @@ class Clicks(boxes.BoxElectionTest):
         self.begun(ada="1,2,3,4")
         self.done("add", "--box", "--yes")
         self.file().write_bytes(FIRST)
-        self.assertIn("1 record that it had it has no more", self.done("add", "--box", "--yes").output)
+        self.assertIn(
+            "1 record that it had it has no more", self.done("add", "--box", "--yes").output
+        )
         self.assertNotIn("has no more", self.done("add", "--box", "--yes").output)
 
     def test_a_record_of_the_second_of_an_asking_and_of_the_one_before(self) -> None:
@@ -717,13 +902,29 @@ class Asked(boxes.BoxElectionTest):
         self.done("call", "--at", self.host.at)
         fault = "call: nobody has seen yet whether the web box works, with page and links of now; nothing was written: upload the folder call, then run the command again"
         self.assert_fault(self.election("letters", "call"), 9, fault)
-        self.assert_fault(self.election("add", "--box"), 9, f"{self.host.at}vote.php: it answers 404", "nothing was added")
+        self.assert_fault(
+            self.election("add", "--box"),
+            9,
+            f"{self.host.at}vote.php: it answers 404",
+            "nothing was added",
+        )
         # what is written all the same says that the page takes none, and the log why
         self.done("letters", "call", *self.forced)
-        letters = [email.message_from_bytes(file.read_bytes()) for file in (self.folder / "letters/call").rglob("*.eml")]
+        letters = [
+            email.message_from_bytes(file.read_bytes())
+            for file in (self.folder / "letters/call").rglob("*.eml")
+        ]
         texts = [letter.get_payload(decode=True).decode() for letter in letters]  # type: ignore[union-attr]
         self.assertEqual(
-            {("The page takes no ballots now" in text, bool(boxes.LINK.search(text)), " _,_,_,_" in text) for text in texts}, {(True, False, True)}
+            {
+                (
+                    "The page takes no ballots now" in text,
+                    bool(boxes.LINK.search(text)),
+                    " _,_,_,_" in text,
+                )
+                for text in texts
+            },
+            {(True, False, True)},
         )
         self.assertIn('"because": "The host is down."', self.done("log", "--json").output)
         self.upload()
@@ -732,22 +933,35 @@ class Asked(boxes.BoxElectionTest):
         # where nothing stops it is not told, and letters have the link
         self.assertEqual(sorted(self.links()), elections.NAMES)
         # an asking of an older list is none, nor is a look
-        self.write("members.csv", elections.members_of(elections.NAMES).replace("ada@club", "ada@new"))
+        self.write(
+            "members.csv", elections.members_of(elections.NAMES).replace("ada@club", "ada@new")
+        )
         self.done("roll", "--yes")
-        for words, kinds in ((("add", "--box"), ("call", "reminders")), (("add", "--box", "--look"), ("reminders",))):
+        for words, kinds in (
+            (("add", "--box"), ("call", "reminders")),
+            (("add", "--box", "--look"), ("reminders",)),
+        ):
             self.done(*words)
             # no letter may have a link that the host does not know
             for kind in kinds:
                 fault = f"{kind}: nobody has seen yet whether the web box works, with page and links of now"
-                self.assert_fault(self.election("letters", kind), 9, fault, "upload the folder call")
+                self.assert_fault(
+                    self.election("letters", kind), 9, fault, "upload the folder call"
+                )
             self.upload()
-        self.assertEqual(json.loads(self.done("status", "--json").output)["box"]["is_present"], False)
+        self.assertEqual(
+            json.loads(self.done("status", "--json").output)["box"]["is_present"], False
+        )
         self.done("add", "--box")
-        self.assertEqual(json.loads(self.done("status", "--json").output)["box"]["is_present"], True)
+        self.assertEqual(
+            json.loads(self.done("status", "--json").output)["box"]["is_present"], True
+        )
         self.done("letters", "call")
         # what lies at the address of now is fetched first
         said = self.done("call").output
-        self.assertIn("\nNext: run debvote-election add --box, then upload the files of call to", said)
+        self.assertIn(
+            "\nNext: run debvote-election add --box, then upload the files of call to", said
+        )
         # nor is an asking at another address one
         self.move()
         for kind in ("call", "reminders"):
@@ -769,7 +983,9 @@ class Asked(boxes.BoxElectionTest):
     def test_reminders_and_another_page(self) -> None:
         self.begun()
         self.done("letters", "reminders")
-        [(asked,)] = self.rows("SELECT time FROM act WHERE name = 'letters' AND detail ->> '$.box' IS NOT NULL")
+        [(asked,)] = self.rows(
+            "SELECT time FROM act WHERE name = 'letters' AND detail ->> '$.box' IS NOT NULL"
+        )
         since = datetime.datetime.fromisoformat(str(asked))
         # an asking is fresh for ten minutes
         self.set_clock(str(since + datetime.timedelta(seconds=540)))
@@ -796,7 +1012,9 @@ class Asked(boxes.BoxElectionTest):
     def test_close_and_after_it(self) -> None:
         links = self.begun(ada="1,2,3,4")
         self.done("add", "--box", "--yes")
-        self.assertIn("Web box: 1 record when it was asked last", self.done("count", "--force").faults)
+        self.assertIn(
+            "Web box: 1 record when it was asked last", self.done("count", "--force").faults
+        )
         self.off(700)
         # by the clock of the host it was not
         fault = "--box: the web box was not asked in the last ten minutes: when the web box was asked last, it was only "
@@ -805,7 +1023,10 @@ class Asked(boxes.BoxElectionTest):
         self.done("add", "--box", "--yes")
         time.sleep(1.1)
         ended = self.done("close", "--early")
-        self.assertIn("Note: the page still takes ballots, and says that they arrived: debvote-election count asks for them once more.", ended.output)
+        self.assertIn(
+            "Note: the page still takes ballots, and says that they arrived: debvote-election count asks for them once more.",
+            ended.output,
+        )
         self.assertIn("\nNext: debvote-election count, then", self.done("status").output)
         fault = "--box: the web box was not asked since the vote was closed early"
         (self.web / "vote.php").rename(self.web / "away")
@@ -814,11 +1035,16 @@ class Asked(boxes.BoxElectionTest):
             self.assertEqual((ended.status, ended.faults.count(fault)), (9, 1), ended)
             self.assertIn("vote.php: it answers 404", ended.output + ended.faults)
         ended = self.election("publish")
-        self.assertIn("the web box was not asked since the end: run debvote-election add --box", ended.faults)
+        self.assertIn(
+            "the web box was not asked since the end: run debvote-election add --box", ended.faults
+        )
         self.done("letters", "closed", *self.forced)
         self.assertEqual(self.election("count", "--force").status, 0)
         self.done("publish", *self.forced)
-        self.assertIn(b"Ballots may have been sent on the page of the vote that the secretary did not get.", self.read("result/index.html"))
+        self.assertIn(
+            b"Ballots may have been sent on the page of the vote that the secretary did not get.",
+            self.read("result/index.html"),
+        )
         # a click after the close is acknowledged by the page, and waits; asked once, nothing stops
         (self.web / "away").rename(self.web / "vote.php")
         time.sleep(1.1)
@@ -843,14 +1069,22 @@ class Asked(boxes.BoxElectionTest):
         ended, asked = self.election("close"), str(self.boxes_kept()[-1]["time"])
         time_there = datetime.datetime.fromisoformat(asked).astimezone(BERLIN)
         fault = f"was not asked since the end: when the web box was asked last, it was only {time_there:%Y-%m-%d %H:%M:%S} UTC+01:00 by its own clock; act "
-        self.assert_fault(ended, 9, fault, "run the command again; if it does not answer any more, close with --force --because TEXT (the result page says so)")
+        self.assert_fault(
+            ended,
+            9,
+            fault,
+            "run the command again; if it does not answer any more, close with --force --because TEXT (the result page says so)",
+        )
         said = self.done("close", *self.forced).output
         self.assertNotIn("still takes ballots", said)
         # the last asking brought nothing
         self.assertRegex(said, "Added last: (?!2099|never)")
         self.assertEqual(self.election("count").status, 0)
         self.done("publish")
-        self.assertIn(b"Ballots may have been sent on the page of the vote that the secretary did not get.", self.read("result/index.html"))
+        self.assertIn(
+            b"Ballots may have been sent on the page of the vote that the secretary did not get.",
+            self.read("result/index.html"),
+        )
         self.assertIn(b"The host is down.", self.read("result/index.html"))
         # a later close needs none
         self.done("reopen", "--because", "A letter was found.")
@@ -867,7 +1101,9 @@ class Asked(boxes.BoxElectionTest):
         # that of `count` itself has this second, too
         ended = self.election("count")
         self.assertEqual(ended.status, 9)
-        self.assertIn("--box: the web box was not asked since the vote was closed early", ended.faults)
+        self.assertIn(
+            "--box: the web box was not asked since the vote was closed early", ended.faults
+        )
 
     def test_asked_after_the_end_and_then_closed(self) -> None:
         self.off(-3600)
@@ -892,7 +1128,9 @@ class Pages(boxes.BoxElectionTest):
     """An asking fetches the page, too: a forgotten upload, and a host that puts a script into it."""
 
     other = "Note: the page there is not that of the folder call: a script in it would see what is chosen, and could vote in the name of who opens it."
-    before = "Note: the page there is the one of before: upload the folder call, then run this again."
+    before = (
+        "Note: the page there is the one of before: upload the folder call, then run this again."
+    )
     doubt = "was not that of the call."
 
     def change(self) -> None:
@@ -918,7 +1156,12 @@ class Pages(boxes.BoxElectionTest):
         for kind in ("call", "reminders"):
             self.assert_fault(self.election("letters", kind), 9, "with page and links of now")
         fault = "--box: the page on the web host was not that of the call; act "
-        self.assert_fault(self.election("close", "--early"), 9, fault, "upload the folder call, then run the command again; if it does not answer any more, close with --force")
+        self.assert_fault(
+            self.election("close", "--early"),
+            9,
+            fault,
+            "upload the folder call, then run the command again; if it does not answer any more, close with --force",
+        )
         self.upload()
         self.done("add", "--box")
         self.assertTrue(self.is_present())
@@ -926,7 +1169,10 @@ class Pages(boxes.BoxElectionTest):
         # what this book made is no doubt, nor what lay there before the first letter
         self.done("desk", given="ada 1,2,3,4\n")
         self.closed_and_published()
-        self.assertNotIn(self.doubt, self.read("result/index.html").decode() + self.read("letters/result.txt").decode())
+        self.assertNotIn(
+            self.doubt,
+            self.read("result/index.html").decode() + self.read("letters/result.txt").decode(),
+        )
         # the result takes the place of the page
         shutil.copytree(self.folder / "result", self.web, dirs_exist_ok=True)
         self.assertNotIn("Note: the page", self.done("add", "--box").output)
@@ -946,10 +1192,23 @@ class Pages(boxes.BoxElectionTest):
         for _ in range(2):
             self.assertIn(self.other, self.done("add", "--box", "--yes").output)
         self.assertEqual(self.standing(), {"ada": "1,2,3,4"})
-        self.assert_fault(self.election("close", "--early"), 9, "the page on the web host was not that of the call")
+        self.assert_fault(
+            self.election("close", "--early"),
+            9,
+            "the page on the web host was not that of the call",
+        )
         self.closed_and_published("--force", "--because", "The host has another owner.")
         said = " ".join(re.sub("<[^>]+>", "", self.read("result/index.html").decode()).split())
-        self.assertEqual(len(re.findall(rf"When the secretary asked the web host on \w+, .{{20,60}}, the page at {self.host.at} was not that of the call", said)), 1, said[:3000])
+        self.assertEqual(
+            len(
+                re.findall(
+                    rf"When the secretary asked the web host on \w+, .{{20,60}}, the page at {self.host.at} was not that of the call",
+                    said,
+                )
+            ),
+            1,
+            said[:3000],
+        )
         self.assertIn(self.doubt, " ".join(self.read("letters/result.txt").decode().split()))
         # seen, put right, and told all the same
         self.done("reopen", "--because", "The page is put right.")
@@ -962,7 +1221,11 @@ class Pages(boxes.BoxElectionTest):
         self.done("desk", given="ada 1,2,3,4\n")
         self.change()
         self.done("add", "--box")
-        fault, forced = "the page on the web host was not that of the call", ("--force", "--because", "The host has another owner.")
+        fault, forced = "the page on the web host was not that of the call", (
+            "--force",
+            "--because",
+            "The host has another owner.",
+        )
         self.assert_fault(self.election("close", "--early"), 9, fault)
         self.done("close", "--early", *forced)
         self.done("reopen", "--because", "A letter was found.")
@@ -979,7 +1242,9 @@ class Pages(boxes.BoxElectionTest):
         self.change()
         days = []
         for hours in (0, 1, 24, 48):
-            when = datetime.datetime.now(datetime.UTC).replace(hour=10) + datetime.timedelta(days=1, hours=hours)
+            when = datetime.datetime.now(datetime.UTC).replace(hour=10) + datetime.timedelta(
+                days=1, hours=hours
+            )
             self.set_clock(f"{when:%Y-%m-%dT%H:%M:%S}+00:00")
             self.done("add", "--box")
             days.append(f"{when.day}")
@@ -1011,7 +1276,10 @@ class Moved(boxes.BoxElectionTest):
             said,
         )
         # nothing lies at the new address yet
-        self.assertIn(f"\nNext: upload the files of call to {self.host.at}, vote.php too; then debvote-election letters --send", said)
+        self.assertIn(
+            f"\nNext: upload the files of call to {self.host.at}, vote.php too; then debvote-election letters --send",
+            said,
+        )
         self.upload()
         # what the other host had is not missed here
         self.assertNotIn("has no more", self.done("add", "--box", "--yes").output)
@@ -1029,11 +1297,17 @@ class Moved(boxes.BoxElectionTest):
         self.assertEqual(self.sent("ada", "4,3,2,1", links["ada"], 999).word, "many:")
         self.off(60)
         self.done("add", "--box", "--yes")
-        for words, fault in ((("nobody",), "--new-link: nobody has no link that could be replaced"), (("ada",), "ada (Ada): a new link. Is that right?")):
+        for words, fault in (
+            (("nobody",), "--new-link: nobody has no link that could be replaced"),
+            (("ada",), "ada (Ada): a new link. Is that right?"),
+        ):
             self.assertIn(fault, self.election("roll", "--new-link", *words).faults)
         said = self.done("roll", "--new-link", "ada", "--yes").output
         self.assertIn("ada: a new link\n", said)
-        self.assertIn("\nNext: upload call/vote.php again, since these electors have new links; then debvote-election letters call, for the", said)
+        self.assertIn(
+            "\nNext: upload call/vote.php again, since these electors have new links; then debvote-election letters call, for the",
+            said,
+        )
         self.upload()
         self.done("add", "--box")
         self.done("letters", "call")
@@ -1114,7 +1388,10 @@ class Moved(boxes.BoxElectionTest):
 
 
 MEMBERS = [f"m{number:02}" for number in range(1, 41)]
-RANKS = {name: ",".join(str((place * (number % 3 + 1) + number) % 4 + 1) for place in range(4)) for number, name in enumerate(MEMBERS)}
+RANKS = {
+    name: ",".join(str((place * (number % 3 + 1) + number) % 4 + 1) for place in range(4))
+    for number, name in enumerate(MEMBERS)
+}
 OTHER = "4,4,1,-"
 
 
@@ -1127,7 +1404,9 @@ class Forty(boxes.BoxElectionTest):
     def letter_of(self, name: str, ranks: str, seconds: int, own: str) -> bytes:
         arrived = time.strftime("%a, %d %b %Y %H:%M:%S +0000", time.gmtime(time.time() + seconds))
         subject = f"Re: Vote [{self.mark()}-{own}]"
-        return letter(name, f"{name} {ranks}\n", time=arrived, subject=subject, number=f"{name}{seconds}")
+        return letter(
+            name, f"{name} {ranks}\n", time=arrived, subject=subject, number=f"{name}{seconds}"
+        )
 
     def test_each_ballot_is_as_meant_and_each_receipt_true(self) -> None:
         self.begun()
@@ -1143,7 +1422,10 @@ class Forty(boxes.BoxElectionTest):
         again = ("m06", OTHER, links["m06"][1], 999)
         self.assertEqual({self.sent(*again).status for _ in range(3)}, {200})
         meant["m06"] = OTHER
-        self.assertIn("32 ballots of letters went in; 0 letters wait", self.done("add", "--box", "--yes").output)
+        self.assertIn(
+            "32 ballots of letters went in; 0 letters wait",
+            self.done("add", "--box", "--yes").output,
+        )
         # an extension, and the same script is uploaded again, with the box in place
         self.done("call", "--until", "2099-12-06 18:00")
         self.upload()
@@ -1182,15 +1464,34 @@ class Forty(boxes.BoxElectionTest):
         self.done("add", "--box", "--yes")
         self.assertEqual(self.standing(), meant)
         self.assertIn("remove vote.php and box-", self.done("publish").output)
-        shown = [file for name in ("call", "result", "letters/closed.txt") for file in [self.folder / name, *(self.folder / name).rglob("*")]]
+        shown = [
+            file
+            for name in ("call", "result", "letters/closed.txt")
+            for file in [self.folder / name, *(self.folder / name).rglob("*")]
+        ]
         for file in filter(pathlib.Path.is_file, shown):
-            self.assertEqual([link for _, link in links.values() if link in file.read_text()], [], file)
-        self.assertEqual(dict(line.split(" ", 1) for line in self.read("result/ballots.txt").decode().splitlines()), meant)
-        self.demand_receipts(meant, {**dict.fromkeys(writing, False), **dict.fromkeys(clicking, True)})
+            self.assertEqual(
+                [link for _, link in links.values() if link in file.read_text()], [], file
+            )
+        self.assertEqual(
+            dict(
+                line.split(" ", 1) for line in self.read("result/ballots.txt").decode().splitlines()
+            ),
+            meant,
+        )
+        self.demand_receipts(
+            meant, {**dict.fromkeys(writing, False), **dict.fromkeys(clicking, True)}
+        )
 
     def own_links(self) -> dict[str, tuple[str, str]]:
-        folders = sorted((self.folder / "letters/call").iterdir(), key=lambda one: one.stat().st_mtime)
-        found = [boxes.link_in(file.read_bytes()) for folder in folders for file in sorted(folder.glob("*.eml"))]
+        folders = sorted(
+            (self.folder / "letters/call").iterdir(), key=lambda one: one.stat().st_mtime
+        )
+        found = [
+            boxes.link_in(file.read_bytes())
+            for folder in folders
+            for file in sorted(folder.glob("*.eml"))
+        ]
         return {name: (own, link) for name, own, link in found}
 
     def by_the_page(self, names: list[str], links: dict[str, tuple[str, str]]) -> None:
@@ -1205,10 +1506,14 @@ class Forty(boxes.BoxElectionTest):
                 window.tell("Page.navigate", url="about:blank")
                 window.until("location.href === 'about:blank'")
                 window.tell("Page.navigate", url=f"{self.host.at}#{name}/{'/'.join(links[name])}")
-                window.until("document.readyState === 'complete' && location.href !== 'about:blank'")
+                window.until(
+                    "document.readyState === 'complete' && location.href !== 'about:blank'"
+                )
                 window.ballot(None, RANKS[name].replace(",", ""))
                 window.ask("document.getElementById('Vote').click()")
-                window.until("document.getElementById('Sent').textContent.startsWith('It has arrived')")
+                window.until(
+                    "document.getElementById('Sent').textContent.startsWith('It has arrived')"
+                )
                 self.assertEqual(window.faults, [])
 
     def demand_receipts(self, meant: dict[str, str], came_by_page: dict[str, bool]) -> None:
@@ -1220,9 +1525,13 @@ class Forty(boxes.BoxElectionTest):
             name = re.search(r"You vote under the name (m\d\d)", text)[1]  # type: ignore[index]
             self.assertIn(f"It was read as: {in_words(meant[name])}.", text)
             if name in came_by_page and name not in ("m08", "m31"):
-                self.assertEqual("It came by the page of the vote." in text, came_by_page[name], text)
+                self.assertEqual(
+                    "It came by the page of the vote." in text, came_by_page[name], text
+                )
             self.assertIsNone(boxes.LINK.search(text))
-        texts = b"".join(file.read_bytes() for file in (self.folder / "letters/receipts").rglob("*.eml"))
+        texts = b"".join(
+            file.read_bytes() for file in (self.folder / "letters/receipts").rglob("*.eml")
+        )
         self.assertIn(b"The reason: it arrived after the vote was closed", b" ".join(texts.split()))
 
 
@@ -1240,7 +1549,9 @@ class Many(boxes.BoxElectionTest):
 
     def measured(self, *words: str) -> tuple[str, float, int]:
         """What a command says, how many seconds of the processor it takes, and how many megabytes."""
-        ended = self.run_program(sys.executable, "-c", MEASURE, sys.executable, elections.ELECTION, *words)
+        ended = self.run_program(
+            sys.executable, "-c", MEASURE, sys.executable, elections.ELECTION, *words
+        )
         self.assertEqual(ended.status, 0, ended)
         said, _, used = ended.output.rstrip("\n").rpartition("\n")
         seconds, kilobytes = used.split()
@@ -1253,27 +1564,39 @@ class Many(boxes.BoxElectionTest):
         time.sleep(1.1)
         begin = datetime.datetime.now(datetime.UTC)
         mark, seal = self.mark(), self.of_page("seal")
-        owns = {str(name): str(own) for name, own in self.rows("SELECT name, mark FROM elector_now")}
+        owns = {
+            str(name): str(own) for name, own in self.rows("SELECT name, mark FROM elector_now")
+        }
 
         def of(name: str, number: int, turn: int) -> str:
             when = begin + datetime.timedelta(seconds=turn)
             place = f"{name}/{owns[name]}/{links[name]}"
-            text = sealing.inside(f"{name} {number % 4 + 1},2,3,4", place, f"{when:%Y-%m-%dT%H:%M:%S}.000Z")
+            text = sealing.inside(
+                f"{name} {number % 4 + 1},2,3,4", place, f"{when:%Y-%m-%dT%H:%M:%S}.000Z"
+            )
             sealed = sealing.sealed(seal, mark, f"{1000 * turn + number:032x}", text)
             return sealing.record(mark, place, 1000 * turn + number, when.isoformat()[:19], sealed)
 
-        data = "".join(of(name, number, turn) for turn in range(MOST) for number, name in enumerate(self.names)).encode()
+        data = "".join(
+            of(name, number, turn) for turn in range(MOST) for number, name in enumerate(self.names)
+        ).encode()
         self.file().write_bytes(FIRST + data)
         took = list[float]()
         for new, before in ((RECORDS, 0), *[(0, RECORDS)] * 3):
             said, seconds, megabytes = self.measured("add", "--box", "--yes")
-            self.assertIn(f"The web box has {RECORDS} records.\n{new} new letters; {before} came before.\n", said)
+            self.assertIn(
+                f"The web box has {RECORDS} records.\n{new} new letters; {before} came before.\n",
+                said,
+            )
             self.assertLess(megabytes, 200)
             took.append(seconds)
         # a processor that others use, too, is slower
         self.assertLess(took[0], 60)
         self.assertLess(min(took[1:]), max(2, took[0] / 3))
-        self.assertEqual(self.standing(), {name: f"{number % 4 + 1},2,3,4" for number, name in enumerate(self.names)})
+        self.assertEqual(
+            self.standing(),
+            {name: f"{number % 4 + 1},2,3,4" for number, name in enumerate(self.names)},
+        )
 
 
 class Clocks(unittest.TestCase):
@@ -1281,20 +1604,32 @@ class Clocks(unittest.TestCase):
 
     KEY = bytes(range(32))
 
-    def record_at(self, name: str, ranks: str, when: datetime.datetime, behind: int, link: str | None = None) -> ParsedLetter:
+    def record_at(
+        self, name: str, ranks: str, when: datetime.datetime, behind: int, link: str | None = None
+    ) -> ParsedLetter:
         """A record that was opened; by its device it was sent as it arrived."""
-        data = record(name, "", int(f"{when:%H%M}{ranks[0]}"), f"{when:%Y-%m-%dT%H:%M:%S}").partition("\n")[2]
+        data = record(
+            name, "", int(f"{when:%H%M}{ranks[0]}"), f"{when:%Y-%m-%dT%H:%M:%S}"
+        ).partition("\n")[2]
         head, _, _ = data.partition("\n\n")
         own = third_part(self.KEY, name, OWN[name]) if link is None else link
         sent = when + datetime.timedelta(seconds=behind)
-        return dataclasses.replace(parsed(f"{head}\n\n{name} {ranks}\n-- \n".encode()), link=own, elector=name, behind=behind, sent=sent)
+        return dataclasses.replace(
+            parsed(f"{head}\n\n{name} {ranks}\n-- \n".encode()),
+            link=own,
+            elector=name,
+            behind=behind,
+            sent=sent,
+        )
 
     def outcomes(self, *letters: ParsedLetter | bytes, **how: object) -> list[str]:
         return outcomes(*letters, box_key=self.KEY, **how)
 
     def test_a_record_goes_in_by_its_link_alone(self) -> None:
         [one] = judged(self.record_at("ada", "1,2,3,4", at(10), 0), box_key=self.KEY)
-        self.assertEqual((outcome(one), one.is_tied("ada"), one.is_tied("ben")), ("in: ada 1,2,3,4", True, False))
+        self.assertEqual(
+            (outcome(one), one.is_tied("ada"), one.is_tied("ben")), ("in: ada 1,2,3,4", True, False)
+        )
         for link in (
             third_part(self.KEY, "ben", OWN["ben"]),
             "2" * 16,
@@ -1312,15 +1647,26 @@ class Clocks(unittest.TestCase):
 
     def test_what_a_clock_could_take_across_the_end_waits_on_either_side(self) -> None:
         for minutes, behind, wanted in (
-            (-1, 0, "in: ada 1,2,3,4"), (1, 0, "waits: after the end"),
-            (-1, 180, "waits: clock at the end"), (-4, 180, "in: ada 1,2,3,4"), (1, 180, "waits: after the end"),
-            (1, -180, "waits: clock at the end"), (-1, -180, "in: ada 1,2,3,4"), (4, -180, "waits: after the end"),
-        ):  # fmt: skip
+            (-1, 0, "in: ada 1,2,3,4"),
+            (1, 0, "waits: after the end"),
+            (-1, 180, "waits: clock at the end"),
+            (-4, 180, "in: ada 1,2,3,4"),
+            (1, 180, "waits: after the end"),
+            (1, -180, "waits: clock at the end"),
+            (-1, -180, "in: ada 1,2,3,4"),
+            (4, -180, "waits: after the end"),
+        ):
             with self.subTest(minutes=minutes, behind=behind):
-                one = self.record_at("ada", "1,2,3,4", at(12) + datetime.timedelta(minutes=minutes), behind)
+                one = self.record_at(
+                    "ada", "1,2,3,4", at(12) + datetime.timedelta(minutes=minutes), behind
+                )
                 for end in ("end", "first_close"):
                     found = judged(one, box_key=self.KEY, **{end: at(12)})
-                    said = wanted.replace("after the end", "after the close") if end == "first_close" else wanted
+                    said = (
+                        wanted.replace("after the end", "after the close")
+                        if end == "first_close"
+                        else wanted
+                    )
                     self.assertEqual(outcome(found[0]), said)
                     # what may be in time stops the close
                     self.assertEqual(found[0].arrived_in_time, "after" not in wanted)
@@ -1336,12 +1682,22 @@ class Clocks(unittest.TestCase):
             later = letter("ada", "ada 4,3,2,1", time=f"Mon, 23 Nov 2026 10:0{minutes}:00 +0000")
             self.assertEqual(self.outcomes(first, later), ["in: ada 1,2,3,4", wanted])
         # the same ballot, or two by the same clock, can't be turned
-        self.assertEqual(self.outcomes(first, letter("ada", "ada 1,2,3,4", time="Mon, 23 Nov 2026 10:01:00 +0000"))[1], "in: ada 1,2,3,4")
-        self.assertEqual(self.outcomes(first, self.record_at("ada", "4,3,2,1", at(10, 1), 180))[1], "in: ada 4,3,2,1")
+        self.assertEqual(
+            self.outcomes(
+                first, letter("ada", "ada 1,2,3,4", time="Mon, 23 Nov 2026 10:01:00 +0000")
+            )[1],
+            "in: ada 1,2,3,4",
+        )
+        self.assertEqual(
+            self.outcomes(first, self.record_at("ada", "4,3,2,1", at(10, 1), 180))[1],
+            "in: ada 4,3,2,1",
+        )
         # one that was entered before
         for behind, wanted in ((180, "waits: clocks"), (0, "older: later ballot")):
             entered = {"ada": [Ballot(at(10, 2), "ada 1,2,3,4", True, -behind)]}
-            self.assertEqual(self.outcomes(letter("ada", "ada 4,3,2,1"), ballots=entered)[:1], [wanted])
+            self.assertEqual(
+                self.outcomes(letter("ada", "ada 4,3,2,1"), ballots=entered)[:1], [wanted]
+            )
 
     def test_which_ballots_are_surely_later(self) -> None:
         """What the list of held says has one rule with its --enter: each ballot is looked at, not the last alone."""
@@ -1349,7 +1705,10 @@ class Clocks(unittest.TestCase):
             ([Ballot(at(12), "ada 1,2,3,4")], True),
             ([Ballot(at(13), "ada 1,2,3,4", True, -14_400)], False),
             ([Ballot(at(12), "ada 1,2,3,4"), Ballot(at(13), "ada 1,2,3,4", True, -14_400)], True),
-            ([Ballot(at(9, 58), "ada 1,2,3,4", True, 300), Ballot(at(9, 59), "ada 1,2,3,4")], False),
+            (
+                [Ballot(at(9, 58), "ada 1,2,3,4", True, 300), Ballot(at(9, 59), "ada 1,2,3,4")],
+                False,
+            ),
         ):
             # it waits, since another address sent it
             given = letter("ada", "ada 4,3,2,1", sender="x@y.example")
@@ -1359,22 +1718,38 @@ class Clocks(unittest.TestCase):
     def test_what_its_device_dates_otherwise_waits(self) -> None:
         """By more than ten minutes from the time of the host, which may be off by as much as is known."""
         for minutes, behind, wanted in (
-            (10, 0, "in: ada 1,2,3,4"), (-10, 0, "in: ada 1,2,3,4"), (11, 0, "waits: other time"), (-11, 0, "waits: other time"),
-            (60, 3_600, "in: ada 1,2,3,4"), (0, 3_600, "waits: other time"), (-60, -3_600, "in: ada 1,2,3,4"),
-        ):  # fmt: skip
+            (10, 0, "in: ada 1,2,3,4"),
+            (-10, 0, "in: ada 1,2,3,4"),
+            (11, 0, "waits: other time"),
+            (-11, 0, "waits: other time"),
+            (60, 3_600, "in: ada 1,2,3,4"),
+            (0, 3_600, "waits: other time"),
+            (-60, -3_600, "in: ada 1,2,3,4"),
+        ):
             sent = at(10) + datetime.timedelta(minutes=minutes)
             one = dataclasses.replace(self.record_at("ada", "1,2,3,4", at(10), behind), sent=sent)
             self.assertEqual(self.outcomes(one), [wanted], (minutes, behind))
         # it stops a close if either time is before it
-        for sent, arrived, in_time in ((at(11), at(13), True), (at(13), at(11), True), (at(13), at(14), False), (at(10), at(11), True)):
+        for sent, arrived, in_time in (
+            (at(11), at(13), True),
+            (at(13), at(11), True),
+            (at(13), at(14), False),
+            (at(10), at(11), True),
+        ):
             one = dataclasses.replace(self.record_at("ada", "1,2,3,4", arrived, 0), sent=sent)
             [case] = judged(one, box_key=self.KEY, end=at(12))
             self.assertEqual((outcome(case), case.arrived_in_time), ("waits: other time", in_time))
 
     def test_what_its_device_does_not_date_later_than_one_before_waits(self) -> None:
-        for seconds, wanted in ((-1, "in: ada 1,2,3,4"), (0, "waits: not sent later"), (1, "waits: not sent later")):
+        for seconds, wanted in (
+            (-1, "in: ada 1,2,3,4"),
+            (0, "waits: not sent later"),
+            (1, "waits: not sent later"),
+        ):
             before = at(10) + datetime.timedelta(seconds=seconds)
-            one = dataclasses.replace(self.record_at("ada", "1,2,3,4", at(10), 0), sent_before=before)
+            one = dataclasses.replace(
+                self.record_at("ada", "1,2,3,4", at(10), 0), sent_before=before
+            )
             self.assertEqual(self.outcomes(one), [wanted], seconds)
 
     def test_what_is_later_than_the_asking_that_brought_it_waits(self) -> None:
@@ -1385,7 +1760,9 @@ class Clocks(unittest.TestCase):
 
     def test_what_an_asking_before_should_have_brought_waits(self) -> None:
         for minutes, wanted in ((0, "in: ada 1,2,3,4"), (1, "waits: not there before")):
-            one = dataclasses.replace(self.record_at("ada", "1,2,3,4", at(10), 0), asked_before=at(10, minutes))
+            one = dataclasses.replace(
+                self.record_at("ada", "1,2,3,4", at(10), 0), asked_before=at(10, minutes)
+            )
             self.assertEqual(self.outcomes(one), [wanted])
 
 

@@ -28,8 +28,12 @@ MEMBERS = int(os.environ.get("DEBVOTE_CLICKING_MEMBERS", "40"))
 RANKS = "1234-"
 
 # ranks, however somebody writes those of four options, and names of options in their order
-RANKED = re.compile(r"(?<![\w.:-])[0-9-]\s?[,;/ ]\s?[0-9-]\s?[,;/ ]\s?[0-9-]\s?[,;/ ]\s?[0-9-](?![\w:-])")
-IN_WORDS = re.compile(r"(At the lake|In the town hall|Sell the house|Further discussion).{0,20}, (then|and) ")
+RANKED = re.compile(
+    r"(?<![\w.:-])[0-9-]\s?[,;/ ]\s?[0-9-]\s?[,;/ ]\s?[0-9-]\s?[,;/ ]\s?[0-9-](?![\w:-])"
+)
+IN_WORDS = re.compile(
+    r"(At the lake|In the town hall|Sell the house|Further discussion).{0,20}, (then|and) "
+)
 # a ballot line that is shown to say how one is written
 EXAMPLE = re.compile("A ballot line of this poll: `[^`]+`")
 # the times of ballots in a receipt
@@ -70,10 +74,14 @@ class ClickedElection(boxes.BoxElectionTest):
         """Nothing in its files, its log, and what it was sent, tells a name, a line, a link or an own mark."""
         owns = [str(own) for own, in self.rows("SELECT mark FROM elector_now")]
         secrets = [*links.values(), *owns, *self.ranks.values(), *self.names, *self.secrets()]
-        files = [file for file in self.web.rglob("*") if file.is_file() and file.name not in self.public]
+        files = [
+            file for file in self.web.rglob("*") if file.is_file() and file.name not in self.public
+        ]
         kept = {file.name: file.read_bytes() for file in files}
         self.assertGreaterEqual(len(kept), 2)
-        kept |= {"log": self.host.said()} | {f"request {number}": one for number, one in enumerate(self.between.requests)}
+        kept |= {"log": self.host.said()} | {
+            f"request {number}": one for number, one in enumerate(self.between.requests)
+        }
         for (what, data), secret in itertools.product(kept.items(), secrets):
             self.assertNotIn(secret.encode(), data, what)
 
@@ -106,7 +114,9 @@ class InABrowser(ClickedElection):
     def press(self) -> str:
         """Presses the button, and returns what is said then."""
         self.window.ask("document.getElementById('Vote').click()")
-        self.window.until("!['', 'It is being sent ..'].includes(document.getElementById('Sent').textContent)")
+        self.window.until(
+            "!['', 'It is being sent ..'].includes(document.getElementById('Sent').textContent)"
+        )
         return str(self.window.ask("document.getElementById('Sent').textContent"))
 
     def chosen(self, ranks: str) -> str:
@@ -116,8 +126,12 @@ class InABrowser(ClickedElection):
         self.assertRegex(said, "^It has arrived, sent ")
         [spoken] = re.findall(r"sent (\w+ \d+, \d{4}, [\d:]+\s[AP]M)\.", said)
         # the browser has the zone of this computer
-        sent = datetime.datetime.strptime(re.sub(r"\s", " ", spoken), "%b %d, %Y, %I:%M:%S %p").astimezone()
-        return f"{sent.astimezone(datetime.timezone(datetime.timedelta(hours=1))):%H:%M:%S}".removesuffix(":00")
+        sent = datetime.datetime.strptime(
+            re.sub(r"\s", " ", spoken), "%b %d, %Y, %I:%M:%S %p"
+        ).astimezone()
+        return f"{sent.astimezone(datetime.timezone(datetime.timedelta(hours=1))):%H:%M:%S}".removesuffix(
+            ":00"
+        )
 
     def tell_other_pages(self, turned: str) -> dict[str, str]:
         """The call is taken back, and made anew with a poll whose options have another order. Each page that is not of it is told.
@@ -146,11 +160,17 @@ class InABrowser(ClickedElection):
         self.visit(place)
         self.demand_old()
         # that of another vote, and one with a script more
-        for page in (old_page.replace(b"Where we meet", b"Where we sleep"), new.replace(b"</body>", b"<script>1</script></body>")):
+        for page in (
+            old_page.replace(b"Where we meet", b"Where we sleep"),
+            new.replace(b"</body>", b"<script>1</script></body>"),
+        ):
             self.assertNotIn(page, (new, old_page))
             (self.web / "index.html").write_bytes(page)
             said = self.done("add", "--box").output
-            self.assertIn("Note: the page there is not that of the folder call: a script in it would see what is chosen", said)
+            self.assertIn(
+                "Note: the page there is not that of the folder call: a script in it would see what is chosen",
+                said,
+            )
             self.assert_fault(self.election("letters", "call"), 9, "with page and links of now")
         self.upload()
         self.assertNotIn("the page there", self.done("add", "--box").output)
@@ -201,7 +221,9 @@ class InABrowser(ClickedElection):
 
 
 SECRET = "secret = true\n"
-TURNED = elections.POLL.replace('"At the lake", "In the town hall"', '"In the town hall", "At the lake"')
+TURNED = elections.POLL.replace(
+    '"At the lake", "In the town hall"', '"In the town hall", "At the lake"'
+)
 
 
 class OpenByClicks(InABrowser):
@@ -227,10 +249,14 @@ class OpenByClicks(InABrowser):
         time.sleep(1.1)
         last = self.chosen("4,3,2,1")
         self.assertNotEqual(first, last)
-        kept, dropped = (record + END for record in self.file().read_bytes().removeprefix(FIRST).split(END)[:-1])
+        kept, dropped = (
+            record + END for record in self.file().read_bytes().removeprefix(FIRST).split(END)[:-1]
+        )
         when = dropped.splitlines()[:2]
         self.file().write_bytes(FIRST + b"\n".join([*when, *kept.splitlines()[2:], b""]))
-        self.assertIn("1 ballot of letters went in; 0 letters wait", self.done("add", "--box", "--yes").output)
+        self.assertIn(
+            "1 ballot of letters went in; 0 letters wait", self.done("add", "--box", "--yes").output
+        )
         [text] = self.receipts().values()
         self.assertEqual(SENT.findall(text), [first])
         self.assertIn("It was read as: At the lake, then In the town hall", text)
@@ -264,8 +290,13 @@ class SecretByClicks(InABrowser):
         self.demand_receipts(sent)
         self.use_all_commands(links)
         published = self.close_and_publish("--yes")
-        aliases = {str(name): str(alias) for name, alias in self.rows("SELECT name, alias FROM elector_now")}
-        self.assertEqual(published, {aliases[name]: in_order(ranks) for name, ranks in self.ranks.items()})
+        aliases = {
+            str(name): str(alias)
+            for name, alias in self.rows("SELECT name, alias FROM elector_now")
+        }
+        self.assertEqual(
+            published, {aliases[name]: in_order(ranks) for name, ranks in self.ranks.items()}
+        )
         self.publish_again()
         self.demand_nothing_on_the_host(links)
         self.demand_untold(links, aliases)
@@ -273,26 +304,51 @@ class SecretByClicks(InABrowser):
     def use_all_commands(self, links: dict[str, str]) -> None:
         """Ballots that wait, that are refused, and that are taken back; what stands at the end is what it was."""
         name, other = self.names[:2]
-        [(last,)], [(letters,)] = (self.rows(f"SELECT max({what}) FROM {what}") for what in ("envelope", "letter"))
+        [(last,)], [(letters,)] = (
+            self.rows(f"SELECT max({what}) FROM {what}") for what in ("envelope", "letter")
+        )
         # no page makes such a line; a letter of a stranger, and lines of paper and of a desk
         self.click(name, "1,2,3,9", links[name])
         arrived = time.strftime("%a, %d %b %Y %H:%M:%S +0000")
         stranger = letter(other, f"{other} 4,3,2,1\n", time=arrived, sender="x@else.example")
         self.write("inbox.mbox", mailbox(self.of_this_vote(stranger)))
         self.write("paper.txt", "".join(f"{line}\n" for line in self.on_paper))
-        for words in ("--box --look", "--box --yes", "--yes inbox.mbox", "paper.txt", "--force paper.txt"):
+        for words in (
+            "--box --look",
+            "--box --yes",
+            "--yes inbox.mbox",
+            "paper.txt",
+            "--force paper.txt",
+        ):
             self.election("add", *words.split())
         self.election("desk", given="".join(f"{line}\n" for line in self.at_a_desk))
         for words in (("held",), ("held", "1"), ("status",), ("status", "--json"), ("log",)):
             self.election(*words)
-        waiting = [number for number, in self.rows("SELECT letter FROM letter WHERE letter > ?", letters)]
+        waiting = [
+            number for number, in self.rows("SELECT letter FROM letter WHERE letter > ?", letters)
+        ]
         self.assertEqual(len(waiting), 2)
         for number in waiting:
-            for words in ((), ("--enter",), ("--enter", "--yes"), ("--set-aside",), ("--wait",), ("--set-aside",)):
+            for words in (
+                (),
+                ("--enter",),
+                ("--enter", "--yes"),
+                ("--set-aside",),
+                ("--wait",),
+                ("--set-aside",),
+            ):
                 self.election("held", number, *words)
         for one in self.names:
             self.done("show", one)
-        for words in ("count", "count --force", "publish", "strike 1 --because x", "undo", "letters reminders", "letters receipts"):
+        for words in (
+            "count",
+            "count --force",
+            "publish",
+            "strike 1 --because x",
+            "undo",
+            "letters reminders",
+            "letters receipts",
+        ):
             self.election(*words.split())
         # what was added and typed here is taken back
         for envelope, *_ in self.rows("SELECT envelope FROM envelope WHERE envelope > ?", last):
@@ -317,7 +373,9 @@ class SecretByClicks(InABrowser):
                 self.assertNotIn(alias, said)
         for file in (one for one in self.folder.rglob("*") if one.is_file()):
             where, data = str(file.relative_to(self.folder)), file.read_bytes()
-            if where.startswith(("private/", "election.db", "paper.txt", "inbox.mbox", "members.csv")):
+            if where.startswith(
+                ("private/", "election.db", "paper.txt", "inbox.mbox", "members.csv")
+            ):
                 continue
             text = data.decode("utf-8", "replace")
             if file.suffix == ".eml":
@@ -334,7 +392,9 @@ class SecretByClicks(InABrowser):
             # nor does a letter open the page of the result at a name
             if where.startswith("letters/result"):
                 self.assertNotRegex(text, f"#({'|'.join(aliases)})", where)
-            if where.startswith(("result", "call/", "letters/result", "letters/closed", "letters/receipts")):
+            if where.startswith(
+                ("result", "call/", "letters/result", "letters/closed", "letters/receipts")
+            ):
                 for link in links.values():
                     self.assertNotIn(link, text, where)
             if where.startswith(("result", "call/")):
@@ -359,8 +419,15 @@ class Struck(boxes.BoxElectionTest):
         answer = self.sent("ada", "4,3,2,1", links["ada"], 900)
         self.assertEqual((answer.status, answer.word), (403, "unknown:"))
         self.click("cleo", "2,1,3,4", links["cleo"])
-        self.assertIn("Note: the web host has another vote.php than the folder call", self.done("add", "--box", "--yes").output)
-        self.assert_fault(self.election("letters", "reminders"), 9, "nobody has seen yet whether the web box works")
+        self.assertIn(
+            "Note: the web host has another vote.php than the folder call",
+            self.done("add", "--box", "--yes").output,
+        )
+        self.assert_fault(
+            self.election("letters", "reminders"),
+            9,
+            "nobody has seen yet whether the web box works",
+        )
         self.upload()
         self.click("ada", "4,3,2,1", links["ada"])
         self.assertNotIn("another vote.php", self.done("add", "--box", "--yes").output)
@@ -391,12 +458,29 @@ class SecretQuestions(boxes.BoxElectionTest):
         self.done("add", "--box")
         self.done("letters", "call")
         links = self.links()
-        for name, answers in (("ada", "A 1,2 B 2,1,3"), ("ben", "A 2,1"), ("ada", "B 3,2,1"), ("dan", "A 1,9")):
+        for name, answers in (
+            ("ada", "A 1,2 B 2,1,3"),
+            ("ben", "A 2,1"),
+            ("ada", "B 3,2,1"),
+            ("dan", "A 1,9"),
+        ):
             self.click(name, answers, links[name])
         self.write("paper", "eve A 1,1 B 1,3,2\nfay A 2,1,2 B 1,1\n")
-        said = self.done("add", "--box", "--look").output + self.done("add", "--box", "--yes").output
+        said = (
+            self.done("add", "--box", "--look").output + self.done("add", "--box", "--yes").output
+        )
         self.assertIn("3 ballots of letters went in; 1 letter waits", said)
-        for words in ("add paper", "held", "held 3", "held 3 --enter", "status", "status --json", "log", "count --force", "undo --yes"):
+        for words in (
+            "add paper",
+            "held",
+            "held 3",
+            "held 3 --enter",
+            "status",
+            "status --json",
+            "log",
+            "count --force",
+            "undo --yes",
+        ):
             ended = self.election(*words.split())
             said += ended.output + ended.faults
         said += self.done("desk", given="gus A 1,2 B 3,-,1\n").output
@@ -404,7 +488,13 @@ class SecretQuestions(boxes.BoxElectionTest):
             said += self.done("show", name).output
         said = EXAMPLE.sub("", said)
         self.assertIn("The current ballot: (shown at a terminal alone)", said)
-        self.assertIsNone(re.search(r"\b[AB] [0-9-]+,|[0-9-],[0-9-]|: (Yes|No|Abstain)\b|Lovelace, then|Somerville, then", said), said)
+        self.assertIsNone(
+            re.search(
+                r"\b[AB] [0-9-]+,|[0-9-],[0-9-]|: (Yes|No|Abstain)\b|Lovelace, then|Somerville, then",
+                said,
+            ),
+            said,
+        )
         told = " ".join([*self.receipts().values()])
         self.assertIn("counts", told)
         self.assertIsNone(re.search(r"[0-9],[0-9-]|, then |It was read as", told), told)
@@ -417,7 +507,22 @@ class ShuffledClicks(boxes.BoxElectionTest):
     """
 
     has_clock = True
-    ranks = dict(zip(elections.NAMES, ["1,2,3,4", "4,3,2,1", "1,-,2,-", "2,1,3,4", "1,1,1,1", "4,3,2,1", "-,-,-,1", "3,1,2,4", "2,2,1,-"]))
+    ranks = dict(
+        zip(
+            elections.NAMES,
+            [
+                "1,2,3,4",
+                "4,3,2,1",
+                "1,-,2,-",
+                "2,1,3,4",
+                "1,1,1,1",
+                "4,3,2,1",
+                "-,-,-,1",
+                "3,1,2,4",
+                "2,2,1,-",
+            ],
+        )
+    )
 
     def test_who_clicked_when_changes_no_byte_of_what_is_published(self) -> None:
         self.write("poll.toml", SECRET + elections.POLL)
@@ -426,10 +531,16 @@ class ShuffledClicks(boxes.BoxElectionTest):
         self.done("add", "--box")
         self.done("letters", "call")
         links, kept = self.links(), self.scratch / "kept"
-        self.begin_of_clicks = datetime.datetime.now(datetime.UTC).replace(microsecond=0) + datetime.timedelta(seconds=60)
+        self.begin_of_clicks = datetime.datetime.now(datetime.UTC).replace(
+            microsecond=0
+        ) + datetime.timedelta(seconds=60)
         for folder in (self.folder, self.state):
             shutil.copytree(folder, kept / folder.name)
-        chosen, orders, published = random.Random(2), set[tuple[str, ...]](), list[dict[str, bytes]]()
+        chosen, orders, published = (
+            random.Random(2),
+            set[tuple[str, ...]](),
+            list[dict[str, bytes]](),
+        )
         for _ in range(3):
             for folder in (self.folder, self.state):
                 shutil.rmtree(folder)
@@ -461,7 +572,9 @@ class ShuffledClicks(boxes.BoxElectionTest):
             is_last = name not in clicks[number + 1 :]
             self.click(name, self.ranks[name] if is_last else "2,3,4,1", links[name])
         self.at(3600)
-        self.assertIn(f"{len(clicks)} ballots of letters went in", self.done("add", "--box", "--yes").output)
+        self.assertIn(
+            f"{len(clicks)} ballots of letters went in", self.done("add", "--box", "--yes").output
+        )
         self.at(3610)
         with unittest.mock.patch("secrets.token_hex", lambda size: "5" * 2 * size):
             self.done("close", "--early")
@@ -476,6 +589,11 @@ class ShuffledClicks(boxes.BoxElectionTest):
         [(digest,)] = self.rows("SELECT digest FROM act WHERE name = 'close'")
         changing = [str(digest), *(hashlib.sha256(data).hexdigest() for data in (closed, sums))]
         for name, text in (("closed.txt", closed), ("SHA256SUMS", sums)):
-            self.assertEqual([one in text.decode() for one in changing], [name == "closed.txt", name == "SHA256SUMS", False])
+            self.assertEqual(
+                [one in text.decode() for one in changing],
+                [name == "closed.txt", name == "SHA256SUMS", False],
+            )
         found = {str(file.relative_to(self.folder)): file.read_bytes() for file in files}
-        return {name: re.sub("|".join(changing).encode(), b"", data) for name, data in found.items()}
+        return {
+            name: re.sub("|".join(changing).encode(), b"", data) for name, data in found.items()
+        }

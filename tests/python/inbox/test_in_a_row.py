@@ -6,11 +6,22 @@ from tests.support.letters import OTHER_RANKS, RANKS, letter
 
 class InARow(LettersTest):
     def test_of_several_in_a_row_those_of_one_reason(self) -> None:
-        self.add(letter("ada", "hello\n"), letter("ben", f"ben {RANKS}\n\nno\n"), letter("cleo", "later\n"), letter("dan", "hello\n"))
-        self.assertIn("2 letters of one reason; of these numbers 1 wait on.\n", self.told("held", "1-3", "--set-aside"))
+        self.add(
+            letter("ada", "hello\n"),
+            letter("ben", f"ben {RANKS}\n\nno\n"),
+            letter("cleo", "later\n"),
+            letter("dan", "hello\n"),
+        )
+        self.assertIn(
+            "2 letters of one reason; of these numbers 1 wait on.\n",
+            self.told("held", "1-3", "--set-aside"),
+        )
         self.assertEqual(self.numbers()["waiting"], 2)
         # with one of its own beside them; and those that wait no more are none of them
-        self.assertIn("1 letter of one reason; of these numbers 0 wait on.\nNo letter waits.", self.told("held", "4", "1-3", "--set-aside"))
+        self.assertIn(
+            "1 letter of one reason; of these numbers 0 wait on.\nNo letter waits.",
+            self.told("held", "4", "1-3", "--set-aside"),
+        )
         for words, status, fault in (
             (["1-4", "--set-aside"], 9, "none of these waits"),
             (["7-9", "--set-aside"], 9, "none of these waits"),

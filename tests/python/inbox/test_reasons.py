@@ -15,9 +15,29 @@ from tests.support.letters import BALLOT, MARK, OTHER, at, judged, label, letter
 
 # values of each name that a reason may have
 VALUES: dict[str, str | int | datetime.datetime] = {
-    "length": 7, "limit": 8, "number": 3, "digest": 2, "called": at(9), "first": at(9), "between": at(9), "end": at(9), "close": at(9), "time": at(9), "asked": at(9), "sent": at(9), "until": at(9), "seconds": 180,
-    "what": "text", "charset": "x-none", "character": "U+000D", "sender": "a@x", "elector": "ada", "listed": "b@x", "mark": "0123456789abcdef", "key": "A" * 40,
-}  # fmt: skip
+    "length": 7,
+    "limit": 8,
+    "number": 3,
+    "digest": 2,
+    "called": at(9),
+    "first": at(9),
+    "between": at(9),
+    "end": at(9),
+    "close": at(9),
+    "time": at(9),
+    "asked": at(9),
+    "sent": at(9),
+    "until": at(9),
+    "seconds": 180,
+    "what": "text",
+    "charset": "x-none",
+    "character": "U+000D",
+    "sender": "a@x",
+    "elector": "ada",
+    "listed": "b@x",
+    "mark": "0123456789abcdef",
+    "key": "A" * 40,
+}
 
 
 def with_values(reason: Reason) -> ReasonWithValues:
@@ -28,7 +48,11 @@ def with_values(reason: Reason) -> ReasonWithValues:
 class Sentences(unittest.TestCase):
     def test_each_reason_has_both(self) -> None:
         """What electors read has no value and no ballot."""
-        self.assertEqual(len(Reason.__members__), len({reason.value[0] for reason in Reason}), "no two have one sentence")
+        self.assertEqual(
+            len(Reason.__members__),
+            len({reason.value[0] for reason in Reason}),
+            "no two have one sentence",
+        )
         for reason in Reason:
             self.assertNotRegex(for_secretary(with_values(reason)), r"[{}]|^[A-Z]|\.$", reason)
             text = for_elector(with_values(reason))
@@ -45,30 +69,68 @@ class Sentences(unittest.TestCase):
         """One that has expired or was revoked may be the key that the list of members has."""
         for reason in (Reason.EXPIRED_KEY, Reason.REVOKED_KEY):
             said = for_elector(with_values(reason))
-            self.assertEqual(said, "The reason: the key with which it is signed has expired, or was revoked.")
-        self.assertIn("another key than the list of members has", for_elector(with_values(Reason.OTHER_KEY)))
+            self.assertEqual(
+                said, "The reason: the key with which it is signed has expired, or was revoked."
+            )
+        self.assertIn(
+            "another key than the list of members has", for_elector(with_values(Reason.OTHER_KEY))
+        )
 
     def test_how_values_are_shown(self) -> None:
         said = for_secretary(Reason.AFTER_THE_END(end=at(9)))
         self.assertEqual(said, "it arrived after the end of the vote, 2026-11-23 09:00:00 UTC")
-        said = for_secretary(Reason.OTHER_SENDER(sender="a\x1b[2J\u202e@x", listed="b@x", elector="ada"))
-        self.assertEqual(said, "it came from a\\u001B[2J\\u202E@x, but the list of members has b@x for ada")
+        said = for_secretary(
+            Reason.OTHER_SENDER(sender="a\x1b[2J\u202e@x", listed="b@x", elector="ada")
+        )
+        self.assertEqual(
+            said, "it came from a\\u001B[2J\\u202E@x, but the list of members has b@x for ada"
+        )
 
     def test_which_times_are_told(self) -> None:
         """Of each reason that has one."""
         key, desk = "A" * 40, {"ada": [Ballot(at(11), OTHER)]}
 
         def signed(time: datetime.datetime) -> ParsedLetter:
-            return dataclasses.replace(parsed(letter("ada", f"{BALLOT}\n[{MARK}]\n")), signature=Signature(key, time))
+            return dataclasses.replace(
+                parsed(letter("ada", f"{BALLOT}\n[{MARK}]\n")), signature=Signature(key, time)
+            )
 
         for said, data, known in (
-            ("it arrived before the call for votes, which was at 2026-11-20 09:00:00 UTC", letter("ada", BALLOT, time="Sun, 23 Nov 2025 10:00:00 +0000"), {}),
-            ("it arrived after the end of the vote, 2026-11-23 08:00:00 UTC", letter("ada", BALLOT), {"end": at(8), "first_close": at(7)}),
-            ("it arrived after the vote was closed, 2026-11-23 07:00:00 UTC", letter("ada", BALLOT), {"end": at(11), "first_close": at(7)}),
-            ("a later ballot of ada, of 2026-11-23 11:00:00 UTC, was entered already", letter("ada", BALLOT), {"ballots": desk}),
-            ("another ballot of ada has the same time, 2026-11-23 11:00:00 UTC", letter("ada", BALLOT, time="Mon, 23 Nov 2026 11:00:00 +0000"), {"ballots": desk}),
-            ("signed at 2026-11-20 08:00:00 UTC, before the call for votes", signed(at(8, day=20)), {"keys": {"ada": key}}),
-            ("signed at 2026-11-23 11:00:00 UTC, which is later than it arrived", signed(at(11)), {"keys": {"ada": key}}),
+            (
+                "it arrived before the call for votes, which was at 2026-11-20 09:00:00 UTC",
+                letter("ada", BALLOT, time="Sun, 23 Nov 2025 10:00:00 +0000"),
+                {},
+            ),
+            (
+                "it arrived after the end of the vote, 2026-11-23 08:00:00 UTC",
+                letter("ada", BALLOT),
+                {"end": at(8), "first_close": at(7)},
+            ),
+            (
+                "it arrived after the vote was closed, 2026-11-23 07:00:00 UTC",
+                letter("ada", BALLOT),
+                {"end": at(11), "first_close": at(7)},
+            ),
+            (
+                "a later ballot of ada, of 2026-11-23 11:00:00 UTC, was entered already",
+                letter("ada", BALLOT),
+                {"ballots": desk},
+            ),
+            (
+                "another ballot of ada has the same time, 2026-11-23 11:00:00 UTC",
+                letter("ada", BALLOT, time="Mon, 23 Nov 2026 11:00:00 +0000"),
+                {"ballots": desk},
+            ),
+            (
+                "signed at 2026-11-20 08:00:00 UTC, before the call for votes",
+                signed(at(8, day=20)),
+                {"keys": {"ada": key}},
+            ),
+            (
+                "signed at 2026-11-23 11:00:00 UTC, which is later than it arrived",
+                signed(at(11)),
+                {"keys": {"ada": key}},
+            ),
         ):
             [one] = judged(data, **known)
             self.assertEqual(one.reason and for_secretary(one.reason), said)
@@ -77,9 +139,29 @@ class Sentences(unittest.TestCase):
         test_signatures.Table.setUpClass()
         signed = [becomes for _, becomes, _ in test_signatures.Table().rows()]
         texts = {f"waits: {reason}" for reason, _ in test_table_of_letters.OTHERS}
-        found = {one.partition(": ")[2] for one in (*(row.becomes for row in test_table_of_letters.TABLE), *texts, *signed)}
+        found = {
+            one.partition(": ")[2]
+            for one in (*(row.becomes for row in test_table_of_letters.TABLE), *texts, *signed)
+        }
         # these are of letters beside others, of what an act decided, and of a gpgv that hangs
-        found |= {"came before", "parted off", "taken back", "put back", "set aside", "struck", "slow signature", "perhaps copy"}
+        found |= {
+            "came before",
+            "parted off",
+            "taken back",
+            "put back",
+            "set aside",
+            "struck",
+            "slow signature",
+            "perhaps copy",
+        }
         # and of records of the box (test_by_click.py)
-        found |= {"other link", "fetched", "not there before", "clock at the end", "clocks", "other time", "not sent later"}
+        found |= {
+            "other link",
+            "fetched",
+            "not there before",
+            "clock at the end",
+            "clocks",
+            "other time",
+            "not sent later",
+        }
         self.assertEqual({label(reason()) for reason in Reason} - found, set())

@@ -13,7 +13,15 @@ from tests.support.web_host import NEEDS_PHP
 HTTPS = ("--at", "https://club.example/vote/")
 SECRET = "secret = true\n" + elections.POLL
 # what page and letters of a secret vote with a box never say
-INVITING = ("NAME _", "_,_", "answer this letter", "Answer this letter", "Send by e-mail", "your ballot by e-mail", "write your name")
+INVITING = (
+    "NAME _",
+    "_,_",
+    "answer this letter",
+    "Answer this letter",
+    "Send by e-mail",
+    "your ballot by e-mail",
+    "write your name",
+)
 
 
 def text_of(data: bytes) -> str:
@@ -33,18 +41,30 @@ class SecretCall(elections.ElectionTest):
         self.assert_fault(self.election("call", "--box", *HTTPS, "--slips", "no"), 2, fault)
         ended = self.election("call", "--box", "--names", "--keyring", "x")
         self.assertEqual(ended.status, 2)
-        for part in (fault, "--names: the vote is secret", "--box: letters have to be signed", "--box: the page needs an address"):
+        for part in (
+            fault,
+            "--names: the vote is secret",
+            "--box: letters have to be signed",
+            "--box: the page needs an address",
+        ):
             self.assertIn(part, ended.faults)
 
     def test_whether_slips_are_handed_out_is_asked_and_kept(self) -> None:
         self.write("poll.toml", SECRET)
         self.done("codes")
         fault = "--slips: nobody says whether slips with codes will be handed out"
-        self.assert_fault(self.election("call", "--box", *HTTPS), 9, fault, "give --slips yes, or --slips no")
-        by_code, nothing = "and your code in the result alone shows that.", "and nothing would show you that."
+        self.assert_fault(
+            self.election("call", "--box", *HTTPS), 9, fault, "give --slips yes, or --slips no"
+        )
+        by_code, nothing = (
+            "and your code in the result alone shows that.",
+            "and nothing would show you that.",
+        )
         for answer, said, other in (("yes", by_code, nothing), ("no", nothing, by_code)):
             ended = self.done("call", "--box", *HTTPS, "--slips", answer)
-            self.assertIn("Make a copy of the book now: debvote-election backup FILE.", ended.output)
+            self.assertIn(
+                "Make a copy of the book now: debvote-election backup FILE.", ended.output
+            )
             page = " ".join(self.read("call/index.html").decode().split())
             self.assertIn(said, page)
             self.assertNotIn(other, page)
@@ -59,7 +79,10 @@ class SecretCall(elections.ElectionTest):
         self.assertEqual((fault in text, status), (True, 9), text)
 
     def test_options_that_do_nothing_are_refused(self) -> None:
-        slips, codes = "--slips: only in a secret vote, with --box", "--codes: only in a secret vote with a web box"
+        slips, codes = (
+            "--slips: only in a secret vote, with --box",
+            "--codes: only in a secret vote with a web box",
+        )
         self.assert_fault(self.election("call", "--box", *HTTPS, "--slips", "no"), 2, slips)
         self.done("call", "--to", "vote@club.example")
         self.assert_fault(self.election("letters", "call", "--codes", "--yes"), 2, codes)
@@ -69,8 +92,14 @@ class SecretCall(elections.ElectionTest):
         self.assert_fault(self.election("call", "--slips", "no"), 2, slips)
         self.done("call", "--to", "vote@club.example")
         self.assert_fault(self.election("letters", "call", "--codes", "--yes"), 2, codes)
-        self.assert_fault(self.election("call", "--slips", "yes"), 9, "--slips: the call was made without it")
-        self.assert_fault(self.election("roll", "--new-link", "ada"), 2, "--new-link: ada has no link that could be replaced")
+        self.assert_fault(
+            self.election("call", "--slips", "yes"), 9, "--slips: the call was made without it"
+        )
+        self.assert_fault(
+            self.election("roll", "--new-link", "ada"),
+            2,
+            "--new-link: ada has no link that could be replaced",
+        )
 
 
 @NEEDS_PHP
@@ -89,12 +118,21 @@ class SecretClicks(boxes.BoxElectionTest):
         return self.links()
 
     def codes(self) -> dict[str, str]:
-        return {str(name): str(code) for name, code in self.rows("SELECT name, code FROM elector_now")}
+        return {
+            str(name): str(code) for name, code in self.rows("SELECT name, code FROM elector_now")
+        }
 
     def test_page_and_letters(self) -> None:
         links = self.begun()
         page = self.read("call/index.html").decode()
-        for part in (*INVITING, 'id="Copy"', 'id="Letter"', "data-name", 'id="Name"', 'id="Not-you"'):
+        for part in (
+            *INVITING,
+            'id="Copy"',
+            'id="Letter"',
+            "data-name",
+            'id="Name"',
+            'id="Not-you"',
+        ):
             self.assertNotIn(part, page)
         self.assertIn("You vote as ", page)
         for file in (self.folder / "letters/call").rglob("*.eml"):
@@ -117,7 +155,14 @@ class SecretClicks(boxes.BoxElectionTest):
         for name, code in self.codes().items():
             self.assertIn(code[:4], slips, name)
         # nor a row of ranks to write, which it is not for
-        for part in ("Send your ballot to", "At the end of the subject", "A rank for each option", "1 is the best", "At the lake", *links.values()):
+        for part in (
+            "Send your ballot to",
+            "At the end of the subject",
+            "A rank for each option",
+            "1 is the best",
+            "At the lake",
+            *links.values(),
+        ):
             self.assertNotIn(part, slips)
         # no name or alias of anybody is on the host
         aliases = [str(alias) for alias, in self.rows("SELECT alias FROM elector_now")]
@@ -128,23 +173,39 @@ class SecretClicks(boxes.BoxElectionTest):
     def test_codes_beside_links(self) -> None:
         self.begun()
         fault = "Who reads a letter with its code can vote in that name, and finds the alias"
-        self.assert_fault(self.election("letters", "call", "--codes"), 9, fault, "if it is right, write them with --yes")
+        self.assert_fault(
+            self.election("letters", "call", "--codes"),
+            9,
+            fault,
+            "if it is right, write them with --yes",
+        )
         terminal = Terminal(self, "letters", "call", "--codes")
         terminal.until("Write them?")
         terminal.type("n\n")
         self.assertIn("you did not agree to codes in letters", terminal.end()[0])
-        self.assert_fault(self.election("letters", "receipts", "--codes"), 2, "--codes: only with call")
-        self.write("members.csv", elections.members_of(elections.NAMES).replace("ada@club", "ada@new"))
+        self.assert_fault(
+            self.election("letters", "receipts", "--codes"), 2, "--codes: only with call"
+        )
+        self.write(
+            "members.csv", elections.members_of(elections.NAMES).replace("ada@club", "ada@new")
+        )
         self.done("roll", "--yes")
         self.upload()
         self.done("add", "--box")
         self.done("letters", "call", "--codes", "--yes")
-        new = max((self.folder / "letters/call").rglob("ada.eml"), key=lambda one: one.stat().st_mtime)
+        new = max(
+            (self.folder / "letters/call").rglob("ada.eml"), key=lambda one: one.stat().st_mtime
+        )
         self.assertIn(self.codes()["ada"], text_of(new.read_bytes()))
 
     def test_clicks_count_under_aliases_and_nobody_is_told_ranks(self) -> None:
         links = self.begun()
-        for name, ranks in (("ada", "1,2,3,4"), ("ben", "2,1,-,4"), ("ada", "4,3,2,1"), ("cleo", "1,2,3,9")):
+        for name, ranks in (
+            ("ada", "1,2,3,4"),
+            ("ben", "2,1,-,4"),
+            ("ada", "4,3,2,1"),
+            ("cleo", "1,2,3,9"),
+        ):
             self.click(name, ranks, links[name])
         said = self.done("add", "--box", "--look").output
         said += self.done("add", "--box", "--yes").output
@@ -153,20 +214,41 @@ class SecretClicks(boxes.BoxElectionTest):
         said += self.done("held").output + self.done("held", "4").output
         for name in elections.NAMES:
             said += self.done("show", name).output
-        said += self.done("log").output + self.done("status").output + self.done("status", "--json").output
+        said += (
+            self.done("log").output
+            + self.done("status").output
+            + self.done("status", "--json").output
+        )
         said += self.done("add", "--box", "--yes").output
         self.assertIn("(shown at a terminal alone)", said)
         aliases = dict(self.rows("SELECT alias, name FROM elector_now"))
-        for part in ("1,2,3", "4,3,2,1", "2,1", "2 1 3 1 7", "At the lake, then", "Further discussion, then", "In the town hall, then", *map(str, aliases)):
+        for part in (
+            "1,2,3",
+            "4,3,2,1",
+            "2,1",
+            "2 1 3 1 7",
+            "At the lake, then",
+            "Further discussion, then",
+            "In the town hall, then",
+            *map(str, aliases),
+        ):
             self.assertNotIn(part, said)
-        self.assertEqual(self.standing(), {"ada": "4,3,2,1", "ben": "2,1,-,4", "dan": "2,1,3,4", "eve": "2 1 3 1 7"})
+        self.assertEqual(
+            self.standing(),
+            {"ada": "4,3,2,1", "ben": "2,1,-,4", "dan": "2,1,3,4", "eve": "2 1 3 1 7"},
+        )
         texts = self.receipts()
-        self.assertIn("has arrived. It counts unless you send a later one. It came by the page of the vote.", texts["ada"])
+        self.assertIn(
+            "has arrived. It counts unless you send a later one. It came by the page of the vote.",
+            texts["ada"],
+        )
         for text in texts.values():
             for part in ("It was read as", "At the lake, then", "1,2,3"):
                 self.assertNotIn(part, text)
         # who sent what nobody can count is told to vote again by the link, and by no e-mail
-        self.assertIn("You can vote again now: open the link in your letter of this vote.", texts["cleo"])
+        self.assertIn(
+            "You can vote again now: open the link in your letter of this vote.", texts["cleo"]
+        )
         for part in INVITING:
             self.assertNotIn(part, texts["cleo"])
         time.sleep(1.1)
@@ -174,8 +256,12 @@ class SecretClicks(boxes.BoxElectionTest):
         time.sleep(1.1)
         self.done("add", "--box")
         self.done("publish", "--yes", "--force", "--because", "It is no ballot.")
-        published = dict(line.split() for line in self.read("result/ballots.txt").decode().splitlines())
-        self.assertEqual({str(aliases[alias]): ranks for alias, ranks in published.items()}, self.in_order())
+        published = dict(
+            line.split() for line in self.read("result/ballots.txt").decode().splitlines()
+        )
+        self.assertEqual(
+            {str(aliases[alias]): ranks for alias, ranks in published.items()}, self.in_order()
+        )
         files = [file for file in (self.folder / "result").rglob("*") if file.is_file()]
         for file in files:
             for link in links.values():
@@ -194,28 +280,69 @@ class SecretClicks(boxes.BoxElectionTest):
         links = self.begun()
         arrived = time.strftime("%a, %d %b %Y %H:%M:%S +0000")
         said = [
-            letter("ada", "I take the lake, then the hall\n", time=arrived, subject=self.own_subject("ada", "The lake first")),
-            letter("ben", "ben 9,9\n> ben hall\n", time=arrived, subject=self.own_subject("ben", "2-1-3")),
-            letter("cleo", "cleo  1, 2,3,4.\n", time=arrived, subject=self.own_subject("cleo", "Ballot")),
-            letter("dan", "dan 1,2,3,4\ndan 4,3,2,1\n", time=arrived, subject=self.own_subject("dan", "Mine")).replace(
-                b"From: dan@club.example", b"From: For the lake <dan@club.example>"
+            letter(
+                "ada",
+                "I take the lake, then the hall\n",
+                time=arrived,
+                subject=self.own_subject("ada", "The lake first"),
             ),
+            letter(
+                "ben",
+                "ben 9,9\n> ben hall\n",
+                time=arrived,
+                subject=self.own_subject("ben", "2-1-3"),
+            ),
+            letter(
+                "cleo",
+                "cleo  1, 2,3,4.\n",
+                time=arrived,
+                subject=self.own_subject("cleo", "Ballot"),
+            ),
+            letter(
+                "dan",
+                "dan 1,2,3,4\ndan 4,3,2,1\n",
+                time=arrived,
+                subject=self.own_subject("dan", "Mine"),
+            ).replace(b"From: dan@club.example", b"From: For the lake <dan@club.example>"),
         ]
         self.write("inbox.mbox", mailbox(*said))
         self.write("lines.txt", "eve: 1, 2, 3, 4.\nfay lake\ngus 1,2,3\nhal 1,2,3,4\n")
         self.click("ida", "1,2,3,4", links["ida"])
-        told = [self.done("add", "--yes", "inbox.mbox"), self.done("add", "--box", "--look"), self.done("add", "--box", "--yes")]
-        told += [self.election("add", "--look", "lines.txt"), self.election("add", "lines.txt"), self.election("add", "--force", "lines.txt")]
+        told = [
+            self.done("add", "--yes", "inbox.mbox"),
+            self.done("add", "--box", "--look"),
+            self.done("add", "--box", "--yes"),
+        ]
+        told += [
+            self.election("add", "--look", "lines.txt"),
+            self.election("add", "lines.txt"),
+            self.election("add", "--force", "lines.txt"),
+        ]
         told.append(self.done("desk", given="fay: lake\ngus 1,2,3\n"))
         told += [self.done("held"), *(self.done("held", number) for number in range(1, 5))]
-        told += [self.election("held", 1, "--as", "ada lake"), self.election("held", 4, "--enter"), self.election("held", 1, 2, "--enter")]
+        told += [
+            self.election("held", 1, "--as", "ada lake"),
+            self.election("held", 4, "--enter"),
+            self.election("held", 1, 2, "--enter"),
+        ]
         told += [self.done("show", name) for name in elections.NAMES]
         told += [self.done("status"), self.done("status", "--json"), self.done("log")]
         told.append(self.done("strike", 2, "--yes", "--because", "It was mistyped."))
         told += [self.done("undo", "--yes")]
         text = "".join(ended.output + ended.faults for ended in told).replace(self.right_line(), "")
         self.assertIn("(shown at a terminal alone)", text)
-        for part in ("lake", "hall", "9,9", "2-1-3", "1,2,3", "1, 2, 3", "4,3,2", "column", "ranks, the poll", "For the lake"):
+        for part in (
+            "lake",
+            "hall",
+            "9,9",
+            "2-1-3",
+            "1,2,3",
+            "1, 2, 3",
+            "4,3,2",
+            "column",
+            "ranks, the poll",
+            "For the lake",
+        ):
             self.assertNotIn(part, text)
         # at a terminal all of it is there
         with_terminal = Terminal(self, "held", "1").end()[0]
@@ -230,19 +357,27 @@ class SecretClicks(boxes.BoxElectionTest):
     def test_by_the_page_in_a_browser(self) -> None:
         links = self.begun()
         with at_browser.Window(390, 844) as window:
+
             def visit(place: str) -> None:
                 window.tell("Page.navigate", url="about:blank")
                 window.until("location.href === 'about:blank'")
                 window.tell("Page.navigate", url=f"{self.host.at}{place}")
-                window.until("document.readyState === 'complete' && location.href !== 'about:blank'")
+                window.until(
+                    "document.readyState === 'complete' && location.href !== 'about:blank'"
+                )
 
             def seen(node: str) -> bool:
-                return bool(window.ask(f"Boolean(document.getElementById('{node}')?.checkVisibility())"))
+                return bool(
+                    window.ask(f"Boolean(document.getElementById('{node}')?.checkVisibility())")
+                )
 
             # without a link no line is made, and the page says which one to open
             visit("")
             found = window.ballot(None, "1234")
-            self.assertEqual((found["line"], found["missing"]), ("", "To vote here by a click, open the link in your own letter."))
+            self.assertEqual(
+                (found["line"], found["missing"]),
+                ("", "To vote here by a click, open the link in your own letter."),
+            )
             visit(f"#{self.place_of('ada', links['ada'])}")
             self.assertTrue(seen("You"))
             self.assertEqual(window.ask("document.getElementById('Linked').textContent"), "ada")
@@ -250,7 +385,10 @@ class SecretClicks(boxes.BoxElectionTest):
             window.ask("document.getElementById('Vote').click()")
             window.until("document.getElementById('Sent').textContent.startsWith('It has arrived')")
             said = window.ask("document.getElementById('Sent').textContent")
-            self.assertRegex(said, "sent .*A receipt by e-mail with this time says whether it counts, and not what is in it.")
+            self.assertRegex(
+                said,
+                "sent .*A receipt by e-mail with this time says whether it counts, and not what is in it.",
+            )
             self.assertEqual(window.faults, [])
         self.done("add", "--box", "--yes")
         self.assertEqual(self.standing(), {"ada": "2,1,-,3"})
@@ -262,7 +400,12 @@ class SecretClicks(boxes.BoxElectionTest):
         self.begun()
         self.off(700)
         self.host_off(700)
-        self.assert_fault(self.election("call", "--take-back"), 9, "ballots may lie on the page", "run debvote-election add --box")
+        self.assert_fault(
+            self.election("call", "--take-back"),
+            9,
+            "ballots may lie on the page",
+            "run debvote-election add --box",
+        )
         self.done("add", "--box")
         self.done("call", "--take-back")
         self.assertEqual(json.loads(self.done("status", "--json").output)["stage"], "new")
@@ -275,7 +418,12 @@ class SecretClicks(boxes.BoxElectionTest):
         self.assertRegex(subject, r"\[[0-9a-f]{16}-\w{10}\]$")
         self.assertTrue(links)
         arrived = time.strftime("%a, %d %b %Y %H:%M:%S +0000")
-        self.write("inbox.mbox", mailbox(letter("ada", "ada 1,2,3,4\n", time=arrived, subject=re.sub(r"\s+", " ", subject))))
+        self.write(
+            "inbox.mbox",
+            mailbox(
+                letter("ada", "ada 1,2,3,4\n", time=arrived, subject=re.sub(r"\s+", " ", subject))
+            ),
+        )
         self.assertIn("1 ballot of letters went in", self.done("add", "--yes", "inbox.mbox").output)
 
 
@@ -293,9 +441,18 @@ class SecretMotion(boxes.BoxElectionTest):
         self.done("letters", "call")
         self.click("ada", "2,1", self.links()["ada"])
         self.write("lines.txt", "ben yes\ncleo nope\ndan: No\n")
-        told = [self.done("add", "--box", "--yes"), self.election("add", "lines.txt"), self.done("desk", given="eve yes\nfay perhaps not\n")]
-        told += [self.done("show", name) for name in ("ada", "ben", "cleo", "dan", "eve")] + [self.done("status")]
+        told = [
+            self.done("add", "--box", "--yes"),
+            self.election("add", "lines.txt"),
+            self.done("desk", given="eve yes\nfay perhaps not\n"),
+        ]
+        told += [self.done("show", name) for name in ("ada", "ben", "cleo", "dan", "eve")] + [
+            self.done("status")
+        ]
         text = "".join(ended.output + ended.faults for ended in told)
-        text = text.replace("A ballot line of this poll: `ada 2,1`: the ranks of 1 We buy a boat, 2 We keep the money; 1 is the best", "")
+        text = text.replace(
+            "A ballot line of this poll: `ada 2,1`: the ranks of 1 We buy a boat, 2 We keep the money; 1 is the best",
+            "",
+        )
         for part in ("yes", "nope", "No", "perhaps", "column", "1,2", "2,1", "boat", "abstain"):
             self.assertNotRegex(text.replace("Title: A boat", ""), rf"\b{part}\b")

@@ -9,9 +9,26 @@ import time
 import unittest
 import unittest.mock
 
-from debvote_tools.inbox.mailbox import MAX_LETTER, NotRead, RawLetter, are_letters, letters_of_file, letters_of_folder, sections_of
+from debvote_tools.inbox.mailbox import (
+    MAX_LETTER,
+    NotRead,
+    RawLetter,
+    are_letters,
+    letters_of_file,
+    letters_of_folder,
+    sections_of,
+)
 
-from tests.support.letters import NAMES, RANKS, letter, mailbox, outcomes, parsed, passed_over_in, read_in
+from tests.support.letters import (
+    NAMES,
+    RANKS,
+    letter,
+    mailbox,
+    outcomes,
+    parsed,
+    passed_over_in,
+    read_in,
+)
 
 LINE = b"From somebody Mon Nov 23 10:00:00 2026\n"
 ADA, BEN = letter("ada", f"ada {RANKS}\n"), letter("ben", f"ben {RANKS}\n")
@@ -22,7 +39,9 @@ PARTS = letter("ada", f"--b\n\nada {RANKS}\n--b--\n", kind="multipart/mixed; bou
 
 
 def outcome_of(found: list[RawLetter]) -> list[str]:
-    return outcomes(*(parsed(raw.data, raw.where, is_parted_off=raw.is_parted_off) for raw in read_in(found)))
+    return outcomes(
+        *(parsed(raw.data, raw.where, is_parted_off=raw.is_parted_off) for raw in read_in(found))
+    )
 
 
 class Files(unittest.TestCase):
@@ -31,34 +50,69 @@ class Files(unittest.TestCase):
 
     def assert_parted_off(self, data: bytes, *wanted: bool) -> None:
         """Which letters of a file may be text of the letter above."""
-        self.assertEqual([raw.is_parted_off for raw in read_in(letters_of_file("box", data))], list(wanted), data)
+        self.assertEqual(
+            [raw.is_parted_off for raw in read_in(letters_of_file("box", data))], list(wanted), data
+        )
 
     def test_a_mailbox_and_one_message(self) -> None:
-        for line in (LINE, b"From - Mon Nov 23 10:00:00 2026\n", b"From 17@xxx Mon Nov 23 10:00:00 +0000 2026\n", b"From x Mon, 2 Nov 2026 9:00\n"):
+        for line in (
+            LINE,
+            b"From - Mon Nov 23 10:00:00 2026\n",
+            b"From 17@xxx Mon Nov 23 10:00:00 +0000 2026\n",
+            b"From x Mon, 2 Nov 2026 9:00\n",
+        ):
             box = mailbox(ADA, BEN).replace(LINE, line)
             for data in (box, box.replace(b"\n", b"\r\n")):
                 found = letters_of_file("box", data)
-                self.assertEqual([raw.where for raw in read_in(found)], ["box, message 1", "box, message 2"])
-                self.assertEqual([raw.data.replace(b"\r", b"") for raw in read_in(found)], [ADA, BEN], line)
+                self.assertEqual(
+                    [raw.where for raw in read_in(found)], ["box, message 1", "box, message 2"]
+                )
+                self.assertEqual(
+                    [raw.data.replace(b"\r", b"") for raw in read_in(found)], [ADA, BEN], line
+                )
                 self.assertEqual(outcome_of(found), [IN_ADA, IN_BEN])
         for data in (ADA, b"\n\n" + ADA, b"\xef\xbb\xbf" + ADA, b"From ben\n" + ADA):
             found = letters_of_file("x", data)
-            self.assertEqual([(raw.where, raw.data, raw.is_parted_off) for raw in read_in(found)], [("x", ADA, False)], data[:10])
+            self.assertEqual(
+                [(raw.where, raw.data, raw.is_parted_off) for raw in read_in(found)],
+                [("x", ADA, False)],
+                data[:10],
+            )
         # a head of one field is enough where the line above has a date
-        self.assert_becomes(LINE + b"X-Note: kept\n\nhello\n\n" + LINE + BEN, IN_BEN, "waits: no arrival")
+        self.assert_becomes(
+            LINE + b"X-Note: kept\n\nhello\n\n" + LINE + BEN, IN_BEN, "waits: no arrival"
+        )
         # without its first line it is one letter, and all but its first ballot are text of it: it waits
-        for start in (b"\n", b"\r\n\r\n", b"\xef\xbb\xbf", b"<?php exit; ?>\n", b"<?php exit; ?>\r\n"):
+        for start in (
+            b"\n",
+            b"\r\n\r\n",
+            b"\xef\xbb\xbf",
+            b"<?php exit; ?>\n",
+            b"<?php exit; ?>\r\n",
+        ):
             self.assert_becomes(start + mailbox(ADA, BEN), IN_ADA, IN_BEN)
         self.assert_becomes(mailbox(ADA, CODED).removeprefix(LINE), PARTED)
 
     def test_lines_without_a_date_hide_no_letter(self) -> None:
         """The letter above waits, and says to look at the file: what is below its parts nobody would see."""
-        for line in (b"From ben\n", b"From - Mo Nov 23 10:00:00 2026\n", b"from ben\n", b">From - Mon Nov 23 10:00:00 2026\n"):
+        for line in (
+            b"From ben\n",
+            b"From - Mo Nov 23 10:00:00 2026\n",
+            b"from ben\n",
+            b">From - Mon Nov 23 10:00:00 2026\n",
+        ):
             for above in (ADA, PARTS, LINE + ADA, LINE + PARTS):
                 self.assert_becomes(above + b"\n" + line + CODED, PARTED)
         # Thunderbird and others put fields of their own above all that the mail server wrote
         line = b"From ben 2026-11-23T10:00:00\n"
-        for field in (b"X-Mozilla-Status: 0001\n", b"X-UID: 7\n", b"Delivery-Date: x\n", b"Status: RO\n", b"To: vote\n", b"Subject: x\n"):
+        for field in (
+            b"X-Mozilla-Status: 0001\n",
+            b"X-UID: 7\n",
+            b"Delivery-Date: x\n",
+            b"Status: RO\n",
+            b"To: vote\n",
+            b"Subject: x\n",
+        ):
             below = b"\n" + line + field + CODED
             self.assert_becomes(LINE + ADA + below, PARTED)
             self.assert_becomes(line + field + ADA, IN_ADA)
@@ -68,7 +122,12 @@ class Files(unittest.TestCase):
         """Today it writes lines without sender and date; older letters in it have lines with a date."""
         status = b"X-Mozilla-Status: 0001\nX-Mozilla-Status2: 00000000\n"
         dated = b"From - Mon Nov 23 10:00:00 2026\n"
-        for first, second in ((b"From \n", b"From \n"), (b"From - \n", b"From -\n"), (dated, b"From \n"), (b"From \n", LINE)):
+        for first, second in (
+            (b"From \n", b"From \n"),
+            (b"From - \n", b"From -\n"),
+            (dated, b"From \n"),
+            (b"From \n", LINE),
+        ):
             box = first + status + ADA + b"\n" + second + status + BEN + b"\n"
             for data in (box, box.replace(b"\n", b"\r\n")):
                 self.assert_becomes(data, IN_ADA, IN_BEN)
@@ -77,8 +136,15 @@ class Files(unittest.TestCase):
         self.assert_becomes(ADA + b"\nFrom \n" + BEN, PARTED)
         # Lotus Notes writes boundaries with a blank
         notes = "=_alternative 004A8E32C1256F5A_="
-        for kind in (f'multipart/alternative; boundary="{notes}"', f'multipart/alternative; boundary="{notes} "'):
-            self.assert_becomes(mailbox(letter("ada", f"--{notes}\n\nada {RANKS}\n--{notes}--\n", kind=kind), BEN), IN_ADA, IN_BEN)
+        for kind in (
+            f'multipart/alternative; boundary="{notes}"',
+            f'multipart/alternative; boundary="{notes} "',
+        ):
+            self.assert_becomes(
+                mailbox(letter("ada", f"--{notes}\n\nada {RANKS}\n--{notes}--\n", kind=kind), BEN),
+                IN_ADA,
+                IN_BEN,
+            )
         text = f"ada {RANKS}\n\nFrom Monday on\n\nFrom Monday on see\nhttps://x.example\n\n>From x Mon Nov 23 10:00:00 2026\n\nfrom x Mon Nov 23 10:00:00 2026\n\nFrom 10:00 on\n"
         self.assertEqual(len(read_in(letters_of_file("box", mailbox(letter("ada", text), BEN)))), 2)
 
@@ -86,11 +152,17 @@ class Files(unittest.TestCase):
         """As `cat *.eml` does: of the second nobody would see anything."""
         base64 = "Content-Transfer-Encoding: base64\n"
         html = letter("ada", f"<p>ada {RANKS}</p><br>\n", kind="text/html")
-        coded, pdf = letter("ada", "YWRhIDEsMiw0LDMK\n", head=base64), letter("ada", "JVBERi0x\n", kind="application/pdf", head=base64)
+        coded, pdf = letter("ada", "YWRhIDEsMiw0LDMK\n", head=base64), letter(
+            "ada", "JVBERi0x\n", kind="application/pdf", head=base64
+        )
         for data in (ADA, PARTS, html, coded, pdf):
             for between in (b"", b"\n", b"Return-Path: <ben@club.example>\n"):
                 self.assert_becomes(data + between + CODED, PARTED)
-        attached = letter("ada", f"--b\n\nada {RANKS}\n--b\nContent-Type: message/rfc822\n\n", kind="multipart/mixed; boundary=b")
+        attached = letter(
+            "ada",
+            f"--b\n\nada {RANKS}\n--b\nContent-Type: message/rfc822\n\n",
+            kind="multipart/mixed; boundary=b",
+        )
         self.assert_becomes(attached + letter("ben", "hello\n") + b"--b--\n", PARTED)
 
     def test_what_may_be_text_of_the_letter_above(self) -> None:
@@ -110,14 +182,18 @@ class Files(unittest.TestCase):
         # each that is within the length, whatever those between say; and none after it
         body = b"hello\n\n" + LINE + b"Content-Length: 1\n" + BEN + b"\n" + LINE + BEN
         head = f"Content-Length: {len(body)}\n".encode() + letter("mallory", "").rstrip(b"\n")
-        self.assert_parted_off(LINE + head + b"\n\n" + body + b"\n" + LINE + ADA, False, True, True, False)
+        self.assert_parted_off(
+            LINE + head + b"\n\n" + body + b"\n" + LINE + ADA, False, True, True, False
+        )
 
     def test_a_length_that_ends_elsewhere_parts_nothing_off(self) -> None:
         """Any sender can write one. Else a stranger's letter would have all letters wait that come after it."""
         carrier, body = letter("mallory", "hello\n"), len("hello\n")
         exact = body + 1 + len(LINE) + len(BEN) + 1
         for length in (exact - 2, exact + 1, exact + len(LINE), exact + 50, 10**9):
-            box = LINE + f"Content-Length: {length}\n".encode() + carrier + b"\n" + mailbox(BEN, ADA)
+            box = (
+                LINE + f"Content-Length: {length}\n".encode() + carrier + b"\n" + mailbox(BEN, ADA)
+            )
             self.assert_parted_off(box, False, False, False)
             self.assertEqual(outcome_of(letters_of_file("box", box))[1:], [IN_BEN, IN_ADA], length)
         # before a line without a date, too
@@ -127,19 +203,31 @@ class Files(unittest.TestCase):
                 box = LINE + head + (carrier + b"\n" + mailbox(BEN, ADA)).replace(LINE, line)
                 self.assert_parted_off(box, False, is_parted_off, False)
         # its own text alone, and the end of the file
-        for length, is_parted_off in ((body, False), (exact, True), (exact + 1, True), (exact + 3, False)):
+        for length, is_parted_off in (
+            (body, False),
+            (exact, True),
+            (exact + 1, True),
+            (exact + 3, False),
+        ):
             head = f"Content-Length: {length}\n".encode()
             self.assert_parted_off(LINE + head + carrier + b"\n" + LINE + BEN, False, is_parted_off)
         # nor do parts that end, or a subject that anybody can write
-        for above in (letter("x", "--b\n\nhi\n--b--\n", kind="multipart/mixed; boundary=b"), letter("x", "hi\n", head="Subject: boundary=b\n")):
+        for above in (
+            letter("x", "--b\n\nhi\n--b--\n", kind="multipart/mixed; boundary=b"),
+            letter("x", "hi\n", head="Subject: boundary=b\n"),
+        ):
             self.assert_parted_off(LINE + above + b"\n" + LINE + BEN, False, False)
 
     def test_what_is_no_letter_is_named(self) -> None:
         names = "__properties_version1.0".encode("utf-16-le")
         cases = {
-            b"\xd0\xcf\x11\xe0rest" + names: NotRead.OUTLOOK_LETTER, b"!BDNrest": NotRead.OUTLOOK_MAILBOX, b"PK\x03\x04": NotRead.ZIP,
-            b"%PDF-1.7": NotRead.PDF, b"hello\n": NotRead.NO_LETTER, b"": NotRead.NO_LETTER,
-        }  # fmt: skip
+            b"\xd0\xcf\x11\xe0rest" + names: NotRead.OUTLOOK_LETTER,
+            b"!BDNrest": NotRead.OUTLOOK_MAILBOX,
+            b"PK\x03\x04": NotRead.ZIP,
+            b"%PDF-1.7": NotRead.PDF,
+            b"hello\n": NotRead.NO_LETTER,
+            b"": NotRead.NO_LETTER,
+        }
         for data, why in cases.items():
             found = letters_of_file("x", data)
             self.assertEqual((passed_over_in(found), read_in(found)), ([("x", why)], []))
@@ -150,7 +238,14 @@ class Files(unittest.TestCase):
         self.assertEqual(passed_over_in(found), [("box, message 1", NotRead.TOO_LONG)])
         self.assertEqual([raw.data for raw in read_in(found)], [BEN])
         self.assertEqual(passed_over_in(letters_of_file("x", long))[0][1], NotRead.TOO_LONG)
-        texts = (b"ada: 1,2\nben: 1,2\n", b"From: ada 1\n", b"From Monday on\n\nada 1,2\n", b"", b"To be or not: x\n", LINE + b"ada 1,2\n")
+        texts = (
+            b"ada: 1,2\nben: 1,2\n",
+            b"From: ada 1\n",
+            b"From Monday on\n\nada 1,2\n",
+            b"",
+            b"To be or not: x\n",
+            LINE + b"ada 1,2\n",
+        )
         self.assertEqual([data for data in texts if are_letters(data)], [])
 
     def test_many_lines_take_a_time_that_grows_with_their_number(self) -> None:
@@ -163,7 +258,9 @@ class Files(unittest.TestCase):
 
     def test_heads_as_they_are_shown(self) -> None:
         head = "Subject: =?utf-8?b?R3LDvMOfZQ==?= =?x-none?q?x?=\nSubject: \udcff\n"
-        found = parsed(letter("ada", "x", sender="=?utf-8?q?a=0ABcc:?= <ada@club.example>", head=head))
+        found = parsed(
+            letter("ada", "x", sender="=?utf-8?q?a=0ABcc:?= <ada@club.example>", head=head)
+        )
         self.assertNotIn("\n", found.shown_sender + found.subject)
         self.assertTrue(found.subject.startswith("Grüße"), found.subject)
 
@@ -172,10 +269,27 @@ class Conservation(unittest.TestCase):
     """No byte of what somebody adds is lost: it is in a letter that is kept, is named as not read, or parts two letters."""
 
     lines = (
-        LINE, b"From - Mon Nov 23 10:00:00 2026\n", b"From \n", b"From ben\n", b">From x Mon Nov 23 10:00:00 2026\n", b"from x\n", b"\n", b"\r\n", b"\r", b" \n",
-        b"\xef\xbb\xbf", b"Received: from a by b; Mon, 23 Nov 2026 10:00:00 +0000\n", b"Content-Length: 300\n", b"Content-Type: multipart/mixed; boundary=b\n", b"--b\n",
-        b"--b--\n", b"ben 2,1,4,3\n", b"X-Mozilla-Status: 0001\n", b"\0", b"\xff",
-    )  # fmt: skip
+        LINE,
+        b"From - Mon Nov 23 10:00:00 2026\n",
+        b"From \n",
+        b"From ben\n",
+        b">From x Mon Nov 23 10:00:00 2026\n",
+        b"from x\n",
+        b"\n",
+        b"\r\n",
+        b"\r",
+        b" \n",
+        b"\xef\xbb\xbf",
+        b"Received: from a by b; Mon, 23 Nov 2026 10:00:00 +0000\n",
+        b"Content-Length: 300\n",
+        b"Content-Type: multipart/mixed; boundary=b\n",
+        b"--b\n",
+        b"--b--\n",
+        b"ben 2,1,4,3\n",
+        b"X-Mozilla-Status: 0001\n",
+        b"\0",
+        b"\xff",
+    )
 
     def changed(self, chance: random.Random) -> bytes:
         """A mailbox in which some lines are others."""
@@ -186,7 +300,11 @@ class Conservation(unittest.TestCase):
             place = chance.randrange(len(lines) + 1)
             lines[place : place + chance.randint(0, 1)] = [chance.choice(self.lines)]
         data = b"".join(lines[chance.choice((0, 0, 0, 1)) :])
-        return data.replace(b"\n", b"\r\n") if chance.random() < 0.2 else data[: len(data) - chance.choice((0, 0, 1))]
+        return (
+            data.replace(b"\n", b"\r\n")
+            if chance.random() < 0.2
+            else data[: len(data) - chance.choice((0, 0, 1))]
+        )
 
     def test_the_sections_of_a_file_are_the_file(self) -> None:
         chance = random.Random(3)
@@ -201,7 +319,9 @@ class Conservation(unittest.TestCase):
                 self.assertIn(below, (b"", b"\n", b"\r\n"))
             found = letters_of_file("box", data)
             if read_in(found):
-                self.assertEqual([raw.data for raw in read_in(found)], [one for _, one, _ in sections])
+                self.assertEqual(
+                    [raw.data for raw in read_in(found)], [one for _, one, _ in sections]
+                )
                 self.assertEqual(passed_over_in(found), [])
             else:
                 self.assertEqual([one[0] for one in passed_over_in(found)], ["box"])
@@ -213,12 +333,16 @@ class Conservation(unittest.TestCase):
         chance = random.Random(4)
         for _ in range(2_000):
             data = b"".join(chance.choices(self.lines, k=chance.randint(0, 12)))
-            self.assertEqual(b"".join(above + one + below for above, one, below in sections_of(data)), data)
+            self.assertEqual(
+                b"".join(above + one + below for above, one, below in sections_of(data)), data
+            )
 
 
 class Folders(unittest.TestCase):
     def setUp(self) -> None:
-        self.folder = pathlib.Path(self.enterContext(tempfile.TemporaryDirectory(prefix="debvote-letters-")))
+        self.folder = pathlib.Path(
+            self.enterContext(tempfile.TemporaryDirectory(prefix="debvote-letters-"))
+        )
 
     def write(self, name: str, data: bytes) -> None:
         file = self.folder / name
@@ -233,7 +357,14 @@ class Folders(unittest.TestCase):
 
     def test_a_folder_of_messages(self) -> None:
         self.assertEqual(self.found(), ([], {}))
-        for name, data in {"b.eml": ADA, "a.eml": BEN, "list.txt": b"hello", ".hidden.eml": ADA, "more/c.eml": ADA, "d.zip": b"PK\x03\x04"}.items():
+        for name, data in {
+            "b.eml": ADA,
+            "a.eml": BEN,
+            "list.txt": b"hello",
+            ".hidden.eml": ADA,
+            "more/c.eml": ADA,
+            "d.zip": b"PK\x03\x04",
+        }.items():
             self.write(name, data)
         os.mkfifo(self.folder / "pipe")
         (self.folder / "link").symlink_to("nowhere")
@@ -242,9 +373,20 @@ class Folders(unittest.TestCase):
         self.assertEqual(self.found(), (["a.eml", "b.eml"], wanted))
 
     def test_a_maildir(self) -> None:
-        for place in ("cur/2.host:2,S", "new/1.host", "tmp/3.host", ".Sent/cur/4.host", "cur/deep/5", "dovecot-uidlist"):
+        for place in (
+            "cur/2.host:2,S",
+            "new/1.host",
+            "tmp/3.host",
+            ".Sent/cur/4.host",
+            "cur/deep/5",
+            "dovecot-uidlist",
+        ):
             self.write(place, ADA if "host" in place else b"x")
-        wanted = {".Sent": NotRead.FOLDER, "cur/deep": NotRead.FOLDER, "dovecot-uidlist": NotRead.NO_LETTER}
+        wanted = {
+            ".Sent": NotRead.FOLDER,
+            "cur/deep": NotRead.FOLDER,
+            "dovecot-uidlist": NotRead.NO_LETTER,
+        }
         self.assertEqual(self.found(), (["new/1.host", "cur/2.host:2,S"], wanted))
 
     def test_a_letter_of_a_maildir_that_is_looked_at_meanwhile(self) -> None:
@@ -259,7 +401,10 @@ class Folders(unittest.TestCase):
             return found
 
         with unittest.mock.patch.object(pathlib.Path, "iterdir", listed):
-            self.assertEqual(self.found(), (["cur/1.host:2,S", "cur/2.host:2,S"], {"new/1.host": NotRead.NO_LETTER}))
+            self.assertEqual(
+                self.found(),
+                (["cur/1.host:2,S", "cur/2.host:2,S"], {"new/1.host": NotRead.NO_LETTER}),
+            )
 
     def test_a_file_of_a_folder_is_never_parted(self) -> None:
         """Several letters may be in it, so it waits; a mailbox is named, or all but its first letter would be text of that."""
@@ -268,6 +413,8 @@ class Folders(unittest.TestCase):
         self.write("one.eml", LINE + ADA)
         self.write("box", mailbox(ADA, BEN))
         found = letters_of_folder(self.folder)
-        self.assertEqual([(raw.is_parted_off, raw.data) for raw in read_in(found)], [(True, inner), (False, ADA)])
+        self.assertEqual(
+            [(raw.is_parted_off, raw.data) for raw in read_in(found)], [(True, inner), (False, ADA)]
+        )
         self.assertEqual(sorted(outcome_of(found)), [f"in: ada {RANKS}", "waits: parted off"])
         self.assertEqual(self.found()[1], {"box": NotRead.MAILBOX})

@@ -17,8 +17,8 @@ from debvote_tools.outbox.letter_folder import in_place
 
 from tests.support import elections
 from tests.support.called import LAKE
-from tests.support.letters import letter, marked, mailbox
-from tests.support.outgoing import AT, END, OTHER_RANKS, RANKS, TITLE, OutTest, one_line, parsed
+from tests.support.letters import OTHER_RANKS, RANKS, TITLE, letter, mailbox, marked
+from tests.support.outgoing import AT, END, OutTest, one_line, parsed
 
 FORM = f"The page of the vote, which writes the line of your ballot for you, and on which the result will be: {AT}"
 LINE = (
@@ -44,9 +44,14 @@ class Call(OutTest):
             [(mark, own)] = re.findall(MARKS, message["Subject"])
             begin = f"Dear {name.title()}, {WHEN} {FORM}#{name}/{own} {LINE}{name} _,_,_,_ The options; the last one is the default "
             begin += "option, which stays where no other one is good enough: "
-            self.assertTrue(text.startswith(f"{begin}{OPTIONS} Answer this letter, or write to "), text)
+            self.assertTrue(
+                text.startswith(f"{begin}{OPTIONS} Answer this letter, or write to "), text
+            )
             self.assertIn(f"whose subject ends with [{mark}-{own}]", text)
-            self.assertIn(f"until the result: {hashlib.sha256(self.read('call/poll.toml')).hexdigest()} Majority ratio 3: ", text)
+            self.assertIn(
+                f"until the result: {hashlib.sha256(self.read('call/poll.toml')).hexdigest()} Majority ratio 3: ",
+                text,
+            )
             # the rules in full are on the page
             self.assertNotIn("Rank before it what you would accept", text)
             self.assertLess(message.get_content().index(AT), 300)
@@ -55,23 +60,41 @@ class Call(OutTest):
             self.assertLess(len(message.get_content().splitlines()), 50)
         # the letter to all has gaps, and the mark of the poll
         text = " ".join(self.read("call/call.txt").decode().split())
-        self.assertTrue(text.startswith(f"{WHEN} {FORM} {LINE}NAME _,_,_,_ Write your name on the roll in the place of NAME. The options"), text)
-        self.assertIn("Open the link in your letter, or answer that letter: then the subject has your own mark, ", text)
+        self.assertTrue(
+            text.startswith(
+                f"{WHEN} {FORM} {LINE}NAME _,_,_,_ Write your name on the roll in the place of NAME. The options"
+            ),
+            text,
+        )
+        self.assertIn(
+            "Open the link in your letter, or answer that letter: then the subject has your own mark, ",
+            text,
+        )
         self.assertNotIn("nswer this letter", text)
         # heads and modes
-        ids, own_marks = set(), dict(self.book.rows("SELECT name, mark FROM elector JOIN elector_state USING (elector) WHERE mark <> ''"))
+        ids, own_marks = set(), dict(
+            self.book.rows(
+                "SELECT name, mark FROM elector JOIN elector_state USING (elector) WHERE mark <> ''"
+            )
+        )
         self.assertEqual(len(set(own_marks.values())), 9)
         for name, message in found.items():
             self.assertEqual(message["To"], f"{name}@club.example")
             self.assertEqual(message["Subject"], f"Vote: {TITLE} [{self.mark}-{own_marks[name]}]")
-            heads = {"From": "vote@club.example", "Auto-Submitted": "auto-generated", "X-Unsent": "1"}
+            heads = {
+                "From": "vote@club.example",
+                "Auto-Submitted": "auto-generated",
+                "X-Unsent": "1",
+            }
             heads |= dict.fromkeys(("In-Reply-To", "Reply-To", "Cc", "Bcc"))
             self.assertEqual({name: message[name] for name in heads}, heads)
             self.assertRegex(message["Message-ID"], r"^<[0-9a-f]{32}@club\.example>$")
             ids.add(message["Message-ID"])
         self.assertEqual(len(ids), 9)
         for path in [*self.files("call"), *self.files("call")[0].parents[:3]]:
-            self.assertEqual(stat.S_IMODE(path.stat().st_mode), 0o700 if path.is_dir() else 0o600, path)
+            self.assertEqual(
+                stat.S_IMODE(path.stat().st_mode), 0o700 if path.is_dir() else 0o600, path
+            )
         # how many are new
         self.assertIn("Wrote 9 letters, none of them new: ", self.done("letters", "call").output)
         self.change_roll("ada@club", "ada@new")
@@ -93,7 +116,10 @@ class Call(OutTest):
             text = f"{name} {RANKS}\n\nOn Mon, 23 Nov 2026 at 09:00, Vote wrote:\n{quoted}\n"
             self.add(letter(name, text, subject=f"Re: {found['ada']['Subject']}", time=EARLIER))
         self.assertEqual(self.exported()[0], f"ada {RANKS}\n")
-        self.assertIn("its subject lacks the own mark of ben, so anybody may have sent it\n", self.told("held"))
+        self.assertIn(
+            "its subject lacks the own mark of ben, so anybody may have sent it\n",
+            self.told("held"),
+        )
 
     def test_after_an_extension_those_who_have_the_call_get_its_letter(self) -> None:
         self.written("call")
@@ -108,14 +134,20 @@ class Call(OutTest):
         self.assertRegex(found["ada"]["Subject"], rf"^Vote: {TITLE} ")
         self.assertNotIn("You have more time", texts.pop("ada"))
         for name, text in texts.items():
-            self.assertTrue(text.startswith(f"Dear {name.title()}, You have more time to vote."), text)
+            self.assertTrue(
+                text.startswith(f"Dear {name.title()}, You have more time to vote."), text
+            )
             when = "Vote until: Sunday, 6 December 2026, 12:00 (UTC) The time was extended. The call said at first: Friday, 4 December"
             self.assertIn(f"{TITLE} {when} 2026, 18:00 (UTC) {FORM}#{name}/", text)
             self.assertIn(f"{LINE}{name} _,_,_,_", text)
         self.done("call", "--until", "2026-12-08 12:00", "--zone", "UTC")
-        self.assertIn("Vote until: Tuesday, 8 December 2026, 12:00 (UTC)", self.texts("call")["ben"])
+        self.assertIn(
+            "Vote until: Tuesday, 8 December 2026, 12:00 (UTC)", self.texts("call")["ben"]
+        )
         # in the second of the end it can still be written, and after it nobody is invited
-        with mock.patch.object(due, "now", lambda: datetime.datetime(2026, 12, 8, 12, tzinfo=datetime.UTC)):
+        with mock.patch.object(
+            due, "now", lambda: datetime.datetime(2026, 12, 8, 12, tzinfo=datetime.UTC)
+        ):
             self.assertEqual(len(self.texts("call")), 9)
         self.set_clock("2026-12-08T12:00:01+00:00")
         before = self.rows("call")
@@ -133,7 +165,10 @@ class Call(OutTest):
         for day, is_whole in ((6, True), (8, False)):
             self.done("call", "--until", f"2026-12-{day:02} 12:00", "--zone", "UTC")
             for text in self.texts("call").values():
-                self.assertEqual(("After the vote all" in text, "You have more time to vote." in text), (is_whole, not is_whole))
+                self.assertEqual(
+                    ("After the vote all" in text, "You have more time to vote." in text),
+                    (is_whole, not is_whole),
+                )
 
 
 class Refused(OutTest):
@@ -141,15 +176,23 @@ class Refused(OutTest):
 
     def test_before_the_call_and_a_call_without_addresses(self) -> None:
         for kind in ("call", "receipts", "reminders", "closed", "result"):
-            self.assertEqual(self.election("letters", kind, "--from", "vote@club.example").status, 9, kind)
+            self.assertEqual(
+                self.election("letters", kind, "--from", "vote@club.example").status, 9, kind
+            )
         self.done("call")
         self.assert_fault(self.election("letters", "call"), 2, "--from: the call names no address")
         found = self.written("call", "--from", "vote@other.example")
-        text, begin = one_line(found["ada"]), f"Dear Ada, {TITLE} You can vote until the time that the secretary announces. {LINE}ada _,_,_,_ "
+        text, begin = (
+            one_line(found["ada"]),
+            f"Dear Ada, {TITLE} You can vote until the time that the secretary announces. {LINE}ada _,_,_,_ ",
+        )
         self.assertTrue(text.startswith(begin), text)
         self.assertIn("Option 3: Sell the house and meet there (majority ratio 3)", text)
         # there is no page that has the rest
-        self.assertRegex(text, r"Send your ballot as the secretary announces\. .* WHAT DECIDES .* WHAT WILL BE PUBLIC ")
+        self.assertRegex(
+            text,
+            r"Send your ballot as the secretary announces\. .* WHAT DECIDES .* WHAT WILL BE PUBLIC ",
+        )
         self.assertEqual(found["ada"]["From"], "vote@other.example")
         self.assertIn(f"{LINE}ada _,_,_,_", self.texts("reminders", "--from", "v@x.example")["ada"])
         # the first end that is said may be less time
@@ -160,8 +203,13 @@ class Refused(OutTest):
         self.assertIn("You can now vote until the time below.", one_line(message))
         self.done("close", "--early")
         self.done("publish", "--force", "--because", "nobody has voted")
-        first, second = "The end of the vote was announced: one could vote until Friday, 4", "The time was extended: one could vote until Sunday, 6"
-        self.assertRegex(" ".join(self.read("letters/result.txt").decode().split()), f"{first} .* {second} ")
+        first, second = (
+            "The end of the vote was announced: one could vote until Friday, 4",
+            "The time was extended: one could vote until Sunday, 6",
+        )
+        self.assertRegex(
+            " ".join(self.read("letters/result.txt").decode().split()), f"{first} .* {second} "
+        )
 
     def test_addresses_of_before_the_call_and_that_of_the_result(self) -> None:
         # of several addresses the first that each server takes
@@ -170,23 +218,45 @@ class Refused(OutTest):
         self.assertEqual(self.written("call")["ada"]["To"], "home@ada.example")
         # the one that she had before the call gets no receipt
         self.add_lines(f"ada {RANKS}")
-        self.assertEqual([message["To"] for message in self.written("receipts").values()], ["home@ada.example"])
+        self.assertEqual(
+            [message["To"] for message in self.written("receipts").values()], ["home@ada.example"]
+        )
         # where the result is published is an act, and none if no letter can say it
         self.done("close")
         before = self.last_act()
-        self.assert_fault(self.election("letters", "result", "--at", "https://x.example/r/"), 9, "result: nothing is published")
-        self.assert_fault(self.election("letters", "result", "--at", "https://x.example/r/", "--from", "x"), 2, "--from")
+        self.assert_fault(
+            self.election("letters", "result", "--at", "https://x.example/r/"),
+            9,
+            "result: nothing is published",
+        )
+        self.assert_fault(
+            self.election("letters", "result", "--at", "https://x.example/r/", "--from", "x"),
+            2,
+            "--from",
+        )
         self.assertEqual(self.last_act(), before)
         self.done("publish")
-        self.assert_fault(self.election("letters", "result"), 2, "--at: the letter must say where the result is published")
-        self.assert_fault(self.election("letters", "result", "--at", "ftp://x"), 2, "it must be the address of a page")
-        self.assertIn("https://x.example/r/#ada", self.texts("result", "--at", "https://x.example/r/")["ada"])
+        self.assert_fault(
+            self.election("letters", "result"),
+            2,
+            "--at: the letter must say where the result is published",
+        )
+        self.assert_fault(
+            self.election("letters", "result", "--at", "ftp://x"),
+            2,
+            "it must be the address of a page",
+        )
+        self.assertIn(
+            "https://x.example/r/#ada", self.texts("result", "--at", "https://x.example/r/")["ada"]
+        )
         acts = [(act.name, act.detail) for act in self.book.acts()]
         self.assertEqual(acts.count(("announce", {"at": "https://x.example/r/"})), 1)
         self.texts("result", "--at", "https://x.example/r/")
         self.assertEqual(len(self.book.acts()), len(acts))
         self.assertIn("https://x.example/r/#ada", self.texts("result")["ada"])
-        self.assertIn("https://x.example/s/#ada", self.texts("result", "--at", "https://x.example/s/")["ada"])
+        self.assertIn(
+            "https://x.example/s/#ada", self.texts("result", "--at", "https://x.example/s/")["ada"]
+        )
 
 
 class OwnWords(OutTest):
@@ -211,7 +281,12 @@ class OwnWords(OutTest):
         found["extension"] = self.written("call")
         self.add_lines("ada 1,2")
         found["receipts"] = self.written("receipts")
-        begins = {"call": self.letter, "reminders": self.letter, "extension": "Dear Ada,\n\nIt ends later.\n", "receipts": "Dear Ada,\n"}
+        begins = {
+            "call": self.letter,
+            "reminders": self.letter,
+            "extension": "Dear Ada,\n\nIt ends later.\n",
+            "receipts": "Dear Ada,\n",
+        }
         for kind, letters in found.items():
             message = letters["ada"]
             self.assertTrue(message.get_content().startswith(begins[kind]), message.get_content())
@@ -222,13 +297,22 @@ class OwnWords(OutTest):
         self.assertIn("\n        no ballot found\n", self.told("held"))
         for name, message in found["call"].items():
             quoted = "".join(f"> {line}\n" for line in message.get_content().splitlines())
-            answers = [letter(name, f"{name} {RANKS}\n\n{head}{text}", number=3 + len(head), time=EARLIER) for head, text in (
-                ("On Monday, 23 November 2026 at 08:00 the secretary <vote@club.example> wrote:\n", quoted),
-                ("-----Original Message-----\n", message.get_content()),
-            )]  # fmt: skip
+            answers = [
+                letter(name, f"{name} {RANKS}\n\n{head}{text}", number=3 + len(head), time=EARLIER)
+                for head, text in (
+                    (
+                        "On Monday, 23 November 2026 at 08:00 the secretary <vote@club.example> wrote:\n",
+                        quoted,
+                    ),
+                    ("-----Original Message-----\n", message.get_content()),
+                )
+            ]
             self.assertIn("2 ballots of letters went in; 1 letter waits.", self.add(*answers))
         # without a head it is text of hers
-        self.assertIn("line 1 is a ballot, and there are other lines", self.add(letter("ada", f"ada {RANKS}\n\n{message.get_content()}", number=9)))
+        self.assertIn(
+            "line 1 is a ballot, and there are other lines",
+            self.add(letter("ada", f"ada {RANKS}\n\n{message.get_content()}", number=9)),
+        )
 
 
 class Paper(OutTest):
@@ -236,7 +320,10 @@ class Paper(OutTest):
 
     def test_who_has_no_address_gets_a_page(self) -> None:
         ended = self.done("letters", "call")
-        name = re.search(r"Without an address: (\S+), eve\. Print (letters/call/\d+/to-print\.html)\.\nNote: (.*)\n", ended.output)
+        name = re.search(
+            r"Without an address: (\S+), eve\. Print (letters/call/\d+/to-print\.html)\.\nNote: (.*)\n",
+            ended.output,
+        )
         assert name is not None, ended
         self.assertIn("do not say where a ballot on paper goes. Say it in letter.txt", name[3])
         self.assertIn("Wrote 1 letter: ", ended.output)
@@ -249,8 +336,12 @@ class Paper(OutTest):
         ballot = re.findall(r'<span class="rank"></span>\s*([^<]*)</p>', page)[:4]
         self.assertEqual(f"{' '.join(ballot)}", OPTIONS)
         # each is for the person above it
-        letters = [part.partition("</section>")[0] for part in page.split('<section class="letter">')[1:]]
-        self.assertEqual([re.findall(r"Name: (\S+)</p>", part) for part in letters], [[name[1]], ["eve"]])
+        letters = [
+            part.partition("</section>")[0] for part in page.split('<section class="letter">')[1:]
+        ]
+        self.assertEqual(
+            [re.findall(r"Name: (\S+)</p>", part) for part in letters], [[name[1]], ["eve"]]
+        )
         self.assertEqual(["&lt;script&gt;" in part for part in letters], [True, False])
         self.assertIn("<bdi>Eve</bdi>", letters[1])
         self.assertEqual([state for _, state in self.rows("call")], ["written"] * 3)
@@ -262,17 +353,30 @@ class Paper(OutTest):
         (self.folder / "letter.txt").write_text("Paper goes into the box.\n")
         self.done("call")
         self.assertNotIn("Note", self.done("letters", "call").output)
-        self.assertIn("The words at the head of this letter say where it goes.", " ".join(self.read(name[2]).decode().split()))
+        self.assertIn(
+            "The words at the head of this letter say where it goes.",
+            " ".join(self.read(name[2]).decode().split()),
+        )
         # with an address since, a letter that answers none is no answer to the one on paper
         self.write("members.csv", self.members.replace("Eve,", "Eve,eve@club.example"))
         self.told("roll", "--yes")
-        self.add(letter("eve", f"> Vote now\n\neve {RANKS}\n", subject=f"Re: {self.written('call')['eve']['Subject']}", time=EARLIER))
+        self.add(
+            letter(
+                "eve",
+                f"> Vote now\n\neve {RANKS}\n",
+                subject=f"Re: {self.written('call')['eve']['Subject']}",
+                time=EARLIER,
+            )
+        )
         self.assertEqual((self.numbers()["waiting"], self.stands("eve")), (1, ""))
 
     def test_a_printed_letter_says_who_sends_it_and_where_to_answer(self) -> None:
         """Where the secretary's own words do not begin it."""
         self.done("call", "--take-back")
-        self.write("members.csv", f"{re.sub('(?m)^(?=.)', ',', self.members).replace(',who', 'name,who')}gus,,\n")
+        self.write(
+            "members.csv",
+            f"{re.sub('(?m)^(?=.)', ',', self.members).replace(',who', 'name,who')}gus,,\n",
+        )
         self.told("roll", "--yes")
         self.done("call", "--to", "T\u00fcV & S\u00f6hne <vote@club.example>", *self.call_words[2:])
         self.add_lines("eve 1,2", f"ben {RANKS}")
@@ -288,16 +392,29 @@ class Paper(OutTest):
             [page] = [file for file in self.files(kind) if file.suffix == ".html"]
             self.assertEqual(begin in page.read_text(), kind not in ("call", "reminders"), kind)
             # who has no real name is named as on the roll
-            self.assertEqual("<h2><bdi>gus</bdi></h2>" in page.read_text(), kind != "receipts", kind)
+            self.assertEqual(
+                "<h2><bdi>gus</bdi></h2>" in page.read_text(), kind != "receipts", kind
+            )
         # only what comes by e-mail has a subject
         for file in self.files("result"):
             text = page.read_text() if file == page else parsed(file.read_bytes()).get_content()
-            self.assertEqual("subject of each true letter" in " ".join(text.split()), file != page, file)
+            self.assertEqual(
+                "subject of each true letter" in " ".join(text.split()), file != page, file
+            )
 
 
 class Names(OutTest):
     names = ["ada-2", "ada"]
-    call_words = ("--to", "vote@club.example", "--at", AT, "--until", END, "--zone", "Europe/Berlin")
+    call_words = (
+        "--to",
+        "vote@club.example",
+        "--at",
+        AT,
+        "--until",
+        END,
+        "--zone",
+        "Europe/Berlin",
+    )
 
     def test_no_letter_takes_the_place_of_another(self) -> None:
         """Two letters to ada, at her old address and her new one, beside one to ada-2. Their times are in the zone of the end."""
@@ -307,42 +424,81 @@ class Names(OutTest):
         found = self.written("receipts").values()
         self.assertEqual(sorted(message["To"] for message in found), wanted)
         # the old address does not learn the own mark, neither in the subject nor in the text, which has the right line
-        said = {message["To"]: (bool(re.search(MARKS, message["Subject"])), f"{AT}#ada/" in one_line(message)) for message in found}
-        self.assertEqual(said, {"ada-2@club.example": (True, False), "ada@club.example": (False, False), "ada@new.example": (True, True)})
+        said = {
+            message["To"]: (
+                bool(re.search(MARKS, message["Subject"])),
+                f"{AT}#ada/" in one_line(message),
+            )
+            for message in found
+        }
+        self.assertEqual(
+            said,
+            {
+                "ada-2@club.example": (True, False),
+                "ada@club.example": (False, False),
+                "ada@new.example": (True, True),
+            },
+        )
         for message in found:
             self.assertEqual("ada _,_,_,_" in one_line(message), message["To"].startswith("ada@"))
             # on a busy machine some seconds later
-            self.assertRegex(one_line(message), r"\bMonday, 23 November 2026, 11:00(:\d\d)? \(UTC\+01:00\)")
+            self.assertRegex(
+                one_line(message), r"\bMonday, 23 November 2026, 11:00(:\d\d)? \(UTC\+01:00\)"
+            )
         shown = self.told("show", "ada")
         for address in wanted[1:]:
-            self.assertIn(f"  receipt, 2026-11-23 11:00:00 UTC+01:00, to {address}: written\n", shown)
+            self.assertIn(
+                f"  receipt, 2026-11-23 11:00:00 UTC+01:00, to {address}: written\n", shown
+            )
         self.add_lines(f"ada {OTHER_RANKS}")
-        self.assertEqual([message["To"] for message in self.written("receipts").values()], ["ada@new.example"])
+        self.assertEqual(
+            [message["To"] for message in self.written("receipts").values()], ["ada@new.example"]
+        )
         # whoever changes an address back, and once more, does not hide what came meanwhile
         for address in (",ada@club", ",ada@new", ",ada@club"):
             self.change_roll(",ada@club", address)
         self.add_lines("ada 1,1,1,1")
-        self.assertEqual(sorted(message["To"] for message in self.written("receipts").values()), wanted[1:])
+        self.assertEqual(
+            sorted(message["To"] for message in self.written("receipts").values()), wanted[1:]
+        )
 
 
 class ReceiptsAndReminders(OutTest):
     def test_each_has_its_own_reply(self) -> None:
         """A line that counts, one that is replaced, one that is refused, one that is struck, one that is taken back, and a late one."""
-        self.add_lines(f"ada {RANKS}", f"ben {RANKS}", f"ben {OTHER_RANKS}", "cleo 1,2", f"dan {RANKS}", "fay 1,2", f"fay {RANKS}",
-                       f"gus {RANKS}", "gus 1,2")
+        self.add_lines(
+            f"ada {RANKS}",
+            f"ben {RANKS}",
+            f"ben {OTHER_RANKS}",
+            "cleo 1,2",
+            f"dan {RANKS}",
+            "fay 1,2",
+            f"fay {RANKS}",
+            f"gus {RANKS}",
+            "gus 1,2",
+        )
         self.done("strike", 5, "--because", "it was a mistake")
         self.add_lines(f"eve {RANKS}")
         self.done("undo")
         texts = self.texts("receipts")
         self.assertEqual(sorted(texts), ["ada", "ben", "cleo", "dan", "eve", "fay", "gus"])
-        self.assertRegex(texts["ben"], r"has arrived\. Another ballot of yours, which was entered after it, counts instead\. .* It counts unless you send a later one")
+        self.assertRegex(
+            texts["ben"],
+            r"has arrived\. Another ballot of yours, which was entered after it, counts instead\. .* It counts unless you send a later one",
+        )
         for name, said in (
             ("ada", "has arrived. It counts unless you send a later one."),
             ("ada", f"It was read as: {LAKE}. If you have not sent this"),
             ("ben", "It was read as: In the town hall, then"),
-            ("cleo", "It is not a valid ballot of this vote, so it does not count. It has 2 ranks, and the vote has 4 options."),
+            (
+                "cleo",
+                "It is not a valid ballot of this vote, so it does not count. It has 2 ranks, and the vote has 4 options.",
+            ),
             ("dan", "was entered, and the secretary has struck it. It does not count."),
-            ("eve", "was entered, and the secretary has taken it back. It does not count unless it is entered again."),
+            (
+                "eve",
+                "was entered, and the secretary has taken it back. It does not count unless it is entered again.",
+            ),
             # a receipt refuses if what came last was refused
             ("fay", "It has 2 ranks"),
             ("gus", "You can send a right line now"),
@@ -358,12 +514,22 @@ class ReceiptsAndReminders(OutTest):
             self.assertNotIn("_,_", texts[name])
         for name, text in texts.items():
             self.assertNotRegex(text, r"(?i)envelope|number \d")
-            self.assertFalse([other for other in elections.NAMES if other != name and re.search(rf"\b{other}\b", text)], text)
+            self.assertFalse(
+                [
+                    other
+                    for other in elections.NAMES
+                    if other != name and re.search(rf"\b{other}\b", text)
+                ],
+                text,
+            )
         self.assertEqual(self.texts("receipts"), {})
         # undo names those whose receipts are no longer true
         self.add_lines(f"hal {OTHER_RANKS}")
         self.assertNotIn("receipt", self.told("undo", "--yes"))
-        self.assertIn("\nThese electors have receipts that are no longer true: ada, ben, cleo, fay, gus\n", self.told("undo", "--yes"))
+        self.assertIn(
+            "\nThese electors have receipts that are no longer true: ada, ben, cleo, fay, gus\n",
+            self.told("undo", "--yes"),
+        )
 
     def test_a_folder_that_is_removed_is_made_again(self) -> None:
         """With the same bytes, as long as what they say holds; a receipt of a ballot that is struck since says so."""
@@ -383,7 +549,10 @@ class ReceiptsAndReminders(OutTest):
         output = self.told("letters", "receipts")
         self.assertEqual((there(), self.rows("receipts")), (before, rows))
         for file, said in ((ada, "2 earlier letters"), (cleo, "1 earlier letter")):
-            self.assertIn(f"Wrote {said}, since the folder was not there: letters/receipts/{file.parent.name}\n", output)
+            self.assertIn(
+                f"Wrote {said}, since the folder was not there: letters/receipts/{file.parent.name}\n",
+                output,
+            )
         # a file that was taken out may have been sent
         ada.unlink()
         self.assertEqual(self.told("letters", "receipts"), "There is no letter to send.\n")
@@ -409,15 +578,27 @@ class ReceiptsAndReminders(OutTest):
         self.done("close", "--early")
         self.add_lines(f"dan {OTHER_RANKS}", f"fay {RANKS}", "gus 1,2")
         late = self.texts("receipts")
-        self.assertEqual(sorted((*found, *late)), ["ada", "ben", "cleo", "dan", "eve", "fay", "gus", "hal"])
-        for name, said in {"ada": "No ballot from it is entered yet", "ben": "has 2 ranks", "cleo": "taken it back", "dan": "it is late"}.items():
+        self.assertEqual(
+            sorted((*found, *late)), ["ada", "ben", "cleo", "dan", "eve", "fay", "gus", "hal"]
+        )
+        for name, said in {
+            "ada": "No ballot from it is entered yet",
+            "ben": "has 2 ranks",
+            "cleo": "taken it back",
+            "dan": "it is late",
+        }.items():
             self.assertNotIn(said, first[name])
             counts = "and it counts." if name == "dan" else "It counts unless you send a later one."
-            self.assertRegex((found | late)[name], rf"{re.escape(counts)} It was read as: {LAKE}\..* {said}")
+            self.assertRegex(
+                (found | late)[name], rf"{re.escape(counts)} It was read as: {LAKE}\..* {said}"
+            )
         # what is struck later is told, and what is late
         self.assertIn("the secretary has struck it", found["eve"])
         self.assertIn("has arrived, and it counts. It was read as", late["hal"])
-        self.assertIn(f"It was entered after the close, so it is late and does not count. It was read as: {LAKE}", late["fay"])
+        self.assertIn(
+            f"It was entered after the close, so it is late and does not count. It was read as: {LAKE}",
+            late["fay"],
+        )
         self.assertIn("so it is late and does not count.", late["gus"])
         for text in late.values():
             self.assertNotRegex(text, r"_,_|unless you|You can send")
@@ -431,19 +612,34 @@ class ReceiptsAndReminders(OutTest):
     def test_a_letter_of_which_one_ballot_is_entered(self) -> None:
         """Its elector is told once of that, and the other elector that none of theirs was: Ben, who has the same address, or Dan."""
         self.change_roll("ben@club", "ada@club")
-        self.add(letter("ada", f"ada {RANKS}\nben {OTHER_RANKS}\n"), letter("cleo", f"cleo {RANKS}\ndan {OTHER_RANKS}\n"))
+        self.add(
+            letter("ada", f"ada {RANKS}\nben {OTHER_RANKS}\n"),
+            letter("cleo", f"cleo {RANKS}\ndan {OTHER_RANKS}\n"),
+        )
         self.add(letter("gus", f"hal {RANKS}\n"))
-        for number, how in ((1, ["--as", f"ada {RANKS}"]), (2, ["--as", f"cleo {RANKS}"]), (3, ["--enter", "--force"])):
+        for number, how in (
+            (1, ["--as", f"ada {RANKS}"]),
+            (2, ["--as", f"cleo {RANKS}"]),
+            (3, ["--enter", "--force"]),
+        ):
             self.done("held", number, *how)
         texts = self.texts("receipts")
         # one goes to the address that Ben had; who sent one for somebody else alone is told nothing of it
         self.assertEqual(sorted(texts), ["ada", "ben", "ben_2", "cleo", "dan", "hal"])
         for name in ("ada", "cleo"):
-            self.assertEqual((texts[name].count("has arrived"), "It counts unless you send a later one." in texts[name]), (1, True))
+            self.assertEqual(
+                (
+                    texts[name].count("has arrived"),
+                    "It counts unless you send a later one." in texts[name],
+                ),
+                (1, True),
+            )
         of_others = "10:00 (UTC) has a ballot of somebody else, which was entered. No ballot of yours from it"
         for name in ("ben", "dan"):
             self.assertIn(f"{of_others} was entered.", texts[name])
-        shown = {name: "letter 2, from " in self.told("show", name) for name in ("cleo", "dan", "eve")}
+        shown = {
+            name: "letter 2, from " in self.told("show", name) for name in ("cleo", "dan", "eve")
+        }
         self.assertEqual(shown, {"cleo": True, "dan": True, "eve": False})
 
     def test_letters_that_are_in_no_receipt_are_named(self) -> None:
@@ -453,7 +649,13 @@ class ReceiptsAndReminders(OutTest):
         self.change_roll("ben@club", "ada@club")
         away = letter("x", "away\n", number=3, head="Auto-Submitted: auto-replied\n")
         forged = letter("x", f"eve {RANKS}\n", number=2, head="Auto-Submitted: auto-replied\n")
-        self.add(letter("ada", f"Benjamin Lind {RANKS}\n"), letter("x", "Who are you?\n"), forged, away, letter("cleo", "Thank you.\n"))
+        self.add(
+            letter("ada", f"Benjamin Lind {RANKS}\n"),
+            letter("x", "Who are you?\n"),
+            forged,
+            away,
+            letter("cleo", "Thank you.\n"),
+        )
         said = "No receipt is about these letters that wait, since no elector alone has the sender's address: 1, 2\n"
         output = self.told("letters", "receipts")
         self.assertTrue(output.startswith(said), output)
@@ -462,8 +664,12 @@ class ReceiptsAndReminders(OutTest):
         self.assertEqual(self.told("letters", "receipts"), f"{said}5{waits}")
         held = self.told("held").replace("\n        ", "\n")
         self.assertIn("no ballot found\nwritten: Who are you?\n", held)
-        self.assertIn(f"no ballot found\nwritten: Benjamin Lind {RANKS}\nsame address: ada, ben\n", held)
-        shown = {name: "letter 1, from " in self.told("show", name) for name in ("ada", "ben", "cleo")}
+        self.assertIn(
+            f"no ballot found\nwritten: Benjamin Lind {RANKS}\nsame address: ada, ben\n", held
+        )
+        shown = {
+            name: "letter 1, from " in self.told("show", name) for name in ("ada", "ben", "cleo")
+        }
         self.assertEqual(shown, {"ada": True, "ben": True, "cleo": False})
         self.told("held", 1, 2, "--set-aside")
         self.assertEqual(self.told("letters", "receipts"), f"3{waits}")
@@ -488,12 +694,18 @@ class ReceiptsAndReminders(OutTest):
             ("ada", LAKE),
             ("ben", f"{none} Line 1 of its text is near to a ballot. It has 2 ranks,"),
             # who wrote a ballot in another's name is told, too, with nothing of the other
-            ("cleo", "The reason: the list of members has another address for the name on the ballot."),
+            (
+                "cleo",
+                "The reason: the list of members has another address for the name on the ballot.",
+            ),
             ("dan", ELSEWHERE),
             ("eve", ELSEWHERE),
             ("gus", f"{none} If you have not sent this"),
             ("gus", "You vote under the name gus. You can send a right line now"),
-            ("hal", f"{waits}there is more in it than a ballot. Answer this letter, write your ballot on top, and nothing else."),
+            (
+                "hal",
+                f"{waits}there is more in it than a ballot. Answer this letter, write your ballot on top, and nothing else.",
+            ),
         ):
             self.assertIn(said, texts[name])
         self.assertNotRegex(texts["cleo"], rf"\bdan\b|{RANKS}")
@@ -507,35 +719,79 @@ class ReceiptsAndReminders(OutTest):
         self.assertEqual(list(texts), ["dan", "gus"])
         said = "10:00 (UTC) has arrived. It counts unless you send a later one."
         self.assertIn(f"{said} It was read as: {LAKE}", texts["dan"])
-        self.assertIn(f"{said} The secretary typed it, by a letter that came. It was read as: {LAKE}.", texts["gus"])
+        self.assertIn(
+            f"{said} The secretary typed it, by a letter that came. It was read as: {LAKE}.",
+            texts["gus"],
+        )
         self.assertNotIn("No ballot from it", texts["gus"])
 
     def test_one_for_each_elector_and_run(self) -> None:
-        twice, aside = letter("ben", f"ben {RANKS}\n"), (letter("dan", "hello\n"), letter("eve", f"eve {RANKS}\n", sender="x@x.example"))
+        twice, aside = letter("ben", f"ben {RANKS}\n"), (
+            letter("dan", "hello\n"),
+            letter("eve", f"eve {RANKS}\n", sender="x@x.example"),
+        )
         self.add(*aside)
         self.done("held", 1, 2, "--set-aside")
         self.add(
             letter("ada", f"ada {RANKS}\n", number=1, time="Mon, 23 Nov 2026 08:00:00 +0000"),
             letter("ada", f"ada {OTHER_RANKS}\n", number=2, time="Mon, 23 Nov 2026 09:00:00 +0000"),
             letter("ada", "thanks\n", number=3, time="Mon, 23 Nov 2026 09:30:00 +0000"),
-            *(twice, twice.replace(b"Received: from a", b"Received: from c"), letter("cleo", "hi\n"), b"X-Y: z\n" + letter("cleo", "hi\n")),
+            *(
+                twice,
+                twice.replace(b"Received: from a", b"Received: from c"),
+                letter("cleo", "hi\n"),
+                b"X-Y: z\n" + letter("cleo", "hi\n"),
+            ),
             letter("fay", f"fay {RANKS}\n", sender="F\u00e1y <fay@club.example>"),
         )
         why = "the name of its sender is not encoded"
-        self.assertIn(f"\n        {why}, so programs may read it in different ways\n", self.told("held"))
+        self.assertIn(
+            f"\n        {why}, so programs may read it in different ways\n", self.told("held")
+        )
         texts = self.texts("receipts")
-        self.assertEqual({name: text.count("has arrived") for name, text in texts.items()}, {"ada": 3, "ben": 1, "cleo": 1, "dan": 1, "eve": 0, "fay": 1})
-        self.assertRegex(texts["ada"], r"08:00 \(UTC\) has arrived\. Another.*09:00 \(UTC\) has arrived\. It counts.*09:30 \(UTC\) has arrived\. No")
-        self.assertIn("No ballot from it was entered. The reason: the secretary has looked at it, and set it aside.", texts["dan"])
-        self.assertIn("A letter in your name came from another address. The secretary has set it aside.", texts["eve"])
-        self.assertIn(f" look at it first. The reason: {why}. Send it with a name without accents", texts["fay"])
+        self.assertEqual(
+            {name: text.count("has arrived") for name, text in texts.items()},
+            {"ada": 3, "ben": 1, "cleo": 1, "dan": 1, "eve": 0, "fay": 1},
+        )
+        self.assertRegex(
+            texts["ada"],
+            r"08:00 \(UTC\) has arrived\. Another.*09:00 \(UTC\) has arrived\. It counts.*09:30 \(UTC\) has arrived\. No",
+        )
+        self.assertIn(
+            "No ballot from it was entered. The reason: the secretary has looked at it, and set it aside.",
+            texts["dan"],
+        )
+        self.assertIn(
+            "A letter in your name came from another address. The secretary has set it aside.",
+            texts["eve"],
+        )
+        self.assertIn(
+            f" look at it first. The reason: {why}. Send it with a name without accents",
+            texts["fay"],
+        )
 
     def test_heads_that_came_add_no_line(self) -> None:
         coded = "=?utf-8?q?=3Ca=40b=3E=0D=0ABcc=3A_all=40x.example?="
         senders = ("ada@club.example", '"=?utf-8?q?Ada=0ABcc:_x=40y.example?=" <ada@club.example>')
-        for number, text in enumerate(("<a@b>\n Bcc: everybody@x.example", coded, "<\xff\xfe@b>", "<" + "a" * 5000 + "@b>", "")):
+        for number, text in enumerate(
+            (
+                "<a@b>\n Bcc: everybody@x.example",
+                coded,
+                "<\xff\xfe@b>",
+                "<" + "a" * 5000 + "@b>",
+                "",
+            )
+        ):
             head = f"References: {text}\nSubject: {text}\nReply-To: {text}\n"
-            self.add(letter("ada", "no ballot\n", number=f"{number}@x>\nX-Old: <{number}", head=head, sender=senders[number % 2]))
+            self.add(
+                letter(
+                    "ada",
+                    "no ballot\n",
+                    number=f"{number}@x>\nX-Old: <{number}",
+                    head=head,
+                    sender=senders[number % 2],
+                )
+            )
         [message] = self.written("receipts").values()
         self.assertEqual(message["To"], "ada@club.example")
         names = "From To Subject Date Message-ID X-Unsent Auto-Submitted MIME-Version Content-Type Content-Transfer-Encoding"
@@ -553,9 +809,17 @@ class ReceiptsAndReminders(OutTest):
         self.done("strike", 3, "--because", "not his")
         self.add(letter("hal", "hello\n"))
         self.done("held", 1, "--set-aside")
-        self.add(letter("cleo", "I want the lake\n"), letter("dan", f"dan {RANKS}\n", sender="x@x.example"))
         self.add(
-            letter("eve", f"eve {RANKS}\n", sender="x@x.example", time="Mon, 23 Nov 2026 08:00:00 +0000"),
+            letter("cleo", "I want the lake\n"),
+            letter("dan", f"dan {RANKS}\n", sender="x@x.example"),
+        )
+        self.add(
+            letter(
+                "eve",
+                f"eve {RANKS}\n",
+                sender="x@x.example",
+                time="Mon, 23 Nov 2026 08:00:00 +0000",
+            ),
             letter("eve", "I want the lake\n", number=2, time="Mon, 23 Nov 2026 09:00:00 +0000"),
         )
         # nobody has agreed to this one yet
@@ -565,17 +829,30 @@ class ReceiptsAndReminders(OutTest):
         texts = {name: one_line(message) for name, message in messages.items()}
         self.assertEqual(sorted(texts), [name for name in elections.NAMES if name != "ada"])
         for name in ("ben", "hal"):
-            self.assertTrue(texts[name].startswith(f"Dear {name.title()}, {NONE} {WHEN} {FORM}#{name}/"), texts[name])
+            self.assertTrue(
+                texts[name].startswith(f"Dear {name.title()}, {NONE} {WHEN} {FORM}#{name}/"),
+                texts[name],
+            )
         refused = "It is not a valid ballot of this vote, so it does not count. It has 2 ranks, and the vote has 4 options."
-        wanted = (("fay", "A line with your name", refused), ("gus", "Your ballot", "and the secretary has struck it. It does not count."))
+        wanted = (
+            ("fay", "A line with your name", refused),
+            ("gus", "Your ballot", "and the secretary has struck it. It does not count."),
+        )
         for name, begins, ends in wanted:
             begin, told, rest = texts[name].partition(f"{ends} ")
             self.assertTrue(begin.startswith(f"Dear {name.title()}, {NONE} {begins} "), texts[name])
-            self.assertIn(f"You can send a right line now, and need not wait. {WHEN} {FORM}#{name}/", rest)
+            self.assertIn(
+                f"You can send a right line now, and need not wait. {WHEN} {FORM}#{name}/", rest
+            )
         self.assertIn(f"{LINE}ben _,_,_,_", texts["ben"])
         # whose letter waits is told so, and what can be done meanwhile
-        self.assertIn("No ballot from it is entered yet: the secretary has to look at it first.", texts["cleo"])
-        self.assertIn(f" You can send a right line now, and need not wait. {WHEN} {FORM}#cleo/", texts["cleo"])
+        self.assertIn(
+            "No ballot from it is entered yet: the secretary has to look at it first.",
+            texts["cleo"],
+        )
+        self.assertIn(
+            f" You can send a right line now, and need not wait. {WHEN} {FORM}#cleo/", texts["cleo"]
+        )
         self.assertIn(f"{LINE}cleo _,_,_,_", texts["cleo"])
         self.assertNotIn("need not wait", texts["ben"])
         # a stranger's letter silences nobody, nor is it one for which somebody waits
@@ -583,12 +860,18 @@ class ReceiptsAndReminders(OutTest):
         self.assertNotIn("need not wait", texts["dan"])
         self.assertIn("dan _,_,_,_", texts["dan"])
         # nor hides it an own letter that waits
-        self.assertIn(f"{ELSEWHERE} Your letter of Monday, 23 November 2026, 09:00 (UTC) has arrived.", texts["eve"])
+        self.assertIn(
+            f"{ELSEWHERE} Your letter of Monday, 23 November 2026, 09:00 (UTC) has arrived.",
+            texts["eve"],
+        )
         self.assertIn("You can send a right line now", texts["eve"])
         # who has voted reads that the ballot has come, and is not entered yet
         for name, begins in (("ida", "Receipt: "), ("hal", "Not yet voted: ")):
             self.assertTrue(messages[name]["Subject"].startswith(begins), name)
-        self.assertIn("Your letter of Monday, 23 November 2026, 10:00 (UTC) has arrived. No ballot from it is entered yet: ", texts["ida"])
+        self.assertIn(
+            "Your letter of Monday, 23 November 2026, 10:00 (UTC) has arrived. No ballot from it is entered yet: ",
+            texts["ida"],
+        )
         for words in (NONE, "You can send a right line now", "ida _,_,_,_"):
             self.assertNotIn(words, texts["ida"])
         # and the secretary, how many letters wait
@@ -603,7 +886,9 @@ class ReceiptsAndReminders(OutTest):
             self.assertIn(f"Vote until: {words} 2026, 18:00 (UTC)", one_line(reminder))
             ids.add(reminder["Message-ID"])
             self.set_clock(f"2026-12-{day - 1:02}T10:00:00+00:00")
-            self.add(letter("ben", "hi\n", number=day, time=f"Fri, {day - 1:02} Dec 2026 09:00:00 +0000"))
+            self.add(
+                letter("ben", "hi\n", number=day, time=f"Fri, {day - 1:02} Dec 2026 09:00:00 +0000")
+            )
             self.assertNotIn("after the end", self.texts("receipts")["ben"])
             self.set_clock("2026-11-23T10:00:00+00:00")
         # each run that writes files is a new one
@@ -616,7 +901,11 @@ class FullDisk(OutTest):
     names = ["ada", "ben", "cleo"]
 
     def receipts(self) -> dict[pathlib.Path, bytes]:
-        return {file: file.read_bytes() for file in (self.folder / "letters").rglob("*.eml") if ".debvote" not in str(file)}
+        return {
+            file: file.read_bytes()
+            for file in (self.folder / "letters").rglob("*.eml")
+            if ".debvote" not in str(file)
+        }
 
     def test_what_could_not_be_noted_leaves_the_folder_as_it_was(self) -> None:
         place = self.folder / "letters" / "call" / "4"
@@ -625,7 +914,9 @@ class FullDisk(OutTest):
             (place.parent / f"{TEMPORARY}left").mkdir(parents=True)
             with contextlib.suppress(KeyError), in_place({"ben.eml": b"2"}, place):
                 raise KeyError
-            self.assertEqual({file.name: file.read_bytes() for file in place.parent.rglob("*.eml")}, before)
+            self.assertEqual(
+                {file.name: file.read_bytes() for file in place.parent.rglob("*.eml")}, before
+            )
             with in_place({"ada.eml": b"1"}, place):
                 pass
             self.assertEqual([file.name for file in place.parent.iterdir()], ["4"])
@@ -638,11 +929,20 @@ class FullDisk(OutTest):
         def demand_named(place: object, *words: str) -> None:
             before = self.contents()
             ended = self.election(*words, preexec_fn=full)
-            self.assert_fault(ended, 7, f"{place}: File too large; it was not changed; put this right, then run the command again")
-            self.assertEqual({name: data for name, data in self.contents().items() if name != "letters/.lock"}, before)
+            self.assert_fault(
+                ended,
+                7,
+                f"{place}: File too large; it was not changed; put this right, then run the command again",
+            )
+            self.assertEqual(
+                {name: data for name, data in self.contents().items() if name != "letters/.lock"},
+                before,
+            )
 
         self.add_lines(f"ada {RANKS}")
-        demand_named(pathlib.Path("letters/receipts") / str(self.last_act() + 1), "letters", "receipts")
+        demand_named(
+            pathlib.Path("letters/receipts") / str(self.last_act() + 1), "letters", "receipts"
+        )
         self.done("close", "--early")
         shutil.rmtree(self.folder / "letters")
         demand_named(self.folder.resolve(), "publish")
@@ -654,13 +954,25 @@ class FullDisk(OutTest):
     def test_it_loses_no_receipt(self) -> None:
         """The calls are those that write into the folder and the book; some come in each run, and the disk is full at each of them."""
         failures = set()
-        for call, counts in (("write", range(1, 7)), ("pwrite64", range(2, 20, 4)), ("mkdir", range(6, 8)), ("rename", range(1, 3))):
+        for call, counts in (
+            ("write", range(1, 7)),
+            ("pwrite64", range(2, 20, 4)),
+            ("mkdir", range(6, 8)),
+            ("rename", range(1, 3)),
+        ):
             for count in counts:
                 with self.subTest(call=call, count=count):
                     number = len(self.book.acts())
-                    self.add_lines(*(f"{name} {1 + number % 90},{1 + number // 90},-,1" for name in self.names))
+                    self.add_lines(
+                        *(f"{name} {1 + number % 90},{1 + number // 90},-,1" for name in self.names)
+                    )
                     before, files = len(self.rows("receipts")), self.receipts()
-                    ended = self.traced("-f", "-e", f"inject={call}:error=ENOSPC:when={count}", words=("letters", "receipts"))
+                    ended = self.traced(
+                        "-f",
+                        "-e",
+                        f"inject={call}:error=ENOSPC:when={count}",
+                        words=("letters", "receipts"),
+                    )
                     failures |= {call} if ended.status else set()
                     noted = [name for name, _ in self.rows("receipts")[before:]]
                     self.assertIn(noted, ([], self.names))
@@ -670,7 +982,11 @@ class FullDisk(OutTest):
                         self.assertNotEqual(ended.status, 0)
                         self.assertEqual(self.receipts(), files)
                         self.assertEqual(sorted(self.texts("receipts")), self.names)
-                    left = [file.name for file in (self.folder / "letters" / "receipts").iterdir() if not file.name.isdigit()]
+                    left = [
+                        file.name
+                        for file in (self.folder / "letters" / "receipts").iterdir()
+                        if not file.name.isdigit()
+                    ]
                     self.assertLessEqual(len(left), 2)
         self.assertEqual(failures, {"write", "pwrite64", "mkdir", "rename"})
 
@@ -683,12 +999,17 @@ class CloseAndResult(OutTest):
         self.done("publish")
         texts = self.texts("result")
         self.assertEqual(sorted(texts), elections.NAMES)
-        begin = f"{TITLE} Winner: Option 1: At the lake. It beats each option that was not dropped: "
+        begin = (
+            f"{TITLE} Winner: Option 1: At the lake. It beats each option that was not dropped: "
+        )
         numbers = "Option 2: In the town hall by 2 to 0 and Option 4: Further discussion by 2 to 0."
         facts = "2 of 9 voted, quorum 2 reached. The result is published at: "
         own = f"Your own ballot in words: {LAKE}. The page shows it at: {AT}#ada "
         self.assertIn(f"Dear Ada, {begin}{numbers} {facts}{AT} {own}What is doubtful", texts["ada"])
-        self.assertEqual(f"Dear Ada, {' '.join(self.read('letters/result.txt').decode().split())}", texts["ada"].replace(own, ""))
+        self.assertEqual(
+            f"Dear Ada, {' '.join(self.read('letters/result.txt').decode().split())}",
+            texts["ada"].replace(own, ""),
+        )
         self.assertIn(f"{AT}#ben", texts["ben"])
         self.assertIn(f"{AT} The result has no ballot of yours that counts.", texts["cleo"])
         self.assertNotIn("#", texts["cleo"])
@@ -696,18 +1017,34 @@ class CloseAndResult(OutTest):
             checksum = hashlib.sha256(self.read(f"result/{name}")).hexdigest()
             for text in texts.values():
                 self.assertIn(f"{checksum} {name}", text)
-        self.assertIn("sha256sum SHA256SUMS index.html && sha256sum -c --ignore-missing SHA256SUMS", texts["ada"])
+        self.assertIn(
+            "sha256sum SHA256SUMS index.html && sha256sum -c --ignore-missing SHA256SUMS",
+            texts["ada"],
+        )
         # the page does not compare itself
         self.assertNotIn("Count again here", texts["ada"])
         telephone = "A page can't vouch for itself. So on a telephone, which has no such command, ask somebody with a computer to compare it."
-        self.assertIn(f"{telephone} The subject of each true letter to you ends with your own mark", texts["ada"])
-        self.assertIn("open the index.html that you downloaded and compared, and read that file", texts["ada"])
-        self.assertIn("The program recount.py, which counts anew, is that of the web site until its checksum is compared: run it only if", texts["ada"])
+        self.assertIn(
+            f"{telephone} The subject of each true letter to you ends with your own mark",
+            texts["ada"],
+        )
+        self.assertIn(
+            "open the index.html that you downloaded and compared, and read that file", texts["ada"]
+        )
+        self.assertIn(
+            "The program recount.py, which counts anew, is that of the web site until its checksum is compared: run it only if",
+            texts["ada"],
+        )
         # each act that the page tells
         self.assertIn("That was before the time until which one could vote.", texts["ada"])
         # none of a vote that is open again; each publication has its letters
         self.done("reopen", "--because", "a bag was forgotten")
-        self.assert_fault(self.election("letters", "result"), 9, "the vote is not closed", "run debvote-election close first")
+        self.assert_fault(
+            self.election("letters", "result"),
+            9,
+            "the vote is not closed",
+            "run debvote-election close first",
+        )
         self.done("desk", "--came-before-close", "yes", given="ada 1,3,4,2\n")
         self.done("close", "--early")
         self.done("publish", "result-2")
@@ -734,15 +1071,24 @@ class CloseAndResult(OutTest):
         ):
             self.assertIn(said, texts["ada"])
         for name, why in (
-            ("ben", "It is not a valid ballot of this vote, so it does not count. It has 2 ranks, and the vote has 4 options."),
+            (
+                "ben",
+                "It is not a valid ballot of this vote, so it does not count. It has 2 ranks, and the vote has 4 options.",
+            ),
             ("cleo", "and the secretary has struck it. It does not count."),
             ("dan", "It was entered after the close, so it is late and does not count."),
-            ("eve", "No ballot from it is entered yet: the secretary has to look at it first. The reason: no line of it is a ballot of this vote."),
+            (
+                "eve",
+                "No ballot from it is entered yet: the secretary has to look at it first. The reason: no line of it is a ballot of this vote.",
+            ),
             ("fay", "No ballot has come under your name."),
             # no ballot is entered again after the close
             ("gus", "and the secretary has taken it back. It does not count. It was read as:"),
         ):
-            self.assertRegex(texts[name], rf"{AT} The result has no ballot of yours that counts\. .*{re.escape(why)} .*What is doubtful")
+            self.assertRegex(
+                texts[name],
+                rf"{AT} The result has no ballot of yours that counts\. .*{re.escape(why)} .*What is doubtful",
+            )
 
     def test_of_a_close_has_the_checksum_and_of_a_second_one_all_get_it(self) -> None:
         self.add_lines(f"ada {RANKS}")
@@ -755,16 +1101,25 @@ class CloseAndResult(OutTest):
             for message in found.values():
                 self.assertIn(text, message.get_content())
                 self.assertIn(f"{count} came in time.", one_line(message))
-                self.assertRegex(message["Subject"], rf"^Vote closed: Where we meet in spring {MARKS}$")
+                self.assertRegex(
+                    message["Subject"], rf"^Vote closed: Where we meet in spring {MARKS}$"
+                )
                 # the second one names what it takes the place of
                 before = "Monday, 23 November 2026, 10:0\\S+ \\(UTC\\), and opened again\\. The reason, in the secretary's words: \\(a bag was forgotten\\)"
                 place = "This letter takes the place of the one about that close, which had this checksum of the ballots"
-                told = re.search(rf"The vote was closed before, on {before} {place}: {checksum} Keep this letter", one_line(message))
+                told = re.search(
+                    rf"The vote was closed before, on {before} {place}: {checksum} Keep this letter",
+                    one_line(message),
+                )
                 self.assertEqual(told is None, said is not None, one_line(message))
             checksum = hashlib.sha256(self.exported()[0].encode()).hexdigest()
             if said:
                 self.done("reopen", "--because", "a bag was forgotten")
-                for kind, fault in (said, ("call", "nobody is asked to vote"), ("reminders", "nobody is asked to vote")):
+                for kind, fault in (
+                    said,
+                    ("call", "nobody is asked to vote"),
+                    ("reminders", "nobody is asked to vote"),
+                ):
                     self.assert_fault(self.election("letters", kind), 9, fault)
                 self.add_lines(f"ben {RANKS}", words=("--came-before-close", "yes"))
 
@@ -773,7 +1128,11 @@ class Secret(OutTest):
     poll = elections.POLL + "secret = true\n"
 
     def codes(self) -> dict[str, str]:
-        return dict(self.book.rows("SELECT name, code FROM elector JOIN elector_state USING (elector) WHERE code <> ''"))
+        return dict(
+            self.book.rows(
+                "SELECT name, code FROM elector JOIN elector_state USING (elector) WHERE code <> ''"
+            )
+        )
 
     def test_the_call_has_the_code_of_its_own_elector_and_an_answer_to_it_goes_in(self) -> None:
         codes = self.codes()
@@ -788,7 +1147,9 @@ class Secret(OutTest):
             folder.chmod(0o755)
         self.written("call")
         self.assertEqual({stat.S_IMODE(folder.stat().st_mode) for folder in folders}, {0o700})
-        self.assertEqual({stat.S_IMODE(file.stat().st_mode) for file in self.files("call")}, {0o600})
+        self.assertEqual(
+            {stat.S_IMODE(file.stat().st_mode) for file in self.files("call")}, {0o600}
+        )
         # that there is more time is told without the code
         self.done("call", "--until", "2026-12-06 12:00", "--zone", "UTC")
         for message in self.written("call").values():
@@ -796,29 +1157,59 @@ class Secret(OutTest):
         # the mark in its subject is that of the poll that everybody sees, with the own one; the link has no name
         self.assertEqual([self.mark], [mark for mark, _ in re.findall(MARKS, found["Subject"])])
         self.assertRegex(one_line(found), rf"the result will be: {AT} {LINE}ada _,_,_,_ ")
-        self.add(letter("ada", f"ada {RANKS}\n", head=f"In-Reply-To: {found['Message-ID']}\nSubject: Re: {found['Subject']}\n", time=EARLIER))
+        self.add(
+            letter(
+                "ada",
+                f"ada {RANKS}\n",
+                head=f"In-Reply-To: {found['Message-ID']}\nSubject: Re: {found['Subject']}\n",
+                time=EARLIER,
+            )
+        )
         self.assertEqual(self.numbers()["valid"], 1)
 
     def test_a_code_that_went_to_an_address_that_goes(self) -> None:
         """`roll` says who will see that vote, and the letter to the new address; not of an address that goes before the code went there."""
         self.written("call")
-        for address, said in (("wrong@x.example", "ada@club.example"), ("ada@new.example", "ada@club.example, wrong@x.example")):
-            self.write("members.csv", elections.members_of(self.names).replace("ada@club.example", address))
+        for address, said in (
+            ("wrong@x.example", "ada@club.example"),
+            ("ada@new.example", "ada@club.example, wrong@x.example"),
+        ):
+            self.write(
+                "members.csv", elections.members_of(self.names).replace("ada@club.example", address)
+            )
             before = "ada@club.example" if address.startswith("wrong") else "wrong@x.example"
             seen = f"ada: address {before} becomes {address}; the secret code went to {before}, and whoever reads it there will see this vote"
             take_back = "(as long as nothing has come, call --take-back makes new codes)"
-            self.assert_refused(["roll"], 9, seen.replace("ada:", "ada (Ada):"), f"{take_back}. Is that right?")
+            self.assert_refused(
+                ["roll"], 9, seen.replace("ada:", "ada (Ada):"), f"{take_back}. Is that right?"
+            )
             self.assertIn(f"{seen} {take_back}\n", self.told("roll", "--yes"))
             texts = self.texts("call")
-            told = [f"It went to another address before: {one}. Whoever reads letters there will see how you vote." for one in said.split(", ")]
-            self.assertEqual([one in texts["ada"] for one in told], [True] * len(told), texts["ada"])
+            told = [
+                f"It went to another address before: {one}. Whoever reads letters there will see how you vote."
+                for one in said.split(", ")
+            ]
+            self.assertEqual(
+                [one in texts["ada"] for one in told], [True] * len(told), texts["ada"]
+            )
             self.assertNotIn("It went to another address", texts["ben"])
         # a key alone, an address that is added, and an open vote
-        self.write("members.csv", elections.members_of(self.names).replace("ada@club.example", "ada@new.example home@x.example"))
+        self.write(
+            "members.csv",
+            elections.members_of(self.names).replace(
+                "ada@club.example", "ada@new.example home@x.example"
+            ),
+        )
         self.assertNotIn("secret code", self.told("roll", "--yes"))
         # on paper, by a letter that has no code, and to an address that is put back it went to none
-        for address, kind in (("", "call"), ("third@x.example", "reminders"), ("ada@club.example", "call")):
-            self.write("members.csv", elections.members_of(self.names).replace("ada@club.example", address))
+        for address, kind in (
+            ("", "call"),
+            ("third@x.example", "reminders"),
+            ("ada@club.example", "call"),
+        ):
+            self.write(
+                "members.csv", elections.members_of(self.names).replace("ada@club.example", address)
+            )
             self.told("roll", "--yes")
             texts = self.texts(kind)
         told = re.findall(r"It went to another address before: (\S*)\. ", texts["ada"])
@@ -827,21 +1218,35 @@ class Secret(OutTest):
     def test_nothing_else_has_codes_or_ranks(self) -> None:
         codes = self.codes()
         self.add_lines(f"ada {RANKS}", "ben 1,2", "eve 1", words=("--force",))
-        self.add(letter("cleo", f"{codes['cleo']} {RANKS}\n"), letter("dan", f"dan {RANKS}\n{codes['dan']}\n"))
+        self.add(
+            letter("cleo", f"{codes['cleo']} {RANKS}\n"),
+            letter("dan", f"dan {RANKS}\n{codes['dan']}\n"),
+        )
         found = [*self.written("receipts").values(), *self.written("reminders").values()]
         self.done("call", "--until", "2026-12-06 12:00", "--zone", "UTC")
         self.done("close", "--early", "--force", "--because", "x")
         found += self.written("closed").values()
-        aliases = [alias for alias, in self.book.rows("SELECT alias FROM elector_state WHERE alias <> ''")]
+        aliases = [
+            alias for alias, in self.book.rows("SELECT alias FROM elector_state WHERE alias <> ''")
+        ]
         self.done("publish", "--yes", "--force", "--because", "they were asked")
-        private = self.run_program("sh", "-c", "cd out && sha256sum *").output if self.done("export", "out") else ""
+        private = (
+            self.run_program("sh", "-c", "cd out && sha256sum *").output
+            if self.done("export", "out")
+            else ""
+        )
         results = self.texts("result")
         self.assertIn("find it with your name, ada, and your code, under", results["ada"])
         self.assertNotIn("#", results["ada"])
         self.assertIn("cat seal.txt ballots.txt | sha256sum", results["ada"])
-        self.assertIn("learns what you type into it, with or without a network", " ".join(results["ada"].split()))
+        self.assertIn(
+            "learns what you type into it, with or without a network",
+            " ".join(results["ada"].split()),
+        )
         for text in results.values():
-            self.assertRegex(text, r"- More than half of the lines that came are refused\. - (?!.*2 of 3)")
+            self.assertRegex(
+                text, r"- More than half of the lines that came are refused\. - (?!.*2 of 3)"
+            )
         for text in [one_line(message) for message in found] + list(results.values()):
             self.assertFalse([code for code in [*codes.values(), *aliases] if code in text])
             self.assertNotRegex(text, r"[a-z]+ \d,\d,\d,\d")

@@ -24,8 +24,13 @@ from tests.support.questions import FEE, QuestionsTest
 
 # one question, a motion, and several questions, with a ballot of each
 MOTION = SealedPoll("Fee", ("Raise it to 72 Euro",), (2,), "No", 2, POLL.roll, motion=True)
-PLACES = dataclasses.replace(POLL, options=POLL.options[:2], ratios=(1, 3), explanations=("A lake.", "", ""))
-SEVERAL = Questions({"A": MOTION, "B": PLACES, "C": dataclasses.replace(MOTION, title="Plan B", options=("Yes",))}, "Meeting")
+PLACES = dataclasses.replace(
+    POLL, options=POLL.options[:2], ratios=(1, 3), explanations=("A lake.", "", "")
+)
+SEVERAL = Questions(
+    {"A": MOTION, "B": PLACES, "C": dataclasses.replace(MOTION, title="Plan B", options=("Yes",))},
+    "Meeting",
+)
 VOTES = [(alone(PLACES), "1,2,3"), (alone(MOTION), "1,2"), (SEVERAL, "A 1,2 B 1,1,- C 2,1")]
 
 
@@ -33,7 +38,12 @@ def like_answers(letters: Iterable[str], questions: Questions, code: str) -> lis
     """The lines that look like answers: as they are, each joined to the next, or quoted in narrow columns."""
     parted = [text.splitlines() for text in letters]
     lines = {one for its in parted for one in (*its, *map(" ".join, itertools.pairwise(its)))}
-    lines |= {f"> {part}" for columns in (40, 60, 72) for line in lines for part in textwrap.wrap(line, columns)}
+    lines |= {
+        f"> {part}"
+        for columns in (40, 60, 72)
+        for line in lines
+        for part in textwrap.wrap(line, columns)
+    }
     return list(filter(questions.answers(language_of(code)).search, lines))
 
 
@@ -42,17 +52,32 @@ class Letters(unittest.TestCase):
         for code, (questions, answers) in itertools.product(LANGUAGES, VOTES):
             letters = set[str]()
             for of_kind, is_over in itertools.product(KINDS.values(), (False, True)):
-                how = {"language": language_of(code), "questions": questions, "quorum_votes": dict.fromkeys(questions, 2)}
+                how = {
+                    "language": language_of(code),
+                    "questions": questions,
+                    "quorum_votes": dict.fromkeys(questions, 2),
+                }
                 call = dataclasses.replace(of_kind, **how)
                 of_box = dataclasses.replace(call, box_key=b"x", real_names={})
-                later = dataclasses.replace(call, at=None, until=UNTIL.replace(month=1), letter_text="Dear all,\n")
+                later = dataclasses.replace(
+                    call, at=None, until=UNTIL.replace(month=1), letter_text="Dear all,\n"
+                )
                 for one in (call, of_box, later):
-                    letters |= {call_letter(one), call_letter(one, is_extension=True), *texts(Composer(one, is_over), answers)}
+                    letters |= {
+                        call_letter(one),
+                        call_letter(one, is_extension=True),
+                        *texts(Composer(one, is_over), answers),
+                    }
             self.assertGreater(len(letters), 100)
             self.assertEqual(like_answers(letters, questions, code), [], code)
 
     def test_one_is_seen(self) -> None:
-        for text, (questions, _) in (("So (1, 2,\n3)", VOTES[0]), ("in place of 2;1", VOTES[1]), ("Question A: yes", VOTES[2]), ("B\n1", VOTES[2])):
+        for text, (questions, _) in (
+            ("So (1, 2,\n3)", VOTES[0]),
+            ("in place of 2;1", VOTES[1]),
+            ("Question A: yes", VOTES[2]),
+            ("B\n1", VOTES[2]),
+        ):
             self.assertNotEqual(like_answers([text], questions, "en"), [], text)
 
 
@@ -62,24 +87,47 @@ class Several(QuestionsTest):
     def test_letters_of_close_and_result(self) -> None:
         """They have numbers and checksums of each question."""
         for code in LANGUAGES:
-            self.folder, self.new_words = self.scratch / code, ("--questions", "3", "--language", code)
+            self.folder, self.new_words = self.scratch / code, (
+                "--questions",
+                "3",
+                "--language",
+                code,
+            )
             self.begin()
-            self.add_lines("ada A 1,2 B 1,2,3 C 1,2,3,4", "ben A 1,2 B 2,1,3", "cleo A 2,1 C 2,1,3,4", "dan A 1", "ben C 1,1,3,2", words=("--force",))
+            self.add_lines(
+                "ada A 1,2 B 1,2,3 C 1,2,3,4",
+                "ben A 1,2 B 2,1,3",
+                "cleo A 2,1 C 2,1,3,4",
+                "dan A 1",
+                "ben C 1,1,3,2",
+                words=("--force",),
+            )
             self.told("strike", "2", "--because", "a mistake")
             for because in ("one was forgotten", ""):
                 self.told("close", "--early")
                 self.told(*(("reopen", "--because", because) if because else ("log",)))
             self.election("publish", "--yes")
             letters = [self.read(f"letters/{name}.txt").decode() for name in ("closed", "result")]
-            self.assertEqual(like_answers(letters, Election(self.folder, PROGRAM.parent).questions, code), [], code)
+            self.assertEqual(
+                like_answers(letters, Election(self.folder, PROGRAM.parent).questions, code),
+                [],
+                code,
+            )
 
 
 class OfSecretary(OutTest):
     """What the secretary writes: `check` names what looks like an answer, and nothing goes on with what reads as a ballot."""
 
     call_words = None
-    texts = {"letter.txt": "Dear all,\n\nwe have rooms 1, 2, 3, 4.\n", "texts/1.txt": "See 1;2;-;4\n\nor 2,1\n"}
-    named = ["poll.toml: Pay 1,2,3,4 Euro", "texts/1.txt:1: See 1;2;-;4", "letter.txt:3: we have rooms 1, 2, 3, 4."]
+    texts = {
+        "letter.txt": "Dear all,\n\nwe have rooms 1, 2, 3, 4.\n",
+        "texts/1.txt": "See 1;2;-;4\n\nor 2,1\n",
+    }
+    named = [
+        "poll.toml: Pay 1,2,3,4 Euro",
+        "texts/1.txt:1: See 1;2;-;4",
+        "letter.txt:3: we have rooms 1, 2, 3, 4.",
+    ]
     refused = ["ada 1,2,3,4", "Ada: 1, 2, -, 4", "*Maria Braun* 1,2,3,4"]
     poll = OutTest.poll.replace("At the lake", "Pay 1,2,3,4 Euro")
     members = "name,who,mail\nada,,ada@club.example\nben,,\ncleo,Maria Braun,\n"
@@ -108,7 +156,15 @@ class OfSecretary(OutTest):
 
 class OfSecretaryOfSeveral(QuestionsTest, OfSecretary):
     texts = {"letter.txt": "Dear all,\nA: yes\n", "texts/B/1.txt": "See b) 3,\n1,2\n"}
-    named = ["polls/A.toml: A: 12,50 Euro", "texts/B/1.txt:1: See b) 3,", "texts/B/1.txt:2: 1,2", "letter.txt:2: A: yes"]
+    named = [
+        "polls/A.toml: A: 12,50 Euro",
+        "texts/B/1.txt:1: See b) 3,",
+        "texts/B/1.txt:2: 1,2",
+        "letter.txt:2: A: yes",
+    ]
     refused = ["ada A 1,2", "Ada: c)1,2,3,4", "ada b: 2,1,3 A 2,1"]
     poll = QuestionsTest.poll
-    polls = {**QuestionsTest.polls, "A": f'{FEE.replace("Raise the fee to 72 Euro", "12,50 Euro", 1)}motion = true\n'}
+    polls = {
+        **QuestionsTest.polls,
+        "A": f'{FEE.replace("Raise the fee to 72 Euro", "12,50 Euro", 1)}motion = true\n',
+    }

@@ -27,7 +27,17 @@ from tests.support import calls, sealing
 from tests.support.at_browser import NEEDS_BROWSER, Window
 from tests.support.calls import KINDS, POLL, ROLL, alone
 from tests.support.web_host import END as END_OF_RECORD
-from tests.support.web_host import FIRST, KEY, NEEDS_PHP, Host, Liar, answered, firewall, passed_on, request_of
+from tests.support.web_host import (
+    FIRST,
+    KEY,
+    NEEDS_PHP,
+    Host,
+    Liar,
+    answered,
+    firewall,
+    passed_on,
+    request_of,
+)
 
 # no test is after its end
 END = datetime.datetime(2099, 12, 4, 18, tzinfo=datetime.UTC)
@@ -141,7 +151,9 @@ class Clicks(RealBoxTest):
         # nothing is sent before a press
         self.assertEqual(self.host.requests(), ["GET /"])
         said = self.sent()
-        arrived = r"^It has arrived, sent \w+ \d+, 20\d\d, \d.*\. The secretary fetches it, and you get "
+        arrived = (
+            r"^It has arrived, sent \w+ \d+, 20\d\d, \d.*\. The secretary fetches it, and you get "
+        )
         self.assertRegex(said, arrived)
         self.assertEqual(self.records(), [f"{LINKS['ada']}/ada 1,2,-,3"])
         after = self.state()
@@ -198,7 +210,13 @@ class Clicks(RealBoxTest):
         ada = PLACES["ada"]
         behind = [f"{ada}{sign}" for sign in (".", ">", ")", "?utm_source=x/y", "x", "%3E")]
         behind.append(f"#ada//{LINKS['ada']}")
-        for place in (*behind, ada[:-1], ada[:20], f"#ada/{OWNS['ada']}", f"#ada/{OWNS['ada'][:-1]}"):
+        for place in (
+            *behind,
+            ada[:-1],
+            ada[:20],
+            f"#ada/{OWNS['ada']}",
+            f"#ada/{OWNS['ada'][:-1]}",
+        ):
             with self.subTest(place):
                 self.visit(self.host.at, place)
                 wanted = EMPTY | {"line": "ada 1,2,3,4", "broken": True}
@@ -260,7 +278,9 @@ class Clicks(RealBoxTest):
         # a browser that fails
         self.visit(self.host.at, PLACES["ada"])
         for step in ("generateKey", "deriveBits", "encrypt", "digest"):
-            self.window.ask(f"kept = crypto.subtle.{step}; crypto.subtle.{step} = async () => {{ throw new Error() }}; undefined")
+            self.window.ask(
+                f"kept = crypto.subtle.{step}; crypto.subtle.{step} = async () => {{ throw new Error() }}; undefined"
+            )
             self.choose("1234")
             self.assertEqual(self.sent(), WORDS["unsealed"])
             # the form is free
@@ -292,7 +312,9 @@ class Clicks(RealBoxTest):
 
     def test_what_was_not_taken_is_sealed_anew_with_the_time_of_now(self) -> None:
         """What may have arrived is not: it is sent again as it was."""
-        answers = iter([b"lost: disk full or broken\n", b"lost: disk full or broken\n", b"", b"", None])
+        answers = iter(
+            [b"lost: disk full or broken\n", b"lost: disk full or broken\n", b"", b"", None]
+        )
 
         def lie(request: bytes) -> Iterable[bytes]:
             said = next(answers) if request.startswith(b"POST") else None
@@ -307,7 +329,9 @@ class Clicks(RealBoxTest):
             said = [self.sent() for _ in range(5)]
             self.assertEqual(said[:4], [WORDS["lost"]] * 2 + [WORDS["unsure"]] * 2)
             self.assertRegex(said[4], "^It has arrived")
-            posted = [one.partition(b"\r\n\r\n")[2] for one in between.requests if one.startswith(b"POST")]
+            posted = [
+                one.partition(b"\r\n\r\n")[2] for one in between.requests if one.startswith(b"POST")
+            ]
         self.assertEqual((len({*posted[:3]}), len({*posted[2:]})), (3, 1))
         self.assertEqual(self.records(), [f"{LINKS['ada']}/ada 1,2,3,4"])
 
@@ -315,9 +339,13 @@ class Clicks(RealBoxTest):
         self.visit(self.host.at, PLACES["ada"])
         self.choose("1234")
         said = self.sent()
-        [record] = self.file.read_text().removeprefix(FIRST.decode()).split(END_OF_RECORD.decode())[:-1]
+        [record] = (
+            self.file.read_text().removeprefix(FIRST.decode()).split(END_OF_RECORD.decode())[:-1]
+        )
         number = re.findall(r"<(\w+)@", record)[0]
-        line, link, sent = sealing.key_pair(KEY, MARK)[1](number, record.rpartition("\n")[2]).split("\n")
+        line, link, sent = sealing.key_pair(KEY, MARK)[1](number, record.rpartition("\n")[2]).split(
+            "\n"
+        )
         self.assertEqual((line, link), ("ada 1,2,3,4", PLACES["ada"][1:]))
         self.assertRegex(sent, r"^20\d\d-\d\d-\d\dT\d\d:\d\d:\d\d\.\d{3}Z$")
         spoken = f"new Date('{sent}').toLocaleString('en', {{ dateStyle: 'medium', timeStyle: 'medium' }})"

@@ -18,21 +18,36 @@ TEXTS = {
     "warned": ["ink", "link", "warning"],
     "link": ["paper"],
 }
-DRAWN = {"paper": ["line", "link", "warning", "ink"], "shade": ["line", "link", "ink"], "mark": ["line", "ink"]}
+DRAWN = {
+    "paper": ["line", "link", "warning", "ink"],
+    "shade": ["line", "link", "ink"],
+    "mark": ["line", "ink"],
+}
 # the edges of bars, and the marks in them
 DRAWN |= {"won": ["line", "link", "ink"], "for": ["ink"], "against": ["ink"]}
 
 NAMED = r"--([a-z]+): *([^;]+);"
 SCREENS_IN_DARK = "screen and (prefers-color-scheme: dark)"
 # these name no colour
-OTHERS = "screen and (max-height: 45rem)", "(min-width: 70rem)", "(min-width: 44rem)", "(max-width: 30rem)"
-COLOURED = r"(?<![-\w])(?:color|background|border(?:-[a-z]+)?|outline|fill|stroke)(?:-color)?: *([^;}]+)"
-NO_COLOUR = r"var\(--[a-z]+\)|currentColor|none|0|(?:\d*\.?\d+(?:px|rem|em))|solid|dashed|dotted|collapse"
+OTHERS = (
+    "screen and (max-height: 45rem)",
+    "(min-width: 70rem)",
+    "(min-width: 44rem)",
+    "(max-width: 30rem)",
+)
+COLOURED = (
+    r"(?<![-\w])(?:color|background|border(?:-[a-z]+)?|outline|fill|stroke)(?:-color)?: *([^;}]+)"
+)
+NO_COLOUR = (
+    r"var\(--[a-z]+\)|currentColor|none|0|(?:\d*\.?\d+(?:px|rem|em))|solid|dashed|dotted|collapse"
+)
 
 
 def rules_of(style):
     """The rules of a style, each with the medium that it is for, "" where it is for all."""
-    for medium, inner, plain in re.findall(r"@media ([^{]+?) *\{((?:[^{}]*\{[^{}]*\})*)\s*\}|([^{}@]*\{[^{}]*\})", style):
+    for medium, inner, plain in re.findall(
+        r"@media ([^{]+?) *\{((?:[^{}]*\{[^{}]*\})*)\s*\}|([^{}@]*\{[^{}]*\})", style
+    ):
         yield medium, inner or plain
 
 
@@ -41,7 +56,9 @@ def colours():
     light, dark, paper, others = {}, {}, {}, ""
     for file in STYLES:
         for medium, rule in rules_of(file.read_text()):
-            {"": light, SCREENS_IN_DARK: dark, "print": paper, **dict.fromkeys(OTHERS, {})}[medium].update(re.findall(NAMED, rule))
+            {"": light, SCREENS_IN_DARK: dark, "print": paper, **dict.fromkeys(OTHERS, {})}[
+                medium
+            ].update(re.findall(NAMED, rule))
             others += re.sub(NAMED, "", rule) + "\n"
     return light, {**light, **dark}, {**light, **paper}, others
 
@@ -62,17 +79,35 @@ class ColoursTest(expecting.Expecting):
                 for ground, names in pairs.items():
                     for name in names:
                         found = looks.contrast(value(table, ground), value(table, name))
-                        self.expect(f"{scheme}: {name} on {ground}, {found:.2f}", found >= least, True)
+                        self.expect(
+                            f"{scheme}: {name} on {ground}, {found:.2f}", found >= least, True
+                        )
 
     def test_each_colour_has_a_name_that_was_looked_at(self):
         light, dark, _, others = colours()
-        known = {*TEXTS, *DRAWN, *(name for table in (TEXTS, DRAWN) for names in table.values() for name in names)}
+        known = {
+            *TEXTS,
+            *DRAWN,
+            *(name for table in (TEXTS, DRAWN) for names in table.values() for name in names),
+        }
         self.expect("names of colours", set(light), known)
         own = {name for name in light if not light[name].startswith("var(")}
-        self.expect("colours that have one in light and another in dark", {name for name in light if dark[name] != light[name]}, own)
-        self.expect("grounds", set(re.findall(r"background: *var\(--([a-z]+)\)", others)), set(TEXTS))
+        self.expect(
+            "colours that have one in light and another in dark",
+            {name for name in light if dark[name] != light[name]},
+            own,
+        )
+        self.expect(
+            "grounds", set(re.findall(r"background: *var\(--([a-z]+)\)", others)), set(TEXTS)
+        )
         written = set(re.findall(r"(?<![-\w])color: *var\(--([a-z]+)\)", others))
-        self.expect("colours of texts", written, {name for names in TEXTS.values() for name in names})
+        self.expect(
+            "colours of texts", written, {name for names in TEXTS.values() for name in names}
+        )
         values = [word for found in re.findall(COLOURED, others) for word in found.split()]
         self.expect("there are coloured rules", len(values) > 30, True)
-        self.expect("colours without a name", [word for word in values if not re.fullmatch(NO_COLOUR, word)], [])
+        self.expect(
+            "colours without a name",
+            [word for word in values if not re.fullmatch(NO_COLOUR, word)],
+            [],
+        )

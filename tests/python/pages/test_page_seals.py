@@ -19,13 +19,25 @@ from tests.python.pages.test_box_page import CALL, EMPTY, LINKS, MARK, NOW, OWNS
 from tests.python.pages.test_box_page import BoxPageTest, RealBoxTest, page_with_box
 from tests.support import sealing
 from tests.support.calls import SECRET
-from tests.support.web_host import KEY, NEEDS_PHP, STRACE, Host, Liar, answered, passed_on, request_of
+from tests.support.web_host import (
+    KEY,
+    NEEDS_PHP,
+    STRACE,
+    Host,
+    Liar,
+    answered,
+    passed_on,
+    request_of,
+)
 
 NODE = shutil.which("nodejs") or shutil.which("node")
 
 # the ballot of the vector, and what is sent of it
 LINE, PLACE, SENT = vector.INSIDE.split("\n")
-BODY = request_of(f"{page_of(vector.KEY, vector.MARK)} {sealing.proof_of(vector.MARK, PLACE)} {vector.NUMBER}", vector.SEALED)
+BODY = request_of(
+    f"{page_of(vector.KEY, vector.MARK)} {sealing.proof_of(vector.MARK, PLACE)} {vector.NUMBER}",
+    vector.SEALED,
+)
 
 # with this a browser makes the own key, the number and the time of the vector
 FIXED = """
@@ -57,16 +69,29 @@ def fixed() -> str:
     """The script that fixes these; the own key is 2."""
     point = sealing.point_of(2)
     parts = {"x": point[1:33], "y": point[33:], "d": (2).to_bytes(32)}
-    own = {name: base64.urlsafe_b64encode(part).decode().rstrip("=") for name, part in parts.items()}
+    own = {
+        name: base64.urlsafe_b64encode(part).decode().rstrip("=") for name, part in parts.items()
+    }
     return FIXED % (json.dumps({"kty": "EC", "crv": "P-256"} | own), SENT)
 
 
 def sent_under_node(line: str, place: str, options: int) -> bytes:
     """What the script sends of a line by a personal link; `options` are those of the form, and its questions if they are several."""
     data = {"box": "vote.php", "mark": vector.MARK, "page": page_of(vector.KEY, vector.MARK)}
-    data |= {"seal": sealing.key_pair(vector.KEY, vector.MARK)[0], "until": "", "words": json.dumps(WORDS)}
-    given = {"place": json.dumps(place), "line": json.dumps(line), "data": json.dumps(data), "options": options}
-    script = AROUND % given + fixed() + resources("debvote_tools.call", "box.js") + "\npressed[0]();"
+    data |= {
+        "seal": sealing.key_pair(vector.KEY, vector.MARK)[0],
+        "until": "",
+        "words": json.dumps(WORDS),
+    }
+    given = {
+        "place": json.dumps(place),
+        "line": json.dumps(line),
+        "data": json.dumps(data),
+        "options": options,
+    }
+    script = (
+        AROUND % given + fixed() + resources("debvote_tools.call", "box.js") + "\npressed[0]();"
+    )
     ended = subprocess.run([str(NODE), "-"], input=script.encode(), capture_output=True, timeout=60)
     assert (ended.returncode, ended.stderr) == (0, b""), ended
     return ended.stdout
@@ -84,9 +109,15 @@ class Node(unittest.TestCase):
             lengths = set[int]()
             for name, rank in (("a", "-"), ("a" * 32, "32")):
                 ranks = ",".join([rank] * options)
-                answers = " ".join(f"{label} {ranks}" for label in LABELS[:questions]) if questions > 1 else ranks
+                answers = (
+                    " ".join(f"{label} {ranks}" for label in LABELS[:questions])
+                    if questions > 1
+                    else ranks
+                )
                 size = options * questions + (questions if questions > 1 else 0)
-                body = sent_under_node(f"{name} {answers}", personal_link(vector.KEY, name, "2" * 10), size)
+                body = sent_under_node(
+                    f"{name} {answers}", personal_link(vector.KEY, name, "2" * 10), size
+                )
                 lengths.add(len(body.splitlines()[1]))
             self.assertEqual(lengths, {4 * (65 + 3 * (42 + size) + 16) // 3}, (options, questions))
             self.assertLess(max(lengths), 3_800)
@@ -102,8 +133,13 @@ class Browser(BoxPageTest):
         ):
             self.assertEqual(page.count(f'data-{what}="{before}"'), 1, what)
             page = page.replace(f'data-{what}="{before}"', f'data-{what}="{after}"')
-        said = {b"GET": answered(page.encode(), 200, "Content-Type: text/html"), b"POS": answered(b"received " + NOW + b"\n")}
-        with Liar(lambda request: [said.get(request[:3], b"")]) as host, self.window.before_each_page(f"{{ {fixed()} }}"):
+        said = {
+            b"GET": answered(page.encode(), 200, "Content-Type: text/html"),
+            b"POS": answered(b"received " + NOW + b"\n"),
+        }
+        with Liar(
+            lambda request: [said.get(request[:3], b"")]
+        ) as host, self.window.before_each_page(f"{{ {fixed()} }}"):
             self.visit(host.at, f"#{PLACE}")
             self.assertEqual(self.choose("1234")["line"], LINE)
             self.assertRegex(self.sent(), "^It has arrived, sent ")
@@ -128,14 +164,29 @@ class Fails(RealBoxTest):
         self.choose("1234")
         self.assertRegex(self.sent(), "^It has arrived")
         calls = self.window.ask("calls")
-        steps = {"digest", "generateKey", "exportKey", "importKey", "deriveBits", "deriveKey", "encrypt"}
+        steps = {
+            "digest",
+            "generateKey",
+            "exportKey",
+            "importKey",
+            "deriveBits",
+            "deriveKey",
+            "encrypt",
+        }
         self.assertEqual({*calls}, steps)
-        free = EMPTY | {"said": WORDS["unsealed"], "seen": True, "button": True, "line": "ada 4,3,2,1"}
+        free = EMPTY | {
+            "said": WORDS["unsealed"],
+            "seen": True,
+            "button": True,
+            "line": "ada 4,3,2,1",
+        }
         self.choose("4321")
         for failed in ("Promise.reject(new DOMException('x'))", "{ throw new Error('x') }"):
             for number, name in enumerate(calls, start=1):
                 with self.subTest(failed=failed, call=f"{number}: {name}"):
-                    self.window.ask(f"calls.length = 0; failing = {number}; failed = () => {failed}; undefined")
+                    self.window.ask(
+                        f"calls.length = 0; failing = {number}; failed = () => {failed}; undefined"
+                    )
                     self.window.ask("document.getElementById('Sent').textContent = ''")
                     self.assertEqual(self.sent(), WORDS["unsealed"])
                     self.assertEqual(self.state(), free)
@@ -148,7 +199,13 @@ class Fails(RealBoxTest):
 
     def test_a_disk_of_the_host_that_is_full(self) -> None:
         """The member is told that it was not taken, and goes on where there is room again. What arrived before stays."""
-        lost = EMPTY | {"said": WORDS["lost"], "line": "ben 2,1,4,3", "seen": True, "button": True, "fields": 21}
+        lost = EMPTY | {
+            "said": WORDS["lost"],
+            "line": "ben 2,1,4,3",
+            "seen": True,
+            "button": True,
+            "fields": 21,
+        }
         with Liar(lambda request: [passed_on(request, host)]) as between:
             host = self.host
             self.visit(between.at, PLACES["ada"])
@@ -162,8 +219,9 @@ class Fails(RealBoxTest):
             self.assertEqual((self.state(), self.file.read_bytes()), (lost, before))
             host = self.host
             self.assertRegex(self.sent(), "^It has arrived")
-        self.assertEqual(self.records(), [f"{LINKS['ada']}/ada 1,2,3,4", f"{LINKS['ben']}/ben 2,1,4,3"])
-
+        self.assertEqual(
+            self.records(), [f"{LINKS['ada']}/ada 1,2,3,4", f"{LINKS['ben']}/ben 2,1,4,3"]
+        )
 
     @unittest.skipUnless(STRACE, "strace is not installed")
     def test_a_host_that_is_killed(self) -> None:
@@ -172,7 +230,11 @@ class Fails(RealBoxTest):
         """
         of_file = ["-P", self.file]
         with Liar(lambda request: [passed_on(request, host)]) as between:
-            for name, call, where in (("ada", "write", of_file), ("ben", "fsync", of_file), ("cleo", "sendto", [])):
+            for name, call, where in (
+                ("ada", "write", of_file),
+                ("ben", "fsync", of_file),
+                ("cleo", "sendto", []),
+            ):
                 with self.subTest(call):
                     host = self.host
                     self.visit(between.at, PLACES[name])
@@ -180,7 +242,15 @@ class Fails(RealBoxTest):
                     # the file is there
                     host.ask()
                     before = len(self.records())
-                    tracer = [str(STRACE), "-f", "-o", "/dev/null", *where, "-e", f"inject={call}:signal=KILL:when=1"]
+                    tracer = [
+                        str(STRACE),
+                        "-f",
+                        "-o",
+                        "/dev/null",
+                        *where,
+                        "-e",
+                        f"inject={call}:signal=KILL:when=1",
+                    ]
                     with Host(self.folder, tracer=tracer) as host:
                         self.assertEqual(self.sent(), WORDS["unsure"])
                         host.process.wait(60)
@@ -190,7 +260,9 @@ class Fails(RealBoxTest):
                     host = self.host
                     self.assertRegex(self.sent(), "^It has arrived")
                     self.assertEqual(self.state()["fields"], 21)
-        self.assertEqual(self.records(), [f"{LINKS[name]}/{name} 1,2,3,4" for name in ("ada", "ben", "cleo")])
+        self.assertEqual(
+            self.records(), [f"{LINKS[name]}/{name} 1,2,3,4" for name in ("ada", "ben", "cleo")]
+        )
 
 
 @NEEDS_PHP
@@ -224,8 +296,12 @@ class Elsewhere(RealBoxTest):
         """Opens a page beside this one, and runs a script in it."""
         window, own = self.window, self.window.session
         window.session = None
-        tab = window.tell("Target.createTarget", url=url, browserContextId=window.context)["targetId"]
-        window.session = window.tell("Target.attachToTarget", targetId=tab, flatten=True)["sessionId"]
+        tab = window.tell("Target.createTarget", url=url, browserContextId=window.context)[
+            "targetId"
+        ]
+        window.session = window.tell("Target.attachToTarget", targetId=tab, flatten=True)[
+            "sessionId"
+        ]
         window.until(f"document.readyState === 'complete' && location.href === '{url}'")
         window.ask(f"{script}.then(() => true)")
         window.session = None
@@ -246,7 +322,16 @@ class Elsewhere(RealBoxTest):
                     self.visit(self.host.at, place)
                     self.choose("1234")
                     self.assertEqual(self.sent(), WORDS["old"])
-                    self.assertEqual(self.state(), EMPTY | {"said": WORDS["old"], "line": "ada 1,2,3,4", "seen": True, "button": True})
+                    self.assertEqual(
+                        self.state(),
+                        EMPTY
+                        | {
+                            "said": WORDS["old"],
+                            "line": "ada 1,2,3,4",
+                            "seen": True,
+                            "button": True,
+                        },
+                    )
         self.assertEqual([*self.folder.glob("box-*")], [])
 
     def test_a_copy_of_the_page_of_a_secret_vote_from_the_disk(self) -> None:

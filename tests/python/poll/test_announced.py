@@ -25,25 +25,88 @@ class Until(unittest.TestCase):
     def assert_refused(self, text: str, zone: str | None, said: str) -> None:
         with self.subTest(text=text, zone=zone), self.assertRaisesRegex(Fault, said) as caught:
             parse_until(text, zone)
-        self.assertEqual((caught.exception.status, caught.exception.done), (Status.BAD_WORDS, "nothing was changed"))
+        self.assertEqual(
+            (caught.exception.status, caught.exception.done),
+            (Status.BAD_WORDS, "nothing was changed"),
+        )
 
     def test_forms(self) -> None:
         """And the zone of the end before, in which a later one is if it names none."""
         for text, zone, earlier, here, wanted in [
             ("2026-12-04 18:00+01:00", None, None, "UTC", ("2026-12-04T18:00:00+01:00", "+01:00")),
-            ("2026-12-04 18:00", "Europe/Berlin", None, "UTC", ("2026-12-04T18:00:00+01:00", "Europe/Berlin")),
+            (
+                "2026-12-04 18:00",
+                "Europe/Berlin",
+                None,
+                "UTC",
+                ("2026-12-04T18:00:00+01:00", "Europe/Berlin"),
+            ),
             ("2026-12-04 18:00", None, None, "Europe/Berlin", ("2026-12-04T18:00:00+01:00", None)),
             ("2027-07-04 18:00", None, None, "Europe/Berlin", ("2027-07-04T18:00:00+02:00", None)),
-            (" 2026-12-04T18:00Z ", None, None, "Asia/Tokyo", ("2026-12-04T18:00:00+00:00", "+00:00")),
+            (
+                " 2026-12-04T18:00Z ",
+                None,
+                None,
+                "Asia/Tokyo",
+                ("2026-12-04T18:00:00+00:00", "+00:00"),
+            ),
             ("2026-W49-5T18", None, None, "Asia/Tokyo", ("2026-12-04T18:00:00+09:00", None)),
-            ("2026-12-04 18:00:30.5-0330", None, None, "UTC", ("2026-12-04T18:00:30-03:30", "-03:30")),
-            ("2026-12-04 18:00:30.5", "Europe/Berlin", None, "UTC", ("2026-12-04T18:00:30+01:00", "Europe/Berlin")),
-            ("2026-12-06 18:00", None, "Europe/Berlin", "Asia/Tokyo", ("2026-12-06T18:00:00+01:00", "Europe/Berlin")),
-            ("2027-04-06 18:00", None, "Europe/Berlin", "Asia/Tokyo", ("2027-04-06T18:00:00+02:00", "Europe/Berlin")),
-            ("2026-12-06 18:00", None, "-03:30", "Asia/Tokyo", ("2026-12-06T18:00:00-03:30", "-03:30")),
-            ("2026-12-06 18:00Z", None, "+05:00", "Asia/Tokyo", ("2026-12-06T18:00:00+00:00", "+00:00")),
-            ("2026-12-06 18:00", "America/New_York", "Europe/Berlin", "Asia/Tokyo", ("2026-12-06T18:00:00-05:00", "America/New_York")),
-            ("2026-12-06 18:00+0500", None, "Europe/Berlin", "Asia/Tokyo", ("2026-12-06T18:00:00+05:00", "+05:00")),
+            (
+                "2026-12-04 18:00:30.5-0330",
+                None,
+                None,
+                "UTC",
+                ("2026-12-04T18:00:30-03:30", "-03:30"),
+            ),
+            (
+                "2026-12-04 18:00:30.5",
+                "Europe/Berlin",
+                None,
+                "UTC",
+                ("2026-12-04T18:00:30+01:00", "Europe/Berlin"),
+            ),
+            (
+                "2026-12-06 18:00",
+                None,
+                "Europe/Berlin",
+                "Asia/Tokyo",
+                ("2026-12-06T18:00:00+01:00", "Europe/Berlin"),
+            ),
+            (
+                "2027-04-06 18:00",
+                None,
+                "Europe/Berlin",
+                "Asia/Tokyo",
+                ("2027-04-06T18:00:00+02:00", "Europe/Berlin"),
+            ),
+            (
+                "2026-12-06 18:00",
+                None,
+                "-03:30",
+                "Asia/Tokyo",
+                ("2026-12-06T18:00:00-03:30", "-03:30"),
+            ),
+            (
+                "2026-12-06 18:00Z",
+                None,
+                "+05:00",
+                "Asia/Tokyo",
+                ("2026-12-06T18:00:00+00:00", "+00:00"),
+            ),
+            (
+                "2026-12-06 18:00",
+                "America/New_York",
+                "Europe/Berlin",
+                "Asia/Tokyo",
+                ("2026-12-06T18:00:00-05:00", "America/New_York"),
+            ),
+            (
+                "2026-12-06 18:00+0500",
+                None,
+                "Europe/Berlin",
+                "Asia/Tokyo",
+                ("2026-12-06T18:00:00+05:00", "+05:00"),
+            ),
         ]:
             with self.subTest(text=text, zone=zone, earlier=earlier, here=here):
                 self.in_zone(here)
@@ -52,25 +115,58 @@ class Until(unittest.TestCase):
 
     def test_other_words(self) -> None:
         for text in (
-            *("tomorrow", "Friday, 4 December 2026", "18:00", "4.12.2026 18:00", "2026-12-04 6pm", "", "2026-12-04 18:00 sharp"),
-            *("\u0662026-12-04 18:00", "2026-12-04 18:00 UTC", "2026-02-30 18:00", "2026-12-04 24:00", "2026-12-04 18:60"),
+            *(
+                "tomorrow",
+                "Friday, 4 December 2026",
+                "18:00",
+                "4.12.2026 18:00",
+                "2026-12-04 6pm",
+                "",
+                "2026-12-04 18:00 sharp",
+            ),
+            *(
+                "\u0662026-12-04 18:00",
+                "2026-12-04 18:00 UTC",
+                "2026-02-30 18:00",
+                "2026-12-04 24:00",
+                "2026-12-04 18:60",
+            ),
             *("2026-12-04 18:00+99:00", "2026-12-04 18:00+01:00:30", "0000-01-01 10:00"),
             # no time of day
             *("2026-12-04", "20261204", "2026-W49-5"),
         ):
-            self.assert_refused(text, None, f"^.*--until: it is not a date with a time of day, or .*; nothing was changed: {EXAMPLE}")
+            self.assert_refused(
+                text,
+                None,
+                f"^.*--until: it is not a date with a time of day, or .*; nothing was changed: {EXAMPLE}",
+            )
         self.assert_refused("9999-12-31 23:59", "America/New_York", "there is no such day or time")
         for name in ("Europe/Nowhere", "../../etc/passwd", "", "a\u202eb", "/etc/passwd"):
-            self.assert_refused("2026-12-04 18:00", name, "--zone: this computer knows no time zone of this name")
-        self.assert_refused("2026-12-04 18:00+01:00", "Europe/Berlin", "--zone: the time has an offset already")
+            self.assert_refused(
+                "2026-12-04 18:00", name, "--zone: this computer knows no time zone of this name"
+            )
+        self.assert_refused(
+            "2026-12-04 18:00+01:00", "Europe/Berlin", "--zone: the time has an offset already"
+        )
 
     def test_clocks_that_are_put_forward_or_back(self) -> None:
-        for zone, here, where in (("Europe/Berlin", "UTC", "in Europe/Berlin"), (None, "Europe/Berlin", "where this computer is")):
+        for zone, here, where in (
+            ("Europe/Berlin", "UTC", "in Europe/Berlin"),
+            (None, "Europe/Berlin", "where this computer is"),
+        ):
             self.in_zone(here)
-            self.assert_refused("2027-03-28 02:30", zone, f"{where} there is no such time: the clocks that are put forward on that day skip it")
+            self.assert_refused(
+                "2027-03-28 02:30",
+                zone,
+                f"{where} there is no such time: the clocks that are put forward on that day skip it",
+            )
             both = r'write "2027-10-31 02:30\+02:00" or "2027-10-31 02:30\+01:00"'
             self.assert_refused("2027-10-31 02:30", zone, f"{where} this time comes twice.*{both}")
-        self.assert_refused("2027-10-31 01:30", "Europe/London", r'write "2027-10-31 01:30\+01:00" or "2027-10-31 01:30\+00:00"')
+        self.assert_refused(
+            "2027-10-31 01:30",
+            "Europe/London",
+            r'write "2027-10-31 01:30\+01:00" or "2027-10-31 01:30\+00:00"',
+        )
         for again in ("2027-10-31 02:30+01:00", "2027-10-31 01:30+00:00"):
             self.assertEqual(parse_until(again, None)[0].astimezone(datetime.UTC).hour, 1)
 
@@ -86,18 +182,44 @@ class Until(unittest.TestCase):
 class InWords(unittest.TestCase):
     def test_in_each_language(self) -> None:
         first = datetime.datetime(2027, 1, 1, 8, 5, 0, tzinfo=datetime.UTC)
-        later = datetime.datetime(2026, 12, 4, 18, 0, 30, tzinfo=datetime.timezone(-datetime.timedelta(hours=3, minutes=30)))
+        later = datetime.datetime(
+            2026,
+            12,
+            4,
+            18,
+            0,
+            30,
+            tzinfo=datetime.timezone(-datetime.timedelta(hours=3, minutes=30)),
+        )
         for code, wanted in {
-            "en": ("Friday, 1 January 2027, 08:05 (UTC)", "Friday, 4 December 2026, 18:00:30 (UTC-03:30)"),
-            "de": ("Freitag, 1. Januar 2027, 08:05 (UTC)", "Freitag, 4. Dezember 2026, 18:00:30 (UTC-03:30)"),
-            "fr": ("vendredi 1er janvier 2027, 08:05 (UTC)", "vendredi 4 d\u00e9cembre 2026, 18:00:30 (UTC-03:30)"),
-            "es": ("viernes, 1 de enero de 2027, 08:05 (UTC)", "viernes, 4 de diciembre de 2026, 18:00:30 (UTC-03:30)"),
+            "en": (
+                "Friday, 1 January 2027, 08:05 (UTC)",
+                "Friday, 4 December 2026, 18:00:30 (UTC-03:30)",
+            ),
+            "de": (
+                "Freitag, 1. Januar 2027, 08:05 (UTC)",
+                "Freitag, 4. Dezember 2026, 18:00:30 (UTC-03:30)",
+            ),
+            "fr": (
+                "vendredi 1er janvier 2027, 08:05 (UTC)",
+                "vendredi 4 d\u00e9cembre 2026, 18:00:30 (UTC-03:30)",
+            ),
+            "es": (
+                "viernes, 1 de enero de 2027, 08:05 (UTC)",
+                "viernes, 4 de diciembre de 2026, 18:00:30 (UTC-03:30)",
+            ),
         }.items():
             language = language_of(code)
-            self.assertEqual((time_in_words(first, language), time_in_words(later, language)), wanted)
+            self.assertEqual(
+                (time_in_words(first, language), time_in_words(later, language)), wanted
+            )
             self.assertIn(date_in_words(first.date(), language), wanted[0])
-        self.assertEqual(minute_in_words(later, datetime.UTC), "Friday, 4 December 2026, 21:30 (UTC)")
-        self.assertEqual(time_in_words(later.replace(hour=23)), "Friday, 4 December 2026, 23:00:30 (UTC-03:30)")
+        self.assertEqual(
+            minute_in_words(later, datetime.UTC), "Friday, 4 December 2026, 21:30 (UTC)"
+        )
+        self.assertEqual(
+            time_in_words(later.replace(hour=23)), "Friday, 4 December 2026, 23:00:30 (UTC-03:30)"
+        )
 
     def test_now_is_in_whole_seconds(self) -> None:
         self.assertEqual((now().microsecond, now().utcoffset()), (0, datetime.timedelta(0)))

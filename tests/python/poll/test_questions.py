@@ -18,7 +18,9 @@ from tests.support import calls
 from tests.support.at_browser import NEEDS_BROWSER, Window
 from tests.support.calls import CALL, KINDS, POLL, ROLL
 
-FEE = dataclasses.replace(POLL, title="Raise the fee", options=("Yes",), ratios=(2,), default="No", quorum=0)
+FEE = dataclasses.replace(
+    POLL, title="Raise the fee", options=("Yes",), ratios=(2,), default="No", quorum=0
+)
 SEVERAL = Questions({"A": FEE, "B": POLL, "C": FEE}, "Assembly & 2026")
 
 
@@ -29,29 +31,58 @@ def sha256_of(data: bytes) -> str:
 class Value(unittest.TestCase):
     def test_one_question_is_its_poll(self) -> None:
         one = calls.alone(POLL)
-        self.assertEqual((one.name, one.checksum, one.mark, one.is_several), (POLL.name, POLL.checksum, POLL.checksum[:16], False))
-        self.assertEqual((one.files, one.checksums), ({"poll.toml": POLL.as_bytes()}, [POLL.checksum]))
+        self.assertEqual(
+            (one.name, one.checksum, one.mark, one.is_several),
+            (POLL.name, POLL.checksum, POLL.checksum[:16], False),
+        )
+        self.assertEqual(
+            (one.files, one.checksums), ({"poll.toml": POLL.as_bytes()}, [POLL.checksum])
+        )
 
     def test_the_checksum_of_several_is_that_of_their_list(self) -> None:
         files = SEVERAL.files
-        self.assertEqual(list(files), ["A/poll.toml", "B/poll.toml", "C/poll.toml", "title.txt", "polls.sha256"])
-        rows = [f"{sha256_of(data)}  {name}" for name, data in files.items() if name != "polls.sha256"]
+        self.assertEqual(
+            list(files), ["A/poll.toml", "B/poll.toml", "C/poll.toml", "title.txt", "polls.sha256"]
+        )
+        rows = [
+            f"{sha256_of(data)}  {name}" for name, data in files.items() if name != "polls.sha256"
+        ]
         self.assertEqual(files["polls.sha256"].decode(), "".join(f"{row}\n" for row in rows))
-        self.assertEqual((files["B/poll.toml"], files["title.txt"]), (POLL.as_bytes(), b"Assembly & 2026\n"))
+        self.assertEqual(
+            (files["B/poll.toml"], files["title.txt"]), (POLL.as_bytes(), b"Assembly & 2026\n")
+        )
         checksum = sha256_of(files["polls.sha256"])
-        self.assertEqual((SEVERAL.checksum, SEVERAL.mark, SEVERAL.checksums), (checksum, checksum[:16], [*rows, checksum]))
+        self.assertEqual(
+            (SEVERAL.checksum, SEVERAL.mark, SEVERAL.checksums),
+            (checksum, checksum[:16], [*rows, checksum]),
+        )
         self.assertEqual((SEVERAL.name, SEVERAL.longest_line), ("Assembly & 2026", 1_500))
         # each change of a label, a poll or the title makes another mark
-        others = [Questions({"A": POLL, "B": FEE, "C": FEE}, SEVERAL.title), Questions({"A": FEE, "B": POLL}, SEVERAL.title)]
-        others += [Questions(SEVERAL, "Assembly 2027"), Questions(SEVERAL | {"C": dataclasses.replace(FEE, quorum=1)}, SEVERAL.title)]
+        others = [
+            Questions({"A": POLL, "B": FEE, "C": FEE}, SEVERAL.title),
+            Questions({"A": FEE, "B": POLL}, SEVERAL.title),
+        ]
+        others += [
+            Questions(SEVERAL, "Assembly 2027"),
+            Questions(SEVERAL | {"C": dataclasses.replace(FEE, quorum=1)}, SEVERAL.title),
+        ]
         self.assertEqual(len({SEVERAL.mark, *(other.mark for other in others)}), 5)
 
     def test_what_is_sealed_is_read_again(self) -> None:
         sealed = Sealed(SEVERAL, SEVERAL)
         self.assertEqual(list(sealed.files()), ["poll A", "poll B", "poll C", "title"])
-        again = read_questions({label: poll.as_bytes() for label, poll in SEVERAL.items()}, ["B"], sealed.files()["title"].decode())
-        self.assertEqual((again.checksum, [label for label, poll in again.items() if poll.motion]), (SEVERAL.checksum, ["B"]))
-        self.assertEqual(list(Sealed(again, again).files()), ["poll A", "poll B", "poll C", "motion B", "title"])
+        again = read_questions(
+            {label: poll.as_bytes() for label, poll in SEVERAL.items()},
+            ["B"],
+            sealed.files()["title"].decode(),
+        )
+        self.assertEqual(
+            (again.checksum, [label for label, poll in again.items() if poll.motion]),
+            (SEVERAL.checksum, ["B"]),
+        )
+        self.assertEqual(
+            list(Sealed(again, again).files()), ["poll A", "poll B", "poll C", "motion B", "title"]
+        )
         self.assertEqual(list(Sealed(calls.alone(POLL), calls.alone(POLL)).files()), ["poll"])
 
     def test_labels(self) -> None:
@@ -61,12 +92,17 @@ class Value(unittest.TestCase):
 class Words(unittest.TestCase):
     def test_the_form_is_by_lines(self) -> None:
         call = dataclasses.replace(CALL, questions=SEVERAL)
-        self.assertEqual([call.form_of("ada-lovelace"), CALL.form_of("ada-lovelace")], [["ada-lovelace", "A _,_", "B _,_,_,_", "C _,_"], ["ada-lovelace _,_,_,_"]])
+        self.assertEqual(
+            [call.form_of("ada-lovelace"), CALL.form_of("ada-lovelace")],
+            [["ada-lovelace", "A _,_", "B _,_,_,_", "C _,_"], ["ada-lovelace _,_,_,_"]],
+        )
 
     def test_the_letter(self) -> None:
         quorums = {"A": 0, "B": 1, "C": 0}
         letters = {
-            kind: call_files(dataclasses.replace(call, questions=SEVERAL, quorum_votes=quorums))["call.txt"].decode()
+            kind: call_files(dataclasses.replace(call, questions=SEVERAL, quorum_votes=quorums))[
+                "call.txt"
+            ].decode()
             for kind, call in KINDS.items()
             if kind != "codes"
         }
@@ -83,18 +119,37 @@ class Words(unittest.TestCase):
 
 
 class Aliases(unittest.TestCase):
-    electors = [Elector(number, name, number, name.title(), (), code=f"{number:x}" * 32) for number, name in enumerate(ROLL, start=10)]
+    electors = [
+        Elector(number, name, number, name.title(), (), code=f"{number:x}" * 32)
+        for number, name in enumerate(ROLL, start=10)
+    ]
 
     def test_each_question_has_its_own(self) -> None:
-        secret = Questions({label: dataclasses.replace(poll, secret=True) for label, poll in SEVERAL.items()}, SEVERAL.title)
+        secret = Questions(
+            {label: dataclasses.replace(poll, secret=True) for label, poll in SEVERAL.items()},
+            SEVERAL.title,
+        )
         public = aliased(secret, self.electors)
-        found = {label: {one.name: alias_in(label, one) for one in self.electors} for label in ("", *secret)}
-        self.assertEqual((public.name, [*public], public.is_secret), (SEVERAL.name, [*SEVERAL], True))
+        found = {
+            label: {one.name: alias_in(label, one) for one in self.electors}
+            for label in ("", *secret)
+        }
+        self.assertEqual(
+            (public.name, [*public], public.is_secret), (SEVERAL.name, [*SEVERAL], True)
+        )
         for label, poll in public.items():
-            wanted = {one.name: hmac.new(one.code.encode(), f"{label} {one.name}".encode(), "sha256").hexdigest()[:32] for one in self.electors}
+            wanted = {
+                one.name: hmac.new(
+                    one.code.encode(), f"{label} {one.name}".encode(), "sha256"
+                ).hexdigest()[:32]
+                for one in self.electors
+            }
             self.assertEqual((found[label], poll.roll), (wanted, tuple(sorted(wanted.values()))))
         # no two questions, nor an election of one question, have one in common
-        self.assertEqual(len({*itertools.chain.from_iterable(one.values() for one in found.values())}), 4 * len(ROLL))
+        self.assertEqual(
+            len({*itertools.chain.from_iterable(one.values() for one in found.values())}),
+            4 * len(ROLL),
+        )
         # a code of the roll is its own alias
         self.assertEqual(alias_in("", Elector(1, "c" * 32, 1, "", ())), "c" * 32)
 
@@ -102,20 +157,34 @@ class Aliases(unittest.TestCase):
     def test_slips_fit_their_sides(self) -> None:
         """Of more questions fewer slips are on a side, and none is printed over two sides."""
         secret = dataclasses.replace(calls.SECRET, at=None)
-        with tempfile.TemporaryDirectory(prefix="debvote-slips-") as folder, Window(756, 1000) as window:
+        with tempfile.TemporaryDirectory(prefix="debvote-slips-") as folder, Window(
+            756, 1000
+        ) as window:
             window.show(on_paper=True)
             for count, rows in ((2, 3), (6, 2), (12, 1)):
                 questions = Questions(dict.fromkeys(LABELS[:count], FEE), "Assembly 2026")
                 file = pathlib.Path(folder) / f"{count}.html"
-                file.write_bytes(slips(dataclasses.replace(secret, questions=questions), self.electors))
+                file.write_bytes(
+                    slips(dataclasses.replace(secret, questions=questions), self.electors)
+                )
                 window.open(file)
-                heights = window.ask("[...document.querySelectorAll('.slip')].map((slip) => slip.getBoundingClientRect().height)")
+                heights = window.ask(
+                    "[...document.querySelectorAll('.slip')].map((slip) => slip.getBoundingClientRect().height)"
+                )
                 self.assertEqual(len(heights), len(ROLL))
                 self.assertLessEqual(max(heights) * rows, 287 / 25.4 * 96, count)
                 lines = window.ask("document.querySelector('.line code').innerText")
-                self.assertEqual(lines, "\n".join(["ada", *(f"{label} _,_" for label in questions)]))
+                self.assertEqual(
+                    lines, "\n".join(["ada", *(f"{label} _,_" for label in questions)])
+                )
 
     def test_the_table_of_codes_has_none(self) -> None:
-        rows = codes_csv(dataclasses.replace(CALL, questions=SEVERAL), self.electors).decode().splitlines()
+        rows = (
+            codes_csv(dataclasses.replace(CALL, questions=SEVERAL), self.electors)
+            .decode()
+            .splitlines()
+        )
         self.assertEqual(rows[:2], ["name,who,mail,code,mark", f"ada,Ada,,{'a' * 32},"])
-        self.assertEqual(codes_csv(CALL, self.electors).decode().splitlines()[0], "name,who,mail,code,alias,mark")
+        self.assertEqual(
+            codes_csv(CALL, self.electors).decode().splitlines()[0], "name,who,mail,code,alias,mark"
+        )

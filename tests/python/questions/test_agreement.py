@@ -26,10 +26,23 @@ class AgreementTest(QuestionsTest):
             # a part of it is older than another letter of the same elector
             letter("dan", "dan C 2,1,3,4\n", number=5, time=at(11)),
         )
-        self.add(letter("dan", "dan A 1,2 C 1,2,3,4\n", number=6, time=at(8)), letter("hal", "hal A 1,1\n", number=7, time=at(12)))
+        self.add(
+            letter("dan", "dan A 1,2 C 1,2,3,4\n", number=6, time=at(8)),
+            letter("hal", "hal A 1,1\n", number=7, time=at(12)),
+        )
         self.done("held", "6", "--as", "dan A 1,2", "--yes")
-        self.add_lines("eve A 1,2 B 1,2,3,4 C 3,2,1,4", "fay A 2,1", "fay A 1,2 B 1,2,3", "gus B 1,2,3", words=["--force", "--because", "as they are"])
-        struck = next(number for number, line in enumerate(self.lines(), start=1) if line == "fay A 1,2 B 1,2,3")
+        self.add_lines(
+            "eve A 1,2 B 1,2,3,4 C 3,2,1,4",
+            "fay A 2,1",
+            "fay A 1,2 B 1,2,3",
+            "gus B 1,2,3",
+            words=["--force", "--because", "as they are"],
+        )
+        struck = next(
+            number
+            for number, line in enumerate(self.lines(), start=1)
+            if line == "fay A 1,2 B 1,2,3"
+        )
         self.done("strike", struck, "--because", "fay asked for it")
         self.done("desk", given="ada C 4,3,2,1\n")
         self.wanted = {
@@ -51,13 +64,19 @@ class AgreementTest(QuestionsTest):
         self.done("letters", "result")
 
     def standing(self, label: str) -> dict[str, str]:
-        return dict(line.split(" ") for line in self.read(f"result/{label}/standing.txt").decode().splitlines())
+        return dict(
+            line.split(" ")
+            for line in self.read(f"result/{label}/standing.txt").decode().splitlines()
+        )
 
     def test_all_say_the_same(self) -> None:
         before = self.shown()
         self.demand_receipts()
         self.after_the_close()
-        by_label = {label: {name: one[label] for name, one in self.wanted.items() if label in one} for label in self.polls}
+        by_label = {
+            label: {name: one[label] for name, one in self.wanted.items() if label in one}
+            for label in self.polls
+        }
         for label, wanted in by_label.items():
             with self.subTest(label):
                 self.assertEqual(self.standing(label), wanted)
@@ -65,7 +84,10 @@ class AgreementTest(QuestionsTest):
                 self.assertEqual(status["voters"], len(wanted))
                 sheet = self.read(f"result/{label}/sheet.txt").decode()
                 numbers = dict(re.findall(r"(?m)^(Lines|Valid|Refused|Voters): (\d+)$", sheet))
-                self.assertEqual({name.lower(): int(number) for name, number in numbers.items()}, {name: status[name] for name in ("lines", "valid", "refused", "voters")})
+                self.assertEqual(
+                    {name.lower(): int(number) for name, number in numbers.items()},
+                    {name: status[name] for name in ("lines", "valid", "refused", "voters")},
+                )
                 self.assertEqual(sheet, self.sheet_of(label, answering(label, self.lines())))
         status = self.numbers()
         self.assertEqual((status["voters"], status["without_ballot"]), (len(self.wanted), ["ida"]))
@@ -79,7 +101,11 @@ class AgreementTest(QuestionsTest):
             told = self.done("show", name).output
             said = re.search(r"(?m)^The current ballot: (.*?):?$", told)
             found[name] = said[1] if said else ""
-            self.assertEqual(found[name], one_line(name, self.wanted[name]) if name in self.wanted else "none", told)
+            self.assertEqual(
+                found[name],
+                one_line(name, self.wanted[name]) if name in self.wanted else "none",
+                told,
+            )
         return found
 
     def demand_letters(self) -> None:

@@ -47,10 +47,17 @@ class Clocks(QuestionsByBox):
         said = self.done("add", "--box", "--yes").output
         self.assertIn("it may be earlier or later than another ballot of ada", said)
         self.assertNotIn("has voted since", said)
-        enter, why = ("held", "2", "--enter", "--yes"), "its elector may have voted since, as the clock of the web host was off"
+        enter, why = (
+            "held",
+            "2",
+            "--enter",
+            "--yes",
+        ), "its elector may have voted since, as the clock of the web host was off"
         self.assert_fault(self.election(*enter), 9, why)
         self.done(*enter, "--force")
-        self.assertIn("The current ballot: ada A 2,1 B 1,2,3 C 1,2:\n", self.done("show", "ada").output)
+        self.assertIn(
+            "The current ballot: ada A 2,1 B 1,2,3 C 1,2:\n", self.done("show", "ada").output
+        )
 
 
 @NEEDS_PHP
@@ -71,7 +78,8 @@ class Clicks(QuestionsByBox):
 
     def answer(self, label: str, *ranks: str) -> None:
         """Touches the buttons of a question, or chooses in its lists."""
-        self.window.ask(f"""(() => {{
+        self.window.ask(
+            f"""(() => {{
           const fields = document.querySelectorAll("[data-label={label}] .rank");
           {json.dumps(ranks)}.forEach((rank, place) => {{
             const field = fields[place];
@@ -79,11 +87,14 @@ class Clicks(QuestionsByBox):
             field.value = rank;
             return field.dispatchEvent(new Event("input", {{ bubbles: true }}));
           }});
-        }})()""")
+        }})()"""
+        )
 
     def vote(self) -> None:
         self.window.ask("document.getElementById('Vote').click()")
-        self.window.until("document.getElementById('Sent').textContent.startsWith('It has arrived')")
+        self.window.until(
+            "document.getElementById('Sent').textContent.startsWith('It has arrived')"
+        )
 
     def test_some_answers_and_one_of_them_again(self) -> None:
         self.open("ada")
@@ -96,14 +107,20 @@ class Clicks(QuestionsByBox):
         self.answer("B", "2", "1", "-")
         self.vote()
         self.done("add", "--box", "--yes")
-        fee, said = "It was read as: A (Raise the fee to 72 Euro): Yes", f"D (Where we meet): {', then '.join(PLACES[1:])}, then Nowhere"
+        fee, said = (
+            "It was read as: A (Raise the fee to 72 Euro): Yes",
+            f"D (Where we meet): {', then '.join(PLACES[1:])}, then Nowhere",
+        )
         [told] = self.receipts().values()
         first, second = told.split("Your ballot of ")[1:]
         self.assertIn("Another ballot of yours, which was entered after it, counts instead.", first)
         self.assertIn(f"{fee} {said}", first)
         counts = "It counts unless you send a later one. It came by the page of the vote."
         self.assertIn(counts, second)
-        self.assertIn(f"{fee} B (The chair): Mary Somerville, then Ada Lovelace; not ranked, and so behind all others: None of these {said}", second)
+        self.assertIn(
+            f"{fee} B (The chair): Mary Somerville, then Ada Lovelace; not ranked, and so behind all others: None of these {said}",
+            second,
+        )
         # opened again the page has no answers: one alone is sent, and others stay
         self.open("ada")
         self.answer("A", "1,1")

@@ -8,7 +8,10 @@ from tests.support.outgoing import parsed
 from tests.support.questions import QuestionsTest
 from tests.support.terminal import Terminal
 
-YES, NO = "A (Raise the fee to 72 Euro): Yes, 72 Euro, then No, as it is", "A (Raise the fee to 72 Euro): No, as it is, then Yes, 72 Euro"
+YES, NO = (
+    "A (Raise the fee to 72 Euro): Yes, 72 Euro, then No, as it is",
+    "A (Raise the fee to 72 Euro): No, as it is, then Yes, 72 Euro",
+)
 CHAIR = "B (The chair of the board): Ada Lovelace, then Mary Somerville, then None of these"
 ASKED = "Enter it? [y/n] "
 
@@ -22,18 +25,36 @@ class Desk(QuestionsTest):
         self.add_lines("ada A 2,1 C 1,2,3,4")
         desk = Terminal(self)
         shown = desk.until("Ballot: ")
-        self.assertIn("A Raise the fee to 72 Euro\n  1 Yes, 72 Euro\n  2 No, as it is\nB The chair of the board\n  1 Ada Lovelace\n", shown)
-        self.assertIn("Type a ballot as ada A 2,1 B 2,3,1 C 2,3,4,1 (the elector, then for each question that is answered its label", shown)
+        self.assertIn(
+            "A Raise the fee to 72 Euro\n  1 Yes, 72 Euro\n  2 No, as it is\nB The chair of the board\n  1 Ada Lovelace\n",
+            shown,
+        )
+        self.assertIn(
+            "Type a ballot as ada A 2,1 B 2,3,1 C 2,3,4,1 (the elector, then for each question that is answered its label",
+            shown,
+        )
         shown = desk.after("Ada a: 1, 2 b) 1, 2,3\n", ASKED)
-        self.assertIn(f"ada:\n  {YES}\n  {CHAIR}\nada has a ballot, which will be replaced:\n  {NO}\nThese earlier answers of ada stay:\n  C (A new roof): Slate", shown)
+        self.assertIn(
+            f"ada:\n  {YES}\n  {CHAIR}\nada has a ballot, which will be replaced:\n  {NO}\nThese earlier answers of ada stay:\n  C (A new roof): Slate",
+            shown,
+        )
         self.assertEqual(desk.after("y\n", "Ballot: "), "y\n2 A replaced, B counted  ada\nBallot: ")
         # a line that has not the form of a ballot is not asked about
         shown = desk.after("ada 1,2\n", "Ballot: ")
-        self.assertRegex(shown, r"`ada 1,2` is no ballot: a ballot is a name, and for each question.*\nIt was not entered\.\nBallot: $")
+        self.assertRegex(
+            shown,
+            r"`ada 1,2` is no ballot: a ballot is a name, and for each question.*\nIt was not entered\.\nBallot: $",
+        )
         # what is refused is an envelope of its own
         shown = desk.after("ben A 1,2,3 B 1,2,3\n", ASKED)
-        self.assertIn(f"ben:\n  {CHAIR}\nIt would be refused: ben A 1,2,3: bad rank count: 3 ranks, the poll has 2 options\n", shown)
-        self.assertEqual(desk.after("y\n", "Ballot: "), "y\n3 counted  ben\n4 bad rank count  ben A 1,2,3\nBallot: ")
+        self.assertIn(
+            f"ben:\n  {CHAIR}\nIt would be refused: ben A 1,2,3: bad rank count: 3 ranks, the poll has 2 options\n",
+            shown,
+        )
+        self.assertEqual(
+            desk.after("y\n", "Ballot: "),
+            "y\n3 counted  ben\n4 bad rank count  ben A 1,2,3\nBallot: ",
+        )
         # a part of a name is completed, as ever
         self.assertIn("`cl` was completed to `cleo`\n", desk.after("cl A 1,2\n", ASKED))
         desk.after("n\n", "Ballot: ")
@@ -42,17 +63,31 @@ class Desk(QuestionsTest):
         self.assertEqual(self.lines(), lines)
         # an export has the lines as they came, and of each question its answers beside its poll
         self.told("export", self.scratch / "out")
-        by_label = {"A": "ada 2,1\nada 1,2\nben 1,2,3\n", "B": "ada 1,2,3\nben 1,2,3\n", "C": "ada 1,2,3,4\n"}
+        by_label = {
+            "A": "ada 2,1\nada 1,2\nben 1,2,3\n",
+            "B": "ada 1,2,3\nben 1,2,3\n",
+            "C": "ada 1,2,3,4\n",
+        }
         files = {f"{label}/ballots.txt": ballots.encode() for label, ballots in by_label.items()}
         files |= {f"{label}/poll.toml": self.read(f"call/{label}/poll.toml") for label in by_label}
         files |= {"ballots.txt": "".join(f"{line}\n" for line in lines).encode(), "late.txt": b""}
-        found = {path: path.read_bytes() for path in (self.scratch / "out").rglob("*.t*") if path.parent.name != "came"}
-        self.assertEqual({str(path.relative_to(self.scratch / "out")): data for path, data in found.items()}, files)
+        found = {
+            path: path.read_bytes()
+            for path in (self.scratch / "out").rglob("*.t*")
+            if path.parent.name != "came"
+        }
+        self.assertEqual(
+            {str(path.relative_to(self.scratch / "out")): data for path, data in found.items()},
+            files,
+        )
 
     def test_of_one_question(self) -> None:
         desk = Terminal(self, "desk", "--question", "b")
         shown = desk.until("Ballot: ")
-        self.assertIn("B The chair of the board\n  1 Ada Lovelace\n  2 Mary Somerville\n  3 None of these\nType a ballot as ada 2,3,1 (", shown)
+        self.assertIn(
+            "B The chair of the board\n  1 Ada Lovelace\n  2 Mary Somerville\n  3 None of these\nType a ballot as ada 2,3,1 (",
+            shown,
+        )
         self.assertNotIn("new roof", shown)
         self.assertIn(f"ada:\n  {CHAIR}\n", desk.after("Ada: 1, 2, 3\n", ASKED))
         self.assertIn("\n1 counted  ada\n", desk.after("y\n", "Ballot: "))
@@ -61,45 +96,106 @@ class Desk(QuestionsTest):
         desk.type("q\n")
         self.assertEqual(self.lines(), ["ada B 1,2,3"])
         # nobody types a label there, so no words speak of labels that are missing
-        said = self.done("desk", "--question", "a", given="ben 1\nben\nben A yes\nben A 1,2\n").output
-        self.assertIn("`ben` is no ballot: a ballot here is a name and its ranks, without a label; it was not entered.\n", said)
-        self.assertIn("`ben A 1,2` is no ballot: a ballot here is a name and its ranks, without a label; it was not entered.\n", said)
+        said = self.done(
+            "desk", "--question", "a", given="ben 1\nben\nben A yes\nben A 1,2\n"
+        ).output
+        self.assertIn(
+            "`ben` is no ballot: a ballot here is a name and its ranks, without a label; it was not entered.\n",
+            said,
+        )
+        self.assertIn(
+            "`ben A 1,2` is no ballot: a ballot here is a name and its ranks, without a label; it was not entered.\n",
+            said,
+        )
         self.assertIn("A ballot line of this poll: `ada 2,1`: the ranks of 1 ", said)
         self.assertNotIn("its label", said)
         for label in ("D", "AB"):
-            self.assert_refused(["desk", "--question", label], 2, "--question: the labels are A, B, C; nothing was entered: ")
+            self.assert_refused(
+                ["desk", "--question", label],
+                2,
+                "--question: the labels are A, B, C; nothing was entered: ",
+            )
 
 
 class Held(QuestionsTest):
     def test_a_ballot_of_which_some_answers_have_a_later_one(self) -> None:
         """It is never entered whole, also by force: the line to type is named. Where all have one, by letter it is passed over, and else it needs force."""
-        self.add(letter("ada", "ada A 1,2\n", number=1, time=at(11)), letter("ben", "ben A 2,1 B 3,2,1\n", number=2, time=at(11)))
-        self.add(letter("ada", "ada A 2,1 B 1,2,3\n", number=3, time=at(9)), letter("ben", "ben A 1,2\n", number=4, time=at(9)))
+        self.add(
+            letter("ada", "ada A 1,2\n", number=1, time=at(11)),
+            letter("ben", "ben A 2,1 B 3,2,1\n", number=2, time=at(11)),
+        )
+        self.add(
+            letter("ada", "ada A 2,1 B 1,2,3\n", number=3, time=at(9)),
+            letter("ben", "ben A 1,2\n", number=4, time=at(9)),
+        )
         self.add_lines("cleo A 1,2")
         self.add(letter("cleo", "cleo A 2,1\n", number=5, time=at(9)))
-        self.assertRegex(self.told("held"), r"(?m)was entered already; has voted since\n +line 1: ada A 2,1 B 1,2,3\n")
-        for how in (["--enter"], ["--enter", "--force"], ["--as", "ada A 2,1 B 1,2,3"], ["--as", "ada A 1,2 B 1,2,3", "--force"]):
+        self.assertRegex(
+            self.told("held"),
+            r"(?m)was entered already; has voted since\n +line 1: ada A 2,1 B 1,2,3\n",
+        )
+        for how in (
+            ["--enter"],
+            ["--enter", "--force"],
+            ["--as", "ada A 2,1 B 1,2,3"],
+            ["--as", "ada A 1,2 B 1,2,3", "--force"],
+        ):
             said = "letter 3: its elector has later answers to A; nothing was changed: enter the others: debvote-election held 3 --as 'ada B 1,2,3'"
             self.assert_refused(["held", "3", *how, "--yes"], 9, said)
-        self.assertRegex(self.told("held", "3", "--as", "ada B 1,2,3", "--yes"), r": ada:\n  B \((?s:.*)\n4 counted  ada\n")
-        self.assert_refused(["held", "5", "--enter", "--yes"], 9, "letter 5: its elector has voted since; nothing was changed: if this ballot must count, repeat it with --force")
+        self.assertRegex(
+            self.told("held", "3", "--as", "ada B 1,2,3", "--yes"),
+            r": ada:\n  B \((?s:.*)\n4 counted  ada\n",
+        )
+        self.assert_refused(
+            ["held", "5", "--enter", "--yes"],
+            9,
+            "letter 5: its elector has voted since; nothing was changed: if this ballot must count, repeat it with --force",
+        )
         self.assertIn("\n5 replaced  cleo\n", self.told("held", "5", "--enter", "--force", "--yes"))
         self.assertEqual(self.numbers()["waiting"], 0)
         self.done("held", "4", "--wait")
         typed = ["held", "4", "--as", "ben B 1,2,3", "--yes"]
         self.assert_refused(typed, 9, "letter 4: its elector has voted since")
         self.assertIn("\n6 replaced  ben\n", self.told(*typed, "--force"))
-        self.assertEqual(self.lines(), ["ada A 1,2", "ben A 2,1 B 3,2,1", "cleo A 1,2", "ada B 1,2,3", "cleo A 2,1", "ben B 1,2,3"])
+        self.assertEqual(
+            self.lines(),
+            [
+                "ada A 1,2",
+                "ben A 2,1 B 3,2,1",
+                "cleo A 1,2",
+                "ada B 1,2,3",
+                "cleo A 2,1",
+                "ben B 1,2,3",
+            ],
+        )
 
     def test_a_letter_is_dealt_with_as_a_whole(self) -> None:
         """By --enter, if all its ballots say the same, or by --as: then it waits no more. An answer that is left is typed, and one that was entered never again."""
-        self.add(letter("ada", "ada A 1,2\n\nand for the board\n\nada B 1,2,3\n", time=at(9)), letter("ben", "ben\nA 1,2\n\nI say:\nBen A 1,2\n", time=at(9)), letter("cleo", "cleo A 1,2\nB: against\n", time=at(9)))
+        self.add(
+            letter("ada", "ada A 1,2\n\nand for the board\n\nada B 1,2,3\n", time=at(9)),
+            letter("ben", "ben\nA 1,2\n\nI say:\nBen A 1,2\n", time=at(9)),
+            letter("cleo", "cleo A 1,2\nB: against\n", time=at(9)),
+        )
         cure = "type the ballot that is meant with --as LINE"
-        self.assert_refused(["held", "1", "--enter", "--yes"], 9, f"letter 1: it has 2 ballots; nothing was changed: {cure}")
-        self.assert_refused(["held", "3", "--enter", "--yes"], 9, f"letter 3: it has 1 ballot, and other lines that look like answers; nothing was changed: {cure}")
-        self.assert_refused(["close", "--early"], 9, "these letters arrived in time, and wait: 1, 2, 3;")
+        self.assert_refused(
+            ["held", "1", "--enter", "--yes"],
+            9,
+            f"letter 1: it has 2 ballots; nothing was changed: {cure}",
+        )
+        self.assert_refused(
+            ["held", "3", "--enter", "--yes"],
+            9,
+            f"letter 3: it has 1 ballot, and other lines that look like answers; nothing was changed: {cure}",
+        )
+        self.assert_refused(
+            ["close", "--early"], 9, "these letters arrived in time, and wait: 1, 2, 3;"
+        )
         self.assertIn("\n1 counted  ben\n", self.told("held", "2", "--enter", "--yes"))
-        self.assert_refused(["held", "1", "--as", "ada A 1,2", "--as", "ada A 2,1 B 1,2,3", "--yes"], 9, "letter 1: 2 of these lines are ballots of ada; nothing was changed: name the one that counts")
+        self.assert_refused(
+            ["held", "1", "--as", "ada A 1,2", "--as", "ada A 2,1 B 1,2,3", "--yes"],
+            9,
+            "letter 1: 2 of these lines are ballots of ada; nothing was changed: name the one that counts",
+        )
         self.done("held", "1", "--as", "ada A 1,2", "--yes")
         self.done("held", "3", "--as", "cleo A 1,2", "--as", "cleo B 3,1,2", "--yes")
         self.assertEqual(self.numbers()["waiting"], 0)
@@ -107,36 +203,56 @@ class Held(QuestionsTest):
         self.assert_refused(["held", "1", "--as", "ada A 2,1 B 1,2,3", "--yes"], 9, again)
         self.done("held", "1", "--as", "ada B 1,2,3", "--yes")
         # no force is offered for what was entered
-        ended = self.assert_refused(["held", "1", "--as", "ada A 1,2", "--yes"], 9, "letter 1: its ballot of ada was entered; nothing was changed: there is nothing to do")
+        ended = self.assert_refused(
+            ["held", "1", "--as", "ada A 1,2", "--yes"],
+            9,
+            "letter 1: its ballot of ada was entered; nothing was changed: there is nothing to do",
+        )
         self.assertEqual(ended.faults.count("\n"), 1)
-        self.assertEqual(self.lines(), ["ben A 1,2", "ada A 1,2", "cleo A 1,2", "cleo B 3,1,2", "ada B 1,2,3"])
+        self.assertEqual(
+            self.lines(), ["ben A 1,2", "ada A 1,2", "cleo A 1,2", "cleo B 3,1,2", "ada B 1,2,3"]
+        )
 
     def test_of_a_couple(self) -> None:
         """Who has no ballot of their letter is told with the command; the other's is entered by force, whenever it is, since the own mark is of one alone."""
         self.change_roll("ben@club", "ada@club")
         self.add(letter("ada", "ada\nA 1,2\n\nBen\nA 2,1\nB 1,2,3\n", time=at(9)))
         self.assert_refused(["held", "1", "--enter", "--yes"], 9, "letter 1: it has 2 ballots;")
-        command = "has no ballot of letter 1; debvote-election held 1 --as LINE --force enters one\n"
+        command = (
+            "has no ballot of letter 1; debvote-election held 1 --as LINE --force enters one\n"
+        )
         self.assertIn(f"\nben {command}", self.told("held", "1", "--as", "ada A 1,2", "--yes"))
         self.assertEqual(self.numbers()["waiting"], 0)
         typed = ["held", "1", "--as", "ben A 2,1 B 1,2,3", "--yes"]
-        self.assert_refused(typed, 9, "letter 1: its sender and its subject do not show that it is of ben; nothing was changed: check who sent it; ")
+        self.assert_refused(
+            typed,
+            9,
+            "letter 1: its sender and its subject do not show that it is of ben; nothing was changed: check who sent it; ",
+        )
         self.assertNotIn("has no ballot of", self.told(*typed, "--force"))
         self.assertEqual(self.lines(), ["ada A 1,2", "ben A 2,1 B 1,2,3"])
 
     def test_who_has_voted_since_answered_the_same_question(self) -> None:
         texts = ("ada A 1,2\nas ever\n", "ada B 1,2,3\nas ever\n")
-        self.add(*(letter("ada", text, number=number, time=at(9)) for number, text in enumerate(texts)), letter("ada", "ada A 2,1\n", number=3, time=at(11)))
+        self.add(
+            *(letter("ada", text, number=number, time=at(9)) for number, text in enumerate(texts)),
+            letter("ada", "ada A 2,1\n", number=3, time=at(11)),
+        )
         shown = self.told("held")
         self.assertEqual(shown.count("has voted since"), 1)
         self.assertRegex(shown, r"has voted since\n +line 1: ada A 1,2\n +written: as ever\n")
 
     def test_nothing_is_left_out_of_a_letter_whose_time_is_not_known(self) -> None:
         """Nobody knows which answer is the later one: it stops, and by force the whole letter is entered."""
-        self.add(letter("ada", "ada A 1,2\n", number=1, time=at(9)), letter("ada", "ada A 2,1 B 1,2,3\n", number=2, time=None))
+        self.add(
+            letter("ada", "ada A 1,2\n", number=1, time=at(9)),
+            letter("ada", "ada A 2,1 B 1,2,3\n", number=2, time=None),
+        )
         self.assertIn("; may have voted since\n", self.told("held"))
         enter = ["held", "2", "--enter", "--yes"]
-        self.assert_refused(enter, 9, "letter 2: its elector may have voted since, as nobody knows when it arrived")
+        self.assert_refused(
+            enter, 9, "letter 2: its elector may have voted since, as nobody knows when it arrived"
+        )
         self.told(*enter, "--force")
         self.assertEqual(self.lines(), ["ada A 1,2", "ada A 2,1 B 1,2,3"])
 
@@ -145,9 +261,15 @@ class Held(QuestionsTest):
         self.done("desk", given="ada B 3,2,1\n")
         self.add(letter("ada", "ada A 1,2 B 1,2,3\n", number=1, time=at(9)))
         self.assertNotIn("voted since", self.told("held", "1"))
-        self.assert_refused(["held", "1", "--enter", "--yes"], 9, "letter 1: it arrived in time, and the vote is closed; nothing was changed: if it has a ballot, run debvote-election reopen")
+        self.assert_refused(
+            ["held", "1", "--enter", "--yes"],
+            9,
+            "letter 1: it arrived in time, and the vote is closed; nothing was changed: if it has a ballot, run debvote-election reopen",
+        )
         self.done("reopen", "--because", "x")
-        self.assertIn("1 ballot of letters went in; 0 letters wait", self.told("add", "--yes", "inbox.mbox"))
+        self.assertIn(
+            "1 ballot of letters went in; 0 letters wait", self.told("add", "--yes", "inbox.mbox")
+        )
         self.assertIn("The current ballot: ada A 1,2 B 1,2,3:\n  A (", self.told("show", "ada"))
 
     def test_a_late_line_that_would_replace_a_later_answer(self) -> None:
@@ -167,8 +289,16 @@ class Held(QuestionsTest):
 
     def test_what_is_typed_has_the_form_of_a_ballot_and_only_valid_answers(self) -> None:
         self.add(letter("ada", "I say yes\n", number=1))
-        for typed, why in {"ada 1,2": "bad shape", "ada A 1,2 B 1,2": "bad rank count: 2 ranks, the poll has 3 options", "ada A 1,2 A 1,2": "bad shape"}.items():
-            self.assert_refused(["held", "1", "--as", typed, "--yes"], 9, f"`{typed}` is no ballot of this poll: {why}")
+        for typed, why in {
+            "ada 1,2": "bad shape",
+            "ada A 1,2 B 1,2": "bad rank count: 2 ranks, the poll has 3 options",
+            "ada A 1,2 A 1,2": "bad shape",
+        }.items():
+            self.assert_refused(
+                ["held", "1", "--as", typed, "--yes"],
+                9,
+                f"`{typed}` is no ballot of this poll: {why}",
+            )
         self.done("held", "1", "--as", "Ada: a 1,2", "--yes")
         self.assertEqual(self.lines(), ["ada A 1,2"])
 
@@ -177,12 +307,18 @@ class Sums(QuestionsTest):
     def test_whole_ballots_come_first(self) -> None:
         """Then those of which the answers differ, with how many answers to each question are what."""
         self.add_lines("ada A 1,2", "ben B 1,2,3")
-        self.write("more", "ada A 2,1 B 1,2,3\ncleo A 1,2,3 B 1,2,3\nben A 1,2 B 2,1,3\nada A 1,2 B 2,1,3 C 1,2,3,4\n")
+        self.write(
+            "more",
+            "ada A 2,1 B 1,2,3\ncleo A 1,2,3 B 1,2,3\nben A 1,2 B 2,1,3\nada A 1,2 B 2,1,3 C 1,2,3,4\n",
+        )
         said = self.told("add", "more")
         self.assertIn("3 A replaced, B counted  ada:\n  A (", said)
         sums = "1 counted, 1 bad rank count, 3 replaced in part: A counted 1, A replaced 2, B counted 1, B replaced 2, C counted 1"
         self.assertIn(f"Added 5 lines ({sums}).\n", said)
-        self.assertIn("This desk has entered 2 lines (1 counted, 1 replaced in part: A replaced 1, C counted 1).\n", self.told("desk", given="cleo A 1,2\ncleo A 2,1 C 1,2,3,4\n"))
+        self.assertIn(
+            "This desk has entered 2 lines (1 counted, 1 replaced in part: A replaced 1, C counted 1).\n",
+            self.told("desk", given="cleo A 1,2\ncleo A 2,1 C 1,2,3,4\n"),
+        )
 
 
 class TakenAway(QuestionsTest):
@@ -208,10 +344,18 @@ class TakenAway(QuestionsTest):
             self.done("desk", given=f"{name} B 3,2,1\n")
             self.add(letter(name, f"{name} A 1,2 B 1,2,3\n", number=number, time=at(9)))
             self.assertEqual(self.numbers()["waiting"], 1)
-            said = self.told(*(["strike", "1", "--because", "x"] if name == "ada" else ["undo"]), "--yes")
-            self.assertIn(f"\nletter {number}, from {name}@club.example, 2026-11-23 09:00:00 UTC: it goes in with the next add of letters\n", said)
+            said = self.told(
+                *(["strike", "1", "--because", "x"] if name == "ada" else ["undo"]), "--yes"
+            )
+            self.assertIn(
+                f"\nletter {number}, from {name}@club.example, 2026-11-23 09:00:00 UTC: it goes in with the next add of letters\n",
+                said,
+            )
             self.assertIn(f"  line 1: {name} A 1,2 B 1,2,3\n", said)
-            self.assertIn("1 ballot of letters went in; 0 letters wait", self.told("add", "--yes", "inbox.mbox"))
+            self.assertIn(
+                "1 ballot of letters went in; 0 letters wait",
+                self.told("add", "--yes", "inbox.mbox"),
+            )
         self.assertEqual(self.lines(), ["ada A 1,2 B 1,2,3", "ben A 1,2 B 1,2,3"])
 
     def test_what_was_typed_stays_so_after_a_reopen(self) -> None:
@@ -219,19 +363,33 @@ class TakenAway(QuestionsTest):
         self.done("call", "--until", "2026-11-25 09:20", "--zone", "UTC")
         self.set_clock("2026-11-25T10:00:00+00:00")
         self.done("close", "--force", "--because", "x", "--yes")
-        self.add(letter("ada", "ada A 2,1 B 1,2,3\n\nNo, the other way round, and nothing on the chair.\n", time="Wed, 25 Nov 2026 09:30:00 +0000"))
+        self.add(
+            letter(
+                "ada",
+                "ada A 2,1 B 1,2,3\n\nNo, the other way round, and nothing on the chair.\n",
+                time="Wed, 25 Nov 2026 09:30:00 +0000",
+            )
+        )
         self.done("held", "1", "--as", "ada A 1,2", "--yes")
         self.done("reopen", "--because", "a slow server")
         self.assertNotIn("--enter", self.told("undo", "--yes"))
-        self.assert_refused(["held", "1", "--enter", "--yes"], 9, "its ballot was typed, and taken back; ")
+        self.assert_refused(
+            ["held", "1", "--enter", "--yes"], 9, "its ballot was typed, and taken back; "
+        )
 
     def test_a_file_that_comes_again(self) -> None:
         """What came before is passed over, and of an answer that was replaced since it is told."""
         self.write("first", "ada A 1,2 B 1,2,3\nben C 1,2\n")
         self.done("add", "--force", "first")
-        self.assertIn("first: 2 lines are ignored, since they came before; 0 are new\nThere is nothing new", self.told("add", "first"))
+        self.assertIn(
+            "first: 2 lines are ignored, since they came before; 0 are new\nThere is nothing new",
+            self.told("add", "first"),
+        )
         self.add_lines("ada B 3,2,1")
-        self.assertIn("first:1: `ada A 1,2 B 1,2,3` came before, and ada has voted since (envelope 3)", self.told("add", "first"))
+        self.assertIn(
+            "first:1: `ada A 1,2 B 1,2,3` came before, and ada has voted since (envelope 3)",
+            self.told("add", "first"),
+        )
 
 
 class Told(QuestionsTest):
@@ -249,7 +407,12 @@ class Told(QuestionsTest):
         self.done("letters", "call")
         [file] = (self.folder / "letters" / "call").rglob("ada.eml")
         ours = parsed(file.read_bytes())
-        for number, (head, lines) in enumerate({"": [], "From: Vote\nSent: 20 November 2026 09:00\nSubject: Vote\n\n": ["ada A 1,2"]}.items()):
+        for number, (head, lines) in enumerate(
+            {
+                "": [],
+                "From: Vote\nSent: 20 November 2026 09:00\nSubject: Vote\n\n": ["ada A 1,2"],
+            }.items()
+        ):
             self.add(letter("ada", f"ada A 1,2\n\n{head}{ours.get_content()}", number=number))
             self.assertEqual(self.lines(), lines)
 
@@ -258,9 +421,15 @@ class Told(QuestionsTest):
         texts = self.letters("receipts")
         self.assertEqual(sorted(texts), ["ada", "ben"])
         not_all = "These of its answers do not count; others of yours, which were entered after them, count instead: A (Raise the fee to 72 Euro)."
-        self.assertIn(f"It counts unless you send a later one. {not_all} It was read as: {YES} {CHAIR} ", texts["ada"])
+        self.assertIn(
+            f"It counts unless you send a later one. {not_all} It was read as: {YES} {CHAIR} ",
+            texts["ada"],
+        )
         self.assertIn(f"It was read as: {NO} If you have not sent this", texts["ada"])
-        self.assertIn("It is not a valid ballot of this vote, so it does not count. One of its answers has 2 ranks, and the question has 3 options. If you have not", texts["ben"])
+        self.assertIn(
+            "It is not a valid ballot of this vote, so it does not count. One of its answers has 2 ranks, and the question has 3 options. If you have not",
+            texts["ben"],
+        )
 
     def test_who_has_answered_one_question_is_not_reminded(self) -> None:
         self.add_lines("ada B 1,2,3", "ben B 1,2", words=["--force"])
@@ -273,10 +442,22 @@ class Told(QuestionsTest):
         self.assertIn("Question B: The chair of the board: 1 elector answered\n", said)
         self.assertIn("Question C: A new roof: 0 electors answered\n", said)
         # ben has a ballot, but none of the question whose answer was refused
-        self.assertIn("  envelope 4: ben B 1,2\n    bad rank count: 2 ranks, the poll has 3 options\n", said)
+        self.assertIn(
+            "  envelope 4: ben B 1,2\n    bad rank count: 2 ranks, the poll has 3 options\n", said
+        )
         state = json.loads(self.told("status", "--json"))
-        self.assertEqual([state[key] for key in ("lines", "valid", "refused", "voters")], [4, 3, 1, 2])
-        b = {"title": "The chair of the board", "stage": "called", "lines": 2, "valid": 1, "refused": 1, "voters": 1, "late": 0}
+        self.assertEqual(
+            [state[key] for key in ("lines", "valid", "refused", "voters")], [4, 3, 1, 2]
+        )
+        b = {
+            "title": "The chair of the board",
+            "stage": "called",
+            "lines": 2,
+            "valid": 1,
+            "refused": 1,
+            "voters": 1,
+            "late": 0,
+        }
         self.assertEqual(state["questions"]["B"], b)
 
 
@@ -293,19 +474,38 @@ class Many(QuestionsTest):
         self.assertIn(f"1 counted  m01:\n  {YES}\n  {CHAIR}\n2 counted  m02:\n", few)
         said = self.add_lines(*self.ballots("A 2,1 B 1,2,3 C 1,2,3,4"))
         replies = ["A replaced, B replaced, C counted"] * 2 + ["counted"] * 12
-        told = [f"{number} {reply}  {name}: A 2,1 B 1,2,3 C 1,2,3,4" for number, (reply, name) in enumerate(zip(replies, self.names), start=3)]
-        self.assertEqual(said.splitlines()[:15], [*told, "Each in words: debvote-election show NAME"])
-        self.assertIn("  A (Raise the fee to 72 Euro): No, as it is, then", self.told("show", "m01"))
+        told = [
+            f"{number} {reply}  {name}: A 2,1 B 1,2,3 C 1,2,3,4"
+            for number, (reply, name) in enumerate(zip(replies, self.names), start=3)
+        ]
+        self.assertEqual(
+            said.splitlines()[:15], [*told, "Each in words: debvote-election show NAME"]
+        )
+        self.assertIn(
+            "  A (Raise the fee to 72 Euro): No, as it is, then", self.told("show", "m01")
+        )
 
     def test_letters(self) -> None:
-        letters = [letter(name, f"{ballot}\n", number=number) for number, (name, ballot) in enumerate(zip(self.names, self.ballots("A 1,2 B 1,2,3 C 1,2,3,4")))]
+        letters = [
+            letter(name, f"{ballot}\n", number=number)
+            for number, (name, ballot) in enumerate(
+                zip(self.names, self.ballots("A 1,2 B 1,2,3 C 1,2,3,4"))
+            )
+        ]
         said = self.add(*letters[:2])
         self.assertIn(f"\nm01 (letter 1):\n  {YES}\n  {CHAIR}\n  C (A new roof): Slate", said)
         self.assertIn("\n1 counted  m01\n2 counted  m02\n", said)
-        again = [letter(name, f"{ballot}\n", number=number, time=at(11)) for number, (name, ballot) in enumerate(zip(self.names, self.ballots("a: 2, 1 B 1,2,3 C 1,2,3,4")), start=20)]
+        again = [
+            letter(name, f"{ballot}\n", number=number, time=at(11))
+            for number, (name, ballot) in enumerate(
+                zip(self.names, self.ballots("a: 2, 1 B 1,2,3 C 1,2,3,4")), start=20
+            )
+        ]
         said = self.add(*again)
         lines = said.splitlines()
-        first = lines.index("m01 (letter 3, written `m01 a: 2, 1 B 1,2,3 C 1,2,3,4`): A 2,1 B 1,2,3 C 1,2,3,4")
+        first = lines.index(
+            "m01 (letter 3, written `m01 a: 2, 1 B 1,2,3 C 1,2,3,4`): A 2,1 B 1,2,3 C 1,2,3,4"
+        )
         self.assertTrue(lines[first + 13].startswith("m14 (letter 16, written"), said)
         self.assertEqual(lines[first + 14], "Each in words: debvote-election show NAME")
         self.assertIn("\n3 replaced  m01\n4 replaced  m02\n5 counted  m03\n", said)

@@ -46,19 +46,43 @@ RIGHT_AT_A_TERMINAL = {
 }
 # lines that are no ballot of this vote, or could be one of two people
 WRONG = [
-    "cleo 1,2", "cleo 1,2,3", "cleo: 1,2,3,4", "a 1,2", "ben-b 1,2,3",  # no question
-    "cleo D 1,2", "cleo A 1,2 D 1,2", "cleo AB 1,2", "cleo I 1,2",  # a question that there is not
-    "cleo A 1,2 A 2,1", "cleo A 1,2 a 1,2", "cleo A 1,2 B 1,2,3 A 1,2",  # twice
-    "cleo A B 1,2", "cleo A 1,2 B", "cleo A 1,2 1,2,3", "cleo 1,2 A",  # a label or ranks too many
-    "A 1,2", "A cleo 1,2", "B 1,2,3 C 1,2,3,4",  # no name in front
-    "Ben B 1,2,3", "ben b 1,2,3", "Dan C 1,2,3,4", "Dan C. 1,2,3,4",  # Ben, who answers B, or Ben B, who forgot the label
-]  # fmt: skip
+    "cleo 1,2",
+    "cleo 1,2,3",
+    "cleo: 1,2,3,4",
+    "a 1,2",
+    "ben-b 1,2,3",  # no question
+    "cleo D 1,2",
+    "cleo A 1,2 D 1,2",
+    "cleo AB 1,2",
+    "cleo I 1,2",  # a question that there is not
+    "cleo A 1,2 A 2,1",
+    "cleo A 1,2 a 1,2",
+    "cleo A 1,2 B 1,2,3 A 1,2",  # twice
+    "cleo A B 1,2",
+    "cleo A 1,2 B",
+    "cleo A 1,2 1,2,3",
+    "cleo 1,2 A",  # a label or ranks too many
+    "A 1,2",
+    "A cleo 1,2",
+    "B 1,2,3 C 1,2,3,4",  # no name in front
+    "Ben B 1,2,3",
+    "ben b 1,2,3",
+    "Dan C 1,2,3,4",
+    "Dan C. 1,2,3,4",  # Ben, who answers B, or Ben B, who forgot the label
+]
 
 
 def of(name: str, text: str, number: int, hour: int = 10) -> bytes:
     """A letter of an elector, each later than the one before."""
     subject, address = f"[{MARK}-{any_own(name)}]", f"{name.replace('-', '')}@club.example"
-    return letter(name, f"{text}\n", number=f"{hour}.{number}", sender=address, subject=subject, time=TEN.replace("10:00", f"{hour}:{number:02}"))
+    return letter(
+        name,
+        f"{text}\n",
+        number=f"{hour}.{number}",
+        sender=address,
+        subject=subject,
+        time=TEN.replace("10:00", f"{hour}:{number:02}"),
+    )
 
 
 class LabelsTest(QuestionsTest):
@@ -107,7 +131,10 @@ class Lines(LabelsTest):
         desk.until("Ballot: ")
         desk.after("cleo 2,1\n", "Ballot: ")
         said = desk.after("cleo a 2,1 b 1,2,3\n", "Enter it?")
-        self.assertIn("A (Raise the fee to 72 Euro): No, as it is, then Yes, 72 Euro\n  B (The chair of the board): Ada Lovelace, then", said)
+        self.assertIn(
+            "A (Raise the fee to 72 Euro): No, as it is, then Yes, 72 Euro\n  B (The chair of the board): Ada Lovelace, then",
+            said,
+        )
         self.assertIn("C (A new roof): Slate, then Tiles, then Straw, then As it is", said)
         self.assertIn("stay", said)
         desk.after("y\n", "Ballot: ")
@@ -119,17 +146,33 @@ class Lines(LabelsTest):
         """Cleo has a ballot, but none to B; Ben has one to B, too."""
         self.done("desk", given="cleo A 1,2 B 1\nben B 1,2,3\nben B 1,2,3,4\nzoe C 1\na B 1\n")
         said = self.done("status").output
-        [(count, its)] = re.findall(r"(?m)^Refused lines of electors without a ballot to the question, or of nobody known \((.*)\):\n((?:  .*\n)+)", said)
-        self.assertEqual((count, re.findall(r"envelope \d+: (.*)", its)), ("3", ["cleo B 1", "zoe C 1", "a B 1"]))
+        [(count, its)] = re.findall(
+            r"(?m)^Refused lines of electors without a ballot to the question, or of nobody known \((.*)\):\n((?:  .*\n)+)",
+            said,
+        )
+        self.assertEqual(
+            (count, re.findall(r"envelope \d+: (.*)", its)), ("3", ["cleo B 1", "zoe C 1", "a B 1"])
+        )
 
     def test_at_a_terminal(self) -> None:
         """What may be the last letter of a name, or the label, is neither, for a part of a name, too."""
         desk = Terminal(self)
         desk.until("Ballot: ")
-        for typed in ("Ben B 3,2,1", "ben b 2,1,3", "BEN B: 1,2,3 A 1,2", "en B 1,2,3", "be b 1,2,3", "Adams A 1,2", "ada a 1,2"):
+        for typed in (
+            "Ben B 3,2,1",
+            "ben b 2,1,3",
+            "BEN B: 1,2,3 A 1,2",
+            "en B 1,2,3",
+            "be b 1,2,3",
+            "Adams A 1,2",
+            "ada a 1,2",
+        ):
             shown = desk.after(f"{typed}\n", "It was not entered.\nBallot: ")
             who = "a" if "a" in typed[:1].lower() else "ben-b"
-            self.assertIn(f" may be a label, or belong to the name of {who}: type the name on the roll, with a colon behind it\n", shown)
+            self.assertIn(
+                f" may be a label, or belong to the name of {who}: type the name on the roll, with a colon behind it\n",
+                shown,
+            )
         for typed, entered in RIGHT_AT_A_TERMINAL.items():
             desk.after(f"{typed}\n", "Enter it? [y/n] ")
             desk.after("y\n", "Ballot: ")
@@ -147,36 +190,72 @@ class Lines(LabelsTest):
         self.assertRegex(said, r"(?m)^\d bad rank count  cleo A 1,2,3")
         self.assertEqual(sorted(self.lines()), ["cleo A 1,2,3", "cleo B 1,2,3"])
         sheets = self.sheets()
-        for label, numbers in (("A", ("1", "0", "1")), ("B", ("1", "1", "0")), ("C", ("0", "0", "0"))):
-            self.assertEqual(tuple(re.findall(r"(?m)^(?:Lines|Valid|Refused): (\d)$", sheets[label])), numbers)
+        for label, numbers in (
+            ("A", ("1", "0", "1")),
+            ("B", ("1", "1", "0")),
+            ("C", ("0", "0", "0")),
+        ):
+            self.assertEqual(
+                tuple(re.findall(r"(?m)^(?:Lines|Valid|Refused): (\d)$", sheets[label])), numbers
+            )
         self.done("undo", "--yes")
         self.assertEqual(self.lines(), [])
 
     def test_a_line_with_a_refused_answer_is_one_that_came_before(self) -> None:
         self.write("first", "cleo A 1,2,3 B 1,2,3\n")
         self.done("add", "first")
-        self.assertIn("first: 1 line is ignored, since it came before; 0 are new\n", self.done("add", "first").output)
+        self.assertIn(
+            "first: 1 line is ignored, since it came before; 0 are new\n",
+            self.done("add", "first").output,
+        )
         self.write("more", "cleo A 1,2,3 B 1,2,3\ndan A 1,2,3 B 1,2,3\n")
-        self.assertIn("more: 1 line is ignored, since it came before; 1 is new\n", self.done("add", "more").output)
+        self.assertIn(
+            "more: 1 line is ignored, since it came before; 1 is new\n",
+            self.done("add", "more").output,
+        )
         detail = {"files": ["more"], "lines": 2, "passed_over": 1}
         self.assertEqual(self.acts()[-1], ("add", detail))
 
 
 class OneNameOfTwo(QuestionsTest):
-    members = "who,name,mail\nMaximilian Mayer,max,\nMax,,max@club.example\nCleo,cleo,cleo@club.example\n"
+    members = (
+        "who,name,mail\nMaximilian Mayer,max,\nMax,,max@club.example\nCleo,cleo,cleo@club.example\n"
+    )
 
     def test_of_several_questions(self) -> None:
         unclear = "it has the name of max and max-2"
         self.assertIn(unclear, self.election("add", given="Max A 1,2\n").faults)
         for words, line in (((), "MAX a: 1,2"), (("--question", "A"), "Max 1,2")):
-            self.assertIn(f"desk:1: {unclear}; it was not entered.", self.done("desk", *words, given=f"{line}\n").output)
+            self.assertIn(
+                f"desk:1: {unclear}; it was not entered.",
+                self.done("desk", *words, given=f"{line}\n").output,
+            )
         # in a letter it is that of whoever has the address alone
         of_max = f"[{MARK}-{any_own('max-2')}]"
-        self.add(letter("max", "I told you.\n", subject=of_max), letter("max", "Max A 2,1\n", subject=of_max, number=2), letter("cleo", "Max A 1,1\n"))
-        self.assertIn(unclear, self.election("held", "1", "--as", "Max A 1,2", "--force", "--yes").faults)
+        self.add(
+            letter("max", "I told you.\n", subject=of_max),
+            letter("max", "Max A 2,1\n", subject=of_max, number=2),
+            letter("cleo", "Max A 1,1\n"),
+        )
+        self.assertIn(
+            unclear, self.election("held", "1", "--as", "Max A 1,2", "--force", "--yes").faults
+        )
         self.done("desk", given="max A 1,2\nmax: B 1,2,3\nMaximilian Mayer C 1,2,3,4\n")
-        self.done("desk", "--question", "B", given="max 2,1,3\nmax-2 1,2,3\nMaximilian Mayer: 3,2,1\n")
-        self.assertEqual(self.lines(), ["max-2 A 2,1", "max A 1,2", "max B 1,2,3", "max C 1,2,3,4", "max B 2,1,3", "max-2 B 1,2,3", "max B 3,2,1"])
+        self.done(
+            "desk", "--question", "B", given="max 2,1,3\nmax-2 1,2,3\nMaximilian Mayer: 3,2,1\n"
+        )
+        self.assertEqual(
+            self.lines(),
+            [
+                "max-2 A 2,1",
+                "max A 1,2",
+                "max B 1,2,3",
+                "max C 1,2,3,4",
+                "max B 2,1,3",
+                "max-2 B 1,2,3",
+                "max B 3,2,1",
+            ],
+        )
 
 
 class Words(LabelsTest):
@@ -184,7 +263,12 @@ class Words(LabelsTest):
     poll = "".join(polls.values())
 
     def test_behind_a_name_that_ends_in_a_letter(self) -> None:
-        lines = {"A A yes": "a A 1,2", "A: A no": "a A 2,1", "Ben B a: Yes!": "ben-b A 1,2", "a B 1,2,3 A no": "a A 2,1 B 1,2,3"}
+        lines = {
+            "A A yes": "a A 1,2",
+            "A: A no": "a A 2,1",
+            "Ben B a: Yes!": "ben-b A 1,2",
+            "a B 1,2,3 A no": "a A 2,1 B 1,2,3",
+        }
         for command in ("add", "desk"):
             self.done(command, given="".join(f"{line}\n" for line in lines))
         self.add(letter("cleo", "I told you.\n"))
@@ -195,7 +279,15 @@ class Words(LabelsTest):
 class Letters(LabelsTest):
     def test_letters(self) -> None:
         """Each waits, and is shown by `held`; what is right goes in, in the order of the letters."""
-        texts = [*WRONG, "cleo\nA 1,2\nand for the roof\nC 1,2,3,4", "cleo\nA 1,2\n-- \nB 1,2,3", "A 1,2\nB 1,2,3", "cleo A 1,2\n\nB 1,2", "cleo\nA 1,2 B", "B 1,2,3\ncleo\nA 1,2"]
+        texts = [
+            *WRONG,
+            "cleo\nA 1,2\nand for the roof\nC 1,2,3,4",
+            "cleo\nA 1,2\n-- \nB 1,2,3",
+            "A 1,2\nB 1,2,3",
+            "cleo A 1,2\n\nB 1,2",
+            "cleo\nA 1,2 B",
+            "B 1,2,3\ncleo\nA 1,2",
+        ]
         senders = {"a": ["a 1,2"], "ben-b": ["ben-b 1,2,3", "Ben B 1,2,3", "ben b 1,2,3"]}
         sender = {text: name for name, own in senders.items() for text in own}
         made = [of(sender.get(text, "cleo"), text, number) for number, text in enumerate(texts)]
@@ -205,15 +297,33 @@ class Letters(LabelsTest):
         for number in range(1, len(made) + 1):
             self.assertRegex(held, rf"(?m)^ +{number}  ")
         self.assertEqual(self.numbers()["waiting"], len(made))
-        right = [of(entered.partition(" ")[0], text, number, hour=11) for number, (text, entered) in enumerate(RIGHT.items())]
+        right = [
+            of(entered.partition(" ")[0], text, number, hour=11)
+            for number, (text, entered) in enumerate(RIGHT.items())
+        ]
         self.assertIn(f"{len(right)} ballots of letters went in", self.add(*right))
         self.demand_entered(*RIGHT.values())
 
     def test_a_name_that_is_part_of_another(self) -> None:
         """Ben answers B although there is a Ben B: by the form, the letter or with a colon."""
-        texts = ["ben\nA 1,2\nB 2,1,3", "ben B 1,2,3", "Ben\nB 3,2,1", "Ben: B 1,2,3", "Ben C 1,2,3,4\nB 3,2,1"]
-        self.assertIn("5 ballots of letters went in; 0 letters wait", self.add(*(of("ben", text, number) for number, text in enumerate(texts, start=1))))
-        self.demand_entered("ben A 1,2 B 2,1,3", "ben B 1,2,3", "ben B 3,2,1", "ben B 1,2,3", "ben B 3,2,1 C 1,2,3,4")
+        texts = [
+            "ben\nA 1,2\nB 2,1,3",
+            "ben B 1,2,3",
+            "Ben\nB 3,2,1",
+            "Ben: B 1,2,3",
+            "Ben C 1,2,3,4\nB 3,2,1",
+        ]
+        self.assertIn(
+            "5 ballots of letters went in; 0 letters wait",
+            self.add(*(of("ben", text, number) for number, text in enumerate(texts, start=1))),
+        )
+        self.demand_entered(
+            "ben A 1,2 B 2,1,3",
+            "ben B 1,2,3",
+            "ben B 3,2,1",
+            "ben B 1,2,3",
+            "ben B 3,2,1 C 1,2,3,4",
+        )
 
     def test_as(self) -> None:
         self.add(letter("cleo", "I am for the slate.\n"))
@@ -233,7 +343,9 @@ class Names(LabelsTest):
     call_words = None
 
     def test_who_can_be_taken_for_a_label(self) -> None:
-        [note] = [line for line in self.done("check").output.splitlines() if line.startswith("Note: ")]
+        [note] = [
+            line for line in self.done("check").output.splitlines() if line.startswith("Note: ")
+        ]
         self.assertIn("a (A. Adams)", note)
         self.assertIn("ben-b (Ben B)", note)
         self.assertNotIn("cleo", note)
@@ -282,12 +394,20 @@ class Exchanged(QuestionsTest):
             "the title and a poll": lambda folder: exchange(folder, "title.txt", "C/poll.toml"),
             "the title": lambda folder: (folder / "title.txt").write_text("Another assembly\n"),
             "a poll less": lambda folder: shutil.rmtree(folder / "C"),
-            "a poll less in the list": lambda folder: (folder / "polls.sha256").write_text(re.sub(r".*C/.*\n", "", sums)),
-            "two labels of the list": lambda folder: (folder / "polls.sha256").write_text(exchanged),
+            "a poll less in the list": lambda folder: (folder / "polls.sha256").write_text(
+                re.sub(r".*C/.*\n", "", sums)
+            ),
+            "two labels of the list": lambda folder: (folder / "polls.sha256").write_text(
+                exchanged
+            ),
         }
 
     def test_in_the_call_and_in_the_result(self) -> None:
-        for kind, lists, letter in (("call", ["polls.sha256"], self.announced), ("result", ["polls.sha256"], self.announced), ("result", ["SHA256SUMS"], self.result)):
+        for kind, lists, letter in (
+            ("call", ["polls.sha256"], self.announced),
+            ("result", ["polls.sha256"], self.announced),
+            ("result", ["SHA256SUMS"], self.result),
+        ):
             self.assertTrue(self.is_whole(self.folder / kind, lists, letter), (kind, lists))
             for name, change in self.changes().items():
                 with self.subTest(f"{kind}: {name}, {lists}"):
@@ -300,14 +420,29 @@ class Exchanged(QuestionsTest):
     def test_a_question_more_and_a_folder_of_another_assembly(self) -> None:
         """Each is seen in the list of all files, and by the page, which names the checksum of its poll and of the list."""
         result = self.folder / "result"
-        listed = {line.split("  ", 1)[1] for line in (result / "SHA256SUMS").read_text().splitlines()}
-        self.assertEqual({str(file.relative_to(result)) for file in result.rglob("*") if file.is_file()} - listed, {"SHA256SUMS"})
+        listed = {
+            line.split("  ", 1)[1] for line in (result / "SHA256SUMS").read_text().splitlines()
+        }
+        self.assertEqual(
+            {str(file.relative_to(result)) for file in result.rglob("*") if file.is_file()}
+            - listed,
+            {"SHA256SUMS"},
+        )
         pages = {label: (result / label / "index.html").read_text() for label in self.polls}
-        digests = dict(line.split("  ")[::-1] for line in self.read("call/polls.sha256").decode().splitlines())
+        digests = dict(
+            line.split("  ")[::-1] for line in self.read("call/polls.sha256").decode().splitlines()
+        )
         checksum = hashlib.sha256(self.read("call/polls.sha256")).hexdigest()
         for label, page in pages.items():
             self.assertIn(checksum, page)
-            self.assertEqual([other for other in self.polls if digests[f"{other}/poll.toml"] in page.partition("<script")[0]], [label])
+            self.assertEqual(
+                [
+                    other
+                    for other in self.polls
+                    if digests[f"{other}/poll.toml"] in page.partition("<script")[0]
+                ],
+                [label],
+            )
         # another assembly with the same polls, but for its title
         self.folder = self.scratch / "other"
         type(self).title, before = "Another assembly", type(self).title

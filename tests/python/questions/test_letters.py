@@ -23,13 +23,34 @@ from debvote_tools.text.motions import Words, words_of
 
 from tests.python.inbox import test_forgeries
 from tests.support import letters
-from tests.support.letters import NAMES, OTHER_RANKS, RANKS, TEN, answer, at, circumstances, in_order, judged_alone, letter, names, outcome, parsed
+from tests.support.letters import (
+    NAMES,
+    OTHER_RANKS,
+    RANKS,
+    TEN,
+    answer,
+    at,
+    circumstances,
+    in_order,
+    judged_alone,
+    letter,
+    names,
+    outcome,
+    parsed,
+)
 
 WORDS = words_of("en", motion=True)
 
 # how many options each question has, with the default option
 OPTIONS = {"A": 2, "B": 4, "C": 3}
-REAL = {name: name.capitalize() for name in NAMES} | {"ada": "Ada Lovelace", "ben": "Ben", "cleo": "Ben B", "dan": "Eve", "fay": "Fay Fox", "gus": "Fay Fox B"}
+REAL = {name: name.capitalize() for name in NAMES} | {
+    "ada": "Ada Lovelace",
+    "ben": "Ben",
+    "cleo": "Ben B",
+    "dan": "Eve",
+    "fay": "Fay Fox",
+    "gus": "Fay Fox B",
+}
 RANK = re.compile("-|[1-9][0-9]?")
 
 
@@ -37,7 +58,12 @@ def verdict(line: bytes) -> str | None:
     """What debvote says of a ballot of several answers, or of the first that is refused."""
     name, *parts = line.decode("ascii", "replace").split(" ")
     answers = dict(zip(parts[::2], parts[1::2]))
-    if len(parts) != 2 * len(answers) or not answers or list(answers) != sorted(answers) or not answers.keys() <= OPTIONS.keys():
+    if (
+        len(parts) != 2 * len(answers)
+        or not answers
+        or list(answers) != sorted(answers)
+        or not answers.keys() <= OPTIONS.keys()
+    ):
         return "bad shape: it is no ballot"
     if name not in NAMES:
         return f"bad not on roll: {name} is not on the roll"
@@ -51,26 +77,44 @@ def verdict(line: bytes) -> str | None:
 
 def read(*given: bytes | ParsedLetter, words: Words = {}) -> list[ReadLetter]:
     """Letters as the book gives them back; with words the first question is a motion."""
-    known = names(labels=tuple(OPTIONS), motions=("A",), words=words, real_names=REAL, longest_line=1_500)
-    found = with_texts([one if isinstance(one, ParsedLetter) else parsed(one) for one in given], known, lambda lines: {line: verdict(line) for line in lines})
+    known = names(
+        labels=tuple(OPTIONS), motions=("A",), words=words, real_names=REAL, longest_line=1_500
+    )
+    found = with_texts(
+        [one if isinstance(one, ParsedLetter) else parsed(one) for one in given],
+        known,
+        lambda lines: {line: verdict(line) for line in lines},
+    )
     assert [from_json(to_json(one)) for one in found] == found
     return found
 
 
-def judged(*given: bytes | ParsedLetter, ballots: Mapping[str, Sequence[Ballot]] | None = None, words: Words = {}, **other: object) -> list[LetterCase]:
-    return judge_all([LetterCase(one, circumstances(**other)) for one in read(*given, words=words)], in_order(ballots or {}))
+def judged(
+    *given: bytes | ParsedLetter,
+    ballots: Mapping[str, Sequence[Ballot]] | None = None,
+    words: Words = {},
+    **other: object,
+) -> list[LetterCase]:
+    return judge_all(
+        [LetterCase(one, circumstances(**other)) for one in read(*given, words=words)],
+        in_order(ballots or {}),
+    )
 
 
 def becomes(text: str, how: object = letter, words: Words = {}, name: str = "ada") -> str:
     """What becomes of a letter, and the ballot that `held --enter` takes of one that waits."""
     [case] = judged(how(name, text), words=words)  # type: ignore[operator]
     is_taken = case.outcome is LetterOutcome.WAITS and case.can_be_entered and case.ballot
-    return f"{outcome(case)} ({case.ballot.as_entered})" if is_taken and case.ballot else outcome(case)
+    return (
+        f"{outcome(case)} ({case.ballot.as_entered})" if is_taken and case.ballot else outcome(case)
+    )
 
 
 ALL = "in: ada A 1,2 B 2,1,3,-"
 HEAD = "On Monday, 23 November 2026 at 10:00, Vote wrote:\n"
-OUTLOOK = "From: Vote <vote@club.example>\nSent: Monday, 23 November 2026 10:00\nTo: Ada\nSubject: Vote\n"
+OUTLOOK = (
+    "From: Vote <vote@club.example>\nSent: Monday, 23 November 2026 10:00\nTo: Ada\nSubject: Vote\n"
+)
 
 
 class Written(unittest.TestCase):
@@ -84,58 +128,165 @@ class Written(unittest.TestCase):
     def test_goes_in(self) -> None:
         """Broken before labels, with empty lines there or none, the name again before a label, labels as people write them and in any order."""
         texts = (
-            "ada A 1,2 B 2,1,3,-", "ada\nA 1,2\nB 2,1,3,-\n", "Ada Lovelace\na: 1, 2\n\nb) 2,1,3,-\n", "ada\nB 2,1,3,-\nA 1,2", "ada A 1,2\nB 2,1,3,-", "ada A 1,2\nada B 2,1,3,-",
-            "ada\nA 1,2\nAda\nB 2,1,3,-", "Ada Lovelace\nA 1,2\n\u00c1da Lovelace B 2,1,3,-", "ada\n\n\nA 1,2\n\n\n\nB 2,1,3,-", "ADA: a1,2\nb. 2,1,3,-.", "*ada*\n*A* 1,2\n*B 2,1,3,-*", "ada:\nA 1,2\nB\u00a02,1,3,\u2013",
+            "ada A 1,2 B 2,1,3,-",
+            "ada\nA 1,2\nB 2,1,3,-\n",
+            "Ada Lovelace\na: 1, 2\n\nb) 2,1,3,-\n",
+            "ada\nB 2,1,3,-\nA 1,2",
+            "ada A 1,2\nB 2,1,3,-",
+            "ada A 1,2\nada B 2,1,3,-",
+            "ada\nA 1,2\nAda\nB 2,1,3,-",
+            "Ada Lovelace\nA 1,2\n\u00c1da Lovelace B 2,1,3,-",
+            "ada\n\n\nA 1,2\n\n\n\nB 2,1,3,-",
+            "ADA: a1,2\nb. 2,1,3,-.",
+            "*ada*\n*A* 1,2\n*B 2,1,3,-*",
+            "ada:\nA 1,2\nB\u00a02,1,3,\u2013",
             # the name on two lines, and ranks below their label: lines are joined by blanks
-            "Ada\nLovelace\nA\n1,2\nB\n2,1,\n3,-", "Hello,\n\nada\nA 1,2\nB 2,1,3,-\n\nAda", "Hello Ada,\nDear all\nada A 1,2\nB 2,1,3,-\nBest wishes, Ada Lovelace\nSent from my iPhone",
-            "Ada Lovelace A 1,2\nb 2, 1, 3, -\n\nBest wishes\nAda Lovelace\n-- \nsent with a telephone", f"ada\nA 1,2\nB 2,1,3,-\n\n{HEAD}> Your ballot: ..\n>   A _,_", f"ada\nA 1,2\nB 2,1,3,-\n-- \nAda\n{OUTLOOK}\nA _,_",
-        )  # fmt: skip
+            "Ada\nLovelace\nA\n1,2\nB\n2,1,\n3,-",
+            "Hello,\n\nada\nA 1,2\nB 2,1,3,-\n\nAda",
+            "Hello Ada,\nDear all\nada A 1,2\nB 2,1,3,-\nBest wishes, Ada Lovelace\nSent from my iPhone",
+            "Ada Lovelace A 1,2\nb 2, 1, 3, -\n\nBest wishes\nAda Lovelace\n-- \nsent with a telephone",
+            f"ada\nA 1,2\nB 2,1,3,-\n\n{HEAD}> Your ballot: ..\n>   A _,_",
+            f"ada\nA 1,2\nB 2,1,3,-\n-- \nAda\n{OUTLOOK}\nA _,_",
+        )
         self.demand(dict.fromkeys(texts, ALL))
 
     def test_waits(self) -> None:
         """With anything else in it; `--enter` takes its ballot if there is one alone, and no other line that begins as an answer."""
         none, more, taken = "waits: no ballot", "waits: not alone", "waits: not alone (ada A 1,2)"
-        self.demand({
-            # without a name, a question, all ranks or a label; with a label that there is not, twice, or ranks of points
-            "A 1,2\nB 2,1,3,-": none, "Hello\nA 1,2\nB 2,1,3,-": none, "A 1,2\nand for the board\nB 2,1,3,-": none, "ada 1,2": none, "ada 1,2,3,4": none, "ada D 1,2": none, "A ada 1,2": none,
-            "ada A 1,2 B 2,1": none, "ada\nA 1,2\nB 2,1": none, "ada A 1,2 A 2,1": none, "ada A 1,3": none, "ada A 50,40": none, "ada C 1,2,3 B 1,2,5,3": none,
-            # the name is not written as names are
-            "ada? A 1,2": none, "ada, A 1,2": none, "ada + A 1,2": none, "ada/ben A 1,2": none, "zoe A 1,2": none, f"a{'a' * 100} A 1,2": none,
-            # an answer that belongs to no ballot
-            "ada A 1,2\nD 1,2": more, "ada A 1,2\n\nregards\nada B 2,1": more, "ada A 1,2\nand for the board\nB 2,1,3,-": more, "ada A 1,2\nA 2,1": more, "ada A 1,2\n(B) 2,1,3,-": more, "ada A 1,2\nB 2 1 3 4": more,
-            "ada A 1,2\nada b 2 1 3 -": taken, "ada A 1,2\nI 1,2": more, "ada A 1,2\n\n*B*- 1": more, "ada A 1,2\n2,1,3,4": more, "ada B 1,2,3,4\nada -,-": more, "ada B 1,2,3,4\n\nThanks -,-": more, "Hello -,-\nada B 1,2,3,4": more, "ada A 1,2\n-- \nB 2,1,3,4": more, "ada A 1,2\nB: as I said": more, "ada A 1,2\nB as I said": more, "ada A 1,2\nC: against": more, "ada A 1,2\nD: against": taken, "ada\nA 2,1,3,-\nB 1,2": none,
-            "ada A 1,2\n\nregards\nada B 2,1,3,4": "waits: several", "ada\nA 1,2\nhello\nAda\nB 2,1,3,-": "waits: several", "ada A 1,2\n\nada A 1,2\nada B 2,1,3,4": "waits: several",
-            # other words above, between and below, and of another elector
-            "I vote:\nada A 1,2": taken, "ada A 1,2\nThis is NOT my vote": taken, "ada A 1,2\n???": taken, "ada A 1,2\n\u2026 with doubts": taken, "Ada\nHello,\nada A 1,2": taken, "ada\nHello\nA 1,2": none, "ada A 1,2\nHello": taken,
-            "ada A 1,2\nBest wishes?": taken, "ada A 1,2\nBest wishes, Ben": taken, "ada A 1,2\nBen": taken, "Hello Ben,\nada A 1,2": taken, "ada A 1,2\nsee you on the 5th": taken, "Thanks\nada A 1,2": taken,
-            "ada A 1,2\ndan B 2,1,3,-": "waits: several", "ada A 1,2\n\nada A 1,2\nI said": taken,
-        })  # fmt: skip
+        self.demand(
+            {
+                # without a name, a question, all ranks or a label; with a label that there is not, twice, or ranks of points
+                "A 1,2\nB 2,1,3,-": none,
+                "Hello\nA 1,2\nB 2,1,3,-": none,
+                "A 1,2\nand for the board\nB 2,1,3,-": none,
+                "ada 1,2": none,
+                "ada 1,2,3,4": none,
+                "ada D 1,2": none,
+                "A ada 1,2": none,
+                "ada A 1,2 B 2,1": none,
+                "ada\nA 1,2\nB 2,1": none,
+                "ada A 1,2 A 2,1": none,
+                "ada A 1,3": none,
+                "ada A 50,40": none,
+                "ada C 1,2,3 B 1,2,5,3": none,
+                # the name is not written as names are
+                "ada? A 1,2": none,
+                "ada, A 1,2": none,
+                "ada + A 1,2": none,
+                "ada/ben A 1,2": none,
+                "zoe A 1,2": none,
+                f"a{'a' * 100} A 1,2": none,
+                # an answer that belongs to no ballot
+                "ada A 1,2\nD 1,2": more,
+                "ada A 1,2\n\nregards\nada B 2,1": more,
+                "ada A 1,2\nand for the board\nB 2,1,3,-": more,
+                "ada A 1,2\nA 2,1": more,
+                "ada A 1,2\n(B) 2,1,3,-": more,
+                "ada A 1,2\nB 2 1 3 4": more,
+                "ada A 1,2\nada b 2 1 3 -": taken,
+                "ada A 1,2\nI 1,2": more,
+                "ada A 1,2\n\n*B*- 1": more,
+                "ada A 1,2\n2,1,3,4": more,
+                "ada B 1,2,3,4\nada -,-": more,
+                "ada B 1,2,3,4\n\nThanks -,-": more,
+                "Hello -,-\nada B 1,2,3,4": more,
+                "ada A 1,2\n-- \nB 2,1,3,4": more,
+                "ada A 1,2\nB: as I said": more,
+                "ada A 1,2\nB as I said": more,
+                "ada A 1,2\nC: against": more,
+                "ada A 1,2\nD: against": taken,
+                "ada\nA 2,1,3,-\nB 1,2": none,
+                "ada A 1,2\n\nregards\nada B 2,1,3,4": "waits: several",
+                "ada\nA 1,2\nhello\nAda\nB 2,1,3,-": "waits: several",
+                "ada A 1,2\n\nada A 1,2\nada B 2,1,3,4": "waits: several",
+                # other words above, between and below, and of another elector
+                "I vote:\nada A 1,2": taken,
+                "ada A 1,2\nThis is NOT my vote": taken,
+                "ada A 1,2\n???": taken,
+                "ada A 1,2\n\u2026 with doubts": taken,
+                "Ada\nHello,\nada A 1,2": taken,
+                "ada\nHello\nA 1,2": none,
+                "ada A 1,2\nHello": taken,
+                "ada A 1,2\nBest wishes?": taken,
+                "ada A 1,2\nBest wishes, Ben": taken,
+                "ada A 1,2\nBen": taken,
+                "Hello Ben,\nada A 1,2": taken,
+                "ada A 1,2\nsee you on the 5th": taken,
+                "Thanks\nada A 1,2": taken,
+                "ada A 1,2\ndan B 2,1,3,-": "waits: several",
+                "ada A 1,2\n\nada A 1,2\nI said": taken,
+            }
+        )
 
     def test_quotations(self) -> None:
         """An answer that somebody filled in there, in any line, is none that is left out; nor is what stands below, or has no head."""
-        more, taken, quoted = "waits: not alone", "waits: not alone (ada A 1,2)", "waits: answer below"
+        more, taken, quoted = (
+            "waits: not alone",
+            "waits: not alone (ada A 1,2)",
+            "waits: answer below",
+        )
         form = "ada\n  A _,_\n  B _,_,_,_\n  C _,_,_"
 
         def below(text: str, mark: str = "> ") -> str:
             return "".join(f"{mark}{line}\n" for line in text.split("\n"))
 
-        filled = (form.replace("B _,_,_,_", other) for other in ("B 2,1,3,-", "B: 2,1,_3,_", "b) 1", "C", "the board 2, 1,3", "B yes"))
-        self.demand({f"ada A 1,2\n\n{HEAD}{below(text)}": quoted if re.search(r"[12]|yes", text) else "in: ada A 1,2" for text in (form, *filled)}, words=WORDS)
-        self.demand({
-            f"ada A 1,2\n\n{OUTLOOK}{form}": "in: ada A 1,2", f"ada A 1,2\n\n{OUTLOOK}{form}\nB 2,1,3,4": quoted, f"ada A 1,2\n-----Original Message-----\nB: 1": quoted, "ada A 1,2\n-- \nB 1 is best": more, "ada A 1,2\n-- \nmodel 1,2": more,
-            f"ada A 1,2\n{HEAD}{below(form)}Please wait": taken, f"ada A 1,2\n{HEAD}{below(form)}B 2,1,3,4": more, f"{HEAD}{below(form)}ada A 1,2": taken, f"ada A 1,2\n{below(form)}": taken, f"Vote:\n{below('ada A 1,2')}": "waits: no ballot",
-            f"{HEAD}{below(form.replace('A _,_', 'A 1,2'))}": "waits: no ballot", f"ada A 1,2\nVote said:\n{below(form)}": taken, "ada A 1,2\n> B 2,1,3,-": more, "ada\n> A 1,2": "waits: no ballot",
-        }, how=answer)  # fmt: skip
+        filled = (
+            form.replace("B _,_,_,_", other)
+            for other in ("B 2,1,3,-", "B: 2,1,_3,_", "b) 1", "C", "the board 2, 1,3", "B yes")
+        )
+        self.demand(
+            {
+                f"ada A 1,2\n\n{HEAD}{below(text)}": quoted
+                if re.search(r"[12]|yes", text)
+                else "in: ada A 1,2"
+                for text in (form, *filled)
+            },
+            words=WORDS,
+        )
+        self.demand(
+            {
+                f"ada A 1,2\n\n{OUTLOOK}{form}": "in: ada A 1,2",
+                f"ada A 1,2\n\n{OUTLOOK}{form}\nB 2,1,3,4": quoted,
+                "ada A 1,2\n-----Original Message-----\nB: 1": quoted,
+                "ada A 1,2\n-- \nB 1 is best": more,
+                "ada A 1,2\n-- \nmodel 1,2": more,
+                f"ada A 1,2\n{HEAD}{below(form)}Please wait": taken,
+                f"ada A 1,2\n{HEAD}{below(form)}B 2,1,3,4": more,
+                f"{HEAD}{below(form)}ada A 1,2": taken,
+                f"ada A 1,2\n{below(form)}": taken,
+                f"Vote:\n{below('ada A 1,2')}": "waits: no ballot",
+                f"{HEAD}{below(form.replace('A _,_', 'A 1,2'))}": "waits: no ballot",
+                f"ada A 1,2\nVote said:\n{below(form)}": taken,
+                "ada A 1,2\n> B 2,1,3,-": more,
+                "ada\n> A 1,2": "waits: no ballot",
+            },
+            how=answer,
+        )
 
     def test_a_label_is_taken_for_no_name_and_a_name_for_no_label(self) -> None:
         for name, text, wanted in (
-            ("ben", "Ben A 1,2", "in: ben A 1,2"), ("cleo", "Ben B B 1,2,3,4", "in: cleo B 1,2,3,4"), ("cleo", "Ben B A 1,2", "in: cleo A 1,2"), ("cleo", "Ben B 1,2,3,4", "waits: no ballot"), ("ben", "Ben B 1,2,3,4", "waits: no ballot"),
-            ("ben", "ben b 1,2,3,4", "waits: no ballot"), ("ben", "ben B 1,2,3,4", "in: ben B 1,2,3,4"), ("ben", "Ben: B 1,2,3,4", "in: ben B 1,2,3,4"),
-            ("ben", "Ben\nB 1,2,3,4", "in: ben B 1,2,3,4"), ("cleo", "Ben\nB 1,2,3,4", "waits: other sender (ben B 1,2,3,4)"), ("cleo", "Ben B\n\nB 1,2,3,4", "in: cleo B 1,2,3,4"),
-            ("fay", "Fay Fox A 1,2", "in: fay A 1,2"), ("fay", "Fay Fox B 1,2,3,4", "waits: no ballot"), ("gus", "Fay Fox B B 1,2,3,4", "in: gus B 1,2,3,4"), ("gus", "Fay Fox B\nB 1,2,3,4", "in: gus B 1,2,3,4"),
+            ("ben", "Ben A 1,2", "in: ben A 1,2"),
+            ("cleo", "Ben B B 1,2,3,4", "in: cleo B 1,2,3,4"),
+            ("cleo", "Ben B A 1,2", "in: cleo A 1,2"),
+            ("cleo", "Ben B 1,2,3,4", "waits: no ballot"),
+            ("ben", "Ben B 1,2,3,4", "waits: no ballot"),
+            ("ben", "ben b 1,2,3,4", "waits: no ballot"),
+            ("ben", "ben B 1,2,3,4", "in: ben B 1,2,3,4"),
+            ("ben", "Ben: B 1,2,3,4", "in: ben B 1,2,3,4"),
+            ("ben", "Ben\nB 1,2,3,4", "in: ben B 1,2,3,4"),
+            ("cleo", "Ben\nB 1,2,3,4", "waits: other sender (ben B 1,2,3,4)"),
+            ("cleo", "Ben B\n\nB 1,2,3,4", "in: cleo B 1,2,3,4"),
+            ("fay", "Fay Fox A 1,2", "in: fay A 1,2"),
+            ("fay", "Fay Fox B 1,2,3,4", "waits: no ballot"),
+            ("gus", "Fay Fox B B 1,2,3,4", "in: gus B 1,2,3,4"),
+            ("gus", "Fay Fox B\nB 1,2,3,4", "in: gus B 1,2,3,4"),
             # a real name that is the name of another
-            ("dan", "Eve A 1,2", "in: dan A 1,2"), ("eve", "Eve A 1,2", "in: eve A 1,2"), ("dan", "eve A 1,2", "waits: other sender (eve A 1,2)"), ("ada", "Eve\nA 1,2\nB 1,2,3,4", "waits: no ballot"), ("ada", "ada A 1,2\n\nEve A 2,1", "waits: not alone"),
-        ):  # fmt: skip
+            ("dan", "Eve A 1,2", "in: dan A 1,2"),
+            ("eve", "Eve A 1,2", "in: eve A 1,2"),
+            ("dan", "eve A 1,2", "waits: other sender (eve A 1,2)"),
+            ("ada", "Eve\nA 1,2\nB 1,2,3,4", "waits: no ballot"),
+            ("ada", "ada A 1,2\n\nEve A 2,1", "waits: not alone"),
+        ):
             with self.subTest(text, name=name):
                 self.assertEqual(becomes(text, name=name), wanted)
 
@@ -144,21 +295,40 @@ class Written(unittest.TestCase):
         couple = {"addresses": {name: ["us@club.example"] for name in ("ada", "fay", "gus")}}
         subject = f"[{letters.MARK}-{letters.OWN['ada']}]"
         for text, wanted, ballots, shared in (
-            ("ada A 1,2\n\nFay Fox A 2,1\n\nFay Fox B B 1,2,3,4", "waits: several", {1: "ada A 1,2", 3: "fay A 2,1", 5: "gus B 1,2,3,4"}, ()),
+            (
+                "ada A 1,2\n\nFay Fox A 2,1\n\nFay Fox B B 1,2,3,4",
+                "waits: several",
+                {1: "ada A 1,2", 3: "fay A 2,1", 5: "gus B 1,2,3,4"},
+                (),
+            ),
             ("ada A 1,2\nfay A 2,1", "waits: several", {1: "ada A 1,2", 2: "fay A 2,1"}, ("gus",)),
             ("ada A 1,2", "in: ada A 1,2", {1: "ada A 1,2"}, ("fay", "gus")),
             ("fay A 1,2", "waits: no own mark", {1: "fay A 1,2"}, ("ada", "gus")),
             ("ada A 1,2\nFay and I", "waits: not alone", {1: "ada A 1,2"}, ("fay", "gus")),
         ):
-            [case] = judged(letter("ada", text, sender="us@club.example", subject=subject), **couple)
+            [case] = judged(
+                letter("ada", text, sender="us@club.example", subject=subject), **couple
+            )
             with self.subTest(text):
-                self.assertEqual((outcome(case), {line.number: line.as_entered for line in case.ballots}, case.shared_with), (wanted, ballots, shared))
+                self.assertEqual(
+                    (
+                        outcome(case),
+                        {line.number: line.as_entered for line in case.ballots},
+                        case.shared_with,
+                    ),
+                    (wanted, ballots, shared),
+                )
 
     def test_other_parts_of_a_letter(self) -> None:
         """Beside a plain text its own HTML is not read; HTML alone waits, and `--enter` takes its ballot."""
         plain, html = "ada\nA 1,2\nB 2,1,3,-\n", "<p>ada<br>A 2,1</p><p>B 2,1,3,-</p>"
-        self.assertEqual([outcome(one) for one in judged(letters.alternatives("ada", plain, html))], [ALL])
-        self.assertEqual(becomes(html, lambda name, text: letter(name, text, kind=letters.HTML)), "waits: html alone (ada A 2,1 B 2,1,3,-)")
+        self.assertEqual(
+            [outcome(one) for one in judged(letters.alternatives("ada", plain, html))], [ALL]
+        )
+        self.assertEqual(
+            becomes(html, lambda name, text: letter(name, text, kind=letters.HTML)),
+            "waits: html alone (ada A 2,1 B 2,1,3,-)",
+        )
 
 
 class Around(unittest.TestCase):
@@ -169,20 +339,44 @@ class Around(unittest.TestCase):
         text = "ada\nA 1,2\nB 2,1,3,-\n"
 
         def signed(text: str) -> ParsedLetter:
-            return dataclasses.replace(parsed(letter("ada", text, subject=f"[{mark}]")), signature=Signature(key, at(10)))
+            return dataclasses.replace(
+                parsed(letter("ada", text, subject=f"[{mark}]")), signature=Signature(key, at(10))
+            )
 
         keys = {"keys": {"ada": key}}
         for given, known, wanted in (
-            (letter("ada", text, subject=f"Re: [{mark.upper()} -{own}]"), {}, ALL), (letter("ada", text, subject=f"[{mark}]"), {}, "waits: no own mark"), (letter("ada", text, subject=f"[{mark}-{letters.OWN['ben']}]"), {}, "waits: no own mark"),
-            (letter("ada", text, sender="x@y.example", subject=f"[{mark}-{own}]"), {}, "waits: own mark elsewhere"), (letter("ada", text, subject=f"[{'0' * 16}]"), {}, "of another vote: other mark"),
+            (letter("ada", text, subject=f"Re: [{mark.upper()} -{own}]"), {}, ALL),
+            (letter("ada", text, subject=f"[{mark}]"), {}, "waits: no own mark"),
+            (
+                letter("ada", text, subject=f"[{mark}-{letters.OWN['ben']}]"),
+                {},
+                "waits: no own mark",
+            ),
+            (
+                letter("ada", text, sender="x@y.example", subject=f"[{mark}-{own}]"),
+                {},
+                "waits: own mark elsewhere",
+            ),
+            (letter("ada", text, subject=f"[{'0' * 16}]"), {}, "of another vote: other mark"),
             # the own mark until a change of address
-            (letter("ada", text, subject=f"[{mark}-{old}]"), {"old_marks": {old: "ada"}}, "waits: old own mark"),
+            (
+                letter("ada", text, subject=f"[{mark}-{old}]"),
+                {"old_marks": {old: "ada"}},
+                "waits: old own mark",
+            ),
             # closed, reopened, and after the end
-            (letter("ada", text), {"is_closed": True, "first_close": at(11)}, "waits: closed"), (letter("ada", text), {"first_close": at(11)}, ALL), (letter("ada", text), {"first_close": at(9)}, "waits: after the close"), (letter("ada", text), {"end": at(9)}, "waits: after the end"),
+            (letter("ada", text), {"is_closed": True, "first_close": at(11)}, "waits: closed"),
+            (letter("ada", text), {"first_close": at(11)}, ALL),
+            (letter("ada", text), {"first_close": at(9)}, "waits: after the close"),
+            (letter("ada", text), {"end": at(9)}, "waits: after the end"),
             # where letters have to be signed, the line with the mark is none of the text
-            (signed(f"[{mark}]\n{text}"), keys, ALL), (signed(f"ada\nA 1,2\n[{mark}]\nB 2,1,3,-\n"), keys, ALL), (signed(text), keys, "waits: no mark"), (signed(f"[{mark}]\n{text}C: against\n"), keys, "waits: not alone"), (letter("ada", text), keys, "waits: not signed"),
+            (signed(f"[{mark}]\n{text}"), keys, ALL),
+            (signed(f"ada\nA 1,2\n[{mark}]\nB 2,1,3,-\n"), keys, ALL),
+            (signed(text), keys, "waits: no mark"),
+            (signed(f"[{mark}]\n{text}C: against\n"), keys, "waits: not alone"),
+            (letter("ada", text), keys, "waits: not signed"),
             (letter("ada", f"[{mark}]\n{text}"), {}, "waits: not alone"),
-        ):  # fmt: skip
+        ):
             [case] = judged(given, **known)  # type: ignore[arg-type]
             with self.subTest(given, known=known):
                 self.assertEqual(outcome(case), wanted)
@@ -194,15 +388,26 @@ class InWords(unittest.TestCase):
     def test_words(self) -> None:
         none, more = "waits: no ballot", "waits: not alone"
         for text, wanted in {
-            "ada A yes": none, "ada\nA: Yes!\nB 1,2,3,4": none, "A no\nC 1,2,3": none, "ada a) abstain": none, "ada a no": none, "ada B yes": none,
-            "ada B 1,2,3,4\nA yes": more, "ada B 1,2,3,4\n\nand I say\nA yes": more, "ada B 1,2,3,4\n\nA yes since nobody has said a word against it": more, "ada B 1,2,3,4\n-- \nA: Yes": more,
-            "ada B 1,2,3,4\n\nI say yes": f"{more} (ada B 1,2,3,4)", "ada A 1,2 B 1,2,3,4\n\nbest wishes": "in: ada A 1,2 B 1,2,3,4",
-        }.items():  # fmt: skip
+            "ada A yes": none,
+            "ada\nA: Yes!\nB 1,2,3,4": none,
+            "A no\nC 1,2,3": none,
+            "ada a) abstain": none,
+            "ada a no": none,
+            "ada B yes": none,
+            "ada B 1,2,3,4\nA yes": more,
+            "ada B 1,2,3,4\n\nand I say\nA yes": more,
+            "ada B 1,2,3,4\n\nA yes since nobody has said a word against it": more,
+            "ada B 1,2,3,4\n-- \nA: Yes": more,
+            "ada B 1,2,3,4\n\nI say yes": f"{more} (ada B 1,2,3,4)",
+            "ada A 1,2 B 1,2,3,4\n\nbest wishes": "in: ada A 1,2 B 1,2,3,4",
+        }.items():
             with self.subTest(text):
                 self.assertEqual(becomes(text, words=WORDS), wanted)
         # one without its accent is none, but begins as an answer
         for word in ("s\u00ed", "si", "abstencion, gracias a todos"):
-            self.assertEqual(becomes(f"ada B 1,2,3,4\nA {word}", words=words_of("es", motion=True)), more, word)
+            self.assertEqual(
+                becomes(f"ada B 1,2,3,4\nA {word}", words=words_of("es", motion=True)), more, word
+            )
 
 
 class Long(unittest.TestCase):
@@ -225,7 +430,10 @@ class Long(unittest.TestCase):
             began = time.process_time()
             self.assertRegex(becomes(text, words=WORDS), "^waits: ", text[:20])
             self.assertLess(time.process_time() - began, 2, text[:20])
-        self.assertEqual([becomes("ada A 1,2\n" * number) for number in (200, 201)], ["waits: not alone (ada A 1,2)", "waits: too long"])
+        self.assertEqual(
+            [becomes("ada A 1,2\n" * number) for number in (200, 201)],
+            ["waits: not alone (ada A 1,2)", "waits: too long"],
+        )
 
 
 class Later(unittest.TestCase):
@@ -240,7 +448,11 @@ class Later(unittest.TestCase):
             (two, [(9, "ada A 2,1 B 1,2,3,4", True)], went_in),
             (two, [(11, "ada A 2,1", True)], later),
             (two, [(11, "ada A 1,2", False)], later),
-            (two, [(11, "ada A 2,1", True), (12, "ada B 1,2,3,4", True)], ("older: later ballot", True)),
+            (
+                two,
+                [(11, "ada A 2,1", True), (12, "ada B 1,2,3,4", True)],
+                ("older: later ballot", True),
+            ),
             (two, [(11, "ada A 2,1", True), (12, "ada B 1,2,3,4", False)], later),
             (two, [(10, "ada A 2,1", True)], ("waits: same time", False)),
             (two, [(10, "ada A 1,2 C 1,2,3", True)], went_in),
@@ -249,36 +461,89 @@ class Later(unittest.TestCase):
             (f"{two}\nx", [(12, "ada C 1,2,3", True)], ("waits: not alone", False)),
             (f"{two}\nx", [(12, "ada B 1,2,3,4", True)], ("waits: not alone", True)),
             ("when?", [(12, "ada B 1,2,3,4", True)], ("waits: no ballot", True)),
-        ):  # fmt: skip
+        ):
             with self.subTest(text, there=there):
-                [case] = judged(letter("ada", text), ballots={"ada": [Ballot(at(hour), line, by_letter) for hour, line, by_letter in there]})
+                [case] = judged(
+                    letter("ada", text),
+                    ballots={
+                        "ada": [
+                            Ballot(at(hour), line, by_letter) for hour, line, by_letter in there
+                        ]
+                    },
+                )
                 self.assertEqual((outcome(case), bool(case.voted_since)), wanted)
 
     def test_several_letters(self) -> None:
         """Two of one time that answer one question differently both wait; so does a copy beside another answer that came between the two."""
-        for texts, wanted in {("ada A 1,2", "ada B 1,2,3,4"): ["in: ada A 1,2", "in: ada B 1,2,3,4"], ("ada A 1,2", "ada A 2,1 B 1,2,3,4"): ["waits: same time"] * 2}.items():
-            self.assertEqual([outcome(one) for one in judged(*(letter("ada", text, number=number) for number, text in enumerate(texts)))], wanted)
-        for between, becomes_copy in {"ada B 1,2,3,4": "copy", "ada A 2,1": "waits: came before"}.items():
-            copies = [letter("ada", "ada A 1,2", time=TEN.replace("10:", f"{hour}:")) for hour in (10, 12)]
-            self.assertEqual(outcome(judged(*copies, letter("ada", between, number=7, time=TEN.replace("10:", "11:")))[-1]), becomes_copy)
+        for texts, wanted in {
+            ("ada A 1,2", "ada B 1,2,3,4"): ["in: ada A 1,2", "in: ada B 1,2,3,4"],
+            ("ada A 1,2", "ada A 2,1 B 1,2,3,4"): ["waits: same time"] * 2,
+        }.items():
+            self.assertEqual(
+                [
+                    outcome(one)
+                    for one in judged(
+                        *(letter("ada", text, number=number) for number, text in enumerate(texts))
+                    )
+                ],
+                wanted,
+            )
+        for between, becomes_copy in {
+            "ada B 1,2,3,4": "copy",
+            "ada A 2,1": "waits: came before",
+        }.items():
+            copies = [
+                letter("ada", "ada A 1,2", time=TEN.replace("10:", f"{hour}:")) for hour in (10, 12)
+            ]
+            self.assertEqual(
+                outcome(
+                    judged(
+                        *copies, letter("ada", between, number=7, time=TEN.replace("10:", "11:"))
+                    )[-1]
+                ),
+                becomes_copy,
+            )
 
     def test_of_many_letters_of_an_elector_each_is_compared_with_few(self) -> None:
         """Twice as many take about twice as long, also after one by another clock, which may turn others; and so do many that are alike, and copies."""
-        texts = {"one": (f"ada {RANKS}", f"ada {OTHER_RANKS}"), "three": ("ada A 1,2", "ada A 2,1 B 1,2,3,4", "ada B 4,3,2,1 C 1,2,3", "ada C 3,2,1")}
+        texts = {
+            "one": (f"ada {RANKS}", f"ada {OTHER_RANKS}"),
+            "three": ("ada A 1,2", "ada A 2,1 B 1,2,3,4", "ada B 4,3,2,1 C 1,2,3", "ada C 3,2,1"),
+        }
         for questions, read_of in (("one", letters.read), ("three", read)):
             for behind in (0, -7_200, 7_200):
                 calls = []
                 for number in (200, 400):
-                    times = [f"Mon, 23 Nov 2026 1{minute // 60}:{minute % 60:02}:00 +0000" for minute in range(number)]
-                    given = [letter("ada", texts[questions][one % len(texts[questions])], number=one, time=time) for one, time in enumerate(times)]
+                    times = [
+                        f"Mon, 23 Nov 2026 1{minute // 60}:{minute % 60:02}:00 +0000"
+                        for minute in range(number)
+                    ]
+                    given = [
+                        letter(
+                            "ada",
+                            texts[questions][one % len(texts[questions])],
+                            number=one,
+                            time=time,
+                        )
+                        for one, time in enumerate(times)
+                    ]
                     first, *others = read_of(*given)
-                    calls.append(letters.calls_while_judged([dataclasses.replace(first, behind=behind), *others]))
+                    calls.append(
+                        letters.calls_while_judged(
+                            [dataclasses.replace(first, behind=behind), *others]
+                        )
+                    )
                 with self.subTest(questions, behind=behind):
                     self.assertLess(calls[1], 2.4 * calls[0])
         calls = []
         for number in (200, 400):
             alike = [letter("ada", f"ada {RANKS}", number=one, time=TEN) for one in range(number)]
-            copies = [letter("ada", f"ada {RANKS}", number=0, time=TEN.replace("10:00", f"11:{one % 60:02}")) for one in range(number)]
+            copies = [
+                letter(
+                    "ada", f"ada {RANKS}", number=0, time=TEN.replace("10:00", f"11:{one % 60:02}")
+                )
+                for one in range(number)
+            ]
             calls.append(letters.calls_while_judged(letters.read(*alike, *copies)))
         self.assertLess(calls[1], 2.4 * calls[0])
 
@@ -295,13 +560,71 @@ class Piece(NamedTuple):
 # g greetings, f farewells, N the elector's name, M that of another, x other words; a signature S, a quotation Q and one of Outlook O that answer
 # nothing, ones that do, T, P and R; U a quotation without a head; and empty lines. Answers: A alone, V with the name before it, X in no form of a ballot
 PIECES = {
-    "g": ("Hello,", "Dear all", "Good morning!", "Hallo zusammen,", "Hi Ada"), "f": ("Best wishes", "Kind regards,\nAda", "Thanks!", "Viele Gr\u00fc\u00dfe\nAda", "Sent from my iPhone"), "N": ("ada", "Ada", "ADA", "Ada Lovelace"), "M": ("ben", "Eve", "Fay Fox B"),
-    "x": ("see you on the 5th", "tel. 030 123456", "PS: when does it end?", "B. Lovelace", "???", "*****", "A", "b", "I have 2 of 3", "Please do not count this", "I, 2 and 3 are ranks", "Hello?", "-"), "": ("", " ", "\u00a0"),
-    "S": ("-- \nAda Lovelace", "-- \nsee you on the 5th\n\ntel. 030 123456", "-- \nSent with a telephone, model 5"), "T": ("-- \nA 2,1", "-- \n\nB: 4, 3, 2, 1", "-- \nAda\nmy 3,2,1 for you", "-- \nb) 1 is best", "-- \nmodel -,1", "-- \nA: yes"),
-    "Q": (f"{HEAD}> Your ballot:\n>   A _,_\n>   B _,_,_,_", "Am 23.11.2026 um 10:00 schrieb Vote:\n\n> I thank you"), "P": (f"{HEAD}> ada\n>   A 1,2\n>   B _,_,_,_", "Am 23.11.2026 um 10:00 schrieb Vote:\n> 1,2,3,4", f"{HEAD}> C: abstain"),
-    "O": ("-----Original Message-----\nHello", f"{OUTLOOK}A _,_"), "R": ("-----Original Message-----\nC) 3 2 1", f"{OUTLOOK}ada A 1,2"), "U": ("> quoted", ">", "> Your ballot:"),
-}  # fmt: skip
-RIGHT = ("{A} {r}", "{a} {r}", "{A}: {r}", "{a}) {s}", "{A}. {s}", "{A}{r}", "{a}: {s}", "  {A} {r}.", "\u00a0{A}\u00a0{r}", "{A}\t{r}", "*{A}* {r}")
+    "g": ("Hello,", "Dear all", "Good morning!", "Hallo zusammen,", "Hi Ada"),
+    "f": (
+        "Best wishes",
+        "Kind regards,\nAda",
+        "Thanks!",
+        "Viele Gr\u00fc\u00dfe\nAda",
+        "Sent from my iPhone",
+    ),
+    "N": ("ada", "Ada", "ADA", "Ada Lovelace"),
+    "M": ("ben", "Eve", "Fay Fox B"),
+    "x": (
+        "see you on the 5th",
+        "tel. 030 123456",
+        "PS: when does it end?",
+        "B. Lovelace",
+        "???",
+        "*****",
+        "A",
+        "b",
+        "I have 2 of 3",
+        "Please do not count this",
+        "I, 2 and 3 are ranks",
+        "Hello?",
+        "-",
+    ),
+    "": ("", " ", "\u00a0"),
+    "S": (
+        "-- \nAda Lovelace",
+        "-- \nsee you on the 5th\n\ntel. 030 123456",
+        "-- \nSent with a telephone, model 5",
+    ),
+    "T": (
+        "-- \nA 2,1",
+        "-- \n\nB: 4, 3, 2, 1",
+        "-- \nAda\nmy 3,2,1 for you",
+        "-- \nb) 1 is best",
+        "-- \nmodel -,1",
+        "-- \nA: yes",
+    ),
+    "Q": (
+        f"{HEAD}> Your ballot:\n>   A _,_\n>   B _,_,_,_",
+        "Am 23.11.2026 um 10:00 schrieb Vote:\n\n> I thank you",
+    ),
+    "P": (
+        f"{HEAD}> ada\n>   A 1,2\n>   B _,_,_,_",
+        "Am 23.11.2026 um 10:00 schrieb Vote:\n> 1,2,3,4",
+        f"{HEAD}> C: abstain",
+    ),
+    "O": ("-----Original Message-----\nHello", f"{OUTLOOK}A _,_"),
+    "R": ("-----Original Message-----\nC) 3 2 1", f"{OUTLOOK}ada A 1,2"),
+    "U": ("> quoted", ">", "> Your ballot:"),
+}
+RIGHT = (
+    "{A} {r}",
+    "{a} {r}",
+    "{A}: {r}",
+    "{a}) {s}",
+    "{A}. {s}",
+    "{A}{r}",
+    "{a}: {s}",
+    "  {A} {r}.",
+    "\u00a0{A}\u00a0{r}",
+    "{A}\t{r}",
+    "*{A}* {r}",
+)
 WRONG = (
     "({A}) {r}",
     "and {A} {r}",
@@ -328,8 +651,17 @@ PLAIN = re.compile("g*(?:N+A|N*V)(?:N*[AV])*[fN]*(?:S[gfNMxSU]*)?(?:QU*|O[gfNMxS
 
 def may_go_in(pieces: Sequence[Piece]) -> bool:
     answers = [piece.answer for piece in pieces if piece.answer[0]]
-    are_whole = all(len(given := ranks.split(",")) == OPTIONS[label] >= max(int(rank.strip("-") or 1) for rank in given) for label, ranks in answers)
-    return PLAIN.fullmatch("".join(piece.kind for piece in pieces)) is not None and are_whole and len(dict(answers)) == len(answers)
+    are_whole = all(
+        len(given := ranks.split(","))
+        == OPTIONS[label]
+        >= max(int(rank.strip("-") or 1) for rank in given)
+        for label, ranks in answers
+    )
+    return (
+        PLAIN.fullmatch("".join(piece.kind for piece in pieces)) is not None
+        and are_whole
+        and len(dict(answers)) == len(answers)
+    )
 
 
 def random_letter(rng: random.Random) -> list[Piece]:
@@ -342,13 +674,27 @@ def random_letter(rng: random.Random) -> list[Piece]:
     labels = rng.sample(sorted(OPTIONS), rng.randint(1, 3))
     labels += rng.choices(labels, k=rng.random() < 0.04)
     name, is_apart = rng.choice(PIECES["N"]), rng.random() < 0.5
-    pieces = [one_of("g")] * (rng.random() < 0.5) + [Piece("N", name)] * (is_apart and rng.random() < 0.97)
+    pieces = [one_of("g")] * (rng.random() < 0.5) + [Piece("N", name)] * (
+        is_apart and rng.random() < 0.97
+    )
     for number, label in enumerate(labels):
-        is_right, is_named = rng.random() < 0.97, not is_apart and (number == 0 or rng.random() < 0.3)
+        is_right, is_named = rng.random() < 0.97, not is_apart and (
+            number == 0 or rng.random() < 0.3
+        )
         ranks = rng.choices(["-", *map(str, range(1, OPTIONS[label] + 1))], k=OPTIONS[label])
-        ranks[-1:] = rng.choice(([], ["5"], ["1", "2"])) if is_right and rng.random() < 0.02 else ranks[-1:]
-        text = rng.choice(RIGHT if is_right else WRONG).format(A=label, a=label.lower(), r=",".join(ranks), s=", ".join(ranks), b=" ".join(ranks))
-        pieces.append(Piece("X" if not is_right else "V" if is_named else "A", f"{name} {text}" if is_named else text, (label, ",".join(ranks))))
+        ranks[-1:] = (
+            rng.choice(([], ["5"], ["1", "2"])) if is_right and rng.random() < 0.02 else ranks[-1:]
+        )
+        text = rng.choice(RIGHT if is_right else WRONG).format(
+            A=label, a=label.lower(), r=",".join(ranks), s=", ".join(ranks), b=" ".join(ranks)
+        )
+        pieces.append(
+            Piece(
+                "X" if not is_right else "V" if is_named else "A",
+                f"{name} {text}" if is_named else text,
+                (label, ",".join(ranks)),
+            )
+        )
         pieces += [one_of("N")] * (rng.random() < 0.1)
     for kinds, often in (("f", 0.4), ("N", 0.3), ("ST", 0.2), ("QO", 0.3)):
         pieces += [one_of(kinds)] * (rng.random() < often)
@@ -366,10 +712,20 @@ class Random(unittest.TestCase):
         given = [random_letter(rng) for _ in range(count)]
         texts = ["\n".join(piece.text for piece in pieces) for pieces in given]
         known, went_in, wrong = circumstances(), 0, []
-        for pieces, text, one in zip(given, texts, read(*(letter("ada", text) for text in texts), words=WORDS)):
+        for pieces, text, one in zip(
+            given, texts, read(*(letter("ada", text) for text in texts), words=WORDS)
+        ):
             case = judged_alone(one, known)
-            name, *parts = case.ballots[0].as_entered.split(" ") if case.outcome is LetterOutcome.GOES_IN else [""]
-            stands = {piece.answer for piece in pieces if piece.answer[0]} if may_go_in(pieces) else set()
+            name, *parts = (
+                case.ballots[0].as_entered.split(" ")
+                if case.outcome is LetterOutcome.GOES_IN
+                else [""]
+            )
+            stands = (
+                {piece.answer for piece in pieces if piece.answer[0]}
+                if may_go_in(pieces)
+                else set()
+            )
             went_in += name != ""
             if (name, {*zip(parts[::2], parts[1::2])}) != ("ada" if stands else "", stands):
                 wrong.append(f"{outcome(case)}:\n{text}")
@@ -393,7 +749,11 @@ class Random(unittest.TestCase):
 
         count = min(4_000, self.COUNT)
         any_words = mock.patch.object(letter_text, "is_farewell", lambda *_: True)
-        for what, change in {"outside": without(has_answers_outside=False), "below": without(below=[]), "farewells": any_words}.items():
+        for what, change in {
+            "outside": without(has_answers_outside=False),
+            "below": without(below=[]),
+            "farewells": any_words,
+        }.items():
             with self.subTest(what), change:  # type: ignore[attr-defined]
                 self.assertGreater(len(self.tried(count)[1]), 10)
 
@@ -412,13 +772,23 @@ class Forged(unittest.TestCase):
         texts = list(texts)
         one = test_forgeries.outcomes_of([test_forgeries.sent(text, own) for text in texts])
         known = circumstances()
-        found = [outcome(judged_alone(read_one, known)) for read_one in read(*(test_forgeries.sent(in_lines(text), own) for text in texts))]
-        went_in = [(text, single) for text, single, its in zip(texts, one, found) if its.startswith("in: ")]
+        found = [
+            outcome(judged_alone(read_one, known))
+            for read_one in read(*(test_forgeries.sent(in_lines(text), own) for text in texts))
+        ]
+        went_in = [
+            (text, single) for text, single, its in zip(texts, one, found) if its.startswith("in: ")
+        ]
         self.assertEqual([text for text, single in went_in if not single.startswith("in: ")], [])
         return len(went_in)
 
     def test_answers_to_forgeries(self) -> None:
-        texts = [text for _, text in random.Random(1).sample(list(test_forgeries.answers_to_forgeries()), min(3_984, Random.COUNT))]
+        texts = [
+            text
+            for _, text in random.Random(1).sample(
+                list(test_forgeries.answers_to_forgeries()), min(3_984, Random.COUNT)
+            )
+        ]
         self.assertEqual([self.demand(texts, "own"), self.demand(texts[:600], "none")], [0, 0])
 
     def test_the_last_answer_elsewhere(self) -> None:

@@ -12,21 +12,43 @@ from collections.abc import Mapping
 from tests.support import boxes, elections
 from tests.support.letters import letter, mailbox
 from tests.support.outgoing import MailServer
-from tests.support.questions import REFERENCE, Answers, answering, in_a_letter, one_line, poll_in, tally, tally_in
+from tests.support.questions import (
+    REFERENCE,
+    Answers,
+    answering,
+    in_a_letter,
+    one_line,
+    poll_in,
+    tally,
+    tally_in,
+)
 from tests.support.web_host import NEEDS_PHP
 
 FIRST = ["Anna", "Bernd", "Cäcilie", "Dörte", "Emil", "Jürgen", "Käthe", "Ludwig", "Renée", "Zoë"]
 LAST = ["Groß", "Müller", "Öztürk", "Weiß"]
-WHO = {f"{first} {last}": f"m{number:02}" for number, (first, last) in enumerate(((first, last) for last in LAST for first in FIRST), start=1)}
+WHO = {
+    f"{first} {last}": f"m{number:02}"
+    for number, (first, last) in enumerate(
+        ((first, last) for last in LAST for first in FIRST), start=1
+    )
+}
 MEMBERS = list(WHO.values())
 REAL = {name: who for who, name in WHO.items()}
-ROWS = "name,who,mail\n" + "".join(f"{name},{who},{name}@club.example\n" for who, name in WHO.items())
+ROWS = "name,who,mail\n" + "".join(
+    f"{name},{who},{name}@club.example\n" for who, name in WHO.items()
+)
 
 OPEN = {
     "A": ("Beitrag von 72 €", ["Ja, 72 €"], [1], "Nein, wie bisher", 1),
     "B": ("Vorsitz", ["Cäcilie Groß", "Jürgen Weiß", "Zoë Müller"], [1, 1, 1], "Niemand davon", 1),
     "C": ("Neue Satzung", ["Die neue Satzung"], [2], "Die alte Satzung", 2),
-    "D": ("Sommerfest", ["Am Bärensee", "Im Garten", "In der Halle", "Gar nicht"], [1, 1, 1, 1], "Später entscheiden", 0),
+    "D": (
+        "Sommerfest",
+        ["Am Bärensee", "Im Garten", "In der Halle", "Gar nicht"],
+        [1, 1, 1, 1],
+        "Später entscheiden",
+        0,
+    ),
     "E": ("Ein zweites Boot", ["Wir kaufen es"], [1], "Wir kaufen keins", 6),
 }
 SECRET = {
@@ -54,7 +76,9 @@ def poll_of(title: str, options: list[str], ratios: list[int], default: str, quo
     return f'title = "{title}"\noptions = [{listed}]\nratios = {ratios}\ndefault = "{default}"\nquorum = {quorum}\n'
 
 
-def answers_by(chance: random.Random, polls: Mapping[str, tuple[str, list[str], list[int], str, int]]) -> Answers:
+def answers_by(
+    chance: random.Random, polls: Mapping[str, tuple[str, list[str], list[int], str, int]]
+) -> Answers:
     """What a member wants; of each question a fifth answers nothing."""
     made = {}
     for label, (_, options, *_) in polls.items():
@@ -70,20 +94,33 @@ def answers_by(chance: random.Random, polls: Mapping[str, tuple[str, list[str], 
 def text_of(name: str, answers: Answers, form: int) -> str:
     """A ballot as the form's mail has it, as people type it, and on one line."""
     lines = [f"{label} {ranks}" for label, ranks in answers.items()]
-    typed = [f"{label.lower()}{') ' if number % 2 else ': '}{ranks.replace(',', ', ')}" for number, (label, ranks) in enumerate(answers.items())]
-    forms = ["\n".join([name, *lines]), f"Guten Tag,\n\n{REAL[name]}\n" + "\n\n".join(typed), one_line(name, answers)]
+    typed = [
+        f"{label.lower()}{') ' if number % 2 else ': '}{ranks.replace(',', ', ')}"
+        for number, (label, ranks) in enumerate(answers.items())
+    ]
+    forms = [
+        "\n".join([name, *lines]),
+        f"Guten Tag,\n\n{REAL[name]}\n" + "\n\n".join(typed),
+        one_line(name, answers),
+    ]
     return forms[form % len(forms)] + "\n"
 
 
 def in_words(line: str) -> str:
     """A ballot with words in place of the ranks of motions."""
-    return re.sub(f"([{MOTIONS}]) (1,2|2,1|1,1)(?![,\\d])", lambda found: f"{found[1]} {WORDS[found[2]]}", line)
+    return re.sub(
+        f"([{MOTIONS}]) (1,2|2,1|1,1)(?![,\\d])",
+        lambda found: f"{found[1]} {WORDS[found[2]]}",
+        line,
+    )
 
 
 def normal(ranks: str) -> str:
     """The same order from 1 on; equal ranks and hyphens stay."""
     numbers = sorted({int(rank) for rank in ranks.split(",") if rank != "-"})
-    return ",".join(rank if rank == "-" else str(numbers.index(int(rank)) + 1) for rank in ranks.split(","))
+    return ",".join(
+        rank if rank == "-" else str(numbers.index(int(rank)) + 1) for rank in ranks.split(",")
+    )
 
 
 class MeetingTest(boxes.BoxElectionTest):
@@ -101,10 +138,17 @@ class MeetingTest(boxes.BoxElectionTest):
         self.commands += 1
         return self.done(*words, **how)
 
-    def folder_of(self, title: str, polls: Mapping[str, tuple[str, list[str], list[int], str, int]], more: str = "") -> None:
+    def folder_of(
+        self,
+        title: str,
+        polls: Mapping[str, tuple[str, list[str], list[int], str, int]],
+        more: str = "",
+    ) -> None:
         """A new election with these questions, whose files the secretary writes."""
         self.folder = self.scratch / f"wahl-{self.commands}"
-        self.command("new", "--language", "de", "--questions", len(polls), self.folder, cwd=self.scratch)
+        self.command(
+            "new", "--language", "de", "--questions", len(polls), self.folder, cwd=self.scratch
+        )
         self.write("polls/title.txt", f"{title}\n")
         self.write("members.csv", ROWS)
         for label, poll in polls.items():
@@ -115,24 +159,45 @@ class MeetingTest(boxes.BoxElectionTest):
     def demand_whole(self) -> None:
         """All files of the result have the checksums of the lists."""
         result = self.folder / "result"
-        for list_, folder in (("SHA256SUMS", result), ("polls.sha256", result), *(("SHA256SUMS", result / label) for label in "AB")):
+        for list_, folder in (
+            ("SHA256SUMS", result),
+            ("polls.sha256", result),
+            *(("SHA256SUMS", result / label) for label in "AB"),
+        ):
             ended = self.run_program("sha256sum", "--quiet", "--strict", "-c", list_, cwd=folder)
-            self.assertEqual((ended.output, ended.faults, ended.status), ("", "", 0), (list_, folder))
-        listed = {line.split("  ", 1)[1] for line in self.read("result/SHA256SUMS").decode().splitlines()}
+            self.assertEqual(
+                (ended.output, ended.faults, ended.status), ("", "", 0), (list_, folder)
+            )
+        listed = {
+            line.split("  ", 1)[1] for line in self.read("result/SHA256SUMS").decode().splitlines()
+        }
         there = {str(file.relative_to(result)) for file in result.rglob("*") if file.is_file()}
         self.assertEqual(there - listed, {"SHA256SUMS"})
 
-    def demand_count(self, label: str, roll: list[str], lines: list[str], counting: dict[str, str]) -> None:
+    def demand_count(
+        self, label: str, roll: list[str], lines: list[str], counting: dict[str, str]
+    ) -> None:
         """The sheet of a question is that of an election of its own with the same answers, and so are votes and winner by the count of this test."""
         sheet = self.read(f"result/{label}/sheet.txt").decode()
         poll = poll_in(self.read(f"result/{label}/poll.toml"))
         self.assertEqual(poll["roll"], roll)
         self.write("single-poll", self.read(f"result/{label}/poll.toml"))
         self.write("single-ballots", "".join(f"{line}\n" for line in lines))
-        ended = self.run_program(sys.executable, REFERENCE, "count", "--poll", "single-poll", "--ballots", "single-ballots")
+        ended = self.run_program(
+            sys.executable,
+            REFERENCE,
+            "count",
+            "--poll",
+            "single-poll",
+            "--ballots",
+            "single-ballots",
+        )
         self.assertEqual(ended.output, sheet)
         self.assertEqual(tally_in(sheet), tally(poll, len(roll), counting.values()))
-        self.assertEqual(self.read(f"result/{label}/standing.txt").decode().splitlines(), [f"{name} {counting[name]}" for name in roll if name in counting])
+        self.assertEqual(
+            self.read(f"result/{label}/standing.txt").decode().splitlines(),
+            [f"{name} {counting[name]}" for name in roll if name in counting],
+        )
 
 
 @NEEDS_PHP
@@ -165,7 +230,9 @@ class Meeting(MeetingTest):
         self.demand_whole()
         self.demand_close()
         for label in OPEN:
-            counting = {name: answers[label] for name, answers in self.wanted.items() if label in answers}
+            counting = {
+                name: answers[label] for name, answers in self.wanted.items() if label in answers
+            }
             self.demand_count(label, MEMBERS, answering(label, self.entered), counting)
         self.demand_pages()
         self.demand_letters()
@@ -184,24 +251,44 @@ class Meeting(MeetingTest):
         self.command("letters", "call")
         files = list((self.folder / "letters/call").rglob("*.eml"))
         self.assertEqual(len(files), len(MEMBERS))
-        self.personal = {name: (own, link) for name, own, link in (boxes.link_in(file.read_bytes()) for file in files)}
+        self.personal = {
+            name: (own, link)
+            for name, own, link in (boxes.link_in(file.read_bytes()) for file in files)
+        }
         sums = self.read("call/polls.sha256").decode()
-        self.assertEqual([line.split("  ")[1] for line in sums.splitlines()], [*(f"{label}/poll.toml" for label in OPEN), "title.txt"])
+        self.assertEqual(
+            [line.split("  ")[1] for line in sums.splitlines()],
+            [*(f"{label}/poll.toml" for label in OPEN), "title.txt"],
+        )
         checksum = hashlib.sha256(sums.encode()).hexdigest()
         for file in files:
             text = email.message_from_bytes(file.read_bytes())
             read = text.get_payload(decode=True).decode()  # type: ignore[union-attr]
-            for part in (*OPEN["B"][1], *(title for title, *_ in OPEN.values()), *(line.split()[0] for line in sums.splitlines()), checksum):
+            for part in (
+                *OPEN["B"][1],
+                *(title for title, *_ in OPEN.values()),
+                *(line.split()[0] for line in sums.splitlines()),
+                checksum,
+            ):
                 self.assertIn(part, read)
             self.assertIn(f"[{checksum[:16]}-", text["Subject"])
-            self.assertIn("Ein Stimmzettel, der eine Frage auslässt, ändert Ihre Antwort darauf nicht.", " ".join(read.split()))
+            self.assertIn(
+                "Ein Stimmzettel, der eine Frage auslässt, ändert Ihre Antwort darauf nicht.",
+                " ".join(read.split()),
+            )
         self.assertEqual(self.mark(), checksum[:16])
         # one page, with all questions
         page = self.read("call/index.html").decode()
         for title, options, *_ in OPEN.values():
             for words in (title, *options):
                 self.assertIn(words, page)
-        self.assertEqual([str(file.relative_to(self.folder / "call")) for file in (self.folder / "call").rglob("*.html")], ["index.html"])
+        self.assertEqual(
+            [
+                str(file.relative_to(self.folder / "call"))
+                for file in (self.folder / "call").rglob("*.html")
+            ],
+            ["index.html"],
+        )
 
     def clicks(self) -> None:
         for name in CLICKING:
@@ -220,7 +307,9 @@ class Meeting(MeetingTest):
         letters = []
         for number, name in enumerate(WRITING):
             self.ballot(name)
-            letters.append(self.letter_of(name, self.wanted[name], number, seconds=number - len(WRITING)))
+            letters.append(
+                self.letter_of(name, self.wanted[name], number, seconds=number - len(WRITING))
+            )
         self.write("post.mbox", mailbox(*letters))
         self.write("papier.txt", "".join(f"{in_words(self.ballot(name))}\n" for name in ON_PAPER))
         said = self.command("add", "--yes", "post.mbox").output
@@ -230,13 +319,17 @@ class Meeting(MeetingTest):
     def letter_of(self, name: str, answers: Answers, form: int, seconds: int) -> bytes:
         arrived = time.strftime("%a, %d %b %Y %H:%M:%S +0000", time.gmtime(time.time() + seconds))
         subject = f"Re: Abstimmung [{self.mark()}-{self.personal[name][0]}]"
-        return letter(name, text_of(name, answers, form), time=arrived, subject=subject, number=form)
+        return letter(
+            name, text_of(name, answers, form), time=arrived, subject=subject, number=form
+        )
 
     def demand_close(self) -> None:
         """The letter of the close, to all, has the checksum of the list and of the ballots of each question."""
         letter = self.read("letters/closed.txt").decode()
         for name in ("polls.sha256", *(f"{label}/ballots.txt" for label in OPEN)):
-            self.assertIn(f"{hashlib.sha256(self.read(f'result/{name}')).hexdigest()}  {name}\n", letter)
+            self.assertIn(
+                f"{hashlib.sha256(self.read(f'result/{name}')).hexdigest()}  {name}\n", letter
+            )
 
     def demand_pages(self) -> None:
         """One page for all questions, which leads to that of each."""
@@ -248,7 +341,10 @@ class Meeting(MeetingTest):
         for label, (title, *_) in OPEN.items():
             self.assertIn(title, page)
             own = self.read(f"result/{label}/index.html").decode()
-            for digest in (checksum, hashlib.sha256(self.read(f"result/{label}/poll.toml")).hexdigest()):
+            for digest in (
+                checksum,
+                hashlib.sha256(self.read(f"result/{label}/poll.toml")).hexdigest(),
+            ):
                 self.assertIn(digest, own)
 
     def demand_letters(self) -> None:
@@ -276,10 +372,24 @@ class Meeting(MeetingTest):
         self.clock = {}
         self.folder_of("Geheime Wahlen 2026", SECRET, "secret = true\n")
         self.command("codes")
-        self.command("call", "--until", "2099-12-04 18:00", "--zone", "Europe/Berlin", "--to", "wahl@club.example", "--yes")
+        self.command(
+            "call",
+            "--until",
+            "2099-12-04 18:00",
+            "--zone",
+            "Europe/Berlin",
+            "--to",
+            "wahl@club.example",
+            "--yes",
+        )
         self.assertTrue((self.folder / "private/slips.html").exists())
-        codes = dict(line.split(",")[::3] for line in self.read("private/codes.csv").decode().splitlines()[1:])
-        self.assertEqual(self.read("private/codes.csv").decode().splitlines()[0], "name,who,mail,code,mark")
+        codes = dict(
+            line.split(",")[::3]
+            for line in self.read("private/codes.csv").decode().splitlines()[1:]
+        )
+        self.assertEqual(
+            self.read("private/codes.csv").decode().splitlines()[0], "name,who,mail,code,mark"
+        )
         for name in MEMBERS[:36]:
             answers = answers_by(self.chance, SECRET)
             self.wanted[name] = dict(answers)
@@ -294,15 +404,30 @@ class Meeting(MeetingTest):
 
     def demand_secret(self, label: str, codes: dict[str, str]) -> set[str]:
         """The count of a secret question, whose ballots stand under aliases in their order; returns these."""
-        alias = {name: hmac.new(code.encode(), f"{label} {name}".encode(), "sha256").hexdigest()[:32] for name, code in codes.items()}
+        alias = {
+            name: hmac.new(code.encode(), f"{label} {name}".encode(), "sha256").hexdigest()[:32]
+            for name, code in codes.items()
+        }
         roll = sorted(alias.values())
-        published = [line.split(" ") for line in self.read(f"result/{label}/ballots.txt").decode().splitlines()]
+        published = [
+            line.split(" ")
+            for line in self.read(f"result/{label}/ballots.txt").decode().splitlines()
+        ]
         self.assertEqual([name for name, _ in published], sorted(name for name, _ in published))
         found = dict(published)
-        wanted = {alias[name]: normal(answers[label]) for name, answers in self.wanted.items() if label in answers}
+        wanted = {
+            alias[name]: normal(answers[label])
+            for name, answers in self.wanted.items()
+            if label in answers
+        }
         self.assertEqual(found, wanted)
-        self.demand_count(label, roll, [f"{name} {ranks}" for name, ranks in sorted(wanted.items())], wanted)
-        page = self.read(f"result/{label}/index.html").decode() + self.read("result/index.html").decode()
+        self.demand_count(
+            label, roll, [f"{name} {ranks}" for name, ranks in sorted(wanted.items())], wanted
+        )
+        page = (
+            self.read(f"result/{label}/index.html").decode()
+            + self.read("result/index.html").decode()
+        )
         candidates = {option for _, options, *_ in SECRET.values() for option in options}
         for who, name in WHO.items():
             self.assertNotIn(codes[name], page)
@@ -337,7 +462,10 @@ class Seven(MeetingTest):
         self.assertEqual(len(self.server.taken), count)
 
     def ballot(self, name: str, answers: Answers | None = None) -> str:
-        given = answers or {**answers_by(self.chance, SEVEN), "G": "1,2,3" if int(name[1:]) % 2 else "2,1,3"}
+        given = answers or {
+            **answers_by(self.chance, SEVEN),
+            "G": "1,2,3" if int(name[1:]) % 2 else "2,1,3",
+        }
         self.wanted.setdefault(name, {}).update(given)
         self.entered.append(one_line(name, given))
         return self.entered[-1]
@@ -348,27 +476,50 @@ class Seven(MeetingTest):
 
     def called(self) -> None:
         self.folder = self.scratch / "wahl"
-        self.command("new", "--language", "de", "--questions", len(SEVEN), self.folder, cwd=self.scratch)
+        self.command(
+            "new", "--language", "de", "--questions", len(SEVEN), self.folder, cwd=self.scratch
+        )
         self.write("polls/title.txt", "Mitgliederversammlung 2026\n")
         self.write("members.csv", ROWS)
         for label, poll in SEVEN.items():
-            self.write(f"polls/{label}.toml", poll_of(*poll) + "motion = true\n" * (label in MOTIONS))
+            self.write(
+                f"polls/{label}.toml", poll_of(*poll) + "motion = true\n" * (label in MOTIONS)
+            )
         self.command("roll")
         self.command("check")
         self.set_clock(time.strftime("%Y-%m-%dT%H:%M:%S+00:00", time.gmtime(time.time() - 3600)))
-        self.command("call", "--until", "2099-12-04 18:00", "--zone", "Europe/Berlin", "--to", "vote@club.example", "--at", self.host.at, "--box")
+        self.command(
+            "call",
+            "--until",
+            "2099-12-04 18:00",
+            "--zone",
+            "Europe/Berlin",
+            "--to",
+            "vote@club.example",
+            "--at",
+            self.host.at,
+            "--box",
+        )
         self.clock = {}
         self.command("backup", self.scratch / "copy.db")
         self.upload()
         self.send(len(MEMBERS))
-        self.personal = {name: (own, link) for name, own, link in (boxes.link_in(one.data) for one in self.server.taken)}
+        self.personal = {
+            name: (own, link)
+            for name, own, link in (boxes.link_in(one.data) for one in self.server.taken)
+        }
 
     def letters(self) -> None:
         time.sleep(1.1)
         letters, waiting = [], {}
         for number, name in enumerate(MEMBERS[22:34]):
-            answers = {**answers_by(self.chance, SEVEN), "G": "1,2,3" if int(name[1:]) % 2 else "2,1,3"}
-            arrived = time.strftime("%a, %d %b %Y %H:%M:%S +0000", time.gmtime(time.time() - 20 + number))
+            answers = {
+                **answers_by(self.chance, SEVEN),
+                "G": "1,2,3" if int(name[1:]) % 2 else "2,1,3",
+            }
+            arrived = time.strftime(
+                "%a, %d %b %Y %H:%M:%S +0000", time.gmtime(time.time() - 20 + number)
+            )
             subject = f"Re: Abstimmung [{self.mark()}-{self.personal[name][0]}]"
             # two write more, and their letters wait
             text = text_of(name, answers, number)
@@ -399,9 +550,14 @@ class Seven(MeetingTest):
         time.sleep(1.1)
         self.clicks(MEMBERS[11:22])
         self.command("add", "--box", "--yes")
-        self.command("desk", given="".join(f"{in_words(self.ballot(name))}\n" for name in MEMBERS[34:]))
+        self.command(
+            "desk", given="".join(f"{in_words(self.ballot(name))}\n" for name in MEMBERS[34:])
+        )
         # two who clicked answer one question anew, on paper
-        self.write("papier.txt", "".join(f"{self.ballot(name, {'B': '4,3,2,1'})}\n" for name in MEMBERS[:2]))
+        self.write(
+            "papier.txt",
+            "".join(f"{self.ballot(name, {'B': '4,3,2,1'})}\n" for name in MEMBERS[:2]),
+        )
         self.command("add", "papier.txt")
         self.command("status")
         time.sleep(1.1)
@@ -410,13 +566,24 @@ class Seven(MeetingTest):
         time.sleep(1.1)
         self.click(MEMBERS[3], "A 2,1", self.personal[MEMBERS[3]][1])
         ended = self.command("count", status=1)
-        self.assertEqual([line[:2] for line in ended.output.splitlines()], [f"{label} " for label in SEVEN])
+        self.assertEqual(
+            [line[:2] for line in ended.output.splitlines()], [f"{label} " for label in SEVEN]
+        )
         self.assertIn("G (Farbe der Trikots): Tie: 1 2\n", ended.output)
         self.send(len(MEMBERS))
         self.command("publish", "--force", "--because", "Alle haben abgestimmt.", status=1)
         self.send(len(MEMBERS))
-        casting = ("--casting", "G=Grün", "--cast-by", "Der Vorsitz", "--cast-on", time.strftime("%Y-%m-%d"))
-        self.command("publish", *casting, "--force", "--because", "Alle haben abgestimmt.", "result-2")
+        casting = (
+            "--casting",
+            "G=Grün",
+            "--cast-by",
+            "Der Vorsitz",
+            "--cast-on",
+            time.strftime("%Y-%m-%d"),
+        )
+        self.command(
+            "publish", *casting, "--force", "--because", "Alle haben abgestimmt.", "result-2"
+        )
         self.send(len(MEMBERS))
         self.assertLessEqual(self.commands, MOST_OF_SEVEN)
         self.demand_result()
@@ -426,7 +593,9 @@ class Seven(MeetingTest):
         (self.folder / "result-2").rename(self.folder / "result")
         self.demand_whole()
         for label in SEVEN:
-            counting = {name: answers[label] for name, answers in self.wanted.items() if label in answers}
+            counting = {
+                name: answers[label] for name, answers in self.wanted.items() if label in answers
+            }
             lines = answering(label, self.entered)
             if label != "G":
                 self.demand_count(label, MEMBERS, lines, counting)

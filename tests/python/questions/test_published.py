@@ -21,7 +21,13 @@ from tests.support.program import PROGRAM
 from tests.support.questions import FEE, QuestionsTest, answering
 
 # A is won, B and C are ties
-BALLOTS = ["ada A 1,2 B 1,2,3 C 1,2,3,4", "ben A 1,2 B 2,1,3", "cleo A 2,1 C 2,1,3,4", "ben C 1,1,3,2", "cleo C 2,1,4,3"]
+BALLOTS = [
+    "ada A 1,2 B 1,2,3 C 1,2,3,4",
+    "ben A 1,2 B 2,1,3",
+    "cleo A 2,1 C 2,1,3,4",
+    "ben C 1,1,3,2",
+    "cleo C 2,1,4,3",
+]
 TIES = {"B": "'Ada Lovelace', 'Mary Somerville'", "C": "Slate, Tiles"}
 CAST = ("--cast-by", "The chair", "--cast-on", "2026-11-24")
 
@@ -42,7 +48,12 @@ class PublishedTest(QuestionsTest):
 
     def in_shell(self, command: str, folder: str = "result") -> str:
         """What a command answers in a folder, in which no line is a fault."""
-        ended = subprocess.run(["bash", "-c", f"set -o pipefail; {command}"], cwd=self.folder / folder, capture_output=True, text=True)
+        ended = subprocess.run(
+            ["bash", "-c", f"set -o pipefail; {command}"],
+            cwd=self.folder / folder,
+            capture_output=True,
+            text=True,
+        )
         self.assertEqual((ended.returncode, ended.stderr), (0, ""), (command, ended))
         return ended.stdout
 
@@ -51,11 +62,17 @@ class PublishedTest(QuestionsTest):
 
     def last_command(self, name: str) -> str:
         """The last line of a letter that is to be copied."""
-        return [line for line in self.read(name).decode().splitlines() if line.startswith("  ")][-1].strip()
+        return [line for line in self.read(name).decode().splitlines() if line.startswith("  ")][
+            -1
+        ].strip()
 
     def listed(self) -> list[str]:
         folder = self.folder / "result"
-        return sorted(str(file.relative_to(folder)) for file in folder.rglob("*") if file.is_file() and file.name not in ("late.txt", "seal.txt", "picture.svg"))
+        return sorted(
+            str(file.relative_to(folder))
+            for file in folder.rglob("*")
+            if file.is_file() and file.name not in ("late.txt", "seal.txt", "picture.svg")
+        )
 
     def publish(self, *words: str, status: int = 0) -> str:
         ended = self.election("publish", *words)
@@ -72,22 +89,35 @@ class OpenTest(PublishedTest):
                 self.assertEqual((alone.output, alone.status), (sheets[label], label != "A"))
                 self.assertEqual(sheets[label], self.sheet_of(label, answering(label, BALLOTS)))
         ended = self.done("close", "--early")
-        self.assertIn("Closed: 3 lines of question A, 2 lines of question B, 4 lines of question C came in time.", ended.output)
+        self.assertIn(
+            "Closed: 3 lines of question A, 2 lines of question B, 4 lines of question C came in time.",
+            ended.output,
+        )
         # by the letter, which comes before the count, each file of the result can be checked
         listed = self.sums_in("letters/closed.txt")
         names = ["polls.sha256", "A/ballots.txt", "B/ballots.txt", "C/ballots.txt", ""]
         self.assertEqual([name for _, name in listed], names)
         [digest] = [act.digest for act in self.book.acts() if act.name == "close"]
         self.assertEqual(listed[-1][0], digest)
-        self.assertEqual(self.sums_in("call/polls.sha256"), SUM.findall(self.in_shell("sha256sum ?/poll.toml title.txt", "call")))
-        self.assertIn("Lines in time, by question: 3 (A), 2 (B), 4 (C).", self.read("letters/closed.txt").decode())
+        self.assertEqual(
+            self.sums_in("call/polls.sha256"),
+            SUM.findall(self.in_shell("sha256sum ?/poll.toml title.txt", "call")),
+        )
+        self.assertIn(
+            "Lines in time, by question: 3 (A), 2 (B), 4 (C).",
+            self.read("letters/closed.txt").decode(),
+        )
         for label in self.polls:
             said = f"Checksum of the ballots of question {label}: {dict(map(reversed, listed))[f'{label}/ballots.txt']}\n"
             self.assertIn(said, ended.output)
         self.publish(status=1)
-        self.assertEqual(SUM.findall(self.in_shell(self.last_command("letters/closed.txt"))), listed[:-1])
+        self.assertEqual(
+            SUM.findall(self.in_shell(self.last_command("letters/closed.txt"))), listed[:-1]
+        )
         for label in self.polls:
-            self.assertEqual(self.read(f"result/{label}/closed.txt"), self.read("letters/closed.txt"))
+            self.assertEqual(
+                self.read(f"result/{label}/closed.txt"), self.read("letters/closed.txt")
+            )
             self.assertEqual(self.read(f"result/{label}/sheet.txt").decode(), sheets[label])
 
     def test_the_page_of_all_questions(self) -> None:
@@ -100,38 +130,86 @@ class OpenTest(PublishedTest):
         checksum = hashlib.sha256(self.read("result/SHA256SUMS")).hexdigest()
         self.publish("--casting", "B=Mary Somerville", *CAST, status=1)
         page = " ".join(re.sub("<[^>]*>", "", self.read("result/index.html").decode()).split())
-        ended = "A Winner: Yes, 72 Euro. B A tie: Ada Lovelace, Mary Somerville. C A tie: Slate, Tiles."
-        self.assertIn(f"A result was published, whose SHA256SUMS has the checksum {checksum}. {ended}", page)
+        ended = (
+            "A Winner: Yes, 72 Euro. B A tie: Ada Lovelace, Mary Somerville. C A tie: Slate, Tiles."
+        )
+        self.assertIn(
+            f"A result was published, whose SHA256SUMS has the checksum {checksum}. {ended}", page
+        )
         page = " ".join(re.sub("<[^>]*>", "", self.read("result/B/index.html").decode()).split())
         self.assertIn(f"the checksum {checksum}. B A tie: Ada Lovelace, Mary Somerville.", page)
 
     def test_names_of_questions_and_casting_votes(self) -> None:
-        self.assert_fault(self.election("count", "--question", "D"), 2, "there is no question D; nothing was counted: name one of A, B, C")
+        self.assert_fault(
+            self.election("count", "--question", "D"),
+            2,
+            "there is no question D; nothing was counted: name one of A, B, C",
+        )
         for casting in ("Slate", "D=Slate", "=Slate", "Ada Lovelace=B"):
             ended = self.election("count", "--casting", casting)
-            self.assert_fault(ended, 8, "no question has this label; nothing was counted: write it as A=NAME; the labels are A, B, C")
-        self.assert_fault(self.election("publish", "--casting", "B=Slate", *CAST), 8, "--casting=B=Slate: no option has this name", "'Ada Lovelace'")
+            self.assert_fault(
+                ended,
+                8,
+                "no question has this label; nothing was counted: write it as A=NAME; the labels are A, B, C",
+            )
+        self.assert_fault(
+            self.election("publish", "--casting", "B=Slate", *CAST),
+            8,
+            "--casting=B=Slate: no option has this name",
+            "'Ada Lovelace'",
+        )
         for command, done in (("count", "counted"), ("publish", "published")):
-            twice = self.election(command, "--casting", "B=Ada Lovelace", "--casting", "b=Mary Somerville", *CAST * (command == "publish"))
-            self.assert_fault(twice, 8, "--casting='b=Mary Somerville': question B has the casting vote 'Ada Lovelace' already", f"nothing was {done}: give one of them")
-        both = "; ".join(f"question {label} is a tie between {names}" for label, names in TIES.items())
+            twice = self.election(
+                command,
+                "--casting",
+                "B=Ada Lovelace",
+                "--casting",
+                "b=Mary Somerville",
+                *CAST * (command == "publish"),
+            )
+            self.assert_fault(
+                twice,
+                8,
+                "--casting='b=Mary Somerville': question B has the casting vote 'Ada Lovelace' already",
+                f"nothing was {done}: give one of them",
+            )
+        both = "; ".join(
+            f"question {label} is a tie between {names}" for label, names in TIES.items()
+        )
         chosen = "the holder of the casting vote chooses one of them: debvote-election publish --casting B=NAME --cast-by WHO --cast-on DATE --casting C=NAME --cast-by WHO --cast-on DATE"
         self.done("close", "--early")
         self.assertEqual(self.election("count").faults, f"Next: {both}; {chosen}\n")
         said = self.election("count", "--casting", "C=Tiles").faults
         who = "--cast-by WHO --cast-on DATE"
-        ways = [f"debvote-election publish --casting C=Tiles {who} --casting {name} {who}" for name in ("'B=Ada Lovelace'", "'B=Mary Somerville'")]
-        self.assertEqual(said, f"Next: question B is a tie between {TIES['B']}; the holder of the casting vote chooses one of them: {' or '.join(ways)}\n")
+        ways = [
+            f"debvote-election publish --casting C=Tiles {who} --casting {name} {who}"
+            for name in ("'B=Ada Lovelace'", "'B=Mary Somerville'")
+        ]
+        self.assertEqual(
+            said,
+            f"Next: question B is a tie between {TIES['B']}; the holder of the casting vote chooses one of them: {' or '.join(ways)}\n",
+        )
         ended = self.election("count", "--casting", "c=Tiles", "--casting", "B=Mary Somerville")
         self.assertEqual((ended.status, ended.output.count("by casting vote")), (0, 2))
 
     def test_the_folder(self) -> None:
         self.done("close", "--early")
         self.write("about.txt", "Certified by the board.")
-        said = self.publish("--casting", "B=Mary Somerville", "--about", "about.txt", *CAST, status=1)
-        self.assertIn("A: Winner: 1 Yes, 72 Euro\nverified\nB: Winner: 2 Mary Somerville by casting vote\nverified, casting vote 2 Mary Somerville\nC: Tie: 1 2", said)
-        self.assertIn("publish --casting 'B=Mary Somerville' --cast-by 'The chair' --cast-on 2026-11-24 --casting C=NAME --cast-by WHO", said)
-        self.assertEqual(self.listed(), sorted([*ABOVE, *(f"{label}/{name}" for label in self.polls for name in FILES)]))
+        said = self.publish(
+            "--casting", "B=Mary Somerville", "--about", "about.txt", *CAST, status=1
+        )
+        self.assertIn(
+            "A: Winner: 1 Yes, 72 Euro\nverified\nB: Winner: 2 Mary Somerville by casting vote\nverified, casting vote 2 Mary Somerville\nC: Tie: 1 2",
+            said,
+        )
+        self.assertIn(
+            "publish --casting 'B=Mary Somerville' --cast-by 'The chair' --cast-on 2026-11-24 --casting C=NAME --cast-by WHO",
+            said,
+        )
+        self.assertEqual(
+            self.listed(),
+            sorted([*ABOVE, *(f"{label}/{name}" for label in self.polls for name in FILES)]),
+        )
         folders = [self.folder / "result" / label for label in ("", *self.polls)]
         self.assertEqual({folder.stat().st_mode & 0o777 for folder in folders}, {0o755})
         for name in ("title.txt", "polls.sha256", "A/poll.toml", "B/poll.toml", "C/poll.toml"):
@@ -141,20 +219,39 @@ class OpenTest(PublishedTest):
         command = next(line for line in letter.splitlines() if line.startswith("  sha256sum"))
         answered = self.in_shell(command)
         self.assertEqual(SUM.findall(answered), SUM.findall(letter))
-        everything = [str(file.relative_to(self.folder / "result")) for file in (self.folder / "result").rglob("*") if file.is_file()]
-        self.assertEqual(sorted([*re.findall("(?m)^(.*): OK$", answered), "SHA256SUMS"]), sorted(everything))
+        everything = [
+            str(file.relative_to(self.folder / "result"))
+            for file in (self.folder / "result").rglob("*")
+            if file.is_file()
+        ]
+        self.assertEqual(
+            sorted([*re.findall("(?m)^(.*): OK$", answered), "SHA256SUMS"]), sorted(everything)
+        )
         self.assertEqual(self.in_shell("sha256sum -c polls.sha256").count("OK"), 4)
-        for part in ("Question A: Raise the fee to 72 Euro\nWinner: Option 1: Yes, 72 Euro.", "Question C: A new roof\nNo option has won yet:", 'that of "The chair"'):
+        for part in (
+            "Question A: Raise the fee to 72 Euro\nWinner: Option 1: Yes, 72 Euro.",
+            "Question C: A new roof\nNo option has won yet:",
+            'that of "The chair"',
+        ):
             self.assertIn(part, letter)
         data = json.loads(self.read("result/result.json"))
         self.assertEqual((data["title"], list(data["questions"])), (self.title, list(self.polls)))
         for label, winner, left in (("A", 1, [1]), ("B", 2, [1, 2]), ("C", None, [1, 2])):
             outcome = data["questions"][label]["outcome"]
             self.assertEqual((outcome["winner"], outcome["left"]), (winner, left))
-            self.assertEqual(data["questions"][label]["checksum"], self.in_shell(f"sha256sum {label}/SHA256SUMS").split()[0])
-            self.assertEqual(outcome, json.loads(self.read(f"result/{label}/result.json"))["outcome"])
+            self.assertEqual(
+                data["questions"][label]["checksum"],
+                self.in_shell(f"sha256sum {label}/SHA256SUMS").split()[0],
+            )
+            self.assertEqual(
+                outcome, json.loads(self.read(f"result/{label}/result.json"))["outcome"]
+            )
         # what those who publish say of the whole is told once
-        told = [file.parent.name for file in (self.folder / "result").rglob("index.html") if "Certified by the board." in file.read_text()]
+        told = [
+            file.parent.name
+            for file in (self.folder / "result").rglob("index.html")
+            if "Certified by the board." in file.read_text()
+        ]
         self.assertEqual(told, ["result"])
         self.assert_each_counts()
 
@@ -173,11 +270,16 @@ class OpenTest(PublishedTest):
                 # without it the end of the run says that nobody looked at recount.js
                 if not command.startswith("node ") or shutil.which("node"):
                     self.in_shell(command, f"result/{label}")
-            given = [f"--{kind}={self.folder}/result/{label}/{name}" for kind, name in (("poll", "poll.toml"), ("ballots", "ballots.txt"))]
+            given = [
+                f"--{kind}={self.folder}/result/{label}/{name}"
+                for kind, name in (("poll", "poll.toml"), ("ballots", "ballots.txt"))
+            ]
             made = self.scratch / f"given-{label}"
             self.run_program(sys.executable, PUBLISH, *given, *casting, made)
             for name in ("sheet.txt", "standing.txt", "votes.csv", "result.json"):
-                self.assertEqual((made / name).read_bytes(), self.read(f"result/{label}/{name}"), (label, name))
+                self.assertEqual(
+                    (made / name).read_bytes(), self.read(f"result/{label}/{name}"), (label, name)
+                )
 
     def test_again_and_another_casting_vote(self) -> None:
         self.done("close", "--early")
@@ -189,9 +291,20 @@ class OpenTest(PublishedTest):
         again = f"--casting 'B=Mary Somerville' --cast-by '{CAST[1]}' --cast-on {CAST[3]} --casting C=Slate --cast-by"
         for words in (("B=Mary Somerville",), ("B=Mary Somerville", "--casting", "C=Tiles")):
             ended = self.election("publish", "--casting", *words, *CAST)
-            self.assert_fault(ended, 9, "question C: an earlier publication has a casting vote for Slate", again)
+            self.assert_fault(
+                ended, 9, "question C: an earlier publication has a casting vote for Slate", again
+            )
         self.assertEqual(self.election("publish", "--language", "fr").faults.count(again), 2)
-        self.publish("--casting", "B=Mary Somerville", "--casting", "C=Tiles", *CAST, "--force", "--because", "it was noted wrongly")
+        self.publish(
+            "--casting",
+            "B=Mary Somerville",
+            "--casting",
+            "C=Tiles",
+            *CAST,
+            "--force",
+            "--because",
+            "it was noted wrongly",
+        )
         self.assertEqual(self.doubted(), ["C"])
         self.assertIn("Made the folder", self.publish())
         for name in ("B/ballots.txt", "C/late.txt", "A/more.txt", "D/poll.toml", "more.txt"):
@@ -200,12 +313,16 @@ class OpenTest(PublishedTest):
                 file.parent.mkdir(exist_ok=True)
                 kept = file.read_bytes() if file.is_file() else None
                 file.write_bytes(b"other\n")
-                self.assert_fault(self.election("publish"), 2, "is not what this election has published last")
+                self.assert_fault(
+                    self.election("publish"), 2, "is not what this election has published last"
+                )
                 file.unlink()
                 if kept is not None:
                     file.write_bytes(kept)
                 if name.startswith("D/"):
-                    self.assert_fault(self.election("publish"), 2, "is not what this election has published last")
+                    self.assert_fault(
+                        self.election("publish"), 2, "is not what this election has published last"
+                    )
                     file.parent.rmdir()
         self.assertIn("as it was published before", self.publish())
 
@@ -213,13 +330,29 @@ class OpenTest(PublishedTest):
         """The command that is told for the second has the first, without which that question would be a tie again."""
         self.done("close", "--early")
         first = self.publish(status=1)
-        self.assertIn("its day: debvote-election publish --casting B=NAME --cast-by WHO --cast-on DATE --casting C=NAME --cast-by WHO --cast-on DATE\n", first)
-        ended = self.election("publish", "--casting", "B=Ada Lovelace", "--cast-by=-Eve", "--cast-on", "2026-11-23")
+        self.assertIn(
+            "its day: debvote-election publish --casting B=NAME --cast-by WHO --cast-on DATE --casting C=NAME --cast-by WHO --cast-on DATE\n",
+            first,
+        )
+        ended = self.election(
+            "publish", "--casting", "B=Ada Lovelace", "--cast-by=-Eve", "--cast-on", "2026-11-23"
+        )
         [told] = re.findall(r"its day: debvote-election (.*)\n", ended.output)
-        self.assertEqual((ended.status, told), (1, "publish --casting 'B=Ada Lovelace' --cast-by=-Eve --cast-on 2026-11-23 --casting C=NAME --cast-by WHO --cast-on DATE"))
+        self.assertEqual(
+            (ended.status, told),
+            (
+                1,
+                "publish --casting 'B=Ada Lovelace' --cast-by=-Eve --cast-on 2026-11-23 --casting C=NAME --cast-by WHO --cast-on DATE",
+            ),
+        )
         counted = self.election("count", "--casting", "B=Ada Lovelace").faults
-        self.assertIn(f"chooses one of them: debvote-election {told.replace('NAME', 'Slate')} or debvote-election {told.replace('NAME', 'Tiles')}\n", counted)
-        words = shlex.split(told.replace("NAME", "Tiles").replace("WHO", "Ida").replace("DATE", "2026-11-24"))
+        self.assertIn(
+            f"chooses one of them: debvote-election {told.replace('NAME', 'Slate')} or debvote-election {told.replace('NAME', 'Tiles')}\n",
+            counted,
+        )
+        words = shlex.split(
+            told.replace("NAME", "Tiles").replace("WHO", "Ida").replace("DATE", "2026-11-24")
+        )
         found = self.done(*words).output
         self.assertIn("B: Winner: 1 Ada Lovelace by casting vote\n", found)
         self.assertIn("C: Winner: 2 Tiles by casting vote\n", found)
@@ -230,7 +363,11 @@ class OpenTest(PublishedTest):
         told = re.compile(r'the casting vote was that of "([^"]+)", given on (\d+) November 2026')
         letter, *pages = (
             told.findall(" ".join(html.unescape(self.read(name).decode()).split()))
-            for name in ("letters/result.txt", "result/index.html", *(f"result/{label}/index.html" for label in self.polls))
+            for name in (
+                "letters/result.txt",
+                "result/index.html",
+                *(f"result/{label}/index.html" for label in self.polls),
+            )
         )
         self.assertEqual([letter, *pages], [letter, letter, [], letter[:1], letter[1:]])
         return letter
@@ -239,22 +376,45 @@ class OpenTest(PublishedTest):
         """What is given once holds for all; what is given as often as --casting is said of each in its order."""
         self.done("close", "--early")
         votes = ("--casting", "C=Tiles", "--casting", "B=Ada Lovelace")
-        ida, ben = ("--cast-by", "Ida", "--cast-on", "2026-11-23"), ("--cast-by", "Ben", "--cast-on", "2026-11-24")
-        act, how = self.last_act(), "nothing was published: give it once for all, or once for each --casting, in their order"
+        ida, ben = ("--cast-by", "Ida", "--cast-on", "2026-11-23"), (
+            "--cast-by",
+            "Ben",
+            "--cast-on",
+            "2026-11-24",
+        )
+        act, how = (
+            self.last_act(),
+            "nothing was published: give it once for all, or once for each --casting, in their order",
+        )
         three = self.election("publish", *votes, *ida, *ben, *ida).faults.splitlines()
-        self.assertEqual(three, [f"debvote-election: {one}: 3 are given, and of --casting 2; {how}" for one in ("--cast-by", "--cast-on")])
+        self.assertEqual(
+            three,
+            [
+                f"debvote-election: {one}: 3 are given, and of --casting 2; {how}"
+                for one in ("--cast-by", "--cast-on")
+            ],
+        )
         for words, said in (
-            ((*votes, *ida, *ben[2:], *ben[2:]), f"--cast-on: 3 are given, and of --casting 2; {how}"),
+            (
+                (*votes, *ida, *ben[2:], *ben[2:]),
+                f"--cast-on: 3 are given, and of --casting 2; {how}",
+            ),
             ((*votes[:2], *ida, *ben[:2]), f"--cast-by: 2 are given, and of --casting 1; {how}"),
             ((*votes, *ida[:2], *ben[:2]), "say it with --cast-by"),
-            ((*votes, *ida, "--cast-by", "Ben", "--cast-on", "2999-01-01"), "--cast-on: 2999-01-01 is in the future"),
+            (
+                (*votes, *ida, "--cast-by", "Ben", "--cast-on", "2999-01-01"),
+                "--cast-on: 2999-01-01 is in the future",
+            ),
         ):
             self.assert_fault(self.election("publish", *words), 2, said)
         self.assertEqual(self.last_act(), act)
         self.publish(*votes, *ida, *ben)
         self.assertEqual(self.holders(), [("Ben", "24"), ("Ida", "23")])
         words, before = self.acts()[-1][1]["words"], self.contents()
-        self.assertEqual((words["cast_by"], words["cast_on"]), ({"B": "Ben", "C": "Ida"}, {"B": "2026-11-24", "C": "2026-11-23"}))
+        self.assertEqual(
+            (words["cast_by"], words["cast_on"]),
+            ({"B": "Ben", "C": "Ida"}, {"B": "2026-11-24", "C": "2026-11-23"}),
+        )
         # each option in the place of another, with what belongs to it, is the same
         for same in ((), (*votes, *ida, *ben), (*votes[2:], *ben, *votes[:2], *ida)):
             self.assertIn("as it was published before", self.publish(*same))
@@ -278,14 +438,24 @@ class OpenTest(PublishedTest):
         parts = dict(re.findall(r'(?s)<h2 id="Question-(.)">(.*?)</section>', page))
         found = [label for label, part in parts.items() if 'class="doubts"' in part]
         for label in self.polls:
-            self.assertEqual('class="doubts"' in self.read(f"result/{label}/index.html").decode(), label in found)
+            self.assertEqual(
+                'class="doubts"' in self.read(f"result/{label}/index.html").decode(), label in found
+            )
         return found
 
     def test_doubts_stand_at_their_question(self) -> None:
-        self.add_lines(*(f"{name} B 1,2" for name in ("dan", "eve", "fay")), words=["--force", "--because", "as they came"])
+        self.add_lines(
+            *(f"{name} B 1,2" for name in ("dan", "eve", "fay")),
+            words=["--force", "--because", "as they came"],
+        )
         self.done("close", "--early")
         ended = self.election("publish")
-        self.assert_fault(ended, 9, "question B: more than half of the lines are refused, 3 of 5", "nothing was published")
+        self.assert_fault(
+            ended,
+            9,
+            "question B: more than half of the lines are refused, 3 of 5",
+            "nothing was published",
+        )
         self.publish("--force", "--because", "they were asked", status=1)
         # the close before the end is told of each
         detail = self.acts()[-1][1]
@@ -299,21 +469,33 @@ class OpenTest(PublishedTest):
         self.assertIn("as it was published before", self.publish(status=1))
 
     def test_a_doubt_about_the_whole_vote_is_told_once(self) -> None:
-        self.add_lines(*(f"{name} B 1,2" for name in ("dan", "eve", "fay")), words=["--force", "--because", "as they came"])
+        self.add_lines(
+            *(f"{name} B 1,2" for name in ("dan", "eve", "fay")),
+            words=["--force", "--because", "as they came"],
+        )
         ended = self.election("publish")
         self.assertEqual(ended.faults.count("the vote is not closed"), 1, ended.faults)
         self.assertEqual(re.findall("question (.): ", ended.faults), ["B"], ended.faults)
         ended = self.election("publish", "--force", "--because", "they were asked")
-        self.assertEqual((ended.status, ended.faults.count("the vote is not closed")), (1, 1), ended.faults)
+        self.assertEqual(
+            (ended.status, ended.faults.count("the vote is not closed")), (1, 1), ended.faults
+        )
         self.assertEqual(re.findall("Note: question (.): ", ended.faults), ["B"], ended.faults)
-        page, letter = self.read("result/index.html").decode(), self.read("letters/result.txt").decode()
+        page, letter = (
+            self.read("result/index.html").decode(),
+            self.read("letters/result.txt").decode(),
+        )
         self.assertEqual(page.count('class="doubts"'), 2)
         self.assertLess(page.index('class="doubts"'), page.index('id="Question-A"'))
         [doubt, _] = re.findall("- (The vote was not closed|More than half)", letter)
         self.assertEqual(doubt, "The vote was not closed")
         self.assertLess(letter.index(doubt), letter.index("Question A: "))
         for label in self.polls:
-            self.assertIn("was not closed when this page was made", self.read(f"result/{label}/index.html").decode(), label)
+            self.assertIn(
+                "was not closed when this page was made",
+                self.read(f"result/{label}/index.html").decode(),
+                label,
+            )
         # the act keeps it once, too
         kept = [(one.get("question"), one["kind"]) for one in self.acts()[-1][1]["doubts"]]
         self.assertEqual(kept, [(None, "not closed"), ("B", "mostly refused")])
@@ -323,8 +505,13 @@ class OpenTest(PublishedTest):
         self.done("call", "--until", "2026-12-04 18:00", "--zone", "Europe/Berlin")
         self.done("close", "--early")
         note = self.publish("--casting", "B=Mary Somerville", "--casting", "C=Slate", *CAST)
-        closed, until = r"Wednesday, 25 November 2026, 10:\d\d(?::\d\d)? \(UTC\+01:00\)", re.escape("Friday, 4 December 2026, 18:00 (UTC+01:00)")
-        self.assertRegex(note, f"Note: the vote was closed on {closed}, before its announced end, {until}; the result page")
+        closed, until = r"Wednesday, 25 November 2026, 10:\d\d(?::\d\d)? \(UTC\+01:00\)", re.escape(
+            "Friday, 4 December 2026, 18:00 (UTC+01:00)"
+        )
+        self.assertRegex(
+            note,
+            f"Note: the vote was closed on {closed}, before its announced end, {until}; the result page",
+        )
 
     def test_what_was_done_is_told_once(self) -> None:
         self.done("strike", "5", "--because", "it was a joke")
@@ -336,19 +523,47 @@ class OpenTest(PublishedTest):
         second = self.sums_in("letters/closed.txt")
         # the last four are of the close before; A alone has another line
         self.assertEqual(second[5:], first[1:4])
-        self.assertEqual([one == other for one, other in zip(first, second)][:4], [True, False, True, True])
+        self.assertEqual(
+            [one == other for one, other in zip(first, second)][:4], [True, False, True, True]
+        )
         self.addCleanup(os.umask, os.umask(0o077))
         self.publish(status=1)
         # a web host can read it, whatever the umask is
-        self.assertEqual([(self.folder / "result" / label).stat().st_mode & 0o777 for label in ("", *self.polls)], [0o755] * 4)
+        self.assertEqual(
+            [
+                (self.folder / "result" / label).stat().st_mode & 0o777
+                for label in ("", *self.polls)
+            ],
+            [0o755] * 4,
+        )
         letter = " ".join(self.read("letters/result.txt").decode().split())
         self.assertEqual(letter.count("The vote was opened again"), 1)
         self.assertEqual(letter.count("struck envelope 5"), 1)
-        sums = ", ".join(f"{digest} ({label})" for label, (digest, _) in zip(self.polls, second[1:]))
-        self.assertEqual(letter.count(f"The vote was closed. Lines in time: 4 (A), 2 (B), 3 (C). Checksum: {sums}."), 1)
-        self.assertIn("lines in time that came in: 1 (A), 0 (B), 0 (C); that were taken out: 0 (A), 0 (B), 0 (C).", letter)
-        found = re.findall("struck envelope 5|The vote was opened again|The vote was closed", letter)
-        self.assertEqual(found, ["struck envelope 5", "The vote was closed", "The vote was opened again", "The vote was closed"])
+        sums = ", ".join(
+            f"{digest} ({label})" for label, (digest, _) in zip(self.polls, second[1:])
+        )
+        self.assertEqual(
+            letter.count(
+                f"The vote was closed. Lines in time: 4 (A), 2 (B), 3 (C). Checksum: {sums}."
+            ),
+            1,
+        )
+        self.assertIn(
+            "lines in time that came in: 1 (A), 0 (B), 0 (C); that were taken out: 0 (A), 0 (B), 0 (C).",
+            letter,
+        )
+        found = re.findall(
+            "struck envelope 5|The vote was opened again|The vote was closed", letter
+        )
+        self.assertEqual(
+            found,
+            [
+                "struck envelope 5",
+                "The vote was closed",
+                "The vote was opened again",
+                "The vote was closed",
+            ],
+        )
         for label in self.polls:
             text = self.read(f"result/{label}/index.html").decode()
             self.assertEqual("struck envelope 5" in text, label == "C", label)
@@ -368,8 +583,16 @@ class EndedTest(PublishedTest):
         # where no Graphviz is installed, what tests see of the output has no such note
         self.assertEqual(said.count("Note: no picture"), HAS_PICTURES, said)
         told = "came after the end, and "
-        self.assertEqual(re.findall(f"(\\d+) lines? {told}", " ".join(self.read("letters/result.txt").decode().split())), ["2"])
-        pages = [re.findall(f"(\\d+) lines? {told}", self.read(f"result/{label}/index.html").decode()) for label in self.polls]
+        self.assertEqual(
+            re.findall(
+                f"(\\d+) lines? {told}", " ".join(self.read("letters/result.txt").decode().split())
+            ),
+            ["2"],
+        )
+        pages = [
+            re.findall(f"(\\d+) lines? {told}", self.read(f"result/{label}/index.html").decode())
+            for label in self.polls
+        ]
         self.assertEqual(pages, [["2"], ["1"], []])
 
 
@@ -387,12 +610,23 @@ class SecretTest(PublishedTest):
         self.done("close", "--early")
         listed = self.sums_in("letters/closed.txt")
         self.publish("--yes", status=1)
-        self.assertEqual(SUM.findall(self.in_shell(self.last_command("letters/closed.txt").replace("sha256sum; done", "sha256sum | tr -d ' -'; done"))), [(digest, name if at == 0 else "") for at, (digest, name) in enumerate(listed[:-1])])
+        self.assertEqual(
+            SUM.findall(
+                self.in_shell(
+                    self.last_command("letters/closed.txt").replace(
+                        "sha256sum; done", "sha256sum | tr -d ' -'; done"
+                    )
+                )
+            ),
+            [(digest, name if at == 0 else "") for at, (digest, name) in enumerate(listed[:-1])],
+        )
         codes, rolls = self.codes(), dict[str, set[str]]()
         for label in self.polls:
             poll = self.read(f"result/{label}/poll.toml").decode()
             rolls[label] = {*re.findall('"([0-9a-f]{32})"', poll)}
-            self.assertEqual(rolls[label], {alias_of(code, f"{label} {name}") for name, code in codes.items()})
+            self.assertEqual(
+                rolls[label], {alias_of(code, f"{label} {name}") for name, code in codes.items()}
+            )
             ballots = self.read(f"result/{label}/ballots.txt").decode().splitlines()
             self.assertEqual(ballots, sorted(ballots))
             self.assertEqual(len(ballots), {"A": 3, "B": 2, "C": 3}[label])
@@ -412,12 +646,26 @@ class SecretTest(PublishedTest):
         first = ("--casting", "B=Ada Lovelace", *CAST)
         second = (*first, "--casting", "C=Tiles", "--cast-by", "Ben", "--cast-on", "2026-11-24")
         one = ("publish", *first, "--casting", "C=Tiles")
-        for words, asked in ((second, ["B", "The chair", "C", "Ben"]), (one[1:], ["C", "The chair"])):
+        for words, asked in (
+            (second, ["B", "The chair", "C", "Ben"]),
+            (one[1:], ["C", "The chair"]),
+        ):
             said = self.election("publish", *words).faults
-            self.assertEqual([part for pair in re.findall(r"--cast-by of question (.):\n  (.*)\n", said) for part in pair], asked, said)
+            self.assertEqual(
+                [
+                    part
+                    for pair in re.findall(r"--cast-by of question (.):\n  (.*)\n", said)
+                    for part in pair
+                ],
+                asked,
+                said,
+            )
             self.assertIn("these texts may tell who voted what", said)
         self.publish(*first, "--yes", status=1)
-        self.assertEqual(re.findall("--cast-by of question (.):", self.election("publish", *second).faults), ["C"])
+        self.assertEqual(
+            re.findall("--cast-by of question (.):", self.election("publish", *second).faults),
+            ["C"],
+        )
         self.done(*one)
 
     def test_a_second_close_asks_once(self) -> None:
@@ -427,7 +675,9 @@ class SecretTest(PublishedTest):
         self.done("desk", "--came-before-close", "yes", given="dan A 2,1 B 1,2,3\n")
         self.done("close", "--early")
         ended = self.election("publish", "result-2")
-        self.assert_fault(ended, 9, "a comparison with the earlier result shows how these voted: dan")
+        self.assert_fault(
+            ended, 9, "a comparison with the earlier result shows how these voted: dan"
+        )
         self.publish("result-2", "--yes", status=1)
 
     @at_browser.NEEDS_BROWSER
@@ -449,7 +699,10 @@ class SecretTest(PublishedTest):
             links = "[...document.querySelectorAll('#Answer a')].map((link) => link.getAttribute('href'))"
             self.assertEqual(window.ask(links), [f"{label}/index.html" for label in "ABC"])
             said = window.find("cleo", codes["cleo"])
-            self.assertIn(f"Your alias is {alias_of(codes['cleo'], 'B cleo')}. It is on the roll, and no ballot counts under it.", said)
+            self.assertIn(
+                f"Your alias is {alias_of(codes['cleo'], 'B cleo')}. It is on the roll, and no ballot counts under it.",
+                said,
+            )
             [none] = window.find("cleo", codes["ben"])
             self.assertIn("No elector of this vote has the alias", none)
             window.open(self.folder / "result" / "B" / "index.html")
@@ -458,12 +711,17 @@ class SecretTest(PublishedTest):
         page = self.read("result/B/index.html").decode()
         [command] = re.findall("<code>(python3 -I -c .*?)</code>", page)
         command = command.replace("&#39;", "'").replace("&#34;", '"')
-        ended = subprocess.run(["sh", "-c", command], input=f"{codes['ben']}\nben\n", capture_output=True, text=True)
+        ended = subprocess.run(
+            ["sh", "-c", command], input=f"{codes['ben']}\nben\n", capture_output=True, text=True
+        )
         self.assertEqual(ended.stdout, f"Code: Name: {b}\n")
         [command] = re.findall("<code>(printf %s .*?)</code>", page)
         command = command.replace("&#39;", "'").replace("NAME", "ben").replace("CODE", codes["ben"])
         self.assertEqual(self.in_shell(command), f"{b}\n")
-        self.assertIn("Here the message is the label of the question, a blank and the name: <code>B NAME</code>.", page)
+        self.assertIn(
+            "Here the message is the label of the question, a blank and the name: <code>B NAME</code>.",
+            page,
+        )
 
 
 @at_browser.NEEDS_BROWSER
@@ -482,31 +740,63 @@ class PagesTest(PublishedTest):
             window.open(result / "index.html")
             self.assertEqual(window.ask("document.documentElement.scrollWidth"), 360)
             heads = "[...document.querySelectorAll('.question')].map((part) => [part.querySelector('h2').textContent, part.querySelector('.won b').textContent])"
-            self.assertEqual("2 yes, 1 no.", window.ask("document.querySelector('.votes').textContent"))
+            self.assertEqual(
+                "2 yes, 1 no.", window.ask("document.querySelector('.votes').textContent")
+            )
             self.assertEqual(
                 window.ask(heads),
-                [["A Raise the fee to 72 Euro", "Yes, 72 Euro"], ["B The chair of the board", "Mary Somerville"], ["C A new roof", "Slate and Tiles"]],
+                [
+                    ["A Raise the fee to 72 Euro", "Yes, 72 Euro"],
+                    ["B The chair of the board", "Mary Somerville"],
+                    ["C A new roof", "Slate and Tiles"],
+                ],
             )
             roof = ["Tiles", "Slate", "As it is", "Straw", "The line: cleo 2,1,4,3"]
-            wanted = ["cleo: counted", "No", "The line: cleo 2,1", "cleo is on the roll, and no ballot counts for this name.", "cleo: counted", *roof]
+            wanted = [
+                "cleo: counted",
+                "No",
+                "The line: cleo 2,1",
+                "cleo is on the roll, and no ballot counts for this name.",
+                "cleo: counted",
+                *roof,
+            ]
             for typed in ("cleo", " CLEO"):
                 self.assertEqual(window.find(typed), wanted)
             links = "[...document.querySelectorAll('#Answer h4 a')].map((link) => [link.textContent, link.getAttribute('href')])"
-            self.assertEqual(window.ask(links)[0], ["A Raise the fee to 72 Euro", "A/index.html#cleo"])
-            self.assertEqual(window.find("nobody"), ["No elector has the name nobody. Type it as it is on the roll."])
+            self.assertEqual(
+                window.ask(links)[0], ["A Raise the fee to 72 Euro", "A/index.html#cleo"]
+            )
+            self.assertEqual(
+                window.find("nobody"),
+                ["No elector has the name nobody. Type it as it is on the roll."],
+            )
             self.assertEqual(window.find("a-d-a"), ["Do you mean ada (Ada)?"])
             # the address names an elector, whose ballots stand below how each question ended
             none = "{} is on the roll, and no ballot counts for this name."
-            mine = {"cleo": [["cleo: counted", "No"], [none.format("cleo")], ["cleo: counted", *roof[:-1]]]}
-            mine["ben"] = [["ben: counted", "Yes"], ["ben: counted", "Mary Somerville", "Ada Lovelace", "None of these"], ["ben: counted", "Slate and Tiles equally", "As it is", "Straw"]]
+            mine = {
+                "cleo": [
+                    ["cleo: counted", "No"],
+                    [none.format("cleo")],
+                    ["cleo: counted", *roof[:-1]],
+                ]
+            }
+            mine["ben"] = [
+                ["ben: counted", "Yes"],
+                ["ben: counted", "Mary Somerville", "Ada Lovelace", "None of these"],
+                ["ben: counted", "Slate and Tiles equally", "As it is", "Straw"],
+            ]
             window.ask("location.hash = '#cleo/23456789ab'")
             for name, shown in mine.items():
-                window.until(f"document.querySelectorAll('.mine')[2].textContent.startsWith('{name}: ')")
+                window.until(
+                    f"document.querySelectorAll('.mine')[2].textContent.startsWith('{name}: ')"
+                )
                 self.assertEqual((window.ask(at_browser.MINE), window.ask("scrollY")), (shown, 0))
                 window.open_anew(result / "index.html", "#ben")
             for label in self.polls:
                 window.open(result / label / "index.html")
-                self.assertTrue(window.count_again()[0].startswith("The same, line for line"), label)
+                self.assertTrue(
+                    window.count_again()[0].startswith("The same, line for line"), label
+                )
                 self.assertEqual(window.found() if label == "B" else [], [])
             self.assertEqual(window.find("cleo"), ["cleo: counted", *roof])
             self.assertEqual(window.faults, [])
@@ -539,23 +829,48 @@ class ManyTest(PublishedTest):
     def test_each_is_a_line(self) -> None:
         self.done("close", "--early")
         ended = self.election("publish")
-        self.assertEqual((ended.status, re.findall("question (.): no elector has a ballot that counts", ended.faults)), (9, list("CDEF")))
+        self.assertEqual(
+            (
+                ended.status,
+                re.findall("question (.): no elector has a ballot that counts", ended.faults),
+            ),
+            (9, list("CDEF")),
+        )
         self.publish("--force", "--because", "nobody wanted them")
         page = self.read("result/index.html").decode()
-        lines = re.findall(r'<h2 id="Question-(.)">.*?<p class="ended">(.*?)</p>\s*<p class="won"><b><bdi>(.*?)</bdi></b></p>', page, re.DOTALL)
+        lines = re.findall(
+            r'<h2 id="Question-(.)">.*?<p class="ended">(.*?)</p>\s*<p class="won"><b><bdi>(.*?)</bdi></b></p>',
+            page,
+            re.DOTALL,
+        )
         lost = [(label, "The default option has won", "No, as it is") for label in "BCDEFG"]
         self.assertEqual(lines, [("A", "Has won", "Yes, 70 Euro"), *lost])
         # nothing is folded, a doubt neither
-        self.assertEqual((page.count("<details>"), len(re.findall('<p>No elector has a ballot that counts: .*?</p>\n</div>', page))), (0, 4))
-        self.assertEqual(pathlib.Path(self.folder / "result" / "G" / "ballots.txt").read_text(), "ada 2,1\n")
+        self.assertEqual(
+            (
+                page.count("<details>"),
+                len(re.findall("<p>No elector has a ballot that counts: .*?</p>\n</div>", page)),
+            ),
+            (0, 4),
+        )
+        self.assertEqual(
+            pathlib.Path(self.folder / "result" / "G" / "ballots.txt").read_text(), "ada 2,1\n"
+        )
 
     @at_browser.NEEDS_BROWSER
     def test_seven_on_a_telephone(self) -> None:
         """All seven questions with their numbers are on the first screen, if each has ballots."""
-        self.add_lines("cleo " + " ".join(f"{label} 1,2" for label in self.polls), "ben " + " ".join(f"{label} 1,2" for label in self.polls))
+        self.add_lines(
+            "cleo " + " ".join(f"{label} 1,2" for label in self.polls),
+            "ben " + " ".join(f"{label} 1,2" for label in self.polls),
+        )
         self.done("close", "--early")
         self.publish()
         with at_browser.Window(390, 844) as window:
             window.open(self.folder / "result" / "index.html")
-            ends = window.ask("[...document.querySelectorAll('.question .votes')].map((node) => node.getBoundingClientRect().bottom)")
-            self.assertEqual((len(ends), max(ends) <= 844, window.ask(at_browser.LONE_LINES)), (7, True, []))
+            ends = window.ask(
+                "[...document.querySelectorAll('.question .votes')].map((node) => node.getBoundingClientRect().bottom)"
+            )
+            self.assertEqual(
+                (len(ends), max(ends) <= 844, window.ask(at_browser.LONE_LINES)), (7, True, [])
+            )
