@@ -1,14 +1,21 @@
-"""Runs the Python programs in forks of the test, which has imported their modules already, and not in new processes.
+"""Runs the Python programs in the process of the test, which has imported their modules already.
 
-Python takes longer to start, and to import the modules of debvote-election, than most runs take for their work. `run` takes
-arguments and settings as subprocess.run does. A plain run of a launcher is a fork. A new process runs another program, or one with
-flags or settings that a fork cannot have, or from another thread than the main one: a fork that is made while another thread
-imports a module has the lock of imports for ever. With DEBVOTE_FORKS=0 every run is a new process.
+Python takes longer to start, and to import the modules of debvote-election, than most runs take for
+their work, and a fork takes longer, too. `run` takes arguments and settings as subprocess.run does.
+A plain run of a launcher is a call of its `main`, which gets descriptors, folder, environment,
+clock, signals and context of its own, and gives them back (`lent`). It is a fork if strace traces
+it, or if a command runs in this process already: its locks would end with those of the other one. A
+new process runs another program, or one with flags or settings that a fork cannot have, or from
+another thread than the main one: a fork that is made while another thread imports a module has the
+lock of imports for ever. With DEBVOTE_FORKS=1 each run is a fork, with 0 a new process.
 """
 
 import contextlib
+import contextvars
 import ctypes
+import datetime
 import functools
+import gc
 import importlib
 import itertools
 import os
@@ -27,6 +34,8 @@ import debvote_tools
 import jinja2
 import jinja2.bccache
 from debvote_tools.book import chain
+from debvote_tools.call import box
+from debvote_tools.cli import console
 from debvote_tools.cli.faults import Fault
 from debvote_tools.text.language import LANGUAGES, language_of
 from debvote_tools.text.rendering import templates_of
@@ -44,6 +53,10 @@ LAUNCHERS = {
 PR_SET_PTRACER, ANY = 0x59616D61, -1
 
 
+# what a command may set for its process
+SIGNALS = (signal.SIGHUP, signal.SIGTERM, signal.SIGINT, signal.SIGALRM)
+
+
 def run(
     words: Sequence[object], tracer: Sequence[object] = (), **how: object
 ) -> subprocess.CompletedProcess:
@@ -51,30 +64,89 @@ def run(
     if not is_plain(words, how):
         return subprocess.run([*map(str, tracer), *words], **how)
     read_ahead()
-    module = importlib.import_module(LAUNCHERS[str(words[1])])
-    with tempfile.TemporaryFile() as given, tempfile.TemporaryFile() as output, tempfile.TemporaryFile() as faults:
-        text = how.get("input")
-        given.write(text.encode() if isinstance(text, str) else text or b"")
-        given.seek(0)
-        begin, go = os.pipe()
-        child = os.fork()
-        if child == 0:
-            if tracer:
-                ctypes.CDLL(None).prctl(PR_SET_PTRACER, ctypes.c_ulong(ANY), 0, 0, 0)
-                os.read(begin, 1)
-            in_child(module.main, words, how, [given.fileno(), output.fileno(), faults.fileno()])
-        with attached(child, tracer):
-            os.write(go, b"x")
-            status = awaited(child, how.get("timeout"), words)
-        os.close(begin)
-        os.close(go)
-        # what the run wrote, from the beginning
-        output.seek(0)
-        faults.seek(0)
-        texts = [output.read(), faults.read()]
-    return subprocess.CompletedProcess(
-        words, status, *([data.decode() for data in texts] if how.get("text") else texts)
-    )
+    main = importlib.import_module(LAUNCHERS[str(words[1])]).main
+    with contextlib.ExitStack() as files:
+        streams = [files.enter_context(tempfile.TemporaryFile()) for _ in range(3)]
+        given = how.get("input")
+        streams[0].write(given.encode() if isinstance(given, str) else given or b"")
+        streams[0].seek(0)
+        numbers = [stream.fileno() for stream in streams]
+        if tracer or os.environ.get("DEBVOTE_FORKS") == "1" or is_within_main():
+            status = in_fork(main, words, tracer, how, numbers)
+        else:
+            with lent(numbers):
+                status = ended(main, words, how)
+        texts = []
+        for stream in streams[1:]:
+            # what the run wrote, from the beginning
+            stream.seek(0)
+            texts.append(stream.read().decode() if how.get("text") else stream.read())
+    return subprocess.CompletedProcess(words, status, *texts)
+
+
+def is_within_main() -> bool:
+    """Whether a command runs in this process already."""
+    frame = sys._getframe()
+    while frame is not None:
+        code = frame.f_code
+        if code.co_name == "main" and "debvote_tools" in code.co_filename:
+            return True
+        frame = frame.f_back
+    return False
+
+
+@contextlib.contextmanager
+def lent(numbers: Sequence[int]) -> Iterator[None]:
+    """Standard streams are these files, and what a command sets for its process is as before once it has ended."""
+    streams, known = (sys.stdin, sys.stdout, sys.stderr), datetime.datetime
+    folder, environment = os.getcwd(), dict(os.environ)
+    handlers = {number: signal.getsignal(number) for number in SIGNALS}
+    kept = [os.dup(number) for number in range(3)]
+    try:
+        for number, file in enumerate(numbers):
+            os.dup2(file, number)
+        yield
+    finally:
+        datetime.datetime = known
+        os.environ.clear()
+        os.environ.update(environment)
+        os.chdir(folder)
+        time.tzset()
+        for number, descriptor in enumerate(kept):
+            os.dup2(descriptor, number)
+            os.close(descriptor)
+        sys.stdin, sys.stdout, sys.stderr = streams
+        for number, handler in handlers.items():
+            signal.signal(number, handler)
+        console.ENDED.clear()
+        box.key_of.cache_clear()
+        box.links_of.cache_clear()
+        gc.enable()
+        # books that are in cycles are closed
+        gc.collect(1)
+
+
+def in_fork(
+    main: Callable,
+    words: Sequence[object],
+    tracer: Sequence[object],
+    how: Mapping[str, object],
+    streams: Sequence[int],
+) -> int:
+    """Runs the program in a fork, and returns its exit status."""
+    begin, go = os.pipe()
+    child = os.fork()
+    if child == 0:
+        if tracer:
+            ctypes.CDLL(None).prctl(PR_SET_PTRACER, ctypes.c_ulong(ANY), 0, 0, 0)
+            os.read(begin, 1)
+        in_child(main, words, how, streams)
+    with attached(child, tracer):
+        os.write(go, b"x")
+        status = awaited(child, how.get("timeout"), words)
+    os.close(begin)
+    os.close(go)
+    return status
 
 
 @contextlib.contextmanager
@@ -129,6 +201,8 @@ def read_ahead() -> None:
         for name in templates.list_templates():
             if not name.endswith(left_out[is_page]):
                 templates.get_template(name)
+    gc.collect()
+    gc.freeze()
 
 
 def is_plain(words: Sequence[object], how: Mapping[str, object]) -> bool:
@@ -175,27 +249,34 @@ def in_child(
     try:
         for number, stream in enumerate(streams):
             os.dup2(stream, number)
-        sys.stdin, sys.stdout, sys.stderr = open(0), open(1, "w"), open(2, "w")
-        os.chdir(how.get("cwd") or ".")
-        if how.get("env") is not None:
-            os.environ.clear()
-            os.environ.update(how["env"])
-        if "DEBVOTE_CLOCK" in os.environ:
-            set_clock(pathlib.Path(os.environ["DEBVOTE_CLOCK"]).read_text().strip())
-        time.tzset()
-        status = main(pathlib.Path(str(words[1])).parent, [str(word) for word in words[2:]])
+        status = ended(main, words, how)
+    finally:
+        os._exit(status)
+
+
+def ended(main: Callable, words: Sequence[object], how: Mapping[str, object]) -> int:
+    """Runs the program with standard streams, folder and environment as a new process has them, and returns its exit status."""
+    sys.stdin = open(0, closefd=False)
+    sys.stdout, sys.stderr = (open(number, "w", closefd=False) for number in (1, 2))
+    os.chdir(how.get("cwd") or ".")
+    if how.get("env") is not None:
+        os.environ.clear()
+        os.environ.update(how["env"])
+    if "DEBVOTE_CLOCK" in os.environ:
+        set_clock(pathlib.Path(os.environ["DEBVOTE_CLOCK"]).read_text().strip())
+    time.tzset()
+    given = pathlib.Path(str(words[1])).parent, [str(word) for word in words[2:]]
+    try:
+        status = contextvars.copy_context().run(main, *given)
     except SystemExit as end:
         status = end.code if isinstance(end.code, int) else 0 if end.code is None else 1
     except BaseException:
         sys.excepthook(*sys.exc_info())
         status = 1
-    finally:
-        for stream in (sys.stdout, sys.stderr):
-            try:
-                stream.flush()
-            except OSError:
-                pass
-        os._exit(status)
+    for stream in (sys.stdout, sys.stderr):
+        with contextlib.suppress(OSError):
+            stream.flush()
+    return int(status)
 
 
 def awaited(child: int, timeout: object, words: Sequence[object]) -> int:
