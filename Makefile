@@ -18,7 +18,10 @@ check: ## prove the crate CRATE=..
 	@tests/support/near.py crate "$(CRATE)" && cd "crates/$(CRATE)" && rt check
 
 test: ## run all tests that need no proof, in some minutes; with NAME=.. that test of the crates of tests alone
-	@if [ -n "$(NAME)" ]; then tests/one-test "$(NAME)"; else tests/quick; fi
+	@if [ -z "$(NAME)" ]; then exec tests/quick; fi; \
+	crates=$$(cd crates && grep -lE "^fn \w*$(NAME)" tests_*/src/*.rt | cut -d/ -f1 | sort -u); \
+	[ -n "$$crates" ] || { echo "no test of the crates is called so: grep -A1 '#.test.' crates/*/src/*.rt lists them" >&2; exit 1; }; \
+	for crate in $$crates; do (cd "crates/$$crate" && rt try --test --seconds 600 -- "$(NAME)") || exit; done
 
 case: ## run the case NAME=.. of tests/cases with the built program
 	@tests/cases/run "$(NAME)"

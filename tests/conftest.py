@@ -1,4 +1,4 @@
-"""What pytest needs for these tests; `-m without_program` runs those that need no debvote.
+"""What pytest needs for these tests.
 
 With -n all tests of a class run in one process, since a class makes its election once. At the end is a line for each reason for which
 tests were skipped, and above pytest's own last line 'N passed, M failed', as the other programs of the tests print it.
@@ -7,7 +7,6 @@ tests were skipped, and above pytest's own last line 'N passed, M failed', as th
 import collections
 import locale
 import os
-import pathlib
 import shutil
 from collections.abc import Iterator
 
@@ -33,42 +32,29 @@ LONGEST = [
     "Sending",
 ]
 
-# modules of tests that run no debvote, but for those that take no time: tests/quick runs them while it is built
-WITHOUT_PROGRAM = {
-    "test_box",
-    "test_call_words",
-    "test_electors",
-    "test_secret",
-    "test_translations",
-    "test_words",
-}
+# which tests run where
+MARKS = (
+    "checked: it runs the program on each kind of input, in make test one with the checks of rt try",
+    "proved: it needs the proved program, or the prover; make test leaves it out",
+)
 
 
 def pytest_configure(config: pytest.Config) -> None:
-    config.addinivalue_line("markers", "without_program: it runs no debvote")
+    for mark in MARKS:
+        config.addinivalue_line("markers", mark)
     if packages := debian.missing():
         pytest.exit(f"type this first: sudo apt-get install -y {' '.join(packages)}", 2)
     if locale.getpreferredencoding(False).lower() not in ("utf-8", "utf8"):
         pytest.exit("pages, letters and tables are in UTF-8: type export PYTHONUTF8=1 first", 2)
-    if (words := program.missing()) and config.option.markexpr != "without_program":
+    if words := program.missing():
         pytest.exit(words, 2)
     os.umask(0o022)
     if getattr(config.option, "numprocesses", None):
         config.option.dist = "loadscope"
 
 
-def pytest_ignore_collect(collection_path: pathlib.Path, config: pytest.Config) -> bool | None:
-    """With `-m without_program` no module is read of which no test would run."""
-    is_left_out = collection_path.is_file() and collection_path.stem not in WITHOUT_PROGRAM
-    return True if is_left_out and config.option.markexpr == "without_program" else None
-
-
 @pytest.hookimpl(tryfirst=True)
 def pytest_collection_modifyitems(items: list[pytest.Item]) -> None:
-    for item in items:
-        if item.path.stem in WITHOUT_PROGRAM:
-            item.add_marker("without_program")
-
     def place(item: pytest.Item) -> int:
         name = item.parent.name if item.parent else ""
         return next(

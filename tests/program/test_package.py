@@ -16,9 +16,12 @@ import subprocess
 import tempfile
 import unittest
 
+import pytest
+
 from tests.support import expecting
 from tests.support.program import PROGRAM, ROOT
 
+pytestmark = pytest.mark.proved
 TOOLS = ["dpkg-deb", "objdump", "strip", "msgfmt"]
 
 # what packaging/deb reads, except the program and its sources

@@ -14,14 +14,14 @@ import tempfile
 import unittest
 
 from tests.program import test_guides
-from tests.support import at_browser, expecting
+from tests.support import at_browser, expecting, unproved
 from tests.support.program import PROGRAM, ROOT
 
 README = ROOT / "README.md"
 
 # what the commands read of a checkout
 FILES = "Makefile crates.txt docs/READING-A-SHEET.md tests/reference.py tests/try tests/build tests/quick tests/all"
-FOLDERS = "bin examples python tests/support"
+FOLDERS = "bin examples python tests/support tests/cases"
 
 # the commands that need the kit, other programs that do, and what they say without it
 OF_KIT = ["make try", "make build", "make test", "tests/all"]
@@ -87,6 +87,16 @@ class Commands(expecting.Expecting):
             self.expect(f"README: $ {words}", found, (wanted, 0))
         words = 'make try ARGS="check --poll examples/plain_win/poll.toml"'
         self.expect(words, self.run_in_copy(words, path), ("poll ok: 4 options, 9 electors\n", 0))
+        # the loop of CONTRIBUTING takes this program, and names it
+        kept = self.copy / unproved.FOLDER / unproved.CHECKED
+        note = f"the program of these tests is {kept}, which is not proved\n"
+        words = "make case NAME=tie-of-equal-ranks"
+        self.expect(words, self.run_in_copy(words, path), (f"{note}3 passed, 0 failed\n", 0))
+        shutil.rmtree(self.copy / unproved.FOLDER)
+        said, status = self.run_in_copy(words, path)
+        self.expect(
+            f"{words}, without a program", ("make try makes one" in said, status), (True, 2)
+        )
 
     def test_without_kit(self) -> None:
         """One line says what is missing; make adds one of its own."""

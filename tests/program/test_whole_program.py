@@ -15,6 +15,8 @@ import subprocess
 import tempfile
 import time
 
+import pytest
+
 from tests import reference_checks, reference_findings
 from tests.support import expecting
 from tests.support.program import PROGRAM, ROOT
@@ -196,6 +198,7 @@ class WholeTest(expecting.Expecting):
         super().expect(name, tuple(found), wanted)
 
 
+@pytest.mark.checked
 class WordsTest(WholeTest):
     def test_help(self):
         """Help goes to standard output with status 0, and says what each command and each option is."""

@@ -10,6 +10,8 @@ import os
 import pathlib
 import re
 import subprocess
+import threading
+import time
 from collections.abc import Iterable
 
 from tests.support import debian
@@ -20,7 +22,7 @@ ROOT = pathlib.Path(__file__).resolve().parent.parent.parent
 PROCESSORS = len(os.sched_getaffinity(0))
 PYTEST = f"/usr/bin/python3 -m pytest -q --assert=plain -n {PROCESSORS}"
 # half as many more, for tests that wait for a browser, a host or a clock a third of their time
-PYTEST_WAITING = f"/usr/bin/python3 -m pytest -q --assert=plain -n {PROCESSORS + PROCESSORS // 2}"
+PYTEST_WAITING = PYTEST.replace(f"-n {PROCESSORS}", f"-n {PROCESSORS + PROCESSORS // 2}")
 
 COUNT = re.compile(r"(\d+) passed, (\d+) failed")
 SKIPPED = re.compile(r"skipped: (.*?)(?: \((\d+)\))?")
@@ -78,8 +80,11 @@ class Count:
 
 
 class Part:
-    """A running part; its output and its seconds go to files of its own. Python waits for it: a shell that asks for the status of an id,
-    long after that process has ended, may get the status of another one."""
+    """A running part; its output goes to a file of its own.
+
+    A thread waits for it: a shell that asks for the status of an id, long after that process has
+    ended, may get the status of another one.
+    """
 
     def __init__(
         self,
@@ -89,22 +94,32 @@ class Part:
         counted: re.Pattern[str] = COUNT,
         **how: object,
     ) -> None:
-        self.name = " ".join([*words, *(["in", cwd.name] if cwd.parent.name == "crates" else [])])
+        self.name = " ".join(words)
         self.counted = counted
-        key = re.sub(r"\W+", "-", self.name).strip("-")
-        self.told, self.seconds = room / f"{key}.told", room / f"{key}.times"
+        self.told = room / f"{re.sub(r'[^a-z0-9]+', '-', self.name).strip('-')}.told"
+        self.status = 0
+        # by the clock, and of processor: of the part and of all that it has waited for
+        self.seconds = self.of_processor = 0.0
+        began = time.monotonic()
         with open(self.told, "wb") as told:
             output = {"stdout": told, "stderr": subprocess.STDOUT, **how}
-            self.process = subprocess.Popen(
-                [ROOT / "tests" / "times", self.seconds, *words], cwd=cwd, **output
-            )
+            self.process = subprocess.Popen(words, cwd=cwd, **output)
+        self.waiting = threading.Thread(target=self.wait, args=[began])
+        self.waiting.start()
+
+    def wait(self, began: float) -> None:
+        _, status, usage = os.wait4(self.process.pid, 0)
+        self.status = self.process.returncode = os.waitstatus_to_exitcode(status)
+        self.seconds = time.monotonic() - began
+        self.of_processor = usage.ru_utime + usage.ru_stime
 
     def text(self) -> str:
         return self.told.read_text(encoding="utf-8", errors="replace")
 
     def count(self) -> Count:
         """Its counts, once it has ended. If it ended without a count of its failures, that is a failure too."""
-        status, lines = self.process.wait(), self.text().splitlines()
+        self.waiting.join()
+        lines = self.text().splitlines()
         counts = [
             Count(int(found[1]), int(found[2]))
             for line in lines
@@ -116,15 +131,18 @@ class Part:
             if (found := SKIPPED.fullmatch(line))
         ]
         whole = sum([*counts, *skipped], Count(0, 0))
-        return whole if whole.failed or (counts and status == 0) else whole + Count(0, 1)
+        return whole if whole.failed or (counts and self.status == 0) else whole + Count(0, 1)
 
     def failures(self) -> list[str]:
         """Once it has ended, its lines of failures; of one that failed without any, how it ended."""
         if not self.count().failed:
             return []
         return [line[:WIDTH] for line in self.text().splitlines() if FAILED.match(line)] or [
-            f"it ended with status {self.process.returncode}"
+            f"it ended with status {self.status}"
         ]
+
+    def time(self) -> str:
+        return f"{self.seconds:6.0f}{self.of_processor:7.0f}  {self.name}"
 
 
 def tell(parts: Iterable[Part]) -> Count:
@@ -135,17 +153,13 @@ def tell(parts: Iterable[Part]) -> Count:
         print(
             f"== {part.name}",
             *[line for line in part.text().splitlines() if not SKIPPED.fullmatch(line)],
+            # nothing was tried
+            *(["skipped"] if counts[-1].skipped and not counts[-1].passed else []),
             sep="\n",
             flush=True,
         )
     print("== seconds, and those of processor")
-    for part in parts:
-        print(
-            part.seconds.read_text().rstrip("\n")
-            if part.seconds.exists()
-            else f"{part.name}: it was killed",
-            flush=True,
-        )
+    print(*(part.time() for part in parts), sep="\n", flush=True)
     return sum(counts, Count(0, 0))
 
 

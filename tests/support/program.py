@@ -1,6 +1,7 @@
-"""The program that the tests run: the file that DEBVOTE names, or else the one that `make build` makes.
+"""The program that the tests run.
 
-`PROGRAM` is always called debvote, so that the Python programs find it in its folder: a file of another name gets a link.
+It is the file that DEBVOTE names; else the proved one, if it was made from what is there today; else the unproved one that `make try`
+or `make test` has made of that. `PROGRAM` is always called debvote, so that the Python programs find it in its folder: a file of another name gets a link.
 """
 
 import atexit
@@ -10,8 +11,10 @@ import shutil
 import sys
 import tempfile
 
-ROOT = pathlib.Path(__file__).resolve().parent.parent.parent
-BUILT = ROOT / "crates" / "debvote" / "out" / "debvote"
+from tests.support import unproved
+from tests.support.parts import ROOT
+
+BUILT = ROOT / unproved.PROGRAM
 
 
 def link_to(file: pathlib.Path) -> pathlib.Path:
@@ -24,13 +27,26 @@ def link_to(file: pathlib.Path) -> pathlib.Path:
     return folder / "debvote"
 
 
-def named() -> pathlib.Path:
-    """The file that DEBVOTE names, under a path that ends in debvote; or else the one that is built."""
-    if not os.environ.get("DEBVOTE"):
+def of_today() -> pathlib.Path | None:
+    """The proved program, or one that is kept without proof."""
+    if unproved.is_proved():
         return BUILT
-    file = pathlib.Path(os.environ["DEBVOTE"]).absolute()
+    for name in (unproved.QUICK, unproved.CHECKED):
+        if unproved.are_kept(name):
+            file = ROOT / unproved.FOLDER / name
+            print(f"the program of these tests is {file}, which is not proved", file=sys.stderr)
+            return file
+    return None
+
+
+def named() -> pathlib.Path:
+    """The program, under a path that ends in debvote; if there is none, where the proved one would be."""
+    given = os.environ.get("DEBVOTE")
+    file = pathlib.Path(given).absolute() if given else of_today()
+    if file is None:
+        return BUILT
     program = file if file.name == "debvote" or not file.is_file() else link_to(file)
-    # so that processes of the tests do not make their own links
+    # so that processes of the tests do not look again, and make no links
     os.environ["DEBVOTE"] = str(program)
     return program
 
@@ -39,16 +55,12 @@ PROGRAM = named()
 
 
 def missing(file: pathlib.Path = PROGRAM) -> str | None:
-    """If there is no program: where it was looked for, and how to make one."""
-    if file.is_file() and os.access(file, os.X_OK):
-        return None
-    looked = (
-        "as DEBVOTE says"
-        if os.environ.get("DEBVOTE")
-        else "where make build makes it, with its proof, in 20 minutes"
-    )
-    quick = "tests/unproved /tmp/checked /tmp/debvote makes one without proof in two minutes; then set DEBVOTE=/tmp/debvote"
-    return f"there is no program that can be run at {file}, {looked}. {quick}"
+    """If there is no program of today: where it was looked for, and how to make one."""
+    if os.environ.get("DEBVOTE"):
+        if file.is_file() and os.access(file, os.X_OK):
+            return None
+        return f"there is no program that can be run at {file}, as DEBVOTE says"
+    return "there is no program of these sources: make try makes one in two minutes, without proof"
 
 
 def demand(file: pathlib.Path = PROGRAM) -> None:

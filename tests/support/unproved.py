@@ -1,6 +1,7 @@
-"""The programs that are built without proof, which are kept while nothing of the crates changes.
+"""Which programs are made from what is there now: the proved one, and those that are built without proof and kept.
 
-`make try` keeps the first, with the checks of `rt try`; `make test` keeps both, once the tests of the crates have passed.
+Beside the proved program are the checksums of all that was proved. `make try` keeps a program with the checks of `rt try`;
+`make test` keeps also one without, once the tests of the crates have passed.
 """
 
 import hashlib
@@ -10,12 +11,38 @@ from collections.abc import Mapping
 
 from tests.support import parts
 
-FOLDER = pathlib.Path("crates", "debvote", "out", "unproved")
+PROGRAM = pathlib.Path("crates", "debvote", "out", "debvote")
+FOLDER = PROGRAM.with_name("unproved")
 CHECKED, QUICK = "debvote", "quick"
 MADE_FROM = "made-from"
 
 # folders of a crate that no program is made from
 LEFT_OUT = {"must-fail", "proofs", "out"}
+
+
+def checksums(root: pathlib.Path) -> str:
+    """The checksums of the proved program and of what was proved, as sha256sum writes them."""
+    files = [root / PROGRAM, root / "HANDLES"]
+    for kind in ("src", "specs", "proofs"):
+        files += sorted(
+            file
+            for file in (root / "crates").glob(f"*/{kind}/**/*")
+            if file.is_file() and not file.relative_to(root).parts[1].startswith("tests_")
+        )
+    return "".join(
+        f"{hashlib.sha256(file.read_bytes()).hexdigest()}  {file.relative_to(root)}\n"
+        for file in files
+    )
+
+
+def is_proved() -> bool:
+    """Whether the proved program is there, and what was proved is what is there now."""
+    kept = parts.ROOT / PROGRAM.with_name("proved")
+    return (
+        kept.is_file()
+        and (parts.ROOT / PROGRAM).is_file()
+        and kept.read_text() == checksums(parts.ROOT)
+    )
 
 
 def sum_of_sources() -> str:

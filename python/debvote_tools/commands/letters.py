@@ -304,14 +304,14 @@ def demand_words(arguments: Arguments) -> None:
             f"name one of {', '.join(SUBJECTS)}; only --send goes without it, to send what is made"
         )
         faults.append(bad_words("letters", "no kind is named", cure))
-    if not arguments.send and (options := given(arguments, "server", "user", "password_file")):
+    if not arguments.send and (names := given(arguments, "server", "user", "password_file")):
         faults.append(
-            bad_words(", ".join(options), "only with --send", "give --send too, or leave this out")
+            bad_words(", ".join(names), "only with --send", "give --send too, or leave this out")
         )
     asked = "call" if arguments.codes else "reminders"
-    for option, kind in (("at", "result"), ("codes", "call"), ("yes", asked)):
-        if arguments.kind != kind and given(arguments, option):
-            faults.append(bad_words(f"--{option}", f"only with {kind}", "leave it out"))
+    for name, kind in (("at", "result"), ("codes", "call"), ("yes", asked)):
+        if arguments.kind != kind and given(arguments, name):
+            faults.append(bad_words(f"--{name}", f"only with {kind}", "leave it out"))
     with kept_in(faults):
         if arguments.at is not None:
             demand_web_address(arguments.at)
