@@ -12,6 +12,7 @@ from typing import Any
 from debvote_tools.call.box import personal_link
 
 from tests.support import elections, sealing
+from tests.support.at_browser import Window
 from tests.support.letters import letter, mailbox
 from tests.support.web_host import END, FIRST, HOST_OFF, Answer, Host, clock_of_php, request_of
 
@@ -30,6 +31,24 @@ def text_of(data: bytes) -> str:
     text = email.message_from_bytes(data).get_payload(decode=True)
     assert isinstance(text, bytes)
     return " ".join(text.decode().split())
+
+
+def visit(window: Window, address: str) -> None:
+    """Opens an address as somebody who comes from elsewhere."""
+    for url, is_open in (
+        ("about:blank", "location.href === 'about:blank'"),
+        (address, "document.readyState === 'complete' && location.href !== 'about:blank'"),
+    ):
+        window.tell("Page.navigate", url=url)
+        window.until(is_open)
+
+
+def press(window: Window) -> str:
+    """Presses the button, and returns what is said then."""
+    said = "document.getElementById('Sent').textContent"
+    window.ask("document.getElementById('Vote').click()")
+    window.until(f"!['', 'It is being sent ..'].includes({said})")
+    return str(window.ask(said))
 
 
 def link_in(letter: bytes) -> tuple[str, str, str]:
