@@ -14,7 +14,7 @@ import shutil
 import time
 import unittest.mock
 
-from debvote_tools.call.box import personal_link, proof_digest
+from debvote_tools.call.box import proof_digest
 
 from tests.support import boxes, elections
 from tests.support.at_browser import NEEDS_BROWSER, Window
@@ -109,54 +109,6 @@ class InABrowser(ClickedElection):
         hour = datetime.timezone(datetime.timedelta(hours=1))
         return f"{sent.astimezone().astimezone(hour):%H:%M:%S}".removesuffix(":00")
 
-    def tell_other_pages(self, turned: str) -> dict[str, str]:
-        """The call is taken back, and made anew with a poll whose options have another order. Each page that is not of it is told.
-        Returns the links of now.
-        """
-        before, name = self.begun(), self.names[0]
-        old_page = (self.web / "index.html").read_bytes()
-        self.visit(name)
-        self.done("call", "--take-back")
-        self.write("poll.toml", turned)
-        self.prepare()
-        self.call()
-        new = (self.web / "index.html").read_bytes()
-        # an old tab, by a link of now: the letters that have it are not written yet
-        [(own,)] = self.rows("SELECT mark FROM elector_now WHERE name = ?", name)
-        place = personal_link(self.key, name, str(own))
-        self.assertNotIn(before[name], place)
-        self.window.ask(f"location.hash = '#{place}'")
-        self.demand_old()
-        # that of before lies on the host, and is opened anew
-        (self.web / "index.html").write_bytes(old_page)
-        self.assertIn("Note: the page there is the one of before", self.told("add", "--box"))
-        boxes.visit(self.window, f"{self.between.at}#{place}")
-        self.demand_old()
-        # that of another vote, and one with a script more
-        for page in (
-            old_page.replace(b"Where we meet", b"Where we sleep"),
-            new.replace(b"</body>", b"<script>1</script></body>"),
-        ):
-            self.assertNotIn(page, (new, old_page))
-            (self.web / "index.html").write_bytes(page)
-            note = "Note: the page there is not that of the folder call: a script in it would see what is chosen"
-            self.assertIn(note, self.told("add", "--box"))
-            self.assert_fault(self.election("letters", "call"), 9, "with page and links of now")
-        self.upload()
-        self.assertNotIn("the page there", self.told("add", "--box"))
-        self.assertEqual(self.records(), [])
-        self.done("letters", "call")
-        return self.links()
-
-    def demand_old(self) -> None:
-        """What is open takes no ballot."""
-        self.window.ballot(None, "1234")
-        said = boxes.press(self.window)
-        self.assertIn("It was not taken: this page is an older one. Load it again.", said)
-
-    def prepare(self) -> None:
-        """What comes before a call."""
-
     def all_click(self) -> dict[str, list[str]]:
         """Each member once, some twice, in any order; when each of their ballots was sent, as the page says."""
         self.window.faults.clear()
@@ -189,15 +141,12 @@ class InABrowser(ClickedElection):
         return dict(line.split() for line in self.read("result/ballots.txt").decode().splitlines())
 
 
-SECRET = "secret = true\n"
-TURNED = elections.POLL.replace(
-    '"At the lake", "In the town hall"', '"In the town hall", "At the lake"'
-)
+SECRET = f"secret = true\n{elections.POLL}"
 
 
 class OpenByClicks(InABrowser):
     def test_what_is_published_is_what_was_chosen(self) -> None:
-        links = self.tell_other_pages(TURNED)
+        links = self.begun()
         sent = self.all_click()
         count = sum(map(len, sent.values()))
         self.demand_one_length(count)
@@ -224,6 +173,7 @@ class OpenByClicks(InABrowser):
 
 
 class SecretByClicks(InABrowser):
+    poll = SECRET
     words = ("--slips", "yes")
     # with aliases
     public = ("poll.toml",)
@@ -233,17 +183,13 @@ class SecretByClicks(InABrowser):
 
     def setUp(self) -> None:
         super().setUp()
-        self.write("poll.toml", SECRET + elections.POLL)
-        self.prepare()
-
-    def prepare(self) -> None:
         self.done("codes")
 
     def secrets(self) -> list[str]:
         return [str(one) for row in self.rows("SELECT alias, code FROM elector_now") for one in row]
 
     def test_what_is_published_is_what_was_chosen_and_nothing_else_tells_it(self) -> None:
-        links = self.tell_other_pages(SECRET + TURNED)
+        links = self.begun()
         sent = self.all_click()
         self.demand_one_length(sum(map(len, sent.values())))
         for word in ("--look", "--yes", "--yes"):
@@ -352,8 +298,8 @@ class SecretQuestions(boxes.BoxElectionTest):
     new_words = ("--questions", "2")
     poll = SECRET
     polls = {
-        "A": 'title = "Raise the fee"\noptions = ["Yes"]\nratios = [1]\ndefault = "No"\nquorum = 0\nmotion = true\n',
-        "B": 'title = "The chair"\noptions = ["Ada Lovelace", "Mary Somerville"]\nratios = [1, 1]\ndefault = "Nobody"\nquorum = 0\n',
+        "A": 'secret = true\ntitle = "Raise the fee"\noptions = ["Yes"]\nratios = [1]\ndefault = "No"\nquorum = 0\nmotion = true\n',
+        "B": 'secret = true\ntitle = "The chair"\noptions = ["Ada Lovelace", "Mary Somerville"]\nratios = [1, 1]\ndefault = "Nobody"\nquorum = 0\n',
     }
 
     def fill_in(self, folder: pathlib.Path) -> None:
@@ -361,7 +307,7 @@ class SecretQuestions(boxes.BoxElectionTest):
         (folder / "poll.toml").unlink()
         (folder / "polls" / "title.txt").write_text("General assembly\n")
         for label, poll in self.polls.items():
-            (folder / "polls" / f"{label}.toml").write_text(SECRET + poll)
+            (folder / "polls" / f"{label}.toml").write_text(poll)
 
     def test_no_output_tells_answers(self) -> None:
         self.done("codes")
@@ -399,6 +345,7 @@ class ShuffledClicks(boxes.BoxElectionTest):
     close, and acts of the same times.
     """
 
+    poll = SECRET
     ranks = dict(
         zip(
             elections.NAMES,
@@ -407,7 +354,6 @@ class ShuffledClicks(boxes.BoxElectionTest):
     )
 
     def test_who_clicked_when_changes_no_byte_of_what_is_published(self) -> None:
-        self.write("poll.toml", SECRET + elections.POLL)
         self.done("codes")
         links, kept = self.begun("--slips", "yes"), self.scratch / "kept"
         self.begin_of_clicks = now(60).replace(microsecond=0)

@@ -86,28 +86,6 @@ class Letters(AskingTest):
         self.move()
         self.demand_unseen("call", "reminders")
 
-    def test_the_call_asks_itself(self) -> None:
-        self.call()
-        self.assertIn("The web box has 0 records.\n", self.told("letters", "call"))
-        self.assertEqual((self.acts()[-2:], self.is_present()), (["letters", "letters out"], True))
-        # an asking that saw page and links of now is enough
-        self.done("letters", "call")
-        self.assertEqual(self.acts()[-1], "letters out")
-        # after an extension the page is another one: who has not uploaded it is told
-        self.click("ada")
-        self.done("call", "--until", "2099-12-05 18:00")
-        ended = self.election("letters", "call")
-        self.assert_fault(ended, 9, UNSEEN, "upload the folder call, then run the command again")
-        self.assertIn("Note: the page there is the one of before", ended.output)
-        # what is new is kept, and enters nothing
-        self.assertEqual((self.acts()[-1], self.standing()), ("letters", {}))
-        self.upload()
-        self.done("letters", "call")
-        self.assertEqual((self.acts()[-2:], self.standing()), (["letters", "letters out"], {}))
-        self.add_box()
-        self.assertEqual(self.standing(), {"ada": RANKS})
-        self.done("log", "--check")
-
     def test_reminders_and_another_address(self) -> None:
         self.begun()
         self.done("letters", "reminders")
@@ -379,31 +357,40 @@ class Pages(AskingTest):
         return " ".join(said.split())
 
     def test_one_that_nobody_uploaded(self) -> None:
-        """An extension makes a new one, which goes up before its letters go out."""
+        """An extension makes a new one, which goes up before its letters go out: they ask themselves."""
         self.call()
         (self.web / "index.html").unlink()
         self.assertIn(self.other, self.told("add", "--box"))
         self.demand_unseen("call")
         self.upload()
-        self.assertNotIn("Note: the page", self.told("add", "--box"))
+        said = self.told("letters", "call")
+        self.assertIn("The web box has 0 records.\n", said)
+        self.assertNotIn("Note: the page", said)
+        self.assertEqual((self.acts()[-2:], self.is_present()), (["letters", "letters out"], True))
+        # an asking that saw page and links of now is enough
         self.done("letters", "call")
+        self.assertEqual(self.acts()[-1], "letters out")
+        self.click("ada")
         self.done("call", "--until", "2099-12-06 18:00")
-        self.assertIn(self.before, self.told("add", "--box"))
+        self.assertIn(self.before, self.election("letters", "call").output)
+        # what is new is kept, and enters nothing
+        self.assertEqual((self.acts()[-1], self.standing()), ("letters", {}))
         self.assertFalse(self.is_present())
         self.demand_unseen("call", "reminders")
+        self.add_box()
         fault = "--box: the page on the web host was not that of the call; act "
         cure = "upload the folder call, then run the command again; if it does not answer any more, close with --force"
         self.assert_fault(self.election("close", "--early"), 9, fault, cure)
         self.upload()
-        self.done("add", "--box")
-        self.assertTrue(self.is_present())
         self.done("letters", "call")
+        self.assertEqual((self.acts()[-2:], self.is_present()), (["letters", "letters out"], True))
         # what this book made is no doubt, nor what lay there before the first letter
-        self.done("desk", given=f"ada {RANKS}\n")
         self.assertNotIn(DOUBT, self.published())
+        self.assertEqual(self.read("result/ballots.txt").decode(), f"ada {RANKS}\n")
         # the result takes the place of the page
         shutil.copytree(self.folder / "result", self.web, dirs_exist_ok=True)
         self.assertNotIn("Note: the page", self.told("add", "--box"))
+        self.done("log", "--check")
 
     def test_one_with_a_script_more(self) -> None:
         """It stops each close until the right one is found; each day on which it was there is told."""
