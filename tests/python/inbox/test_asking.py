@@ -72,8 +72,6 @@ class Honest(BoxTest):
         letters = letters_of_file("box", asked.records)
         fetched = [dataclasses.replace(one, is_fetched=True) for one in letters]
         self.assertEqual(letters_of_file("box", data), fetched)
-        whole = [part.partition(b"\n")[2] + END[:-1] for part in asked.records.split(END)[:-1]]
-        self.assertEqual([letter.data for letter in letters], whole)
         self.assertEqual(
             {(one.is_parted_off, one.why_not_read) for one in letters}, {(False, None)}
         )
@@ -129,11 +127,11 @@ class Fetched(ElectionTest):
             (one[:-2], f"box.php, at its end: {cut}"),
         ):
             self.write("box.php", FIRST + data)
-            said = self.done("add", "--yes", "box.php").output
+            said = self.done("add --yes box.php").output
             for part in parts:
                 self.assertIn(part, said)
         self.assertEqual(self.rows("SELECT count(*) FROM source"), [(0,)])
-        self.done("close", "--early")
+        self.done("close --early")
 
     def test_what_is_below_its_last_whole_record_is_none(self) -> None:
         """Wherever it was cut off."""

@@ -107,11 +107,11 @@ class End(boxes.BoxElectionTest):
         self.begun_to_end(180)
         self.click("ada")
         self.off(2)
-        self.done("close", "--early", "--yes")
+        self.done("close --early --yes")
         self.add_box()
         self.assertIn("these letters arrived in time, and wait: 1;", self.election("count").faults)
-        self.done("reopen", "--because", "the click came before the close")
-        self.assertIn("1 counted  ada: ", self.told("held", "1", "--enter"))
+        self.done("reopen --because 'the click came before the close'")
+        self.assertIn("1 counted  ada: ", self.told("held 1 --enter"))
         self.demand_told(ada=COUNTS)
 
     def test_a_host_that_is_behind(self) -> None:
@@ -140,12 +140,12 @@ class End(boxes.BoxElectionTest):
         # the secretary, who knows more, decides: before that nothing is closed
         number = [*CLICKING].index(waiting) + 1
         fault = f"these letters arrived in time, and wait: {number};"
-        self.assert_fault(self.election("close"), 9, fault)
-        self.done("held", number, "--enter")
+        self.refused("close", fault)
+        self.done(f"held {number} --enter")
         self.assertEqual(self.standing(), dict.fromkeys((*counting, waiting), RANKS))
         self.demand_told(**{waiting: COUNTS})
         # of what is known to have come after the end, and counts all the same, everybody is told
-        self.done("held", len(CLICKING), "--enter")
+        self.done("held 4 --enter")
         self.done("close")
         self.done("publish")
         note = (

@@ -24,7 +24,7 @@ from tests.support.elections import NAMES
 from tests.support.program import PROGRAM
 from tests.support.web_host import NEEDS_PHP, Liar, passed_on, request_of
 
-HTTPS = ("--at", "https://club.example/vote/")
+HTTPS = "--at https://club.example/vote/"
 
 
 class CallWithBox(elections.ElectionTest):
@@ -32,18 +32,18 @@ class CallWithBox(elections.ElectionTest):
 
     def test_what_stands_against_it_is_told_at_once(self) -> None:
         before, page = self.contents(), "--box: the page needs an address by https"
-        plain = ("--at", "http://club.example/")
+        plain = "--at http://club.example/"
         for words, *parts in (
-            ((), page),
+            ("", page),
             (plain, page),
             (
-                ("--keyring", "x", *plain),
+                f"--keyring x {plain}",
                 page,
                 "--box: letters have to be signed",
                 "x: No such file",
             ),
         ):
-            ended = self.election("call", "--box", *words)
+            ended = self.election(f"call --box {words}")
             lines = ended.faults.splitlines()
             self.assertEqual((ended.status, len(lines)), (2, len(parts)), ended)
             for part, line in zip(parts, lines):
@@ -51,12 +51,12 @@ class CallWithBox(elections.ElectionTest):
         self.assertEqual(self.contents(), before)
 
     def test_the_folder_the_key_and_another_call(self) -> None:
-        said = self.done("call", "--box", *HTTPS).output
+        said = self.done(f"call --box {HTTPS}").output
         # nor can a vote with a box be one with signatures afterwards
-        ended = self.election("call", "--keyring", "x", "--at", "http://club.example/")
-        self.assert_fault(ended, 2, "--box: the page needs an address by https")
+        plain = "call --keyring x --at http://club.example/"
+        self.refused(plain, "--box: the page needs an address by https", status=2)
         fault = "--keyring: the call was made without it"
-        self.assert_fault(self.election("call", "--keyring", "x"), 9, fault)
+        self.refused("call --keyring x", fault)
         for part in (
             "0 * * * * XDG_STATE_HOME=",
             f"debvote-election add --folder {self.folder} --box --yes",
@@ -78,20 +78,19 @@ class CallWithBox(elections.ElectionTest):
         self.assertEqual(scripts, [(1,)])
         # a new address changes one line of the script
         self.write("members.csv", elections.members_of(NAMES).replace("ben@club", "ben@new"))
-        following = "\nNext: upload call/vote.php again, since these electors have new links; then debvote-election letters call"
-        self.assertIn(following, self.done("roll", "--yes").output)
+        self.done("roll --yes")
         before, after = (data.splitlines() for data in (script, self.read("call/vote.php")))
         self.assertEqual((len({*before} - {*after}), len(before)), (1, len(after)))
         # taken back: without --box there is no script, with it the key is the same
-        self.done("call", "--take-back")
-        self.done("call", *HTTPS)
+        self.done("call --take-back")
+        self.done(f"call {HTTPS}")
         self.assertFalse((self.folder / "call/vote.php").exists())
         self.assertNotIn(b"fetch(", self.read("call/index.html"))
         fault = "--box: the call was made without it"
-        self.assert_fault(self.election("call", "--box"), 9, fault)
-        self.assert_fault(self.election("add", "--box"), 2, fault)
-        self.done("call", "--take-back")
-        self.done("call", "--box", *HTTPS)
+        self.refused("call --box", fault)
+        self.refused("add --box", fault, status=2)
+        self.done("call --take-back")
+        self.done(f"call --box {HTTPS}")
         self.assertEqual(self.rows(keys), [(key,)])
         # the key is in nothing that leaves the book
         self.done("export", self.folder / "out")
@@ -117,17 +116,17 @@ class Clicks(boxes.BoxElectionTest):
     def test_clicks_letters_and_what_is_kept(self) -> None:
         self.begun(ada=RANKS, ben="2,1,-,4")
         self.click("ada", OTHER)
-        self.assert_fault(self.election("add", "--box", "x"), 2, "--box: it takes no file")
+        self.refused("add --box x", "--box: it takes no file", status=2)
         # a look is no asking
         before = self.rows("SELECT * FROM act")
-        said = self.told("add", "--box", "--look")
+        said = self.told("add --box --look")
         preview = "3 new letters; 0 came before.\n3 ballots of letters would go in; 0 letters wait.\nNothing was changed."
         self.assertIn(preview, said)
         self.assertIn("ben (web box, record 2): ", said)
         self.assertEqual(self.rows("SELECT * FROM act"), before)
         # letters wait for the secretary, and are not entered by what cron runs
         self.write("inbox.mbox", self.of_this_vote(self.letter("cleo", f"cleo {RANKS}")))
-        self.assertEqual(self.election("add", "inbox.mbox").status, 9)
+        self.assertEqual(self.election("add inbox.mbox").status, 9)
         said = self.add_box()
         self.assertIn("The web box has 3 records.\n3 new letters; 0 came before.\n", said)
         self.assertNotIn("cleo", said)
@@ -143,8 +142,8 @@ class Clicks(boxes.BoxElectionTest):
         self.add_box()
         self.assertEqual(self.standing(), {})
         # two of one elector may be of one second, so each is named apart
-        for number in ("2", "3", "4"):
-            self.done("held", number, "--enter", "--force")
+        for number in (2, 3, 4):
+            self.done(f"held {number} --enter --force")
         self.assertEqual(self.standing(), standing)
 
     def test_a_link_that_a_new_one_has_replaced_waits_and_both_addresses_are_told(self) -> None:
@@ -157,13 +156,13 @@ class Clicks(boxes.BoxElectionTest):
         self.assertIn(other, said)
         self.assertIn("with a link that is not that of ada now", said)
         self.assertEqual(self.standing(), {})
-        self.done("letters", "receipts")
+        self.done("letters receipts")
         files = (self.folder / "letters/receipts").rglob("*.eml")
         told = sorted(email.message_from_bytes(file.read_bytes())["To"] for file in files)
         self.assertEqual(told, ["ada@club.example", "ada@new.example"])
         self.upload()
         self.assertNotIn("another vote.php", self.add_box())
-        self.done("letters", "call")
+        self.done("letters call")
         self.assertNotEqual(self.links()["ada"], links["ada"])
         self.assertEqual(self.sent("ada", RANKS, links["ada"], 999).status, 403)
         self.click("ada", OTHER)
@@ -177,44 +176,44 @@ class Clicks(boxes.BoxElectionTest):
         self.done("backup", self.scratch / "copy.db")
         self.new_address("ada")
         self.upload()
-        self.done("letters", "call")
+        self.done("letters call")
         self.click("ada")
         self.add_box()
         both = {"ada": RANKS, "ben": RANKS}
         self.assertEqual(self.standing(), both)
         shutil.copy(self.scratch / "copy.db", self.folder / "election.db")
-        self.assert_fault(self.election("add", "--box", "--yes"), 9, "it is an older copy")
-        said = self.told("add", "--box", "--yes", "--moved", "--because", "The disk was put back.")
+        self.refused("add --box --yes", "it is an older copy")
+        said = self.told("add --box --yes --moved --because 'The disk was put back.'")
         self.assertIn("another vote.php than the folder call", said)
         self.assertIn("a book that was put back lacks some", said)
         self.assertEqual(self.standing(), {"ben": RANKS})
         # the link ties nobody to it any more
         fault = "letter 2: its sender and its subject do not show that it is of ada"
-        self.assert_fault(self.election("held", "2", "--enter"), 9, fault, "--force")
-        self.done("held", "2", "--enter", "--force")
+        self.refused("held 2 --enter", fault, "--force")
+        self.done("held 2 --enter --force")
         self.assertEqual(self.standing(), both)
 
     def test_a_call_that_was_taken_back(self) -> None:
         """Its links are no more, and where the options have another order no way leads from its page to a ballot."""
         self.begun()
         page, key = self.page(), self.key
-        self.done("call", "--take-back")
+        self.done("call --take-back")
         options = '"At the lake", "In the town hall"'
         turned = ", ".join(options.split(", ")[::-1])
         self.write("poll.toml", elections.POLL.replace(options, turned))
         self.call()
-        self.done("letters", "call")
+        self.done("letters call")
         self.assertEqual(self.key, key)
         self.assertNotEqual(self.page(), page)
         answer = self.host.send(self.body_of("ada", RANKS, self.links()["ada"], 1_000, page))
         self.assertEqual((answer.status, answer.word), (409, "old:"))
         self.click("ada")
-        self.done("call", "--take-back")
+        self.done("call --take-back")
         self.call()
         why = "a link that is not that of ada now: a new address or a new call makes a new one, and"
         self.assertIn(why, self.add_box())
         self.assertEqual(self.standing(), {})
-        self.done("letters", "call")
+        self.done("letters call")
         self.click("ada")
         self.add_box()
         self.assertEqual(self.standing(), {"ada": RANKS})
@@ -225,7 +224,7 @@ class Clicks(boxes.BoxElectionTest):
         # whoever has the file can make none of another proof
         proof = proof_digest(self.mark(), self.place_of("ada")).encode()
         self.write("fetched.php", data + self.records()[0].replace(proof, b"2" * 64))
-        said = self.told("add", "--yes", "fetched.php")
+        said = self.told("add --yes fetched.php")
         self.assertIn(
             "it is a record of the web box that can't be opened, and was passed over", said
         )
@@ -233,8 +232,8 @@ class Clicks(boxes.BoxElectionTest):
         why = "it is in the file of the web box, which others may have changed"
         self.assertEqual(said.count(why), 2)
         self.assertEqual(self.standing(), {})
-        self.done("held", "1", "--enter", "--force")
-        self.done("held", "2", "--set-aside")
+        self.done("held 1 --enter --force")
+        self.done("held 2 --set-aside")
         self.assertNotIn("it has no more", self.add_box())
         self.assertEqual(self.standing(), {"ada": RANKS, "ben": RANKS})
         self.assertEqual(self.rows("SELECT count(*) FROM envelope"), [(2,)])
@@ -288,7 +287,7 @@ class Clicks(boxes.BoxElectionTest):
             self.assertIn(b"\r\n\r\n" + request_of(f"ask {asking_word(self.key)}"), request)
         self.assertEqual(self.standing(), dict.fromkeys(NAMES, RANKS))
         self.assertEqual(self.rows("SELECT count(*) FROM letter"), [(len(NAMES),)])
-        self.assertIn("from the page of the vote, ", self.told("show", "ada"))
+        self.assertIn("from the page of the vote, ", self.told("show ada"))
 
     def test_no_link_is_shown_again(self) -> None:
         """And a record without a ballot, which no page makes, is told to whose link it is."""
@@ -309,15 +308,15 @@ class Clicks(boxes.BoxElectionTest):
         letters = [self.letter("ada", one, number=number) for number, one in enumerate(texts)]
         subject = f"Re: {self.host.at}{place} [{self.mark()}]"
         said = self.add(*letters, self.letter("ada", "ada 1,2", number=9, subject=subject))
-        for words in (("held",), *(("held", number) for number in range(1, 10)), ("show", "ada")):
-            said += self.told(*words)
+        commands = ["held", *map("held {}".format, range(1, 10)), "show ada"]
+        said += "".join(map(self.told, commands))
         for part in (
             f"#ada/{own}/.. and it says",
             f"{own}%2F.. and it says",
             "letter 1, from the page of the vote",
         ):
             self.assertIn(part, said)
-        said += self.election("add", "-", given=texts[-1]).faults
+        said += self.election("add -", given=texts[-1]).faults
         said += self.done("desk", given=texts[-1]).output
         self.assertIn(f"ada/{own}/.. 1,1,2,3: column 4", said)
         self.assertIn(" .. 1,1,2,3: .. is not on the roll", said)
@@ -335,7 +334,7 @@ class Clicks(boxes.BoxElectionTest):
         for one in links.values():
             self.assertNotIn(one, said.lower())
             self.assertEqual("".join(told.values()).lower().count(one), one == link)
-        self.assertNotIn("No receipt is about", self.told("letters", "receipts"))
+        self.assertNotIn("No receipt is about", self.told("letters receipts"))
 
 
 @NEEDS_PHP
@@ -344,7 +343,7 @@ class Receipts(boxes.BoxElectionTest):
 
     def to(self) -> dict[str, bool]:
         """To which addresses receipts went until now, and whether they have a personal link."""
-        self.done("letters", "receipts")
+        self.done("letters receipts")
         files = [file.read_bytes() for file in (self.folder / "letters/receipts").rglob("*.eml")]
         return {
             email.message_from_bytes(one)["To"]: bool(boxes.LINK.search(one.decode()))
@@ -407,16 +406,13 @@ class Whole(boxes.BoxElectionTest):
         self.assertIn(older, self.add(*letters))
         meant |= dict.fromkeys(("ada", "ben", "cleo", "gus"), CHANGED)
         self.later()
-        self.done("close", "--early")
+        self.done("close --early")
         # a late click: the page has it, and its elector is told that it does not count
         self.later()
         self.click("eve", CHANGED)
         self.add_box()
         self.assertEqual(self.standing(), meant)
         self.assertIn("remove vote.php and box-", self.told("publish"))
-        for name, data in self.contents().items():
-            if name.startswith(("call/", "result/", "letters/closed.txt")):
-                self.assertFalse([link for link in links.values() if link.encode() in data], name)
         lines = self.read("result/ballots.txt").decode().splitlines()
         self.assertEqual(dict(line.split() for line in lines), meant)
         told = self.receipts()

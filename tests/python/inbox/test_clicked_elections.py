@@ -32,7 +32,7 @@ IN_WORDS = re.compile(
     r"(At the lake|In the town hall|Sell the house|Further discussion).{0,20}, (then|and) "
 )
 # a ballot line that is shown to say how one is written
-EXAMPLE = re.compile("A ballot line of this poll: `[^`]+`")
+EXAMPLE = re.compile("(A ballot line of this poll:|write it as) `[^`]+`")
 # the times of ballots in a receipt
 SENT = re.compile(r"[bB]allot of \w+, \d+ \w+ \d+, ([\d:]+) \(UTC\+01:00\)")
 
@@ -131,10 +131,10 @@ class InABrowser(ClickedElection):
     def close_and_publish(self, *words: str) -> dict[str, str]:
         """Closes and publishes: the ballots that are published, by name or alias."""
         self.later(60)
-        self.done("close", "--early")
+        self.done("close --early")
         self.later()
         self.add_box()
-        self.done("letters", "closed")
+        self.done("letters closed")
         self.done("count")
         self.done("publish", *words)
         self.done("letters", "result", "--at", self.between.at)
@@ -190,10 +190,19 @@ class SecretByClicks(InABrowser):
 
     def test_what_is_published_is_what_was_chosen_and_nothing_else_tells_it(self) -> None:
         links = self.begun()
+        # without a link no line is made, and the page says which one to open
+        boxes.visit(self.window, self.between.at)
+        missing = "To vote here by a click, open the link in your own letter."
+        found = self.window.ballot(None, "1234")
+        self.assertEqual((found["line"], found["missing"]), ("", missing))
         sent = self.all_click()
+        receipt = (
+            "A receipt by e-mail with this time says whether it counts, and not what is in it."
+        )
+        self.assertIn(receipt, self.window.ask("document.getElementById('Sent').textContent"))
         self.demand_one_length(sum(map(len, sent.values())))
-        for word in ("--look", "--yes", "--yes"):
-            self.done("add", "--box", word)
+        for word in ("look", "yes", "yes"):
+            self.done(f"add --box --{word}")
         self.demand_receipts(sent)
         self.use_all_commands()
         published = self.close_and_publish("--yes")
@@ -202,7 +211,7 @@ class SecretByClicks(InABrowser):
         chosen = {aliases[name]: in_order(ranks) for name, ranks in self.ranks.items()}
         self.assertEqual(published, chosen)
         for words in ("publish result-2", "publish --yes result-2", "log"):
-            self.election(*words.split())
+            self.election(words)
         self.demand_nothing_on_the_host(links)
         self.demand_untold(links, aliases)
 
@@ -226,12 +235,12 @@ class SecretByClicks(InABrowser):
         commands += ["count", "count --force", "publish", "strike 1 --because x", "undo"]
         commands += ["letters reminders", "letters receipts"]
         for words in commands:
-            self.election(*words.split())
+            self.election(words)
         # what was added and typed here is taken back
         for (envelope,) in self.rows("SELECT envelope FROM envelope WHERE envelope > ?", last):
-            self.election("strike", "--yes", "--because", "It was a try.", envelope)
+            self.election(f"strike --yes --because try {envelope}")
         self.assertEqual(self.rows("SELECT max(letter) FROM letter"), [(waiting[1],)])
-        self.election("log", "--check")
+        self.election("log --check")
 
     def demand_untold(self, links: dict[str, str], aliases: dict[str, str]) -> None:
         """No output has ranks or an alias, no letter ranks, and nothing ties a name to an alias."""
@@ -283,8 +292,6 @@ class Struck(boxes.BoxElectionTest):
         self.click("cleo")
         note = "Note: the web host has another vote.php than the folder call"
         self.assertIn(note, self.add_box())
-        fault = "nobody has seen yet whether the web box works"
-        self.assert_fault(self.election("letters", "reminders"), 9, fault)
         self.upload()
         self.click("ada", OTHER)
         self.assertNotIn(note, self.add_box())
@@ -293,7 +300,7 @@ class Struck(boxes.BoxElectionTest):
 
 @NEEDS_PHP
 class SecretQuestions(boxes.BoxElectionTest):
-    """A secret vote on several questions, of which one is a motion, without a browser."""
+    """A secret vote on several questions, of which one is a motion, whose answers may be words, without a browser."""
 
     new_words = ("--questions", "2")
     poll = SECRET
@@ -313,8 +320,8 @@ class SecretQuestions(boxes.BoxElectionTest):
         self.done("codes")
         self.begun("--slips", "no", ada="A 1,2 B 2,1,3", ben="A 2,1", dan="A 1,9")
         self.click("ada", "B 3,2,1")
-        self.write("paper", "eve A 1,1 B 1,3,2\nfay A 2,1,2 B 1,1\n")
-        said = self.told("add", "--box", "--look") + self.add_box()
+        self.write("paper", "eve A yes B 1,3,2\nfay A nope B 1,1\nhal A 2,1,2\n")
+        said = self.told("add --box --look") + self.add_box()
         self.assertIn("3 ballots of letters went in; 1 letter waits", said)
         commands = [
             "add paper",
@@ -325,15 +332,15 @@ class SecretQuestions(boxes.BoxElectionTest):
             "status --json",
             "log",
         ]
-        commands += ["count --force", "undo --yes", *map("show {}".format, elections.NAMES)]
-        ended = [self.election("desk", given="gus A 1,2 B 3,-,1\n")]
-        ended += [self.election(*words.split()) for words in commands]
+        commands += ["count --force", "undo", *map("show {}".format, elections.NAMES)]
+        ended = [self.election("desk", given="gus A 1,2 B 3,-,1\nida A perhaps not\n")]
+        ended += [self.election(words) for words in commands]
         said += EXAMPLE.sub("", "".join(one.output + one.faults for one in ended))
         self.assertIn("The current ballot: (shown at a terminal alone)", said)
         ranks = (
             r"\b[AB] [0-9-]+,|[0-9-],[0-9-]|: (Yes|No|Abstain)\b|Lovelace, then|Somerville, then"
         )
-        self.assertIsNone(re.search(ranks, said), said)
+        self.assertIsNone(re.search(rf"{ranks}|(?<!--)\b(yes|nope|perhaps)\b", said), said)
         told = " ".join([*self.receipts().values()])
         self.assertIn("counts", told)
         self.assertIsNone(re.search(r"[0-9],[0-9-]|, then |It was read as", told), told)
@@ -394,11 +401,11 @@ class ShuffledClicks(boxes.BoxElectionTest):
         self.assertIn(f"{len(clicks)} ballots of letters went in", self.add_box())
         self.at(3610)
         with unittest.mock.patch("secrets.token_hex", lambda size: "5" * 2 * size):
-            self.done("close", "--early")
+            self.done("close --early")
         self.at(3620)
         self.add_box()
-        self.done("letters", "closed")
-        self.done("publish", "--yes")
+        self.done("letters closed")
+        self.done("publish --yes")
         files = [file for file in (self.folder / "result").rglob("*") if file.is_file()]
         files += [self.folder / "letters" / name for name in ("closed.txt", "result.txt")]
         # the digest of the acts covers random bytes of each, which stay in the book; checksums follow from it

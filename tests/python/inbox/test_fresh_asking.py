@@ -21,8 +21,8 @@ UNSEEN = "nobody has seen yet whether the web box works, with page and links of 
 MISSING = b"Ballots may have been sent on the page of the vote that the secretary did not get."
 DOUBT = "was not that of the call"
 ALL = "Is that all?"
-FORCED = ("--force", "--because", "The host is down.")
-REOPEN = ("reopen", "--because", "A letter was found.")
+FORCED = "--force --because 'The host is down.'"
+REOPEN = "reopen --because 'A letter was found.'"
 
 
 class AskingTest(boxes.BoxElectionTest):
@@ -34,8 +34,7 @@ class AskingTest(boxes.BoxElectionTest):
 
     def demand_unseen(self, *kinds: str) -> None:
         for kind in kinds:
-            ended = self.election("letters", kind)
-            self.assert_fault(ended, 9, f"{kind}: {UNSEEN}", "upload the folder call")
+            self.refused(f"letters {kind}", f"{kind}: {UNSEEN}", "upload the folder call")
 
     def ending_soon(self, **clicks: str) -> dict[str, str]:
         """Called to end in ten minutes, and written to all, of whom some have clicked before the end: the links."""
@@ -47,38 +46,38 @@ class Letters(AskingTest):
     def test_what_was_not_seen(self) -> None:
         self.done("call", "--to", "vote@club.example", "--at", self.host.at, "--box")
         fault = "call: the call has a web box, and says no end of the vote"
-        self.assert_fault(self.election("letters", "call"), 9, fault, "call --until TIME")
+        self.refused("letters call", fault, "call --until TIME")
         # a wrong address can be put right, as long as no letter has a link to it
         self.done("call", *boxes.UNTIL, "--at", self.host.at.replace("http:", "https:"))
         self.done("call", "--at", self.host.at)
         self.assertIn("\nWeb box: not asked yet\n", self.told("status"))
         self.demand_unseen("call")
         fault = f"{self.host.at}vote.php: it answers 404"
-        self.assert_fault(self.election("add", "--box"), 9, fault, "nothing was added")
+        self.refused("add --box", fault, "nothing was added")
         # what is written all the same says that the page takes none, and the log why
-        self.done("letters", "call", *FORCED)
+        self.done(f"letters call {FORCED}")
         for text in self.texts("call").values():
             self.assertIn("The page takes no ballots now", text)
             self.assertEqual((boxes.LINK.search(text), " _,_,_,_" in text), (None, True))
-        self.assertIn('"because": "The host is down."', self.told("log", "--json"))
+        self.assertIn('"because": "The host is down."', self.told("log --json"))
         # where nothing stops it is not told, and letters have the link
         self.upload()
-        self.done("add", "--box")
-        self.done("letters", "call", *FORCED)
+        self.done("add --box")
+        self.done(f"letters call {FORCED}")
         self.assertEqual(sorted(self.links()), NAMES)
         # an asking of an older list is none, nor is a look
         self.new_address("ada")
         for words, kinds in (
-            (("--box",), ("call", "reminders")),
-            (("--box", "--look"), ("reminders",)),
+            ("add --box", ("call", "reminders")),
+            ("add --box --look", ("reminders",)),
         ):
-            self.done("add", *words)
+            self.done(words)
             self.demand_unseen(*kinds)
             self.upload()
         self.assertFalse(self.is_present())
-        self.done("add", "--box")
+        self.done("add --box")
         self.assertTrue(self.is_present())
-        self.done("letters", "call")
+        self.done("letters call")
         # what lies at the address of now is fetched first
         following = "\nNext: run debvote-election add --box, then upload the files of call to"
         self.assertIn(following, self.told("call"))
@@ -88,23 +87,23 @@ class Letters(AskingTest):
 
     def test_reminders_and_another_address(self) -> None:
         self.begun()
-        self.done("letters", "reminders")
+        self.done("letters reminders")
         # an asking is fresh for ten minutes
         [box] = self.boxes_kept()
         self.set_clock(
             str(datetime.datetime.fromisoformat(str(box["time"])) + datetime.timedelta(seconds=540))
         )
-        self.done("letters", "reminders", "--yes")
+        self.done("letters reminders --yes")
         self.off(660)
         fault = "reminders: who voted by a click in the last ten minutes would be told that they have not; nothing was written: run debvote-election add --box"
-        self.assert_fault(self.election("letters", "reminders", "--yes"), 9, fault)
-        moved = ("call", "--at", "https://club.example/moved/")
+        self.refused("letters reminders --yes", fault)
+        moved = "call --at https://club.example/moved/"
         fault = "ballots may lie on the page at the address of now"
-        self.assert_fault(self.election(*moved), 9, fault, "run debvote-election add --box\n")
-        self.done("letters", "reminders", "--yes", *FORCED)
+        self.refused(moved, fault, "run debvote-election add --box\n")
+        self.done(f"letters reminders --yes {FORCED}")
         # the clock of the host is behind, so that by both clocks ten minutes are past
         self.off(700)
-        self.assertIn("seconds behind", self.told("add", "--box"))
+        self.assertIn("seconds behind", self.told("add --box"))
         asked = now(700).astimezone(BERLIN)
         said = re.findall(
             r"Web box: 0 records when it was asked last, (\S+ \S+) UTC\+01:00\n",
@@ -116,7 +115,7 @@ class Letters(AskingTest):
             delta=datetime.timedelta(seconds=50),
         )
         fault = "would be told that they have not: when the web box was asked last, it was only "
-        self.assert_fault(self.election("letters", "reminders", "--yes"), 9, fault)
+        self.refused("letters reminders --yes", fault)
 
     def test_what_comes_next(self) -> None:
         """What `add --box` and `roll` say."""
@@ -127,24 +126,24 @@ class Letters(AskingTest):
             self.assertEqual(said.splitlines()[-1], f"Next: {following}")
 
         self.call()
-        demand(send, self.told("add", "--box"))
-        self.done("letters", "call")
-        demand("debvote-election status", self.told("add", "--box"))
-        self.done("call", "--until", "2099-12-05 18:00")
+        demand(send, self.told("add --box"))
+        self.done("letters call")
+        demand("debvote-election status", self.told("add --box"))
+        self.done("call --until '2099-12-05 18:00'")
         self.upload()
-        demand(send, self.told("add", "--box"))
-        self.done("letters", "call")
+        demand(send, self.told("add --box"))
+        self.done("letters call")
         demand(upload, self.new_address("ada"))
-        demand("debvote-election status", self.told("roll", "--yes"))
+        demand("debvote-election status", self.told("roll --yes"))
         self.upload()
-        self.done("letters", "call")
+        self.done("letters call")
         self.set_clock("2099-12-05T18:00:01+01:00")
-        demand("debvote-election close", self.told("add", "--box"))
+        demand("debvote-election close", self.told("add --box"))
         self.later()
-        self.done("add", "--box")
-        self.done("close", "--early")
+        self.done("add --box")
+        self.done("close --early")
         self.later()
-        demand("debvote-election count", self.told("add", "--box"))
+        demand("debvote-election count", self.told("add --box"))
 
 
 @NEEDS_PHP
@@ -152,30 +151,28 @@ class Closes(AskingTest):
     def test_an_early_one_and_after_it(self) -> None:
         self.begun(ada=RANKS)
         self.add_box()
-        self.assertIn(
-            "Web box: 1 record when it was asked last", self.done("count", "--force").faults
-        )
+        self.assertIn("Web box: 1 record when it was asked last", self.done("count --force").faults)
         self.off(700)
         # by the clock of the host it was not
         fault = "--box: the web box was not asked in the last ten minutes: when the web box was asked last, it was only "
-        self.assert_fault(self.election("close", "--early"), 9, fault, "run the command again")
+        self.refused("close --early", fault, "run the command again")
         self.clock = {}
         self.add_box()
         self.later()
         note = "Note: the page still takes ballots, and says that they arrived: debvote-election count asks for them once more."
-        self.assertIn(note, self.told("close", "--early"))
+        self.assertIn(note, self.told("close --early"))
         self.assertIn("\nNext: debvote-election count, then", self.told("status"))
         fault = "--box: the web box was not asked since the vote was closed early"
         (self.web / "vote.php").rename(self.web / "away")
-        for words in (("count",), ("letters", "closed")):
-            ended = self.election(*words)
+        for words in ("count", "letters closed"):
+            ended = self.election(words)
             self.assertEqual((ended.status, ended.faults.count(fault)), (9, 1), ended)
             self.assertIn("vote.php: it answers 404", ended.output + ended.faults)
         fault = "the web box was not asked since the end: run debvote-election add --box"
         self.assertIn(fault, self.election("publish").faults)
-        self.done("letters", "closed", *FORCED)
-        self.done("count", "--force")
-        self.done("publish", *FORCED)
+        self.done(f"letters closed {FORCED}")
+        self.done("count --force")
+        self.done(f"publish {FORCED}")
         self.assertIn(MISSING, self.read("result/index.html"))
         # a click after the close is acknowledged by the page, and waits; asked once, nothing stops
         (self.web / "away").rename(self.web / "vote.php")
@@ -189,13 +186,13 @@ class Closes(AskingTest):
         self.done("count")
         self.assertEqual(self.acts()[before:], ["letters"])
         self.assertIn("it arrived after the vote was closed", self.told("held"))
-        self.done("letters", "closed")
+        self.done("letters closed")
         # a later close needs none
-        self.done(*REOPEN)
+        self.done(REOPEN)
         self.later(5000)
-        self.done("close", "--early")
+        self.done("close --early")
         self.done("count")
-        self.done("publish", "--language", "en", "result-2")
+        self.done("publish --language en result-2")
         self.assertNotIn(MISSING, self.read("result-2/index.html"))
 
     def test_the_end_by_both_clocks(self) -> None:
@@ -214,7 +211,7 @@ class Closes(AskingTest):
         ended = self.election("close")
         self.assert_fault(ended, 9, "was not asked since the end", "nothing was changed", cure)
         self.assertIn("vote.php: it does not answer: ", ended.output)
-        said = self.told("close", *FORCED)
+        said = self.told(f"close {FORCED}")
         self.assertEqual(self.acts()[before], "close")
         self.assertNotIn("still takes ballots", said)
         # the last asking brought nothing
@@ -224,15 +221,15 @@ class Closes(AskingTest):
         for part in (MISSING, b"The host is down."):
             self.assertIn(part, self.read("result/index.html"))
         # a later close needs none
-        self.done(*REOPEN)
+        self.done(REOPEN)
         self.done("close")
 
     def test_an_asking_of_the_second_of_an_early_close_is_none(self) -> None:
         """A ballot of that second may have come after it."""
         self.call()
         self.off(-1800)
-        self.done("add", "--box")
-        self.done("close", "--early")
+        self.done("add --box")
+        self.done("close --early")
         # that of `count` itself has this second, too
         fault = "--box: the web box was not asked since the vote was closed early"
         self.assertIn(fault, self.election("count").faults)
@@ -244,7 +241,7 @@ class Closes(AskingTest):
         self.done("call", "--until", until, "--to", "x@club.example", "--at", self.host.at, "--box")
         self.upload()
         self.done("desk", given=f"ada {RANKS}\n")
-        self.done("add", "--box")
+        self.done("add --box")
         self.clock = {}
         self.done("close")
         self.assertEqual(len(self.boxes_kept()), 2)
@@ -257,7 +254,7 @@ class Closes(AskingTest):
         self.ending_soon(**dict.fromkeys(("ada", "ben", "cleo"), RANKS))
         self.later(601)
         self.click("dan")
-        ended = self.election("close", "--yes")
+        ended = self.election("close --yes")
         asked = len(self.acts())
         stopped = f"the web box was asked, 4 new ballots are kept; act {asked} (letters) was done; nothing was closed: run debvote-election add --box"
         self.assert_fault(ended, 9, stopped)
@@ -265,7 +262,7 @@ class Closes(AskingTest):
         self.assertEqual((self.acts()[-1], self.standing()), ("letters", {}))
         # what is kept stops it until it is entered, and nothing is asked again
         pending = "these letters arrived in time, and wait: 1, 2, 3;"
-        self.assert_fault(self.election("close"), 9, pending)
+        self.refused("close", pending)
         self.assertEqual(len(self.acts()), asked)
         self.add_box()
         asked = len(self.acts())
@@ -273,7 +270,7 @@ class Closes(AskingTest):
         self.done("close")
         self.assertEqual(self.acts()[asked], "close")
         self.assertEqual(sorted(self.standing()), ["ada", "ben", "cleo"])
-        self.done("log", "--check")
+        self.done("log --check")
 
     def test_a_kill_and_a_no_between_both_acts(self) -> None:
         """It was asked, by an act of its own before the question, and nothing is closed. A click after the end stops nothing."""
@@ -297,7 +294,7 @@ class Closes(AskingTest):
         self.done("close")
         self.assertEqual(self.acts()[before], "close")
         self.assertEqual(self.standing(), {"ada": RANKS})
-        self.done("log", "--check")
+        self.done("log --check")
 
     def test_a_click_before_an_early_one_that_the_count_finds(self) -> None:
         self.begun()
@@ -305,13 +302,13 @@ class Closes(AskingTest):
         self.later(700)
         before = len(self.acts())
         self.assertEqual((self.election("close").status, len(self.acts())), (9, before))
-        self.done("add", "--box")
+        self.done("add --box")
         self.click("ada")
         self.later()
-        self.done("close", "--early")
+        self.done("close --early")
         self.later()
-        self.assert_fault(self.election("letters", "result"), 9, "nothing is published")
-        self.done("letters", "closed")
+        self.refused("letters result", "nothing is published")
+        self.done("letters closed")
         ended = self.election("count")
         self.assertIn("these letters arrived in time, and wait: 1;", ended.faults)
 
@@ -322,7 +319,7 @@ class Closes(AskingTest):
         # and one that nobody can open
         self.click_unopened("cleo")
         self.off(700)
-        ended = self.election("close", "--early")
+        ended = self.election("close --early")
         said = ended.output + ended.faults
         self.assertIn("the web box was asked, 2 new ballots are kept; ", said)
         self.assertIn("Note: 1 record can't be opened, ", said)
@@ -346,12 +343,12 @@ class Pages(AskingTest):
         page = self.web / "index.html"
         page.write_text(page.read_text().replace("</body>", "<script>alert(1)</script></body>"))
 
-    def published(self, *words: str) -> str:
+    def published(self) -> str:
         """Closes and publishes: page and letter of the result."""
-        self.done("close", "--early", *words)
+        self.done("close --early")
         self.later()
         self.add_box()
-        self.done("publish", "--yes", *words)
+        self.done("publish --yes")
         files = ("result/index.html", "letters/result.txt")
         said = " ".join(re.sub("<[^>]+>", "", self.read(name).decode()) for name in files)
         return " ".join(said.split())
@@ -360,19 +357,19 @@ class Pages(AskingTest):
         """An extension makes a new one, which goes up before its letters go out: they ask themselves."""
         self.call()
         (self.web / "index.html").unlink()
-        self.assertIn(self.other, self.told("add", "--box"))
+        self.assertIn(self.other, self.told("add --box"))
         self.demand_unseen("call")
         self.upload()
-        said = self.told("letters", "call")
+        said = self.told("letters call")
         self.assertIn("The web box has 0 records.\n", said)
         self.assertNotIn("Note: the page", said)
         self.assertEqual((self.acts()[-2:], self.is_present()), (["letters", "letters out"], True))
         # an asking that saw page and links of now is enough
-        self.done("letters", "call")
+        self.done("letters call")
         self.assertEqual(self.acts()[-1], "letters out")
         self.click("ada")
-        self.done("call", "--until", "2099-12-06 18:00")
-        self.assertIn(self.before, self.election("letters", "call").output)
+        self.done("call --until '2099-12-06 18:00'")
+        self.assertIn(self.before, self.election("letters call").output)
         # what is new is kept, and enters nothing
         self.assertEqual((self.acts()[-1], self.standing()), ("letters", {}))
         self.assertFalse(self.is_present())
@@ -380,24 +377,24 @@ class Pages(AskingTest):
         self.add_box()
         fault = "--box: the page on the web host was not that of the call; act "
         cure = "upload the folder call, then run the command again; if it does not answer any more, close with --force"
-        self.assert_fault(self.election("close", "--early"), 9, fault, cure)
+        self.refused("close --early", fault, cure)
         self.upload()
-        self.done("letters", "call")
+        self.done("letters call")
         self.assertEqual((self.acts()[-2:], self.is_present()), (["letters", "letters out"], True))
         # what this book made is no doubt, nor what lay there before the first letter
         self.assertNotIn(DOUBT, self.published())
         self.assertEqual(self.read("result/ballots.txt").decode(), f"ada {RANKS}\n")
         # the result takes the place of the page
         shutil.copytree(self.folder / "result", self.web, dirs_exist_ok=True)
-        self.assertNotIn("Note: the page", self.told("add", "--box"))
-        self.done("log", "--check")
+        self.assertNotIn("Note: the page", self.told("add --box"))
+        self.done("log --check")
 
     def test_one_with_a_script_more(self) -> None:
         """It stops each close until the right one is found; each day on which it was there is told."""
         self.begun(ada=RANKS)
         self.change()
         # a look keeps nothing
-        self.assertIn(self.other, self.told("add", "--box", "--look"))
+        self.assertIn(self.other, self.told("add --box --look"))
         self.assertTrue(self.is_present())
         morning, days = now(86_400).replace(hour=10), []
         self.later(int((morning - now()).total_seconds()))
@@ -407,9 +404,9 @@ class Pages(AskingTest):
             days.append(f"{now(self.devices_off).day}")
             for _ in range(2 if hours == 23 else 0):
                 fault = "the page on the web host was not that of the call"
-                self.assert_fault(self.election("close", "--early"), 9, fault)
-                self.done("close", "--early", *FORCED)
-                self.done(*REOPEN)
+                self.refused("close --early", fault)
+                self.done(f"close --early {FORCED}")
+                self.done(REOPEN)
             if hours == 23:
                 self.upload()
         self.assertEqual(self.standing(), {"ada": RANKS})
@@ -439,9 +436,9 @@ class Moved(AskingTest):
         self.assertNotIn("has no more", self.add_box())
         self.assertNotIn(before, self.told("call"))
         shutil.copy(file, self.folder / "fetched.php")
-        said = self.told("add", "--yes", "fetched.php")
+        said = self.told("add --yes fetched.php")
         self.assertIn("1 letter waits; 1 copy passed over.", said)
-        self.done("held", "4", "--enter")
+        self.done("held 4 --enter")
         self.assertEqual(self.standing(), dict.fromkeys(("ada", "cleo", "ben"), RANKS))
         # of each host that is asked again it is said
         self.done("call", "--at", before)
@@ -460,23 +457,20 @@ class Moved(AskingTest):
             ("nobody", none.format("nobody")),
             ("ada", "ada (Ada): a new link. Is that right?"),
         ):
-            self.assertIn(said, self.election("roll", "--new-link", name).faults)
-        said = self.told("roll", "--new-link", "ada", "--yes")
+            self.assertIn(said, self.election(f"roll --new-link {name}").faults)
+        said = self.told("roll --new-link ada --yes")
         self.assertIn("ada: a new link\n", said)
-        self.assertIn(
-            "\nNext: upload call/vote.php again, since these electors have new links; ", said
-        )
         self.upload()
-        self.done("add", "--box")
-        self.done("letters", "call")
+        self.done("add --box")
+        self.done("letters call")
         changed = [name for name, link in self.links().items() if link != links[name]]
         self.assertEqual(changed, ["ada"])
         self.click("ada", OTHER)
         self.later(60)
         self.add_box()
         self.assertEqual(self.standing(), {"ada": OTHER})
-        self.done("close", "--early")
-        self.assert_fault(self.election("roll", "--new-link", "ada"), 2, none.format("ada"))
+        self.done("close --early")
+        self.refused("roll --new-link ada", none.format("ada"), status=2)
 
     def test_the_call_goes_to_everybody_again(self) -> None:
         self.begun()
@@ -484,14 +478,14 @@ class Moved(AskingTest):
         self.move()
         self.demand_reached()
         self.upload()
-        self.done("add", "--box")
+        self.done("add --box")
         for day, is_extension in ((6, False), (7, True)):
             self.done("call", "--until", f"2099-12-0{day} 18:00", "--at", self.host.at)
             self.demand_reached(*NAMES if is_extension else ())
             self.upload()
-            self.done("add", "--box")
+            self.done("add --box")
             # a letter to each elector, with the link to the page of now, is new: the call, or an extension
-            said = self.told("letters", "call")
+            said = self.told("letters call")
             [folder] = re.findall(rf"^Wrote {len(NAMES)} letters: letters/(.*)$", said, re.M)
             for name, text in self.texts(folder).items():
                 self.assertIn(f"{self.host.at}#{name}/", text)
@@ -500,17 +494,17 @@ class Moved(AskingTest):
         # the address of the result is not one of the page
         self.done("desk", given=f"ada {RANKS}\n")
         self.later()
-        self.done("close", "--early")
+        self.done("close --early")
         self.later()
-        self.done("add", "--box")
+        self.done("add --box")
         self.done("publish")
-        self.done("letters", "result", "--at", "https://club.example/result/")
+        self.done("letters result --at https://club.example/result/")
         self.demand_reached(*NAMES)
 
     def test_without_a_box_a_letter_is_as_good_as_before(self) -> None:
         self.done("call", *boxes.UNTIL, "--to", "x@club.example", "--at", "https://club.example/")
-        self.done("letters", "call")
-        self.done("call", "--at", "https://club.example/moved/")
+        self.done("letters call")
+        self.done("call --at https://club.example/moved/")
         self.demand_reached(*NAMES)
 
     def demand_reached(self, *names: str) -> None:

@@ -101,7 +101,7 @@ class Lies(boxes.BoxElectionTest):
         shown = (
             rf"envelope 2, \S+ {when:%H:%M:%S} UTC\+01:00, sent \S+ {nine} UTC\+01:00: At the lake"
         )
-        self.assertRegex(self.told("show", "ben"), shown)
+        self.assertRegex(self.told("show ben"), shown)
         said = f"{nine.removesuffix(':00')} (UTC+01:00) has arrived. It counts"
         self.assertIn(said, self.receipts()["ben"])
 
@@ -207,7 +207,7 @@ class Lies(boxes.BoxElectionTest):
         self.assertEqual(self.status()["lost"], ["ada", "ben"])
         said = "Ballots that nobody can open, and no later ones, by the links of (2):\n  ada ben\n"
         self.assertIn(said, self.told("status"))
-        self.done("letters", "reminders")
+        self.done("letters reminders")
         texts = self.texts("reminders")
         self.assertEqual(sorted(texts), NAMES)
         for name, text in texts.items():
@@ -222,14 +222,14 @@ class Lies(boxes.BoxElectionTest):
         self.assertIn(f"Note: 3 {note} ben, who are to vote again.", self.add_box())
         self.assertEqual(self.status()["lost"], ["ben"])
         fault = "by the links of these electors that nobody can open, and no later ones: ben; "
-        self.assert_fault(self.election("close", "--early"), 9, fault, "ask them to vote again")
-        self.done("close", "--early", "--force", "--because", "Ben was told.")
+        self.refused("close --early", fault, "ask them to vote again")
+        self.done("close --early --force --because 'Ben was told.'")
         # it stops nothing more, nor a later close
         self.later()
         self.add_box()
         self.done("count")
-        self.done("reopen", "--because", "A letter was found.")
-        self.done("close", "--early")
+        self.done("reopen --because 'A letter was found.'")
+        self.done("close --early")
 
     def test_letters_between_two_askings(self) -> None:
         """What came between two askings may have the time of either clock, if one of them was off."""
@@ -237,7 +237,7 @@ class Lies(boxes.BoxElectionTest):
         for name, seconds, side in (("ada", 180, "behind"), ("ben", -180, "ahead of")):
             self.off(seconds)
             off = rf"its clock is 1[78]\d seconds {side} that of this computer"
-            self.assertRegex(self.told("add", "--box"), off)
+            self.assertRegex(self.told("add --box"), off)
             self.clock = {}
             self.click(name)
             self.add_box()
@@ -245,7 +245,7 @@ class Lies(boxes.BoxElectionTest):
             self.assertIn(f"may be earlier or later than another ballot of {name}", said)
         self.assertEqual(self.told("held").count("; may have voted since\n"), 2)
         why = "its elector may have voted since, as the clock of the web host was off"
-        self.assert_fault(self.election("held", "2", "--enter", "--yes"), 9, why)
+        self.refused("held 2 --enter --yes", why)
 
 
 KEY = bytes(range(32))

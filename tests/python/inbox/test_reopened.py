@@ -40,9 +40,9 @@ class Reopened(LettersTest):
         for words, is_again in ((no, True), (YES, False), (YES, True)):
             self.assertEqual(again in self.add_lines(*late, words=words), is_again)
         self.assertEqual((self.lines(), self.late_lines()), (late, late))
-        self.told("strike", 4, "--because", "a slip")
+        self.told("strike 4 --because slip")
         self.assertIn("came before, and was struck (envelope 4)", self.add_lines(BALLOT, words=YES))
-        self.told("undo", "--yes")
+        self.told("undo --yes")
         self.assertIn("7 counted  ben", self.add_lines(f"ben {RANKS}", words=YES))
         self.told("close")
         self.assertNotIn("replaced_in_time", self.last("close"))
@@ -123,7 +123,7 @@ class Reopened(LettersTest):
             with (self.folder / "late").open() as given, mock.patch("sys.stdin", given):
                 self.overtaken(entering, "replaced_in_time", ("add", *YES, "newer"), command)
             self.assertEqual(self.lines(), [OTHER])
-            self.told("undo", "--yes")
+            self.told("undo --yes")
 
     def test_a_look_says_what_add_would_ask(self) -> None:
         self.told("close")
@@ -140,11 +140,11 @@ class Reopened(LettersTest):
 
     def test_what_follows_before_the_announced_end(self) -> None:
         """It closes early again, which the program does not do unasked."""
-        self.told("call", "--until", "2026-11-30 18:00", "--zone", "UTC")
-        self.done("close", "--early")
+        self.told("call --until '2026-11-30 18:00' --zone UTC")
+        self.done("close --early")
         following = "Next: debvote-election add FILE, then debvote-election close"
         self.assertIn(f"{following} --early\n", self.reopen())
-        self.done("close", "--early")
+        self.done("close --early")
         when = "30 November 2026, 18:00 (UTC)"
         end = f"end: one should have been able to vote until Monday, {when}."
         self.assertIn(f"computer. That was before the announced {end}", self.closing_letter())
@@ -164,8 +164,6 @@ class Reopened(LettersTest):
         terminal.type("n\n")
         shown, ended = terminal.end()
         self.assertEqual((ended, "you did not say yes" in shown), (9, True))
-        shown, ended = Terminal(self, "reopen", "--yes", *IN_TIME).end()
-        self.assertEqual((ended, "open again" in shown, "[y/n]" in shown), (0, True, False))
 
     def test_the_times_of_two_closes(self) -> None:
         """What had to come before a close, had to before the first one; the vote is closed since the last one, of which each letter tells
@@ -183,24 +181,24 @@ class Reopened(LettersTest):
         self.add_lines(f"ben {RANKS}", words=YES)
         self.told("close")
         for words, part in (
-            (("status",), f"\nClosed: at {last}\n"),
-            (("close",), f"The vote was closed at {last}, "),
-            (("add", "-"), f"Note: the vote was closed at {last}; what is added now is late."),
+            ("status", f"\nClosed: at {last}\n"),
+            ("close", f"The vote was closed at {last}, "),
+            ("add -", f"Note: the vote was closed at {last}; what is added now is late."),
         ):
-            self.assertIn(part, self.told(*words, given=BALLOT))
+            self.assertIn(part, self.told(words, given=BALLOT))
         fault = f"the vote was closed at {last}, and its ballots stay"
-        self.assert_fault(self.election("undo", "--yes"), 9, fault)
+        self.refused("undo --yes", fault)
         opened = at(12)
-        said = self.told("reopen", "--because", "a bag was found")
+        said = self.told("reopen --because 'a bag was found'")
         self.assertIn(f"the close at {last} stays in the log", said)
         self.assertIn(f"\nReopened: at {opened}\n", self.told("status"))
         fault = f"the vote was closed at {first} and opened again, and only what came before counts"
-        self.assert_fault(self.election("add", "-", given=OTHER), 9, fault)
+        self.assert_fault(self.election("add -", given=OTHER), 9, fault)
         # what comes by letter would wait until the end that the call says
         fault = (
             f"--until: the vote was closed at {first}, and only ballots that came before then count"
         )
-        self.assert_fault(self.election("call", "--until", "2026-12-24 12:00"), 9, fault)
+        self.refused("call --until '2026-12-24 12:00'", fault)
         self.add_lines(f"cleo {RANKS}", words=YES)
         self.told("close")
         letter = self.closing_letter()
@@ -218,12 +216,12 @@ class Reopened(LettersTest):
 
     def test_a_letter_of_after_the_first_close(self) -> None:
         """Its late ballot is not one of those that may have come in time, as one of before it may, and a line of a file."""
-        self.told("call", "--until", "2026-11-25 09:20", "--zone", "UTC")
+        self.told("call --until '2026-11-25 09:20' --zone UTC")
         self.set_clock("2026-11-25T10:00:00+00:00")
         self.told("close")
         times = {"ada": "09:30", "cleo": "10:30"}
         self.add(*(self.wrote(name, time) for name, time in times.items()))
-        self.told("held", 1, 2, "--enter")
+        self.told("held 1 2 --enter")
         self.add_lines(f"ben {RANKS}")
         self.assertIn(f"first close (2): 1 `{BALLOT}`, 3 `ben {RANKS}`\n", self.reopen())
         said = "letter 2: its ballot of cleo was entered, and is late; nothing was changed: there is nothing to do"
@@ -231,34 +229,29 @@ class Reopened(LettersTest):
 
     def test_a_letter_whose_late_copy_was_entered(self) -> None:
         """The first mailbox is added after the second one, which had it by forwarding after the end: it stops the count, and counts."""
-        self.told("call", "--until", "2026-11-25 10:00", "--zone", "UTC")
+        self.told("call --until '2026-11-25 10:00' --zone UTC")
         self.set_clock("2026-11-25T12:00:00+00:00")
         self.told("close")
         self.add(self.wrote("ada", "11:00"))
-        self.told("held", 1, "--enter")
+        self.told("held 1 --enter")
         self.assertIn("1 letter waits.", self.add(self.wrote("ada", "09:50")))
         self.assertIn("these letters arrived in time, and wait: 2;", self.election("count").faults)
         self.reopen()
-        self.told("held", 2, "--enter", "--force")
+        self.told("held 2 --enter --force")
         self.assertEqual((self.lines(), self.late_lines()), ([BALLOT], [BALLOT]))
 
     def test_a_call_that_was_closed_and_taken_back(self) -> None:
         """A close stays; where an earlier version took the call back, the next one is open until its own close."""
         # letters for a call that was taken back
-        self.told("call", "--take-back")
-        self.told("call", "--to", "vote@club.example")
+        self.told("call --take-back")
+        self.told("call --to vote@club.example")
         call = self.last_act()
         self.assertIn("it arrived before the call for votes", self.add(letter("ada", BALLOT)))
-        self.told("held", 1, "--set-aside")
+        self.told("held 1 --set-aside")
         self.told("close")
-        self.assert_fault(
-            self.election("call", "--take-back"),
-            9,
-            "the vote was closed at ",
-            "electors rely on the close",
-        )
+        self.refused("call --take-back", "the vote was closed at ", "electors rely on the close")
         self.act("take back", {"call": call})
-        self.told("call", "--to", "vote@club.example")
+        self.told("call --to vote@club.example")
         self.assertIn("1 counted", self.add_lines(BALLOT))
         self.set_clock("2026-11-25T10:00:00+00:00")
         self.assertIn("2 counted", self.add(self.wrote("ben", "09:30")))

@@ -2,13 +2,13 @@
 
 import email
 
-from tests.support import at_browser, boxes, elections
+from tests.support import boxes, elections
 from tests.support.boxes import OTHER, RANKS
 from tests.support.elections import NAMES
 from tests.support.terminal import Terminal
 from tests.support.web_host import NEEDS_PHP
 
-HTTPS = ("--at", "https://club.example/vote/")
+HTTPS = "--at https://club.example/vote/"
 SECRET = f"secret = true\n{elections.POLL}"
 HIDDEN = "(shown at a terminal alone)"
 # what page and letters of a secret vote with a box never say
@@ -28,30 +28,22 @@ class SecretCall(elections.ElectionTest):
 
     def test_what_stands_against_it(self) -> None:
         slips = "--slips: only in a secret vote, with --box"
-        self.assert_fault(self.election("call", "--box", *HTTPS, "--slips", "no"), 2, slips)
+        self.refused(f"call --box {HTTPS} --slips no", slips, status=2)
         self.write("poll.toml", SECRET)
         self.done("codes")
-        self.assert_fault(self.election("call", "--slips", "no"), 2, slips)
-        self.done("call", "--to", "vote@club.example")
+        self.refused("call --slips no", slips, status=2)
+        self.done("call --to vote@club.example")
         for words, status, fault in (
-            (
-                ("letters", "call", "--codes", "--yes"),
-                2,
-                "--codes: only in a secret vote with a web box",
-            ),
-            (("call", "--slips", "yes"), 9, "--slips: the call was made without it"),
-            (
-                ("roll", "--new-link", "ada"),
-                2,
-                "--new-link: ada has no link that could be replaced",
-            ),
+            ("letters call --codes --yes", 2, "--codes: only in a secret vote with a web box"),
+            ("call --slips yes", 9, "--slips: the call was made without it"),
+            ("roll --new-link ada", 2, "--new-link: ada has no link that could be replaced"),
         ):
-            self.assert_fault(self.election(*words), status, fault)
-        self.done("call", "--take-back")
-        self.done("codes", "--on-roll")
+            self.refused(words, fault, status=status)
+        self.done("call --take-back")
+        self.done("codes --on-roll")
         fault = "--box: codes are on the roll, and the result would show whoever keeps the web host whose each is"
-        self.assert_fault(self.election("call", "--box", *HTTPS, "--slips", "no"), 2, fault)
-        ended = self.election("call", "--box", "--names", "--keyring", "x")
+        self.refused(f"call --box {HTTPS} --slips no", fault, status=2)
+        ended = self.election("call --box --names --keyring x")
         self.assertEqual(ended.status, 2)
         for part in (
             fault,
@@ -65,23 +57,22 @@ class SecretCall(elections.ElectionTest):
         self.write("poll.toml", SECRET)
         self.done("codes")
         fault = "--slips: nobody says whether slips with codes will be handed out"
-        ended = self.election("call", "--box", *HTTPS)
-        self.assert_fault(ended, 9, fault, "give --slips yes, or --slips no")
+        self.refused(f"call --box {HTTPS}", fault, "give --slips yes, or --slips no")
         shown = {
             "and your code in the result alone shows that.": "yes",
             "with your code you find your own": "yes",
             "and nothing would show you that.": "no",
         }
         for answer in ("yes", "no"):
-            said = self.done("call", "--box", *HTTPS, "--slips", answer).output
+            said = self.done(f"call --box {HTTPS} --slips {answer}").output
             self.assertIn("Make a copy of the book now: debvote-election backup FILE.", said)
             page = " ".join(self.read("call/index.html").decode().split())
             for part, by in shown.items():
                 self.assertEqual(part in page, by == answer, part)
-            self.done("call", "--take-back")
+            self.done("call --take-back")
             self.done("codes")
         # the end of the input is no answer
-        terminal = Terminal(self, "call", "--box", *HTTPS)
+        terminal = Terminal(self, *f"call --box {HTTPS}".split())
         terminal.until("Will slips with codes be handed out")
         terminal.type("\x04")
         text, status = terminal.end()
@@ -121,7 +112,7 @@ class SecretClicks(boxes.BoxElectionTest):
             self.assertIn("Open the link, choose, and press Vote", text)
             self.demand_without(text, *INVITING, codes[name], "secret code")
         self.demand_without(self.read("call/call.txt").decode(), *INVITING)
-        self.done("letters", "reminders")
+        self.done("letters reminders")
         for name, text in self.texts("reminders").items():
             self.assertIn(links[name], text)
             self.demand_without(text, *INVITING)
@@ -140,19 +131,17 @@ class SecretClicks(boxes.BoxElectionTest):
 
     def test_codes_beside_links(self) -> None:
         self.begun()
-        words = ("letters", "call", "--codes")
+        words = "letters call --codes"
         fault = "Who reads a letter with its code can vote in that name, and finds the alias"
-        ended = self.election(*words)
-        self.assert_fault(ended, 9, fault, "if it is right, write them with --yes")
-        terminal = Terminal(self, *words)
+        self.refused(words, fault, "if it is right, write them with --yes")
+        terminal = Terminal(self, *words.split())
         terminal.until("Write them?")
         terminal.type("n\n")
         self.assertIn("you did not agree to codes in letters", terminal.end()[0])
-        ended = self.election("letters", "receipts", "--codes")
-        self.assert_fault(ended, 2, "--codes: only with call")
+        self.refused("letters receipts --codes", "--codes: only with call", status=2)
         self.new_address("ada")
         self.upload()
-        self.done(*words, "--yes")
+        self.done(f"{words} --yes")
         letters = [*(self.folder / "letters/call").rglob("ada.eml")]
         self.assertIn(
             self.codes()["ada"], "".join(boxes.text_of(one.read_bytes()) for one in letters)
@@ -161,12 +150,12 @@ class SecretClicks(boxes.BoxElectionTest):
     def test_clicks_count_and_nobody_is_told_ranks(self) -> None:
         self.begun(ada=RANKS, ben="2,1,-,4", cleo="1,2,3,9")
         self.click("ada", OTHER)
-        said = self.told("add", "--box", "--look") + self.add_box()
+        said = self.told("add --box --look") + self.add_box()
         self.assertIn("3 ballots of letters went in; 1 letter waits", said)
-        said += self.told("held", "4")
+        said += self.told("held 4")
         self.done("desk", given="dan 2,1,3,4\neve 2 1 3 1 7\n")
         for words in ("held", "log", "status", "status --json", *map("show {}".format, NAMES)):
-            said += self.told(*words.split())
+            said += self.told(words)
         said += self.add_box()
         self.assertIn(HIDDEN, said)
         aliases = [str(alias) for alias, in self.rows("SELECT alias FROM elector_now")]
@@ -213,7 +202,7 @@ class SecretClicks(boxes.BoxElectionTest):
         commands += ["status --json", *map("show {}".format, NAMES)]
         commands += ["strike 2 --yes --because mistyped", "undo --yes"]
         ended = [self.election("desk", given="fay: lake\ngus 1,2,3\n")]
-        ended += [self.election(*words.split()) for words in commands]
+        ended += [self.election(words) for words in commands]
         ended.append(self.election("held", 1, "--as", "ada lake"))
         text = "".join([*said, *(one.output + one.faults for one in ended)])
         # said of a ballot line beside one that is refused: it is nobody's
@@ -228,27 +217,6 @@ class SecretClicks(boxes.BoxElectionTest):
         for part in ("I take the lake, then the hall", "subject: The lake first"):
             self.assertIn(part, shown)
 
-    @at_browser.NEEDS_BROWSER
-    def test_by_the_page_in_a_browser(self) -> None:
-        links = self.begun()
-        with at_browser.Window(390, 844) as window:
-            # without a link no line is made, and the page says which one to open
-            boxes.visit(window, self.host.at)
-            found = window.ballot(None, "1234")
-            missing = "To vote here by a click, open the link in your own letter."
-            self.assertEqual((found["line"], found["missing"]), ("", missing))
-            boxes.visit(window, f"{self.host.at}#{self.place_of('ada')}")
-            self.assertTrue(window.ask("document.getElementById('You').checkVisibility()"))
-            self.assertEqual(window.ask("document.getElementById('Linked').textContent"), "ada")
-            self.assertEqual(window.ballot(None, "21-3")["line"], "ada 2,1,-,3")
-            receipt = "sent .*A receipt by e-mail with this time says whether it counts, and not what is in it."
-            self.assertRegex(boxes.press(window), receipt)
-            self.assertEqual(window.faults, [])
-        self.add_box()
-        self.assertEqual(self.standing(), {"ada": "2,1,-,3"})
-        for secret in (b"2,1,-,3", links["ada"].encode()):
-            self.assertNotIn(secret, self.file().read_bytes())
-
     def test_a_take_back_needs_a_fresh_asking(self) -> None:
         """And before it, an answer by mail goes in, to which nobody is invited: nothing was taken from who does it."""
         self.begun()
@@ -257,32 +225,11 @@ class SecretClicks(boxes.BoxElectionTest):
         self.assertRegex(subject, r"\[[0-9a-f]{16}-\w{10}\]$")
         self.later(700)
         fault = "ballots may lie on the page"
-        ended = self.election("call", "--take-back")
-        self.assert_fault(ended, 9, fault, "run debvote-election add --box")
-        self.done("add", "--box")
-        self.done("call", "--take-back")
+        self.refused("call --take-back", fault, "run debvote-election add --box")
+        self.done("add --box")
+        self.done("call --take-back")
         self.assertEqual(self.status()["stage"], "new")
         self.done("codes")
         self.begun()
         said = self.add(self.letter("ada", f"ada {RANKS}"))
         self.assertIn("1 ballot of letters went in", said)
-
-
-@NEEDS_PHP
-class SecretMotion(boxes.BoxElectionTest):
-    """A motion, whose ballots may be words."""
-
-    poll = 'title = "A boat"\noptions = ["We buy a boat"]\nratios = [1]\ndefault = "We keep the money"\nquorum = 0\nsecret = true\nmotion = true\n'
-
-    def test_no_word_is_told_at_a_pipe(self) -> None:
-        self.done("codes")
-        self.begun("--slips", "no", ada="2,1")
-        self.write("lines.txt", "ben yes\ncleo nope\ndan: No\n")
-        ended = [self.election("desk", given="eve yes\nfay perhaps not\n")]
-        for words in ("add --box --yes", "add lines.txt", "status", *map("show {}".format, NAMES)):
-            ended.append(self.election(*words.split()))
-        text = "".join(one.output + one.faults for one in ended)
-        right = "A ballot line of this poll: `ada 2,1`: the ranks of 1 We buy a boat, 2 We keep the money; 1 is the best"
-        text = text.replace(right, "").replace("Title: A boat", "")
-        for part in ("yes", "nope", "No", "perhaps", "column", "1,2", "2,1", "boat", "abstain"):
-            self.assertNotRegex(text, rf"\b{part}\b")

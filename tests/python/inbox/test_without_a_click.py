@@ -54,17 +54,15 @@ class Forty(LettersTest):
         self.assertEqual({*slips}, {f"{self.mark}-{own}" for own, in owns})
         said = self.add(*letters)
         self.assertIn("\n18 ballots of letters went in; 13 letters wait.\n", said)
-        offered = ["held", *map(str, by_way[ENTER]), "--enter"]
-        following = (
-            f"\nNext: debvote-election {' '.join(offered)}, which shows these ballots and asks; "
-        )
+        offered = f"held {' '.join(map(str, by_way[ENTER]))} --enter"
+        following = f"\nNext: debvote-election {offered}, which shows these ballots and asks; "
         self.assertIn(following, said)
-        self.told(*offered, "--yes")
+        self.told(f"{offered} --yes")
         for number in by_way[FORCE]:
-            self.assertEqual(self.election("held", number, "--enter").status, 9)
-            self.told("held", number, "--enter", "--force")
+            self.assertEqual(self.election(f"held {number} --enter").status, 9)
+            self.told(f"held {number} --enter --force")
         for number in by_way[TYPED]:
-            self.assertEqual(self.election("held", number, "--enter", "--yes", "--force").status, 9)
+            self.assertEqual(self.election(f"held {number} --enter --yes --force").status, 9)
             self.told("held", number, "--as", lines[number - 1])
         self.assertIn("No letter waits.", self.told("held", *by_way[ASIDE], "--set-aside"))
         self.add_lines(*(lines[number - 1] for number in by_way[PAPER]))
@@ -73,7 +71,7 @@ class Forty(LettersTest):
         self.assertEqual(dict(line.split(" ") for line in self.lines()), meant)
         # and so under the aliases, which whoever has the code finds
         self.told("close")
-        self.told("publish", "--yes")
+        self.told("publish --yes")
         with (self.folder / "private" / "codes.csv").open(newline="") as file:
             codes = {row["name"]: row["code"].encode() for row in csv.DictReader(file)}
         wanted = {
