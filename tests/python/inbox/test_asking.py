@@ -373,6 +373,3 @@ class Certificates(AskingTest):
         with Liar(lie, made("other", "DNS:else.example")) as host, trusted("other"):
             self.stopped(host.at, f"{wrong}IP address mismatch")
             self.assertEqual(host.requests, [])
-        # a server without TLS
-        with Liar(lie) as host, unittest.mock.patch.object(box_records, "PATIENCE", 0.5):
-            self.stopped(host.at.replace("http:", "https:"), "it does not answer: ")

@@ -104,16 +104,11 @@ class Letters(AskingTest):
         # the clock of the host is behind, so that by both clocks ten minutes are past
         self.off(700)
         self.assertIn("seconds behind", self.told("add --box"))
-        asked = now(700).astimezone(BERLIN)
-        said = re.findall(
-            r"Web box: 0 records when it was asked last, (\S+ \S+) UTC\+01:00\n",
-            self.told("status"),
+        asked = datetime.datetime.fromisoformat((self.scratch / "clock").read_text()).astimezone(
+            BERLIN
         )
-        self.assertAlmostEqual(
-            datetime.datetime.fromisoformat(f"{said[0]}+01:00"),
-            asked,
-            delta=datetime.timedelta(seconds=50),
-        )
+        said = f"Web box: 0 records when it was asked last, {asked:%Y-%m-%d %H:%M:%S} UTC+01:00\n"
+        self.assertIn(said, self.told("status"))
         fault = "would be told that they have not: when the web box was asked last, it was only "
         self.refused("letters reminders --yes", fault)
 
@@ -449,7 +444,6 @@ class Moved(AskingTest):
         links = self.begun()
         for number in range(MOST):
             self.click("ada", f"{number % 4 + 1},1,1,1")
-        self.assertEqual(self.sent("ada", OTHER, links["ada"], 999).word, "many:")
         self.later(60)
         self.add_box()
         none = "--new-link: {} has no link that could be replaced"

@@ -147,37 +147,8 @@ class SecretClicks(boxes.BoxElectionTest):
             self.codes()["ada"], "".join(boxes.text_of(one.read_bytes()) for one in letters)
         )
 
-    def test_clicks_count_and_nobody_is_told_ranks(self) -> None:
-        self.begun(ada=RANKS, ben="2,1,-,4", cleo="1,2,3,9")
-        self.click("ada", OTHER)
-        said = self.told("add --box --look") + self.add_box()
-        self.assertIn("3 ballots of letters went in; 1 letter waits", said)
-        said += self.told("held 4")
-        self.done("desk", given="dan 2,1,3,4\neve 2 1 3 1 7\n")
-        for words in ("held", "log", "status", "status --json", *map("show {}".format, NAMES)):
-            said += self.told(words)
-        said += self.add_box()
-        self.assertIn(HIDDEN, said)
-        aliases = [str(alias) for alias, in self.rows("SELECT alias FROM elector_now")]
-        lines = ("1,2,3", OTHER, "2,1", "2 1 3 1 7")
-        words = ("At the lake, then", "Further discussion, then", "In the town hall, then")
-        self.demand_without(said, *lines, *words, *aliases)
-        standing = {"ada": OTHER, "ben": "2,1,-,4", "dan": "2,1,3,4", "eve": "2 1 3 1 7"}
-        self.assertEqual(self.standing(), standing)
-        texts = self.receipts()
-        counts = (
-            "has arrived. It counts unless you send a later one. It came by the page of the vote."
-        )
-        self.assertIn(counts, texts["ada"])
-        for text in texts.values():
-            self.demand_without(text, "It was read as", "At the lake, then", "1,2,3")
-        # who sent what nobody can count is told to vote again by the link, and by no e-mail
-        again = "You can vote again now: open the link in your letter of this vote."
-        self.assertIn(again, texts["cleo"])
-        self.demand_without(texts["cleo"], *INVITING)
-
     def test_nothing_that_people_wrote_is_told_at_a_pipe(self) -> None:
-        self.begun(ida=RANKS)
+        self.begun(ida=RANKS, hal="1,2,3,9")
         own = f"[{elections.ANY_MARK}-{{}}]"
         own_of = {name: own.format(elections.any_own(name)) for name in NAMES}
         named = self.letter("dan", f"dan {RANKS}\ndan {OTHER}", subject=f"Mine {own_of['dan']}")
@@ -195,8 +166,21 @@ class SecretClicks(boxes.BoxElectionTest):
                 ),
             )
         ]
+        said += [self.told("add --box --look"), self.add_box()]
+        texts = self.receipts()
+        counts = (
+            "has arrived. It counts unless you send a later one. It came by the page of the vote."
+        )
+        self.assertIn(counts, texts["ida"])
+        # who sent what nobody can count is told to vote again by the link, and by no e-mail
+        again = "You can vote again now: open the link in your letter of this vote."
+        self.assertIn(again, texts["hal"])
+        self.demand_without(texts["hal"], *INVITING)
+        for text in texts.values():
+            self.demand_without(text, "It was read as", "At the lake, then", "1,2,3")
+        self.assertEqual(self.standing(), {"cleo": RANKS, "ida": RANKS})
         self.write("lines.txt", "eve: 1, 2, 3, 4.\nfay lake\ngus 1,2,3\nhal 1,2,3,4\n")
-        commands = ["add --box --look", "add --box --yes", "add --look lines.txt", "add lines.txt"]
+        commands = ["add --look lines.txt", "add lines.txt"]
         commands += ["add --force lines.txt", "held", *map("held {}".format, range(1, 5))]
         commands += ["held 1 --as ada", "held 4 --enter", "held 1 2 --enter", "status", "log"]
         commands += ["status --json", *map("show {}".format, NAMES)]

@@ -63,12 +63,11 @@ def above(data: bytes, line: bytes) -> bytes:
 def entered(*letters: LetterCase) -> dict[str, object]:
     """The circumstances when what goes in of these has gone in."""
     going = [one for one in letters if one.outcome is LetterOutcome.GOES_IN]
-    ballots: dict[str, list[Ballot]] = {}
+    ballots = collections.defaultdict[str, list[Ballot]](list)
     for one in going:
         assert one.time is not None
-        ballots.setdefault(one.electors[0], []).append(
-            Ballot(one.time, one.ballots[0].as_entered, True)
-        )
+        ballot = Ballot(one.time, one.ballots[0].as_entered, True)
+        ballots[one.electors[0]].append(ballot)
     return {"ballots": ballots, "decisions": {one.read.digest: queries.ENTERED for one in going}}
 
 
@@ -201,26 +200,22 @@ class Several(unittest.TestCase):
     def test_a_letter_that_waits_hides_no_other(self) -> None:
         """Copies that somebody else made, which came before the genuine letter or after it."""
         html = f"--b\n\n{BALLOT}\n--b\nContent-Type: text/html\n\n<p>{OTHER}</p>\n--b--\n"
-        forged = {
-            "one more line in the head": above(first(), AUTOMATIC),
-            "a head that is damaged": above(first(), b"no field\n"),
-            "two lines From": above(first(), b"From: x@y.example\n"),
-            "the mark of another vote": above(first(), b"Subject: [0123456789abcdef]\n"),
-            "another text": first(text=html, kind="multipart/mixed; boundary=b"),
-        }
+        lines = (b"no field\n", b"From: x@y.example\n", b"Subject: [0123456789abcdef]\n")
+        forged = [above(first(), line) for line in (AUTOMATIC, *lines)]
+        forged.append(first(text=html, kind="multipart/mixed; boundary=b"))
         # one that a mailbox hides comes as a file, too
         hidden = parsed(first(), is_parted_off=True)
         for letters in ((hidden, first()), (first(), hidden)):
             self.assertEqual(sorted(outcomes(*letters)), ["copy", IN])
-        for (what, data), of_day in itertools.product(forged.items(), (9, 10, 11)):
+        for data, of_day in itertools.product(forged, (9, 10, 11)):
             copy = data.replace(b"10:00:00", f"{of_day:02}:00:00".encode())
-            self.assertEqual(lines_in(first(), copy), [BALLOT], what)
+            self.assertEqual(lines_in(first(), copy), [BALLOT], copy)
             # it waits, was set aside or put back when the genuine one comes
             waiting = parsed(copy)
             for decision in (None, queries.SET_ASIDE, queries.PUT_BACK):
                 decisions = {} if decision is None else {waiting.digest: decision}
                 found = lines_in(waiting, first(), decisions=decisions)
-                self.assertEqual(found, [BALLOT], (what, decision))
+                self.assertEqual(found, [BALLOT], (copy, decision))
 
     def test_copies_that_wait_for_one_reason_are_told_once(self) -> None:
         data = letter("ada", "when?", time=hour(10))

@@ -301,7 +301,7 @@ class Conservation(unittest.TestCase):
         chance = random.Random(4)
         for _ in range(2_000):
             data = b"".join(chance.choices(self.lines, k=chance.randint(0, 12)))
-            self.assertEqual(b"".join(itertools.chain.from_iterable(sections_of(data))), data)
+            self.sections(data)
 
 
 class Folders(unittest.TestCase):
