@@ -100,7 +100,9 @@ class BoxElectionTest(elections.ElectionTest):
         shutil.copytree(self.folder / "call", self.web, dirs_exist_ok=True)
 
     def links(self) -> dict[str, str]:
-        """The third parts of the personal links, by name, as the last letters of the call have them."""
+        """The third parts of the personal links, by name, as the last letters of the call have
+        them.
+        """
         folders = sorted(
             (self.folder / "letters" / "call").iterdir(), key=lambda one: one.stat().st_mtime
         )
@@ -122,7 +124,9 @@ class BoxElectionTest(elections.ElectionTest):
         return links
 
     def of_page(self, what: str) -> str:
-        """What the page that is uploaded knows: its poll, the key to which it seals, and what it posts."""
+        """What the page that is uploaded knows: its poll, the key to which it seals, and what it
+        posts.
+        """
         return re.findall(rf'data-{what}="([^"]+)"', (self.web / "index.html").read_text())[0]
 
     def page(self) -> str:
@@ -136,7 +140,9 @@ class BoxElectionTest(elections.ElectionTest):
         return key
 
     def place_of(self, name: str, link: str = "") -> str:
-        """What is behind the address in the personal link of now, or in that which has this third part."""
+        """What is behind the address in the personal link of now, or in that which has this third
+        part.
+        """
         words = (
             "SELECT DISTINCT mark FROM elector_state JOIN elector USING (elector) WHERE name = ?"
         )
@@ -180,8 +186,9 @@ class BoxElectionTest(elections.ElectionTest):
         link: str = "",
         sent: datetime.datetime | None = None,
     ) -> bytes:
-        """A record that somebody wrote into the file of the host, who has the personal link, or one with this
-        third part: it arrived at this time, and was sent then by the device, too, or at another time.
+        """A record that somebody wrote into the file of the host, who has the personal link, or one
+        with this third part: it arrived at this time, and was sent then by the device, too, or at
+        another time.
         """
         place, number = self.place_of(line.partition(" ")[0], link), next(self.numbers)
         text = self.sealed(line, place, number, sent or time)
@@ -215,7 +222,9 @@ class BoxElectionTest(elections.ElectionTest):
         return self.done("add", "--yes", "inbox.mbox").output
 
     def new_address(self, name: str) -> str:
-        """An elector gets a new address, and so a new link, of which the host knows nothing: what `roll` says."""
+        """An elector gets a new address, and so a new link, of which the host knows nothing: what
+        `roll` says.
+        """
         members = self.members or elections.members_of(self.names)
         self.write("members.csv", members.replace(f"{name}@club", f"{name}@new"))
         return self.done("roll", "--yes").output
@@ -249,7 +258,9 @@ class BoxElectionTest(elections.ElectionTest):
         }
 
     def texts(self, kind: str) -> dict[str, str]:
-        """The texts of all letters of a kind that were written, by the names of their files, each on one line."""
+        """The texts of all letters of a kind that were written, by the names of their files, each
+        on one line.
+        """
         files = (self.folder / "letters" / kind).rglob("*.eml")
         return {file.stem: text_of(file.read_bytes()) for file in files}
 

@@ -281,8 +281,8 @@ class Dishonest(AskingTest):
             )
 
     def test_how_far_its_clock_is_off(self) -> None:
-        """No more than is certain: the time that the answer took, before the host looked at its clock and
-        after it, is no fault of the clock.
+        """No more than is certain: the time that the answer took, before the host looked at its
+        clock and after it, is no fault of the clock.
         """
         for off, before, after, least, most in (
             (0, 0, 1.2, 0, 0),
@@ -307,7 +307,9 @@ class Dishonest(AskingTest):
 
 class Said(unittest.TestCase):
     def test_what_is_said_of_an_asking(self) -> None:
-        """A clock that is off by more than a minute; records that are gone, when there are more of them."""
+        """A clock that is off by more than a minute; records that are gone, when there are more of
+        them.
+        """
         clock = "its clock is 61 seconds {} that of this computer"
         for box, gone, note in (
             ({"behind": 60}, 0, ""),

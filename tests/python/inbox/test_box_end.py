@@ -1,4 +1,6 @@
-"""The end of a vote passes while its electors click: which clicks count, and what electors are told of them."""
+"""The end of a vote passes while its electors click: which clicks count, and what electors are told
+of them.
+"""
 
 import contextlib
 import re
@@ -27,7 +29,9 @@ LATE, LOOKED_AT = f"{WAITS}The reason: {AFTER}.", f"{WAITS}If you have not sent 
 @NEEDS_PHP
 class End(boxes.BoxElectionTest):
     def begun_to_end(self, ahead: int = 0) -> None:
-        """Called and written to all, with an end in two hours; the clock of the host is so many seconds ahead."""
+        """Called and written to all, with an end in two hours; the clock of the host is so many
+        seconds ahead.
+        """
         self.host_off(ahead)
         self.end = now(END).replace(microsecond=0)
         self.begun("--until", f"{self.end:%Y-%m-%d %H:%M:%S}", "--zone", "UTC")
@@ -48,8 +52,8 @@ class End(boxes.BoxElectionTest):
             yield ended
 
     def demand_told(self, **told: Sequence[str]) -> None:
-        """These electors, and nobody else, get receipts, which have these parts, and say of no other
-        ballot that it counts or waits.
+        """These electors, and nobody else, get receipts, which have these parts, and say of no
+        other ballot that it counts or waits.
         """
         texts = self.receipts()
         self.assertEqual(sorted(texts), sorted(told), texts)
@@ -121,8 +125,8 @@ class End(boxes.BoxElectionTest):
         self.demand_decided(180, 0, ["ada"], "ben")
 
     def demand_decided(self, ahead: int, at_last: int, counting: list[str], waiting: str) -> None:
-        """Four electors click, before the end and after it, by four minutes and by one. What the clock
-        of the host could take across the end waits, on either side of it.
+        """Four electors click, before the end and after it, by four minutes and by one. What the
+        clock of the host could take across the end waits, on either side of it.
         """
         self.begun_to_end(ahead)
         for name, seconds in CLICKING.items():

@@ -1,7 +1,7 @@
 """Whole elections in which each member clicks, in a browser and on a real host.
 
-What is published is what was chosen, and neither the host nor, in a secret vote, anybody who reads what comes out of it learns who
-chose it.
+What is published is what was chosen, and neither the host nor, in a secret vote, anybody who reads
+what comes out of it learns who chose it.
 """
 
 import datetime
@@ -72,7 +72,9 @@ class ClickedElection(boxes.BoxElectionTest):
         return []
 
     def demand_nothing_on_the_host(self, links: dict[str, str]) -> None:
-        """Nothing in its files, its log, and what it was sent, tells a name, a line, a link or an own mark."""
+        """Nothing in its files, its log, and what it was sent, tells a name, a line, a link or an
+        own mark.
+        """
         owns = [str(own) for own, in self.rows("SELECT mark FROM elector_now")]
         secrets = [*links.values(), *owns, *self.ranks.values(), *self.names, *self.secrets()]
         files = [file for file in self.web.rglob("*") if file.is_file()]
@@ -110,7 +112,9 @@ class InABrowser(ClickedElection):
         return f"{sent.astimezone().astimezone(hour):%H:%M:%S}".removesuffix(":00")
 
     def all_click(self) -> dict[str, list[str]]:
-        """Each member once, some twice, in any order; when each of their ballots was sent, as the page says."""
+        """Each member once, some twice, in any order; when each of their ballots was sent, as the
+        page says.
+        """
         self.window.faults.clear()
         sent = dict[str, list[str]]()
         for number, name in enumerate(self.random.sample(self.names, len(self.names))):
@@ -156,7 +160,9 @@ class OpenByClicks(InABrowser):
         self.demand_nothing_on_the_host(links)
 
     def test_a_host_that_drops_a_ballot_and_dates_the_one_before_it_anew(self) -> None:
-        """Who sent it sees that: the receipt names the time of the other one, and not the one that the page said."""
+        """Who sent it sees that: the receipt names the time of the other one, and not the one that
+        the page said.
+        """
         self.begun()
         self.visit(self.names[0])
         first = self.chosen(RANKS)
@@ -216,7 +222,9 @@ class SecretByClicks(InABrowser):
         self.demand_untold(links, aliases)
 
     def use_all_commands(self) -> None:
-        """Ballots that wait, that are refused, and that are taken back; what stands at the end is what it was."""
+        """Ballots that wait, that are refused, and that are taken back; what stands at the end is
+        what it was.
+        """
         name, other = self.names[:2]
         [(last, letters)] = self.rows(
             "SELECT max(envelope), (SELECT max(letter) FROM letter) FROM envelope"
@@ -300,7 +308,9 @@ class Struck(boxes.BoxElectionTest):
 
 @NEEDS_PHP
 class SecretQuestions(boxes.BoxElectionTest):
-    """A secret vote on several questions, of which one is a motion, whose answers may be words, without a browser."""
+    """A secret vote on several questions, of which one is a motion, whose answers may be words,
+    without a browser.
+    """
 
     new_words = ("--questions", "2")
     poll = SECRET
@@ -348,8 +358,8 @@ class SecretQuestions(boxes.BoxElectionTest):
 
 @NEEDS_PHP
 class ShuffledClicks(boxes.BoxElectionTest):
-    """A secret vote that is held again and again from its call on: the same ballots by the same codes, with the same random line of the
-    close, and acts of the same times.
+    """A secret vote that is held again and again from its call on: the same ballots by the same
+    codes, with the same random line of the close, and acts of the same times.
     """
 
     poll = SECRET
@@ -392,7 +402,9 @@ class ShuffledClicks(boxes.BoxElectionTest):
         self.set_clock(f"{when:%Y-%m-%dT%H:%M:%S+00:00}")
 
     def published(self, clicks: list[str], links: dict[str, str]) -> dict[str, bytes]:
-        """The files of the result, and the letters that everybody gets, once these have clicked in this order."""
+        """The files of the result, and the letters that everybody gets, once these have clicked in
+        this order.
+        """
         for number, name in enumerate(clicks):
             self.at(60 * number)
             is_last = name not in clicks[number + 1 :]
@@ -408,7 +420,8 @@ class ShuffledClicks(boxes.BoxElectionTest):
         self.done("publish --yes")
         files = [file for file in (self.folder / "result").rglob("*") if file.is_file()]
         files += [self.folder / "letters" / name for name in ("closed.txt", "result.txt")]
-        # the digest of the acts covers random bytes of each, which stay in the book; checksums follow from it
+        # the digest of the acts covers random bytes of each, which stay in the book; checksums
+        # follow from it
         closed, sums = (self.read(f"result/{name}") for name in ("closed.txt", "SHA256SUMS"))
         [(digest,)] = self.rows("SELECT digest FROM act WHERE name = 'close'")
         changing = [str(digest), *(hashlib.sha256(data).hexdigest() for data in (closed, sums))]

@@ -1,4 +1,4 @@
-"""What needs a fresh asking of the web box, with page and links of now; which steps ask it themselves, and what is left to be forced."""
+"""What needs a fresh asking of the web box, which steps ask it themselves, and what is forced."""
 
 import datetime
 import os
@@ -17,7 +17,8 @@ from tests.support.web_host import FIRST, NEEDS_PHP
 
 BERLIN = zoneinfo.ZoneInfo("Europe/Berlin")
 UNSEEN = "nobody has seen yet whether the web box works, with page and links of now"
-# what the page of the result says if the last ballots may not have come, and if the page was another one
+# what the page of the result says if the last ballots may not have come, and if the page was
+# another one
 MISSING = b"Ballots may have been sent on the page of the vote that the secretary did not get."
 DOUBT = "was not that of the call"
 ALL = "Is that all?"
@@ -36,9 +37,11 @@ class AskingTest(boxes.BoxElectionTest):
         for kind in kinds:
             self.refused(f"letters {kind}", f"{kind}: {UNSEEN}", "upload the folder call")
 
-    def ending_soon(self, **clicks: str) -> dict[str, str]:
-        """Called to end in ten minutes, and written to all, of whom some have clicked before the end: the links."""
-        return self.begun("--until", f"{now(600):%Y-%m-%d %H:%M:%S}", "--zone", "UTC", **clicks)
+    def ending_soon(self, **clicks: str) -> None:
+        """Called to end in ten minutes, and written to all, of whom some have clicked before the
+        end.
+        """
+        self.begun("--until", f"{now(600):%Y-%m-%d %H:%M:%S}", "--zone", "UTC", **clicks)
 
 
 @NEEDS_PHP
@@ -89,10 +92,7 @@ class Letters(AskingTest):
         self.begun()
         self.done("letters reminders")
         # an asking is fresh for ten minutes
-        [box] = self.boxes_kept()
-        self.set_clock(
-            str(datetime.datetime.fromisoformat(str(box["time"])) + datetime.timedelta(seconds=540))
-        )
+        self.off(500)
         self.done("letters reminders --yes")
         self.off(660)
         fault = "reminders: who voted by a click in the last ten minutes would be told that they have not; nothing was written: run debvote-election add --box"
@@ -245,7 +245,9 @@ class Closes(AskingTest):
         self.assertNotIn(MISSING, self.read("result/index.html"))
 
     def test_new_ballots_in_time_stop_it(self) -> None:
-        """Also with --yes, and elsewhere than at a terminal; closed again it needs no new asking, and clicks after the end stop nothing."""
+        """Also with --yes, and elsewhere than at a terminal; closed again it needs no new asking,
+        and clicks after the end stop nothing.
+        """
         self.ending_soon(**dict.fromkeys(("ada", "ben", "cleo"), RANKS))
         self.later(601)
         self.click("dan")
@@ -268,7 +270,9 @@ class Closes(AskingTest):
         self.done("log --check")
 
     def test_a_kill_and_a_no_between_both_acts(self) -> None:
-        """It was asked, by an act of its own before the question, and nothing is closed. A click after the end stops nothing."""
+        """It was asked, by an act of its own before the question, and nothing is closed. A click
+        after the end stops nothing.
+        """
         self.ending_soon(ada=RANKS)
         self.add_box()
         self.later(601)
@@ -349,7 +353,9 @@ class Pages(AskingTest):
         return " ".join(said.split())
 
     def test_one_that_nobody_uploaded(self) -> None:
-        """An extension makes a new one, which goes up before its letters go out: they ask themselves."""
+        """An extension makes a new one, which goes up before its letters go out: they ask
+        themselves.
+        """
         self.call()
         (self.web / "index.html").unlink()
         self.assertIn(self.other, self.told("add --box"))
@@ -478,7 +484,8 @@ class Moved(AskingTest):
             self.demand_reached(*NAMES if is_extension else ())
             self.upload()
             self.done("add --box")
-            # a letter to each elector, with the link to the page of now, is new: the call, or an extension
+            # a letter to each elector, with the link to the page of now, is new: the call, or an
+            # extension
             said = self.told("letters call")
             [folder] = re.findall(rf"^Wrote {len(NAMES)} letters: letters/(.*)$", said, re.M)
             for name, text in self.texts(folder).items():

@@ -27,13 +27,17 @@ class Lies(boxes.BoxElectionTest):
         return datetime.datetime.fromisoformat(str(self.boxes_kept()[-1]["time"]))
 
     def forged(self, name: str, count: int) -> list[bytes]:
-        """Records that the host makes, which knows the digest of each proof, and how a record looks."""
+        """Records that the host makes, which knows the digest of each proof, and how a record
+        looks.
+        """
         proof = proof_digest(self.mark(), self.place_of(name)).encode()
         records = [self.record(f"{name} {OTHER}", now(), "2" * 16) for _ in range(count)]
         return [re.sub(rb"(?<=X-Proof: )\w+", proof, one) for one in records]
 
     def test_what_it_makes_changes_and_dates_anew(self) -> None:
-        """What it makes or changes waits for nobody, and what it dates anew waits; what is gone is told once."""
+        """What it makes or changes waits for nobody, and what it dates anew waits; what is gone is
+        told once.
+        """
         self.begun(ada=RANKS)
         self.add_box()
         [real] = self.records()
@@ -96,7 +100,8 @@ class Lies(boxes.BoxElectionTest):
         self.off(1)
         self.assertIn("more than ten minutes from the time of the web host", self.add_box())
         self.assertEqual(self.standing(), {"ada": OTHER, "ben": RANKS})
-        # beside the time of the host `show` has that of the device, which is the one that its elector knows
+        # beside the time of the host `show` has that of the device, which is the one that its
+        # elector knows
         nine = f"{when - 9 * MINUTE:%H:%M:%S}"
         shown = (
             rf"envelope 2, \S+ {when:%H:%M:%S} UTC\+01:00, sent \S+ {nine} UTC\+01:00: At the lake"
@@ -160,7 +165,9 @@ class Lies(boxes.BoxElectionTest):
         self.assertEqual(self.standing(), dict.fromkeys(NAMES[:3], RANKS), said)
 
     def test_the_most_of_a_link(self) -> None:
-        """One more is no letter, and its elector is named. A host that takes more acknowledges them."""
+        """One more is no letter, and its elector is named. A host that takes more acknowledges
+        them.
+        """
         self.begun()
         ranks = [f"ada {number % 4 + 1},1,1,1" for number in range(MOST + 1)]
         records = [self.record(line, now(number - 60)) for number, line in enumerate(ranks)]
@@ -173,7 +180,9 @@ class Lies(boxes.BoxElectionTest):
         self.assertEqual(self.status()["lost"], ["ada"])
 
     def test_records_that_are_ahead_of_the_clock_of_their_host(self) -> None:
-        """They would beat what their elector sends later. Of those of one second each has one of its own."""
+        """They would beat what their elector sends later. Of those of one second each has one of
+        its own.
+        """
         self.begun()
         for number in range(9):
             self.click("ben", f"{number % 4 + 1},1,1,1")
@@ -341,7 +350,9 @@ class Clocks(unittest.TestCase):
             self.assertEqual(self.becomes(letter("ada", f"ada {OTHER}"), ballots=entered), [wanted])
 
     def test_which_ballots_are_surely_later(self) -> None:
-        """What the list of held says has one rule with its --enter: each ballot is looked at, not the last alone."""
+        """What the list of held says has one rule with its --enter: each ballot is looked at, not
+        the last alone.
+        """
         line = f"ada {RANKS}"
         sure, ahead = Ballot(at(12), line), Ballot(at(13), line, True, -14_400)
         near = [Ballot(at(9, 58), line, True, 300), Ballot(at(9, 59), line)]
@@ -357,7 +368,9 @@ class Clocks(unittest.TestCase):
             self.assertEqual(case.voted_since, {"ada": is_sure}, there)
 
     def test_what_its_device_dates_otherwise_waits(self) -> None:
-        """By more than ten minutes from the time of the host, which may be off by as much as is known."""
+        """By more than ten minutes from the time of the host, which may be off by as much as is
+        known.
+        """
         for minutes, behind, is_other in (
             (10, 0, False),
             (-10, 0, False),

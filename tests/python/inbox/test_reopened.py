@@ -1,6 +1,5 @@
-"""Letters and lines of a vote that was closed and opened again: which count, in which order, and what is told."""
+"""Letters and lines of a vote that was closed and opened again: which count, and what is told."""
 
-import itertools
 from unittest import mock
 
 from debvote_tools.inbox import entering
@@ -19,7 +18,9 @@ class Reopened(LettersTest):
         return self.told("reopen", *IN_TIME)
 
     def beside_a_newer_one(self) -> None:
-        """The vote is open again, and Ada's late line, in envelope 1, is older than her ballot in time, in envelope 2."""
+        """The vote is open again, and Ada's late line, in envelope 1, is older than her ballot in
+        time, in envelope 2.
+        """
         self.told("close")
         self.add_lines(BALLOT)
         self.reopen()
@@ -29,7 +30,9 @@ class Reopened(LettersTest):
         return " ".join(self.read("letters/closed.txt").decode().split())
 
     def test_a_late_line_is_entered_again_once(self) -> None:
-        """It stays late; so does one that is refused, which replaces none. What was struck came. Only ballots are listed, while they are not in time."""
+        """It stays late; so does one that is refused, which replaces none. What was struck came.
+        Only ballots are listed, while they are not in time.
+        """
         self.told("close")
         late = [BALLOT, f"ben {RANKS}", "ben 1,2,3"]
         self.add_lines(*late)
@@ -50,8 +53,7 @@ class Reopened(LettersTest):
 
     def test_many_late_lines(self) -> None:
         self.told("close")
-        pairs = itertools.product(range(1, 6), repeat=2)
-        self.add_lines(*(f"ada 1,2,{third},{fourth}" for third, fourth in pairs))
+        self.add_lines(*(f"ada 1,2,{one // 5 + 1},{one % 5 + 1}" for one in range(25)))
         listed = r"first close \(25\): 1 `ada 1,2,1,1`, .*, 20 `ada 1,2,4,5` and 5 more\n"
         self.assertRegex(self.reopen(), listed)
 
@@ -166,8 +168,8 @@ class Reopened(LettersTest):
         self.assertEqual((ended, "you did not say yes" in shown), (9, True))
 
     def test_the_times_of_two_closes(self) -> None:
-        """What had to come before a close, had to before the first one; the vote is closed since the last one, of which each letter tells
-        until the next one.
+        """What had to come before a close, had to before the first one; the vote is closed since
+        the last one, of which each letter tells until the next one.
         """
 
         def at(hour: int) -> str:
@@ -215,7 +217,9 @@ class Reopened(LettersTest):
         return letter(name, f"{name} {RANKS}", time=f"Wed, 25 Nov 2026 {time}:00 +0000")
 
     def test_a_letter_of_after_the_first_close(self) -> None:
-        """Its late ballot is not one of those that may have come in time, as one of before it may, and a line of a file."""
+        """Its late ballot is not one of those that may have come in time, as one of before it may,
+        and a line of a file.
+        """
         self.told("call --until '2026-11-25 09:20' --zone UTC")
         self.set_clock("2026-11-25T10:00:00+00:00")
         self.told("close")
@@ -228,7 +232,9 @@ class Reopened(LettersTest):
         self.assert_refused(("held", 2, "--enter"), 9, said)
 
     def test_a_letter_whose_late_copy_was_entered(self) -> None:
-        """The first mailbox is added after the second one, which had it by forwarding after the end: it stops the count, and counts."""
+        """The first mailbox is added after the second one, which had it by forwarding after the
+        end: it stops the count, and counts.
+        """
         self.told("call --until '2026-11-25 10:00' --zone UTC")
         self.set_clock("2026-11-25T12:00:00+00:00")
         self.told("close")
@@ -241,7 +247,9 @@ class Reopened(LettersTest):
         self.assertEqual((self.lines(), self.late_lines()), ([BALLOT], [BALLOT]))
 
     def test_a_call_that_was_closed_and_taken_back(self) -> None:
-        """A close stays; where an earlier version took the call back, the next one is open until its own close."""
+        """A close stays; where an earlier version took the call back, the next one is open until
+        its own close.
+        """
         # letters for a call that was taken back
         self.told("call --take-back")
         self.told("call --to vote@club.example")

@@ -102,7 +102,8 @@ class Several(unittest.TestCase):
         for data in (first(number=2), *texts, unnumbered):
             self.assertNotEqual(parsed(data).identity, parsed(first()).identity)
         self.assertEqual(parsed(unnumbered).identity, parsed(unnumbered + b"\n").identity)
-        # what makes none: other lines in a head, as in a mailbox that is saved again, and another HTML
+        # what makes none: other lines in a head, as in a mailbox that is saved again, and another
+        # HTML
         changes = [
             (b"", b""),
             (b"\n", b"\r\n"),
@@ -117,7 +118,8 @@ class Several(unittest.TestCase):
         signed = letter("ada", f"{BALLOT}\n-- \nFrom here on nothing\n")
         quoted = signed.replace(b"\nFrom here", b"\n>From here")
         self.become([signed, quoted], IN, "copy")
-        # two whose lines differ wait for one reason: only one of them may be genuine, and the secretary sees both
+        # two whose lines differ wait for one reason: only one of them may be genuine, and the
+        # secretary sees both
         both = [data.replace(b"Received:", b"X:") for data in (signed, quoted, signed + b"\n")]
         self.become(both, "waits: no arrival", "waits: no arrival", "copy")
 
@@ -129,7 +131,8 @@ class Several(unittest.TestCase):
         kept = [one.read for one in found]
         self.become([*kept, again], "entered", "entered", "waits: came before", **entered(*found))
         self.become([first(), bens(11), again], IN, f"in: ben {RANKS}", "copy")
-        # one of a letter that waits for a ballot beside it is one letter, of the earliest arrival: a second delivery makes it no later one
+        # one of a letter that waits for a ballot beside it is one letter, of the earliest arrival:
+        # a second delivery makes it no later one
         for copy, becomes in (
             (again, "waits: came before"),
             (above(first(), b"X-Status: R\n"), "copy"),
@@ -149,7 +152,9 @@ class Several(unittest.TestCase):
         self.become(letters, "entered", "copy", f"in: {OTHER}", **entered(*found))
 
     def test_an_earlier_copy_of_one_that_went_in(self) -> None:
-        """A late copy was read first. If another ballot lies between the two, neither mailbox decides which is the last: the secretary does."""
+        """A late copy was read first. If another ballot lies between the two, neither mailbox
+        decides which is the last: the secretary does.
+        """
         again = judged(first(12))
         since, kept = entered(*again), again[0].read
         self.become([first(), kept], "copy", "entered", **since)
@@ -161,7 +166,9 @@ class Several(unittest.TestCase):
         self.assertEqual(copy.reason and for_secretary(copy.reason), said)
 
     def test_a_letter_with_a_later_one(self) -> None:
-        """It can count in no case, unless the later one is struck, or is late; a line has only the time at which somebody entered it."""
+        """It can count in no case, unless the later one is struck, or is late; a line has only the
+        time at which somebody entered it.
+        """
         later = judged(other(12))
         self.become([later[0].read, first()], "older: later ballot", "entered", **entered(*later))
         by_letter = Ballot(at(12), OTHER, True)
@@ -183,7 +190,9 @@ class Several(unittest.TestCase):
         self.become([letter("ada", "hello")], "waits: no ballot", ballots={"ada": [by_letter]})
 
     def test_a_later_copy_of_one_that_was_entered_or_set_aside_by_hand(self) -> None:
-        """Without a Message-ID an elector's third letter may be the first one once more, and is their last word."""
+        """Without a Message-ID an elector's third letter may be the first one once more, and is
+        their last word.
+        """
         for text, decision in (
             (f"{RANKS}\n", queries.ENTERED),
             (f"ben {RANKS}\n{BALLOT}\n", queries.ENTERED),
@@ -222,7 +231,8 @@ class Several(unittest.TestCase):
         self.become([data, above(data, b"X-Status: R\n")], "waits: no ballot", "copy")
         # for another reason it is told
         self.become([data, above(data, AUTOMATIC)], "waits: no ballot", "waits: automatic")
-        # one that arrived before, in a mailbox that is read later; nor does an earlier copy of a ballot
+        # one that arrived before, in a mailbox that is read later; nor does an earlier copy of a
+        # ballot
         # go in that an act set aside or put back
         for text in ("when?", BALLOT):
             kept = parsed(first(text=text))
@@ -284,7 +294,9 @@ class Delivery(NamedTuple):
 
 
 class World:
-    """What one elector did: letters, some of them delivered several times, and lines at a desk; and what the book then has."""
+    """What one elector did: letters, some of them delivered several times, and lines at a desk; and
+    what the book then has.
+    """
 
     def __init__(self, chance: random.Random) -> None:
         self.chance = chance
@@ -313,7 +325,9 @@ class World:
         )
 
     def last_words(self) -> set[str]:
-        """The model: each letter is of the minute in which its first copy arrived, and the last of all counts; it may have several of one minute."""
+        """The model: each letter is of the minute in which its first copy arrived, and the last of
+        all counts; it may have several of one minute.
+        """
         first = {
             one.letter: one.minute for one in sorted(self.deliveries, key=lambda one: -one.minute)
         }
@@ -325,7 +339,9 @@ class World:
         return by_minute[max(by_minute)]
 
     def is_plain(self) -> bool:
-        """Whether no person has to look: no line at a desk, and no copy or other letter within the minutes of another letter."""
+        """Whether no person has to look: no line at a desk, and no copy or other letter within the
+        minutes of another letter.
+        """
         minutes: dict[int, list[int]] = collections.defaultdict(list)
         for one in self.deliveries:
             minutes[one.letter].append(one.minute)
@@ -334,7 +350,9 @@ class World:
         return not self.desk and all(before < begin for (_, before), (begin, _) in pairs)
 
     def read(self) -> tuple[str, bool]:
-        """Reads the mailboxes at any minutes, each as it is then, and all at the end; returns the ballot that counts, and whether one waits."""
+        """Reads the mailboxes at any minutes, each as it is then, and all at the end; returns the
+        ballot that counts, and whether one waits.
+        """
         chance = self.chance
         reads = [
             (minute, chance.randrange(BOXES)) for minute in range(MINUTES) if chance.random() < 0.4
@@ -369,7 +387,9 @@ class World:
 
 class Orders(unittest.TestCase):
     def test_the_order_of_mailboxes_decides_nothing(self) -> None:
-        """However they are read, the last word of the elector counts, or a letter waits, which stops the close."""
+        """However they are read, the last word of the elector counts, or a letter waits, which
+        stops the close.
+        """
         plain = told = 0
         for seed in range(300):
             world = World(random.Random(seed))

@@ -78,11 +78,14 @@ class Files(unittest.TestCase):
         self.assert_becomes(noted, IN_BEN, "waits: no arrival")
         for start in (b"\n", b"\r\n\r\n", BOM, b"<?php exit; ?>\n", b"<?php exit; ?>\r\n"):
             self.assert_becomes(start + mailbox(ADA, BEN), IN_ADA, IN_BEN)
-        # without its first line it is one letter, and all but its first ballot are text of it: it waits
+        # without its first line it is one letter, and all but its first ballot are text of it: it
+        # waits
         self.assert_becomes(mailbox(ADA, CODED).removeprefix(LINE), PARTED)
 
     def test_lines_without_a_date_hide_no_letter(self) -> None:
-        """The letter above waits, and says to look at the file: what is below its parts nobody would see."""
+        """The letter above waits, and says to look at the file: what is below its parts nobody
+        would see.
+        """
         for line in (
             b"From ben\n",
             b"From - Mo Nov 23 10:00:00 2026\n",
@@ -100,7 +103,9 @@ class Files(unittest.TestCase):
             self.assert_becomes(LINE + ADA + b"\n" + head + CODED, PARTED)
 
     def test_mailboxes_of_thunderbird_and_lotus_notes_and_lines_that_part_nothing(self) -> None:
-        """Today it writes lines without sender and date; older letters in it have lines with a date."""
+        """Today it writes lines without sender and date; older letters in it have lines with a
+        date.
+        """
         status = b"X-Mozilla-Status: 0001\nX-Mozilla-Status2: 00000000\n"
         dated = b"From - Mon Nov 23 10:00:00 2026\n"
         for first, second in (
@@ -158,7 +163,9 @@ class Files(unittest.TestCase):
         self.assert_parted_off(box, False, True, True, False)
 
     def test_a_length_that_ends_elsewhere_parts_nothing_off(self) -> None:
-        """Any sender can write one. Else a stranger's letter would have all letters wait that come after it."""
+        """Any sender can write one. Else a stranger's letter would have all letters wait that come
+        after it.
+        """
         carrier, body = letter("mallory", "hello\n"), len("hello\n")
         exact = body + 1 + len(LINE) + len(BEN) + 1
 
@@ -234,7 +241,9 @@ class Files(unittest.TestCase):
 
 
 class Conservation(unittest.TestCase):
-    """No byte of what somebody adds is lost: it is in a letter that is kept, is named as not read, or parts two letters."""
+    """No byte of what somebody adds is lost: it is in a letter that is kept, is named as not read,
+    or parts two letters.
+    """
 
     lines = (
         LINE,

@@ -1,4 +1,4 @@
-"""Votes without a click: a secret one of 40 members by letters and slips alone, and the letter that the page of the call makes."""
+"""Votes without a click: a secret one by letters and slips, and the letter that the page makes."""
 
 import csv
 import hmac
@@ -17,7 +17,8 @@ RANKS = {
     for name, ranks in zip(MEMBERS, itertools.cycle(itertools.permutations("1234")))
 }
 
-# how many members write so, and what becomes of their letters: where {line} is the right line, and {ranks} its ranks
+# how many members write so, and what becomes of their letters: where {line} is the right line, and
+# {ranks} its ranks
 GOES_IN, ENTER, FORCE, TYPED, ASIDE, PAPER = range(6)
 LETTERS = (
     (18, GOES_IN, "Dear all,\n\n{line}\n\nMany thanks and best wishes\n\n-- \nLake Road 12\n", {}),
