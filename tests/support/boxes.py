@@ -58,7 +58,7 @@ def link_in(letter: bytes) -> tuple[str, str, str]:
 
 
 class BoxElectionTest(elections.ElectionTest):
-    """A vote with a box. Its host has the folder `web`, to which `upload` copies that of the call."""
+    """A vote with a box. Its host has the folder `web`, to which `upload` copies the call."""
 
     call_words = None
     workers = 1
@@ -238,7 +238,7 @@ class BoxElectionTest(elections.ElectionTest):
         (self.scratch / HOST_OFF).write_text(str(seconds))
 
     def later(self, seconds: int = 2) -> None:
-        """From now on all clocks are so many seconds further ahead than those of the devices were."""
+        """From now on all clocks are so many seconds further ahead, as those of the devices."""
         self.devices_off += seconds
         self.off(self.devices_off)
         self.host_off(self.devices_off)

@@ -331,7 +331,7 @@ class Closes(AskingTest):
 
 @NEEDS_PHP
 class Pages(AskingTest):
-    """An asking fetches the page, too: a forgotten upload, and a host that puts a script into it."""
+    """An asking fetches the page, too: of a forgotten upload, and of a host that changes it."""
 
     other = "Note: the page there is not that of the folder call: a script in it would see what is chosen, and could vote in the name of who opens it."
     before = (
@@ -391,7 +391,7 @@ class Pages(AskingTest):
         self.done("log --check")
 
     def test_one_with_a_script_more(self) -> None:
-        """It stops each close until the right one is found; each day on which it was there is told."""
+        """It stops each close until the right one is found; each day with it is told."""
         self.begun(ada=RANKS)
         self.change()
         # a look keeps nothing

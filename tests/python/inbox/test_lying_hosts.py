@@ -241,7 +241,7 @@ class Lies(boxes.BoxElectionTest):
         self.done("close --early")
 
     def test_letters_between_two_askings(self) -> None:
-        """What came between two askings may have the time of either clock, if one of them was off."""
+        """What came between two askings may have the time of either clock."""
         self.begun()
         for name, seconds, side in (("ada", 180, "behind"), ("ben", -180, "ahead of")):
             self.off(seconds)
