@@ -469,7 +469,7 @@ class Many(boxes.BoxElectionTest):
             )
         )
         words = (sys.executable, elections.ELECTION, "add", "--box", "--yes")
-        took = list[float]()
+        took = []
         for new, before in ((RECORDS, 0), (0, RECORDS)):
             ended = self.run_program(sys.executable, "-c", MEASURE, *words)
             *_, used = ended.output.splitlines()
