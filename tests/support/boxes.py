@@ -7,37 +7,67 @@ import json
 import pathlib
 import re
 import shutil
+from typing import Any
 
 from debvote_tools.call.box import personal_link
 
 from tests.support import elections, sealing
-from tests.support.web_host import HOST_OFF, Answer, Host, clock_of_php, request_of
+from tests.support.at_browser import Window
+from tests.support.letters import letter, mailbox
+from tests.support.web_host import END, FIRST, HOST_OFF, Answer, Host, clock_of_php, request_of
 
 UNTIL = ("--until", "2099-12-04 18:00", "--zone", "Europe/Berlin")
+RANKS, OTHER = "1,2,3,4", "4,3,2,1"
 LINK = re.compile(r"#([a-z0-9.-]+)/(\w{10})/(\w{16})\b")
+
+
+def now(later: float = 0) -> datetime.datetime:
+    """The time, or that of so many seconds later."""
+    return datetime.datetime.now(datetime.UTC) + datetime.timedelta(seconds=later)
+
+
+def text_of(data: bytes) -> str:
+    """The text of a letter, on one line."""
+    text = email.message_from_bytes(data).get_payload(decode=True)
+    assert isinstance(text, bytes)
+    return " ".join(text.decode().split())
+
+
+def visit(window: Window, address: str) -> None:
+    """Opens an address as somebody who comes from elsewhere."""
+    for url, is_open in (
+        ("about:blank", "location.href === 'about:blank'"),
+        (address, "document.readyState === 'complete' && location.href !== 'about:blank'"),
+    ):
+        window.tell("Page.navigate", url=url)
+        window.until(is_open)
+
+
+def press(window: Window) -> str:
+    """Presses the button, and returns what is said then."""
+    said = "document.getElementById('Sent').textContent"
+    window.ask("document.getElementById('Vote').click()")
+    window.until(f"!['', 'It is being sent ..'].includes({said})")
+    return str(window.ask(said))
 
 
 def link_in(letter: bytes) -> tuple[str, str, str]:
     """Name, own mark and third part of the personal link in a letter to an elector."""
-    text = email.message_from_bytes(letter).get_payload(decode=True)
-    assert isinstance(text, bytes)
-    [found] = set(LINK.findall(text.decode()))
+    [found] = set(LINK.findall(text_of(letter)))
     return found
 
 
 class BoxElectionTest(elections.ElectionTest):
-    """A vote with a box. Its host has the folder `web`, to which `upload` copies that of the call."""
+    """A vote with a box. Its host has the folder `web`, to which `upload` copies the call."""
 
     call_words = None
     workers = 1
-    # whether the clock of the host can be set
-    has_clock = False
     # by how many seconds the clocks of the devices are ahead
     devices_off = 0
 
     def setUp(self) -> None:
         super().setUp()
-        self.settings = clock_of_php(self.scratch) if self.has_clock else []
+        self.settings = clock_of_php(self.scratch)
         self.begin_host("web")
         self.numbers = itertools.count(1)
         self.bodies: dict[int, bytes] = {}
@@ -54,9 +84,7 @@ class BoxElectionTest(elections.ElectionTest):
 
     def call(self, *words: str) -> elections.Ended:
         """The call, an hour ago."""
-        self.set_clock(
-            f"{datetime.datetime.now(datetime.UTC) - datetime.timedelta(hours=1):%Y-%m-%dT%H:%M:%S+00:00}"
-        )
+        self.off(-3600)
         ended = self.done(
             "call", *UNTIL, "--to", "vote@club.example", "--at", self.host.at, "--box", *words
         )
@@ -72,7 +100,9 @@ class BoxElectionTest(elections.ElectionTest):
         shutil.copytree(self.folder / "call", self.web, dirs_exist_ok=True)
 
     def links(self) -> dict[str, str]:
-        """The third parts of the personal links, by name, as the last letters of the call have them."""
+        """The third parts of the personal links, by name, as the last letters of the call have
+        them.
+        """
         folders = sorted(
             (self.folder / "letters" / "call").iterdir(), key=lambda one: one.stat().st_mtime
         )
@@ -83,9 +113,9 @@ class BoxElectionTest(elections.ElectionTest):
         ]
         return {name: link for name, _, link in found}
 
-    def begun(self, **clicks: str) -> dict[str, str]:
+    def begun(self, *words: str, **clicks: str) -> dict[str, str]:
         """Called, uploaded, asked, and written to all, of whom some have clicked: the links."""
-        self.call()
+        self.call(*words)
         self.done("add", "--box")
         self.done("letters", "call")
         links = self.links()
@@ -94,7 +124,9 @@ class BoxElectionTest(elections.ElectionTest):
         return links
 
     def of_page(self, what: str) -> str:
-        """What the page that is uploaded knows: its poll, the key to which it seals, and what it posts."""
+        """What the page that is uploaded knows: its poll, the key to which it seals, and what it
+        posts.
+        """
         return re.findall(rf'data-{what}="([^"]+)"', (self.web / "index.html").read_text())[0]
 
     def page(self) -> str:
@@ -107,22 +139,27 @@ class BoxElectionTest(elections.ElectionTest):
         assert isinstance(key, bytes)
         return key
 
-    def place_of(self, name: str, link: str) -> str:
-        """What is behind the address in the personal link that has this third part."""
+    def place_of(self, name: str, link: str = "") -> str:
+        """What is behind the address in the personal link of now, or in that which has this third
+        part.
+        """
         words = (
             "SELECT DISTINCT mark FROM elector_state JOIN elector USING (elector) WHERE name = ?"
         )
         owns = [str(own) for own, in self.rows(words, name) if own]
         places = [personal_link(self.key, name, own) for own in owns]
+        link = link or self.links()[name]
         return next((one for one in places if one.endswith(link)), f"{name}/{'2' * 10}/{link}")
+
+    def proof_of(self, name: str) -> str:
+        """What the page sends of the link of an elector."""
+        return sealing.proof_of(self.mark(), self.place_of(name))
 
     def sealed(
         self, line: str, place: str, number: int, sent: datetime.datetime | None = None
     ) -> str:
         """A ballot as the page seals it, which was sent now or at another time."""
-        when = sent or datetime.datetime.now(datetime.UTC) + datetime.timedelta(
-            seconds=self.devices_off
-        )
+        when = sent or now(self.devices_off)
         text = sealing.inside(
             line,
             place,
@@ -143,43 +180,93 @@ class BoxElectionTest(elections.ElectionTest):
         return self.host.send(self.body_of(name, ranks, link, number))
 
     def record(
-        self, line: str, link: str, number: int, time: str, sent: datetime.datetime | None = None
+        self,
+        line: str,
+        time: datetime.datetime,
+        link: str = "",
+        sent: datetime.datetime | None = None,
     ) -> bytes:
-        """A record that somebody wrote into the file of the host, who has a personal link with this third part:
-        it arrived at this time, and was sent then by the device, too, or at another time.
+        """A record that somebody wrote into the file of the host, who has the personal link, or one
+        with this third part: it arrived at this time, and was sent then by the device, too, or at
+        another time.
         """
-        name, when = line.partition(" ")[0], datetime.datetime.fromisoformat(time)
-        place = self.place_of(name, link)
-        text = self.sealed(line, place, number, sent or when.replace(tzinfo=datetime.UTC))
-        return sealing.record(self.of_page("mark"), place, number, time, text).encode()
+        place, number = self.place_of(line.partition(" ")[0], link), next(self.numbers)
+        text = self.sealed(line, place, number, sent or time)
+        when = time.astimezone(datetime.UTC).isoformat()[:19]
+        return sealing.record(self.of_page("mark"), place, number, when, text).encode()
 
-    def click(self, name: str, ranks: str, link: str) -> Answer:
-        answer = self.sent(name, ranks, link, next(self.numbers))
+    def click(self, name: str, ranks: str = RANKS, link: str = "") -> Answer:
+        """A click by the link of now, or by this one."""
+        answer = self.sent(name, ranks, link or self.links()[name], next(self.numbers))
         assert answer.word == "received", answer
         return answer
 
-    def off(self, seconds: int) -> None:
-        """From now on the clock of this computer is so many seconds ahead."""
-        self.set_clock(
-            f"{datetime.datetime.now(datetime.UTC) + datetime.timedelta(seconds=seconds):%Y-%m-%dT%H:%M:%S+00:00}"
-        )
+    def click_unopened(self, *names: str) -> None:
+        """The page of each of these electors sends what nobody can open."""
+        for name in names:
+            head = f"{self.page()} {self.proof_of(name)} {next(self.numbers):032x}"
+            assert self.host.send(request_of(head, "A" * 300)).word == "received"
+
+    def add_box(self) -> str:
+        """Asks the box, and enters what is new: what is said."""
+        return self.done("add", "--box", "--yes").output
+
+    def letter(self, name: str, text: str, ago: float = 0, **how: object) -> bytes:
+        """A letter that arrived so many seconds ago."""
+        arrived = f"{now(-ago):%a, %d %b %Y %H:%M:%S +0000}"
+        return letter(name, f"{text}\n", time=arrived, **how)  # type: ignore[arg-type]
+
+    def add(self, *letters: bytes) -> str:
+        """What `add` says of letters that come in a mailbox."""
+        self.write("inbox.mbox", self.of_this_vote(mailbox(*letters)))
+        return self.done("add", "--yes", "inbox.mbox").output
+
+    def new_address(self, name: str) -> str:
+        """An elector gets a new address, and so a new link, of which the host knows nothing: what
+        `roll` says.
+        """
+        members = self.members or elections.members_of(self.names)
+        self.write("members.csv", members.replace(f"{name}@club", f"{name}@new"))
+        return self.done("roll", "--yes").output
+
+    def off(self, seconds: float) -> None:
+        """From now on the clock of this computer stands so many seconds ahead."""
+        self.set_clock(f"{now(seconds):%Y-%m-%dT%H:%M:%S+00:00}")
 
     def host_off(self, seconds: int) -> None:
         """From now on the clock of the host is so many seconds ahead."""
         (self.scratch / HOST_OFF).write_text(str(seconds))
+
+    def later(self, seconds: int = 2) -> None:
+        """From now on all clocks are so many seconds further ahead, as those of the devices."""
+        self.devices_off += seconds
+        self.off(self.devices_off)
+        self.host_off(self.devices_off)
+
+    def told(self, *words: object) -> str:
+        """What a command says, which has to do what it is asked for."""
+        return self.done(*words).output
 
     def receipts(self) -> dict[str, str]:
         """The texts of the receipts that are written now, by name, each on one line."""
         folder = self.folder / "letters" / "receipts"
         before = {*folder.rglob("*.eml")}
         self.done("letters", "receipts")
-        texts = {}
-        for file in {*folder.rglob("*.eml")} - before:
-            text = email.message_from_bytes(file.read_bytes()).get_payload(decode=True)
-            assert isinstance(text, bytes)
-            read = " ".join(text.decode().split())
-            texts[str(re.findall(r"You vote under the name ([a-z0-9.-]+)\b", read)[0])] = read
-        return texts
+        texts = [text_of(file.read_bytes()) for file in {*folder.rglob("*.eml")} - before]
+        return {
+            re.findall(r"You vote under the name ([a-z0-9.-]+)\b", one)[0]: one for one in texts
+        }
+
+    def texts(self, kind: str) -> dict[str, str]:
+        """The texts of all letters of a kind that were written, by the names of their files, each
+        on one line.
+        """
+        files = (self.folder / "letters" / kind).rglob("*.eml")
+        return {file.stem: text_of(file.read_bytes()) for file in files}
+
+    def status(self) -> dict[str, Any]:
+        """What `status` tells a program."""
+        return dict(json.loads(self.done("status", "--json").output))
 
     def boxes_kept(self) -> list[dict[str, object]]:
         """What the acts keep of each asking."""
@@ -200,3 +287,13 @@ class BoxElectionTest(elections.ElectionTest):
         """What the host keeps."""
         [found] = self.web.glob("box-*.php")
         return found
+
+    def records(self) -> list[bytes]:
+        """The records in it."""
+        parts = self.file().read_bytes().removeprefix(FIRST).split(END)
+        assert parts.pop() == b"", parts
+        return [part + END for part in parts]
+
+    def keep(self, *records: bytes) -> None:
+        """From now on it has these records alone."""
+        self.file().write_bytes(FIRST + b"".join(records))

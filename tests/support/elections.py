@@ -6,6 +6,7 @@ import hashlib
 import os
 import pathlib
 import re
+import shlex
 import shutil
 import sqlite3
 import subprocess
@@ -216,6 +217,9 @@ class ElectionTest(unittest.TestCase):
         }
 
     def election(self, *words: object, **how: object) -> Ended:
+        """Runs debvote-election; its words may be one text, as they are typed."""
+        if len(words) == 1:
+            words = (*shlex.split(str(words[0])),)
         return self.run_program(sys.executable, ELECTION, *words, **how)
 
     def desk(self, **how: object) -> subprocess.Popen[str]:
@@ -293,3 +297,7 @@ class ElectionTest(unittest.TestCase):
         self.assertEqual(len(ended.faults.splitlines()), 1, ended.faults)
         for part in parts:
             self.assertIn(part, ended.faults)
+
+    def refused(self, words: object, *parts: str, status: int = 9) -> None:
+        """A command, as it is typed, ends with this status and one fault, which has these parts."""
+        self.assert_fault(self.election(words), status, *parts)

@@ -46,8 +46,8 @@ CLOCK = "<?php function time(): int { return (int) microtime(true) + (int) file_
 
 
 def clock_of_php(folder: pathlib.Path) -> list[str]:
-    """Settings with which PHP has the clock that this folder says: PHP's own `time` is taken away, and
-    made anew before each script.
+    """Settings with which PHP has the clock that this folder says: PHP's own `time` is taken away,
+    and made anew before each script.
     """
     (folder / HOST_OFF).write_text("0")
     (folder / "clock.php").write_text(CLOCK % HOST_OFF)
@@ -81,7 +81,9 @@ def place_of(name: str, link: str | None = None, own: str | None = None) -> str:
 
 
 def text_of(name: str, line: str, number: int, place: str = "", public: str = PUBLIC) -> str:
-    """A ballot that is sealed; by the device, too, the one with the greater number is the later one."""
+    """A ballot that is sealed; by the device, too, the one with the greater number is the later
+    one.
+    """
     sent = datetime.datetime(2026, 1, 1, tzinfo=datetime.UTC) + datetime.timedelta(seconds=number)
     text = sealing.inside(line, place or place_of(name), f"{sent:%Y-%m-%dT%H:%M:%S}.000Z")
     return sealing.sealed(public, MARK, f"{number:032x}", text)
@@ -177,8 +179,8 @@ class Host:
         return (int(its[11]) + int(its[12])) / os.sysconf("SC_CLK_TCK")
 
     def requests(self) -> list[str]:
-        """The requests of pages until now. The server writes of one after it has answered it, and before it
-        answers the next.
+        """The requests of pages until now. The server writes of one after it has answered it, and
+        before it answers the next.
         """
         self.send(b"", "GET", "/now")
         found = re.findall(r"\]: (\w+ \S+)", self.said().decode())

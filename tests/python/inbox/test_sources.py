@@ -1,6 +1,7 @@
 """What letters come in: by what is in it, and not by its name."""
 
 import collections
+import itertools
 import os
 import pathlib
 import random
@@ -30,6 +31,7 @@ from tests.support.letters import (
     read_in,
 )
 
+BOM = b"\xef\xbb\xbf"
 LINE = b"From somebody Mon Nov 23 10:00:00 2026\n"
 ADA, BEN = letter("ada", f"ada {RANKS}\n"), letter("ben", f"ben {RANKS}\n")
 IN_ADA, IN_BEN, PARTED = f"in: ada {RANKS}", f"in: ben {RANKS}", "waits: parted off"
@@ -62,39 +64,28 @@ class Files(unittest.TestCase):
             b"From x Mon, 2 Nov 2026 9:00\n",
         ):
             box = mailbox(ADA, BEN).replace(LINE, line)
-            for data in (box, box.replace(b"\n", b"\r\n")):
-                found = letters_of_file("box", data)
-                self.assertEqual(
-                    [raw.where for raw in read_in(found)], ["box, message 1", "box, message 2"]
-                )
-                self.assertEqual(
-                    [raw.data.replace(b"\r", b"") for raw in read_in(found)], [ADA, BEN], line
-                )
-                self.assertEqual(outcome_of(found), [IN_ADA, IN_BEN])
-        for data in (ADA, b"\n\n" + ADA, b"\xef\xbb\xbf" + ADA, b"From ben\n" + ADA):
-            found = letters_of_file("x", data)
-            self.assertEqual(
-                [(raw.where, raw.data, raw.is_parted_off) for raw in read_in(found)],
-                [("x", ADA, False)],
-                data[:10],
-            )
+            for end in (b"\n", b"\r\n"):
+                found = letters_of_file("box", box.replace(b"\n", end))
+                where = [raw.where for raw in read_in(found)]
+                self.assertEqual(where, ["box, message 1", "box, message 2"])
+                data = [raw.data.replace(end, b"\n") for raw in read_in(found)]
+                self.assertEqual((data, outcome_of(found)), ([ADA, BEN], [IN_ADA, IN_BEN]), line)
+        for data in (ADA, b"\n\n" + ADA, BOM + ADA, b"From ben\n" + ADA):
+            [raw] = read_in(letters_of_file("x", data))
+            self.assertEqual((raw.where, raw.data, raw.is_parted_off), ("x", ADA, False))
         # a head of one field is enough where the line above has a date
-        self.assert_becomes(
-            LINE + b"X-Note: kept\n\nhello\n\n" + LINE + BEN, IN_BEN, "waits: no arrival"
-        )
-        # without its first line it is one letter, and all but its first ballot are text of it: it waits
-        for start in (
-            b"\n",
-            b"\r\n\r\n",
-            b"\xef\xbb\xbf",
-            b"<?php exit; ?>\n",
-            b"<?php exit; ?>\r\n",
-        ):
+        noted = LINE + b"X-Note: kept\n\nhello\n\n" + LINE + BEN
+        self.assert_becomes(noted, IN_BEN, "waits: no arrival")
+        for start in (b"\n", b"\r\n\r\n", BOM, b"<?php exit; ?>\n", b"<?php exit; ?>\r\n"):
             self.assert_becomes(start + mailbox(ADA, BEN), IN_ADA, IN_BEN)
+        # without its first line it is one letter, and all but its first ballot are text of it: it
+        # waits
         self.assert_becomes(mailbox(ADA, CODED).removeprefix(LINE), PARTED)
 
     def test_lines_without_a_date_hide_no_letter(self) -> None:
-        """The letter above waits, and says to look at the file: what is below its parts nobody would see."""
+        """The letter above waits, and says to look at the file: what is below its parts nobody
+        would see.
+        """
         for line in (
             b"From ben\n",
             b"From - Mo Nov 23 10:00:00 2026\n",
@@ -105,21 +96,16 @@ class Files(unittest.TestCase):
                 self.assert_becomes(above + b"\n" + line + CODED, PARTED)
         # Thunderbird and others put fields of their own above all that the mail server wrote
         line = b"From ben 2026-11-23T10:00:00\n"
-        for field in (
-            b"X-Mozilla-Status: 0001\n",
-            b"X-UID: 7\n",
-            b"Delivery-Date: x\n",
-            b"Status: RO\n",
-            b"To: vote\n",
-            b"Subject: x\n",
-        ):
-            below = b"\n" + line + field + CODED
-            self.assert_becomes(LINE + ADA + below, PARTED)
-            self.assert_becomes(line + field + ADA, IN_ADA)
-            self.assert_becomes(line + field + ADA + below, PARTED)
+        for field in (b"X-Mozilla-Status: 0001", b"Delivery-Date: x", b"Status: RO", b"To: vote"):
+            head = line + field + b"\n"
+            self.assert_becomes(head + ADA, IN_ADA)
+            self.assert_becomes(head + ADA + b"\n" + head + CODED, PARTED)
+            self.assert_becomes(LINE + ADA + b"\n" + head + CODED, PARTED)
 
     def test_mailboxes_of_thunderbird_and_lotus_notes_and_lines_that_part_nothing(self) -> None:
-        """Today it writes lines without sender and date; older letters in it have lines with a date."""
+        """Today it writes lines without sender and date; older letters in it have lines with a
+        date.
+        """
         status = b"X-Mozilla-Status: 0001\nX-Mozilla-Status2: 00000000\n"
         dated = b"From - Mon Nov 23 10:00:00 2026\n"
         for first, second in (
@@ -136,15 +122,10 @@ class Files(unittest.TestCase):
         self.assert_becomes(ADA + b"\nFrom \n" + BEN, PARTED)
         # Lotus Notes writes boundaries with a blank
         notes = "=_alternative 004A8E32C1256F5A_="
-        for kind in (
-            f'multipart/alternative; boundary="{notes}"',
-            f'multipart/alternative; boundary="{notes} "',
-        ):
-            self.assert_becomes(
-                mailbox(letter("ada", f"--{notes}\n\nada {RANKS}\n--{notes}--\n", kind=kind), BEN),
-                IN_ADA,
-                IN_BEN,
-            )
+        for end in ("", " "):
+            kind = f'multipart/alternative; boundary="{notes}{end}"'
+            parts = letter("ada", f"--{notes}\n\nada {RANKS}\n--{notes}--\n", kind=kind)
+            self.assert_becomes(mailbox(parts, BEN), IN_ADA, IN_BEN)
         text = f"ada {RANKS}\n\nFrom Monday on\n\nFrom Monday on see\nhttps://x.example\n\n>From x Mon Nov 23 10:00:00 2026\n\nfrom x Mon Nov 23 10:00:00 2026\n\nFrom 10:00 on\n"
         self.assertEqual(len(read_in(letters_of_file("box", mailbox(letter("ada", text), BEN)))), 2)
 
@@ -152,56 +133,55 @@ class Files(unittest.TestCase):
         """As `cat *.eml` does: of the second nobody would see anything."""
         base64 = "Content-Transfer-Encoding: base64\n"
         html = letter("ada", f"<p>ada {RANKS}</p><br>\n", kind="text/html")
-        coded, pdf = letter("ada", "YWRhIDEsMiw0LDMK\n", head=base64), letter(
-            "ada", "JVBERi0x\n", kind="application/pdf", head=base64
-        )
+        coded = letter("ada", "YWRhIDEsMiw0LDMK\n", head=base64)
+        pdf = letter("ada", "JVBERi0x\n", kind="application/pdf", head=base64)
         for data in (ADA, PARTS, html, coded, pdf):
             for between in (b"", b"\n", b"Return-Path: <ben@club.example>\n"):
                 self.assert_becomes(data + between + CODED, PARTED)
-        attached = letter(
-            "ada",
-            f"--b\n\nada {RANKS}\n--b\nContent-Type: message/rfc822\n\n",
-            kind="multipart/mixed; boundary=b",
-        )
+        attached = PARTS.replace(b"--b--\n", b"--b\nContent-Type: message/rfc822\n\n")
         self.assert_becomes(attached + letter("ben", "hello\n") + b"--b--\n", PARTED)
 
     def test_what_may_be_text_of_the_letter_above(self) -> None:
         carrier, below = letter("mallory", "hello\n"), b"\n" + LINE + BEN
-        length = f"Content-Length: {len(LINE) + len(BEN) + 8}\n".encode()
+        length = b"Content-Length: %d\n" % (len(below) + 7)
+        begun = letter("x", "--b\n\nhi\n", kind="multipart/mixed; boundary=b")
         for box in (
             # no empty line, within the length, or within the parts
             carrier + LINE + BEN,
             length + carrier + below,
             length.replace(b": ", b":\n ") + carrier + below,
-            letter("x", "--bc\n\nhi\n", kind="multipart/mixed; boundary*0=b; boundary*1=c") + below,
-            letter("x", "--b\n\nhi\n", kind="multipart/mixed; boundary=b") + below,
-            letter("x", "--b--\n\n--c\n\nhi\n", kind="a/b; boundary=b; boundary=c") + below,
+            begun + below,
+            begun.replace(b"--b", b"--bc").replace(b"y=b", b"y*0=b; boundary*1=c") + below,
+            begun.replace(b"--b", b"--b--\n\n--c").replace(b"y=b", b"y=b; boundary=c") + below,
         ):
             self.assert_parted_off(LINE + box, False, True)
             self.assertEqual(outcome_of(letters_of_file("box", LINE + box))[1], PARTED)
         # each that is within the length, whatever those between say; and none after it
         body = b"hello\n\n" + LINE + b"Content-Length: 1\n" + BEN + b"\n" + LINE + BEN
-        head = f"Content-Length: {len(body)}\n".encode() + letter("mallory", "").rstrip(b"\n")
-        self.assert_parted_off(
-            LINE + head + b"\n\n" + body + b"\n" + LINE + ADA, False, True, True, False
-        )
+        head = b"Content-Length: %d\n" % len(body) + letter("mallory", "").rstrip(b"\n")
+        box = LINE + head + b"\n\n" + body + b"\n" + LINE + ADA
+        self.assert_parted_off(box, False, True, True, False)
 
     def test_a_length_that_ends_elsewhere_parts_nothing_off(self) -> None:
-        """Any sender can write one. Else a stranger's letter would have all letters wait that come after it."""
+        """Any sender can write one. Else a stranger's letter would have all letters wait that come
+        after it.
+        """
         carrier, body = letter("mallory", "hello\n"), len("hello\n")
         exact = body + 1 + len(LINE) + len(BEN) + 1
+
+        def box(length: int, *letters: bytes, line: bytes = LINE) -> bytes:
+            head = LINE + b"Content-Length: %d\n" % length
+            return head + carrier + b"\n" + mailbox(*letters).replace(LINE, line)
+
         for length in (exact - 2, exact + 1, exact + len(LINE), exact + 50, 10**9):
-            box = (
-                LINE + f"Content-Length: {length}\n".encode() + carrier + b"\n" + mailbox(BEN, ADA)
-            )
-            self.assert_parted_off(box, False, False, False)
-            self.assertEqual(outcome_of(letters_of_file("box", box))[1:], [IN_BEN, IN_ADA], length)
+            data = box(length, BEN, ADA)
+            self.assert_parted_off(data, False, False, False)
+            self.assertEqual(outcome_of(letters_of_file("box", data))[1:], [IN_BEN, IN_ADA], length)
         # before a line without a date, too
         for line, is_parted_off in ((LINE, True), (b"From \n", False)):
-            for empty in (0, 1):
-                head = f"Content-Length: {exact - empty - len(LINE) + len(line)}\n".encode()
-                box = LINE + head + (carrier + b"\n" + mailbox(BEN, ADA)).replace(LINE, line)
-                self.assert_parted_off(box, False, is_parted_off, False)
+            for length in (exact, exact - 1):
+                data = box(length - len(LINE) + len(line), BEN, ADA, line=line)
+                self.assert_parted_off(data, False, is_parted_off, False)
         # its own text alone, and the end of the file
         for length, is_parted_off in (
             (body, False),
@@ -209,26 +189,21 @@ class Files(unittest.TestCase):
             (exact + 1, True),
             (exact + 3, False),
         ):
-            head = f"Content-Length: {length}\n".encode()
-            self.assert_parted_off(LINE + head + carrier + b"\n" + LINE + BEN, False, is_parted_off)
+            self.assert_parted_off(box(length, BEN)[:-1], False, is_parted_off)
         # nor do parts that end, or a subject that anybody can write
-        for above in (
-            letter("x", "--b\n\nhi\n--b--\n", kind="multipart/mixed; boundary=b"),
-            letter("x", "hi\n", head="Subject: boundary=b\n"),
-        ):
+        for above in (PARTS, letter("x", "hi\n", head="Subject: boundary=b\n")):
             self.assert_parted_off(LINE + above + b"\n" + LINE + BEN, False, False)
 
     def test_what_is_no_letter_is_named(self) -> None:
         names = "__properties_version1.0".encode("utf-16-le")
-        cases = {
+        for data, why in {
             b"\xd0\xcf\x11\xe0rest" + names: NotRead.OUTLOOK_LETTER,
             b"!BDNrest": NotRead.OUTLOOK_MAILBOX,
             b"PK\x03\x04": NotRead.ZIP,
             b"%PDF-1.7": NotRead.PDF,
             b"hello\n": NotRead.NO_LETTER,
             b"": NotRead.NO_LETTER,
-        }
-        for data, why in cases.items():
+        }.items():
             found = letters_of_file("x", data)
             self.assertEqual((passed_over_in(found), read_in(found)), ([("x", why)], []))
             self.assertTrue(all(why.value))
@@ -238,15 +213,15 @@ class Files(unittest.TestCase):
         self.assertEqual(passed_over_in(found), [("box, message 1", NotRead.TOO_LONG)])
         self.assertEqual([raw.data for raw in read_in(found)], [BEN])
         self.assertEqual(passed_over_in(letters_of_file("x", long))[0][1], NotRead.TOO_LONG)
-        texts = (
+        for data in (
             b"ada: 1,2\nben: 1,2\n",
             b"From: ada 1\n",
             b"From Monday on\n\nada 1,2\n",
             b"",
             b"To be or not: x\n",
             LINE + b"ada 1,2\n",
-        )
-        self.assertEqual([data for data in texts if are_letters(data)], [])
+        ):
+            self.assertFalse(are_letters(data), data)
 
     def test_many_lines_take_a_time_that_grows_with_their_number(self) -> None:
         """As processor time: a time that grows with the square of the length would be minutes."""
@@ -266,7 +241,9 @@ class Files(unittest.TestCase):
 
 
 class Conservation(unittest.TestCase):
-    """No byte of what somebody adds is lost: it is in a letter that is kept, is named as not read, or parts two letters."""
+    """No byte of what somebody adds is lost: it is in a letter that is kept, is named as not read,
+    or parts two letters.
+    """
 
     lines = (
         LINE,
@@ -306,36 +283,34 @@ class Conservation(unittest.TestCase):
             else data[: len(data) - chance.choice((0, 0, 1))]
         )
 
+    def sections(self, data: bytes) -> list[bytes]:
+        """The letters of a file, which with what is between them are the file."""
+        sections = sections_of(data)
+        self.assertEqual(b"".join(itertools.chain.from_iterable(sections)), data)
+        # what is in no letter separates letters
+        for above, _, below in sections:
+            self.assertRegex(above, rb"\A(\xef\xbb\xbf)?[\r\n]*(From [^\n]*\n[\r\n]*)?\Z")
+            self.assertIn(below, (b"", b"\n", b"\r\n"))
+        return [one for _, one, _ in sections]
+
     def test_the_sections_of_a_file_are_the_file(self) -> None:
         chance = random.Random(3)
         becomes = collections.Counter[str]()
         for _ in range(800):
             data = self.changed(chance)
-            sections = sections_of(data)
-            self.assertEqual(b"".join(above + one + below for above, one, below in sections), data)
-            # what is in no letter separates letters
-            for above, _, below in sections:
-                self.assertRegex(above, rb"\A(\xef\xbb\xbf)?[\r\n]*(From [^\n]*\n[\r\n]*)?\Z")
-                self.assertIn(below, (b"", b"\n", b"\r\n"))
-            found = letters_of_file("box", data)
-            if read_in(found):
-                self.assertEqual(
-                    [raw.data for raw in read_in(found)], [one for _, one, _ in sections]
-                )
-                self.assertEqual(passed_over_in(found), [])
-            else:
-                self.assertEqual([one[0] for one in passed_over_in(found)], ["box"])
+            sections, found = self.sections(data), letters_of_file("box", data)
+            read, passed_over = read_in(found), passed_over_in(found)
+            self.assertEqual([raw.data for raw in read], sections if read else [])
+            self.assertEqual([where for where, _ in passed_over], [] if read else ["box"])
             outcomes = outcome_of(found)
-            self.assertEqual(len(outcomes), len(read_in(found)))
+            self.assertEqual(len(outcomes), len(read))
             becomes.update(one.partition(": ")[0] for one in outcomes)
         self.assertEqual(set(becomes), {"in", "waits", "copy"})
         self.assertGreater(min(becomes["in"], becomes["waits"]), 300)
         chance = random.Random(4)
         for _ in range(2_000):
             data = b"".join(chance.choices(self.lines, k=chance.randint(0, 12)))
-            self.assertEqual(
-                b"".join(above + one + below for above, one, below in sections_of(data)), data
-            )
+            self.sections(data)
 
 
 class Folders(unittest.TestCase):
@@ -364,13 +339,20 @@ class Folders(unittest.TestCase):
             ".hidden.eml": ADA,
             "more/c.eml": ADA,
             "d.zip": b"PK\x03\x04",
+            # several letters may be in a file of a folder, so it waits, or is named
+            "inner.eml": letter("ada", f"ada {RANKS}\n\n{LINE.decode()}{BEN.decode()}"),
+            "one.eml": LINE + ADA,
+            "box": mailbox(ADA, BEN),
         }.items():
             self.write(name, data)
         os.mkfifo(self.folder / "pipe")
         (self.folder / "link").symlink_to("nowhere")
         wanted = dict.fromkeys(("list.txt", "pipe", "link"), NotRead.NO_LETTER)
         wanted |= {".hidden.eml": NotRead.HIDDEN, "more": NotRead.FOLDER, "d.zip": NotRead.ZIP}
-        self.assertEqual(self.found(), (["a.eml", "b.eml"], wanted))
+        wanted |= {"box": NotRead.MAILBOX}
+        self.assertEqual(self.found(), (["a.eml", "b.eml", "inner.eml", "one.eml"], wanted))
+        *_, inner, one = read_in(letters_of_folder(self.folder))
+        self.assertEqual((inner.is_parted_off, one.is_parted_off, one.data), (True, False, ADA))
 
     def test_a_maildir(self) -> None:
         for place in (
@@ -382,16 +364,10 @@ class Folders(unittest.TestCase):
             "dovecot-uidlist",
         ):
             self.write(place, ADA if "host" in place else b"x")
-        wanted = {
-            ".Sent": NotRead.FOLDER,
-            "cur/deep": NotRead.FOLDER,
-            "dovecot-uidlist": NotRead.NO_LETTER,
-        }
+        wanted = dict.fromkeys((".Sent", "cur/deep"), NotRead.FOLDER)
+        wanted |= {"dovecot-uidlist": NotRead.NO_LETTER}
         self.assertEqual(self.found(), (["new/1.host", "cur/2.host:2,S"], wanted))
-
-    def test_a_letter_of_a_maildir_that_is_looked_at_meanwhile(self) -> None:
-        self.write("new/1.host", ADA)
-        self.write("cur/2.host:2,S", BEN)
+        # a letter that is looked at meanwhile
         iterdir = pathlib.Path.iterdir
 
         def listed(folder: pathlib.Path) -> list[pathlib.Path]:
@@ -401,20 +377,5 @@ class Folders(unittest.TestCase):
             return found
 
         with unittest.mock.patch.object(pathlib.Path, "iterdir", listed):
-            self.assertEqual(
-                self.found(),
-                (["cur/1.host:2,S", "cur/2.host:2,S"], {"new/1.host": NotRead.NO_LETTER}),
-            )
-
-    def test_a_file_of_a_folder_is_never_parted(self) -> None:
-        """Several letters may be in it, so it waits; a mailbox is named, or all but its first letter would be text of that."""
-        inner = letter("ada", f"ada {RANKS}\n\n{LINE.decode()}{BEN.decode()}")
-        self.write("a.eml", inner)
-        self.write("one.eml", LINE + ADA)
-        self.write("box", mailbox(ADA, BEN))
-        found = letters_of_folder(self.folder)
-        self.assertEqual(
-            [(raw.is_parted_off, raw.data) for raw in read_in(found)], [(True, inner), (False, ADA)]
-        )
-        self.assertEqual(sorted(outcome_of(found)), [f"in: ada {RANKS}", "waits: parted off"])
-        self.assertEqual(self.found()[1], {"box": NotRead.MAILBOX})
+            wanted |= {"new/1.host": NotRead.NO_LETTER}
+            self.assertEqual(self.found(), (["cur/1.host:2,S", "cur/2.host:2,S"], wanted))
