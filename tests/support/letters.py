@@ -9,7 +9,7 @@ import re
 import subprocess
 import sys
 from collections.abc import Callable, Collection, Mapping, Sequence
-from typing import TypeVar
+from typing import Any, TypeVar
 
 from debvote_tools.book import queries
 from debvote_tools.book.queries import Elector, EnteredBallot, OwnMark
@@ -226,6 +226,17 @@ def read(
     return kept
 
 
+def parted(how: Mapping[str, Any], names: Collection[str]) -> tuple[dict[str, Any], dict[str, Any]]:
+    """What of it has these names, and the rest."""
+    own = {name: value for name, value in how.items() if name in names}
+    return own, {name: value for name, value in how.items() if name not in names}
+
+
+def of_letter(how: Mapping[str, Any]) -> tuple[dict[str, Any], dict[str, Any]]:
+    """What of it `letter` takes, and the rest, which `judged` takes."""
+    return parted(how, ("number", "time", "sender", "head", "kind", "subject"))
+
+
 def judged(
     *letters: bytes | ParsedLetter,
     reader: DebvoteReader | None = None,
@@ -234,22 +245,21 @@ def judged(
     **other: object,
 ) -> list[LetterCase]:
     """What becomes of letters, in the order of their times; `decisions` are those of acts, by the digests of letters."""
-    of_names = {
-        name: value
-        for name, value in other.items()
-        if name in ("roll", "language", "real_names", "words")
-    }
-    of_others = {
-        name: value
-        for name, value in other.items()
-        if name not in ("language", "real_names", "words")
-    }
+    of_names, _ = parted(other, ("roll", "language", "real_names", "words"))
+    _, of_others = parted(other, ("language", "real_names", "words"))
     now = circumstances(**of_others)
     cases = [
         case_of(one, now, decisions.get(one.digest))
         for one in read(*letters, reader=reader, **of_names)
     ]
     return judge_all(cases, in_order(ballots or {}))
+
+
+def case(name: str, text: str, **how: object) -> LetterCase:
+    """What becomes of one letter."""
+    own, known = of_letter(how)
+    [one] = judged(letter(name, text, **own), **known)
+    return one
 
 
 def in_order(ballots: Mapping[str, Sequence[Ballot]]) -> BallotsByElector:
@@ -324,6 +334,13 @@ def outcome(one: LetterCase) -> str:
         return one.outcome.value
     for_secretary(one.reason)
     return f"{one.outcome.value}: {label(one.reason)}"
+
+
+def how_entered(one: LetterCase) -> str:
+    """By itself, by the command that `add` prints, by a later one, or by a line that is typed."""
+    if one.outcome is LetterOutcome.GOES_IN:
+        return "in"
+    return "offered" if one.is_offered else "entered" if one.can_be_entered else "typed"
 
 
 def outcomes(*letters: bytes | ParsedLetter, **other: object) -> list[str]:
