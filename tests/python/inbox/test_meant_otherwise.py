@@ -2,7 +2,7 @@
 
 import re
 import unittest
-from collections.abc import Iterable, Mapping, Sequence
+from collections.abc import Iterable, Iterator, Mapping, Sequence
 
 from debvote_tools.inbox.letter_lines import with_texts
 from debvote_tools.inbox.letter_words import other_words
@@ -39,234 +39,162 @@ SEVERAL = {
 
 # letters with the brackets ⟦⟧ around words that say otherwise, which are shown where the ballot is offered; {q} and {call} are a letter of ours with marks and without
 OFFERED = (
-    ("ida", "⟦Chers amis, ceci n'est qu'un essai !⟧\n\nida 3,4,2,1"),
-    ("hal", "⟦Hallo - noch nicht endgültig,⟧\n\nhal 2,1,3,4"),
-    ("ben", "⟦Estimados amigos, no vale⟧\n\nben 3,1,4,2"),
-    ("ada", "⟦Nulo⟧\nada 2,1,3,4"),
-    ("eve", "⟦Danke, Nein.⟧\n\neve 3,1,4,2"),
-    ("gus", "⟦Annulé.⟧\ngus 2,3,1,4"),
-    ("ida", "ida 4,3,2,1\n\n⟦Probe⟧"),
-    ("cleo", "cleo 2,3,1,4\n\n⟦Void⟧"),
-    ("ada", "ada 3,1,4,2\n\n⟦Je plaisante.⟧"),
-    ("dan", "dan 4,2,1,3\n⟦Provisional⟧"),
-    ("ada", "ada 3,4,2,1\n\n⟦Kind regards, not yet⟧"),
-    ("dan", "dan 2,4,1,3\n\n⟦Viele Grüße, noch nicht⟧"),
-    ("eve", "eve 1,3,2,4\n\nLG\n⟦gilt nicht⟧"),
-    ("cleo", "cleo 4,2,1,3\n\n⟦Saludos, no vale⟧"),
-    ("eve", "eve 2,4,1,3\n\n⟦Kind regards, No⟧"),
-    ("eve", "eve 2,4,1,3\n\nViele Grüße\n⟦Gus Nein⟧"),
-    ("fay", "fay 4,2,1,3\n\nViele Grüße\n⟦Ida Vorbehalt⟧"),
-    ("gus", "gus 1,2,4,3\n\n⟦Gus sagt Nein⟧"),
-    ("gus", "⟦Nein!⟧\n\ngus 1,2,4,3\n\nGus"),
-    (
-        "gus",
-        "gus 2,1,3,4\n\nLe 22/11/2026 à 10:00, Club a écrit :\n{q}\n\n⟦Ceci n'est qu'un essai.⟧",
-    ),
-    ("ada", "ada 2,3,1,4\n\nLe 22/11/2026 à 10:00, Club a écrit :\n{q}\n⟦Ne compte pas⟧"),
-    ("ida", "ida 3,1,4,2\n\nLe 22/11/2026 à 10:00, Club a écrit :\n{q}\n⟦Pas encore⟧\n{q}"),
-    ("dan", "dan 2,1,3,4\n\n⟦Retiro mi voto.⟧\nEl 22/11/26 a las 10:00, Club escribió:\n{q}"),
-    ("ada", "ada 4,3,2,1\n⟦> Gilt nicht.⟧"),
-    (
-        "hal",
-        "hal 2,3,1,4\n\n⟦> Ceci n'est qu'un essai.⟧\n>\n> Le 22/11/2026 à 10:00, Club a écrit :\n>> Dear Hal,",
-    ),
-    ("eve", "eve 2,1,3,4{gap}⟦I take it back.⟧"),
-    ("dan", "dan 1,2,4,3\n\n________________________________\n⟦Not my final vote.⟧"),
-    (
-        "ida",
-        "ida 2,3,1,4\n\n⟦Only a test.⟧\n________________________________\nFrom: Club <vote@club.example>\nSent: Sunday, 22 November 2026 10:00\nTo: ida@club.example\nSubject: Vote: Where we meet in spring\n\n{call}",
-    ),
-    (
-        "hal",
-        "hal 2,3,1,4\n\n    On 22/11/2026 10:00, Club wrote:\n\n Dear Hal,\n\n ⟦Please ignore.⟧\n\n Where we meet in spring",
-    ),
-    (
-        "gus",
-        "gus 1,2,4,3\n\n⟦El viernes cambié de opinión, Gus escribió:⟧\n> Dear Gus,\n>\n> Where we meet in spring",
-    ),
-    (
-        "gus",
-        "gus 1,3,2,4\n\nLe 23/11/2026, Gus ⟦a écrit que c'était une erreur⟧ :\n> Dear Gus,\n>\n> Where we meet in spring",
-    ),
-    ("fay", "fay 2,1,3,4\n\n⟦On the condition that it rains, Fay wrote:⟧\n> x"),
-    ("ben", "ben 1,2,4,3\n\nVon: Ben\n⟦Gesendet: zur Probe⟧\nAn: niemand\n⟦Betreff: gilt nicht⟧"),
-    (
-        "dan",
-        "dan 2,4,1,3\n\nFrom: Dan\n⟦Sent: in a hurry⟧\nTo: nobody\n⟦Subject: do not count the line above⟧",
-    ),
-    (
-        "cleo",
-        "cleo 2,1,3,4\n\n⟦Aus Versehen gesendet. Bitte löschen⟧\n\nAm 22.11.26 um 10:00 schrieb Club:\n{q}",
-    ),
-    ("fay", "fay 1,2,4,3\n\n⟦Not sent from my iPhone, and not by me⟧"),
-    ("gus", "gus 3,4,2,1\n\n⟦Enviado desde mi iPhone - ignorar⟧"),
-    ("gus", "gus 2,3,1,4\n\n⟦Envoyé trop tôt de mon iPad⟧"),
-    ("hal", "hal 1,2,4,3\n\n⟦Von meinem Galaxy gesendet - ungültig⟧"),
-    ("cleo", "⟦👎⟧\ncleo 1,3,2,4"),
-    ("ada", "⟦a̶d̶a̶ ̶1̶,̶2̶,̶4̶,̶3̶⟧\nada 2,1,4,3"),
-    (
-        "dan",
-        "dan 1,2,4,3\n\nAm 22.11.26 um 10:00 schrieb Club:\n> Option 1: At the lake\n⟦nur über meine Leiche⟧\n> Option 2: In the town hall\n> Option 3: Sell the house and meet there\n⟦am besten!⟧\n> Option 4: Further discussion (the default option)",
-    ),
-    (
-        "ada",
-        "ada 1,2,4,3\n\nLe 22/11/2026 à 10:00, Club a écrit :\n> Option 1: At the lake\n⟦jamais de la vie⟧\n> Option 2: In the town hall\n> Option 3: Sell the house and meet there\n⟦le meilleur !⟧\n> Option 4: Further discussion (the default option)",
-    ),
-    ("ada", "ada 3,1,4,2\n\n⟦(4 ist am besten)⟧"),
-    ("ben", "⟦La nota más alta es la mejor:⟧\nben 2,4,1,3"),
-    ("fay", "fay 4,1,2,3\n\n⟦(donc d'abord l'option 4, puis la 1, puis la 2, enfin la 3)⟧"),
-    ("ben", "ben 1,2,4,3\n\n⟦(de abajo arriba: el primer número es de la opción 4)⟧"),
-    ("fay", "fay 2,4,1,3\n\n⟦Fay's daughter (mother is in hospital)⟧"),
-    ("cleo", "cleo 1,2,3,4\n\n⟦oops: 2 and 3 the other way⟧"),
-    ("eve", "eve 1,2,3,4\n\n⟦J'ai inversé 2 et 3, désolé⟧"),
-    ("ida", "ida 2,4,1,3\n\n⟦Me he equivocado en algún número.⟧"),
-    ("ada", "⟦Que veut dire⟧\nada 4,2,1,3"),
-    ("ada", "⟦Wie stimme ich ab, etwa so⟧\nada 4,2,1,3"),
-    ("ida", "⟦Zum Beispiel:⟧\n\nida 4,3,2,1"),
-    (
-        "dan",
-        "⟦Anfang der weitergeleiteten Nachricht:⟧\n\nVon: Ida Vorbehalt <ida@club.example>\n⟦Betreff: so stimme ich⟧\nDatum: 22. November 2026 um 10:00:00 MEZ\nAn: dan@club.example\n\ndan 2,3,1,4",
-    ),
-    (
-        "fay",
-        "⟦-------- Mensaje reenviado --------⟧\n⟦Asunto: mi idea⟧\n⟦Fecha: Sun, 22 Nov 2026 10:00:00 +0100⟧\n⟦De: Ben Bell <ben@club.example>⟧\n⟦Para: fay@club.example⟧\n\nfay 3,1,4,2",
-    ),
-    ("dan", "⟦Hola Ben, así podría votar yo, ¿y tú?⟧\n\ndan 2,4,1,3\n\nDan"),
-    (
-        "fay",
-        "⟦Nous avons compté votre bulletin :⟧\n\nfay 2,3,1,4\n\n⟦Non, ce n'est pas ce que j'ai envoyé !⟧",
-    ),
-    ("hal", "⟦A reserva de que mi mujer esté de acuerdo:⟧\n\nhal 2,4,1,3"),
-    (
-        "dan",
-        "dan 3,1,4,2\n\nAm 22.11.26 um 10:00 schrieb Club:\n{q}\n\n⟦Solange das Haus nicht verkauft ist⟧",
-    ),
-    ("eve", "⟦Hola no⟧\n\neve 2,4,1,3"),
-    ("dan", "⟦This mailbox is no longer read. Your text:⟧\ndan 1,2,4,3"),
-    ("eve", "⟦Réponse automatique : en congé.⟧\n\neve 2,1,3,4"),
-    ("ida", "⟦Quien crea que voto⟧\nida 2,3,1,4\n⟦no me conoce.⟧"),
-    (
-        "dan",
-        "⟦Nach langem Überlegen bin ich zu dem Schluss gekommen, dass ich so sicher nicht⟧\ndan 1,2,4,3\n⟦stimme.⟧",
-    ),
-    ("ada", "ada 1,2,4,3\n\n⟦sayılmasın⟧"),
-    ("ada", "ada 1,2,4,3\n\nｎｏｔ\u3000⟦ｖａｌｉｄ⟧"),
-    ("ada", "ada 1,2,4,3\n\n⟦違います⟧"),
-    ("ada", "ada 1,2,4,3\n\n⟦𝓃𝑜𝓉 𝓋𝒶𝓁𝒾𝒹⟧"),
-    ("ada", "ada 1,2,4,3\n\n⟦nem ezt⟧"),
-    ("ada", "⟦Ich enthalte mich. (Meine Stimme wäre⟧\nada 4,3,2,1\n⟦gewesen.)⟧"),
-    ("fay", "⟦Veuillez supprimer mon vote⟧\nfay 1,2,4,3"),
-    ("ben", "⟦Whoever votes⟧\nben 2,4,1,3\n⟦is mad.⟧"),
-    ("ida", "⟦Mañana mandaré⟧\nida 4,2,1,3"),
-    ("hal", "⟦Das Gegenteil von⟧\nhal 1,2,4,3"),
-    ("ida", "⟦Vended la casa, es lo que más quiero.⟧\n\nida 1,2,4,3"),
-    ("ben", "ben 1,2,4,3\n\n⟦Je ne veux rien de tout cela, discutons encore.⟧"),
+    "ida: ⟦Chers amis, ceci n'est qu'un essai !⟧\n\nida 3,4,2,1",
+    "hal: ⟦Hallo - noch nicht endgültig,⟧\n\nhal 2,1,3,4",
+    "ben: ⟦Estimados amigos, no vale⟧\n\nben 3,1,4,2",
+    "ada: ⟦Nulo⟧\nada 2,1,3,4",
+    "eve: ⟦Danke, Nein.⟧\n\neve 3,1,4,2",
+    "gus: ⟦Annulé.⟧\ngus 2,3,1,4",
+    "ida: ida 4,3,2,1\n\n⟦Probe⟧",
+    "cleo: cleo 2,3,1,4\n\n⟦Void⟧",
+    "ada: ada 3,1,4,2\n\n⟦Je plaisante.⟧",
+    "dan: dan 4,2,1,3\n⟦Provisional⟧",
+    "ada: ada 3,4,2,1\n\n⟦Kind regards, not yet⟧",
+    "dan: dan 2,4,1,3\n\n⟦Viele Grüße, noch nicht⟧",
+    "eve: eve 1,3,2,4\n\nLG\n⟦gilt nicht⟧",
+    "cleo: cleo 4,2,1,3\n\n⟦Saludos, no vale⟧",
+    "eve: eve 2,4,1,3\n\n⟦Kind regards, No⟧",
+    "eve: eve 2,4,1,3\n\nViele Grüße\n⟦Gus Nein⟧",
+    "fay: fay 4,2,1,3\n\nViele Grüße\n⟦Ida Vorbehalt⟧",
+    "gus: gus 1,2,4,3\n\n⟦Gus sagt Nein⟧",
+    "gus: ⟦Nein!⟧\n\ngus 1,2,4,3\n\nGus",
+    "gus: gus 2,1,3,4\n\nLe 22/11/2026 à 10:00, Club a écrit :\n{q}\n\n⟦Ceci n'est qu'un essai.⟧",
+    "ada: ada 2,3,1,4\n\nLe 22/11/2026 à 10:00, Club a écrit :\n{q}\n⟦Ne compte pas⟧",
+    "ida: ida 3,1,4,2\n\nLe 22/11/2026 à 10:00, Club a écrit :\n{q}\n⟦Pas encore⟧\n{q}",
+    "dan: dan 2,1,3,4\n\n⟦Retiro mi voto.⟧\nEl 22/11/26 a las 10:00, Club escribió:\n{q}",
+    "ada: ada 4,3,2,1\n⟦> Gilt nicht.⟧",
+    "hal: hal 2,3,1,4\n\n⟦> Ceci n'est qu'un essai.⟧\n>\n> Le 22/11/2026 à 10:00, Club a écrit :\n>> Dear Hal,",
+    "eve: eve 2,1,3,4{gap}⟦I take it back.⟧",
+    "dan: dan 1,2,4,3\n\n________________________________\n⟦Not my final vote.⟧",
+    "ida: ida 2,3,1,4\n\n⟦Only a test.⟧\n________________________________\nFrom: Club <vote@club.example>\nSent: Sunday, 22 November 2026 10:00\nTo: ida@club.example\nSubject: Vote: Where we meet in spring\n\n{call}",
+    "hal: hal 2,3,1,4\n\n    On 22/11/2026 10:00, Club wrote:\n\n Dear Hal,\n\n ⟦Please ignore.⟧\n\n Where we meet in spring",
+    "gus: gus 1,2,4,3\n\n⟦El viernes cambié de opinión, Gus escribió:⟧\n> Dear Gus,\n>\n> Where we meet in spring",
+    "gus: gus 1,3,2,4\n\nLe 23/11/2026, Gus ⟦a écrit que c'était une erreur⟧ :\n> Dear Gus,\n>\n> Where we meet in spring",
+    "fay: fay 2,1,3,4\n\n⟦On the condition that it rains, Fay wrote:⟧\n> x",
+    "ben: ben 1,2,4,3\n\nVon: Ben\n⟦Gesendet: zur Probe⟧\nAn: niemand\n⟦Betreff: gilt nicht⟧",
+    "dan: dan 2,4,1,3\n\nFrom: Dan\n⟦Sent: in a hurry⟧\nTo: nobody\n⟦Subject: do not count the line above⟧",
+    "cleo: cleo 2,1,3,4\n\n⟦Aus Versehen gesendet. Bitte löschen⟧\n\nAm 22.11.26 um 10:00 schrieb Club:\n{q}",
+    "fay: fay 1,2,4,3\n\n⟦Not sent from my iPhone, and not by me⟧",
+    "gus: gus 3,4,2,1\n\n⟦Enviado desde mi iPhone - ignorar⟧",
+    "gus: gus 2,3,1,4\n\n⟦Envoyé trop tôt de mon iPad⟧",
+    "hal: hal 1,2,4,3\n\n⟦Von meinem Galaxy gesendet - ungültig⟧",
+    "cleo: ⟦👎⟧\ncleo 1,3,2,4",
+    "ada: ⟦a̶d̶a̶ ̶1̶,̶2̶,̶4̶,̶3̶⟧\nada 2,1,4,3",
+    "dan: dan 1,2,4,3\n\nAm 22.11.26 um 10:00 schrieb Club:\n> Option 1: At the lake\n⟦nur über meine Leiche⟧\n> Option 2: In the town hall\n> Option 3: Sell the house and meet there\n⟦am besten!⟧\n> Option 4: Further discussion (the default option)",
+    "ada: ada 1,2,4,3\n\nLe 22/11/2026 à 10:00, Club a écrit :\n> Option 1: At the lake\n⟦jamais de la vie⟧\n> Option 2: In the town hall\n> Option 3: Sell the house and meet there\n⟦le meilleur !⟧\n> Option 4: Further discussion (the default option)",
+    "ada: ada 3,1,4,2\n\n⟦(4 ist am besten)⟧",
+    "ben: ⟦La nota más alta es la mejor:⟧\nben 2,4,1,3",
+    "fay: fay 4,1,2,3\n\n⟦(donc d'abord l'option 4, puis la 1, puis la 2, enfin la 3)⟧",
+    "ben: ben 1,2,4,3\n\n⟦(de abajo arriba: el primer número es de la opción 4)⟧",
+    "fay: fay 2,4,1,3\n\n⟦Fay's daughter (mother is in hospital)⟧",
+    "cleo: cleo 1,2,3,4\n\n⟦oops: 2 and 3 the other way⟧",
+    "eve: eve 1,2,3,4\n\n⟦J'ai inversé 2 et 3, désolé⟧",
+    "ida: ida 2,4,1,3\n\n⟦Me he equivocado en algún número.⟧",
+    "ada: ⟦Que veut dire⟧\nada 4,2,1,3",
+    "ada: ⟦Wie stimme ich ab, etwa so⟧\nada 4,2,1,3",
+    "ida: ⟦Zum Beispiel:⟧\n\nida 4,3,2,1",
+    "dan: ⟦Anfang der weitergeleiteten Nachricht:⟧\n\nVon: Ida Vorbehalt <ida@club.example>\n⟦Betreff: so stimme ich⟧\nDatum: 22. November 2026 um 10:00:00 MEZ\nAn: dan@club.example\n\ndan 2,3,1,4",
+    "fay: ⟦-------- Mensaje reenviado --------⟧\n⟦Asunto: mi idea⟧\n⟦Fecha: Sun, 22 Nov 2026 10:00:00 +0100⟧\n⟦De: Ben Bell <ben@club.example>⟧\n⟦Para: fay@club.example⟧\n\nfay 3,1,4,2",
+    "dan: ⟦Hola Ben, así podría votar yo, ¿y tú?⟧\n\ndan 2,4,1,3\n\nDan",
+    "fay: ⟦Nous avons compté votre bulletin :⟧\n\nfay 2,3,1,4\n\n⟦Non, ce n'est pas ce que j'ai envoyé !⟧",
+    "hal: ⟦A reserva de que mi mujer esté de acuerdo:⟧\n\nhal 2,4,1,3",
+    "dan: dan 3,1,4,2\n\nAm 22.11.26 um 10:00 schrieb Club:\n{q}\n\n⟦Solange das Haus nicht verkauft ist⟧",
+    "eve: ⟦Hola no⟧\n\neve 2,4,1,3",
+    "dan: ⟦This mailbox is no longer read. Your text:⟧\ndan 1,2,4,3",
+    "eve: ⟦Réponse automatique : en congé.⟧\n\neve 2,1,3,4",
+    "ida: ⟦Quien crea que voto⟧\nida 2,3,1,4\n⟦no me conoce.⟧",
+    "dan: ⟦Nach langem Überlegen bin ich zu dem Schluss gekommen, dass ich so sicher nicht⟧\ndan 1,2,4,3\n⟦stimme.⟧",
+    "ada: ada 1,2,4,3\n\n⟦sayılmasın⟧",
+    "ada: ada 1,2,4,3\n\nｎｏｔ\u3000⟦ｖａｌｉｄ⟧",
+    "ada: ada 1,2,4,3\n\n⟦違います⟧",
+    "ada: ada 1,2,4,3\n\n⟦𝓃𝑜𝓉 𝓋𝒶𝓁𝒾𝒹⟧",
+    "ada: ada 1,2,4,3\n\n⟦nem ezt⟧",
+    "ada: ⟦Ich enthalte mich. (Meine Stimme wäre⟧\nada 4,3,2,1\n⟦gewesen.)⟧",
+    "fay: ⟦Veuillez supprimer mon vote⟧\nfay 1,2,4,3",
+    "ben: ⟦Whoever votes⟧\nben 2,4,1,3\n⟦is mad.⟧",
+    "ida: ⟦Mañana mandaré⟧\nida 4,2,1,3",
+    "hal: ⟦Das Gegenteil von⟧\nhal 1,2,4,3",
+    "ida: ⟦Vended la casa, es lo que más quiero.⟧\n\nida 1,2,4,3",
+    "ben: ben 1,2,4,3\n\n⟦Je ne veux rien de tout cela, discutons encore.⟧",
 )
 OFFERED_OF_SEVERAL = (
-    ("ida", "ida\nA 1,2\nC 2,1\n⟦D : contre⟧"),
-    ("ada", "ada\nA 1,2\nC 2,1\n⟦D: en contra⟧"),
-    ("fay", "fay A 1,2\n\n⟦The rest as Ada⟧"),
+    "ida: ida\nA 1,2\nC 2,1\n⟦D : contre⟧",
+    "ada: ada\nA 1,2\nC 2,1\n⟦D: en contra⟧",
+    "fay: fay A 1,2\n\n⟦The rest as Ada⟧",
 )
 # these are not offered: there is a quotation above, more is written than is shown, or no line is a ballot by itself
 NOT_OFFERED = (
-    ("ben", "ben 2,4,1,3 no."),
-    ("gus", "gus nein nein 1,2,4,3"),
-    ("ida", "ida 1,2,4,3 (Vorbehalt, siehe Telefonat)"),
-    ("gus", "Please ignore\n\nOn 22/11/2026 10:00, Club wrote:\n{q}\n\ngus 1,3,2,4"),
-    (
-        "ben",
-        "El 22/11/26 a las 10:00, Club escribió:\n{q}\n\nPor favor no lo cuenten todavía.\n\n{q}\n\nben 1,3,2,4",
-    ),
-    ("dan", "> Not my final vote\ndan 2,4,1,3"),
-    ("dan", "dan 4,3,2,1\n\nUnter Vorbehalt schrieb Dan:\n{q}"),
-    ("hal", "hal 3,1,4,2\n\nEl caso es que todavía no voto, Hal escribió:\n{q}"),
-    ("eve", "eve 1,3,2,4\n\nLe vote ci-dessus ne compte pas, Fay a écrit :\n{q}"),
-    ("ben", "ben 1,2,4,3\n\nNobody wrote:\n{q}"),
-    ("dan", "dan 4,3,2,1\n\nDe : moi\nEnvoyé : par erreur\nÀ : vous\nObjet : à ignorer\n\n{call}"),
-    ("gus", "gus 1,3,2,4 👎"),
-    ("gus", "[ ] gus 2,1,3,4"),
-    ("ida", "ida 2,1,3,4 ✗"),
-    ("fay", "fay 4,2,1,3 !?"),
-    ("hal", "hal 2,4,1,3 != hal 2,4,1,3"),
-    ("ada", "// ada 4,3,2,1"),
-    ("ada", "~~ada 1,2,4,3~~"),
-    ("hal", "(brouillon) hal 2,1,3,4"),
-    (
-        "ida",
-        "ida 1,3,2,4 (1)\n\nLe 22/11/2026 à 10:00, Club a écrit :\n{q}\n\n(1) merci de ne pas encore compter",
-    ),
-    ("ben", "ben 1,2,4,3¹\n\n-- \nBen Bell\n\n¹ unter Vorbehalt"),
-    (
-        "eve",
-        "On 22/11/2026 10:00, Club wrote:\n> 1 is the best, equal ranks are allowed, and - is last:\nfor me 4 is the best\n>\n>   eve _,_,_,_\neve 4,3,2,1",
-    ),
-    ("gus", "Points: gus 4,3,2,1"),
-    ("fay", "fay 10,5,0,0"),
-    ("eve", "Comme la dernière fois : eve 1,3,2,4, je crois."),
-    ("eve", "Macht es wie bei Hal, eve 3,4,2,1 falls das stimmt"),
-    ("dan", "Dan and I cannot agree:\ndan 4,3,2,1\nben 2,4,1,3"),
-    ("fay", "Entweder fay 3,4,2,1 oder ben 3,1,4,2, je nachdem, wer von uns zuerst kommt"),
-    ("ida", "ida 4,3,2,1\nben 2,1,3,4"),
-    ("gus", "eve 2,3,1,4"),
-    ("eve", "ida 3,1,4,2"),
-    ("cleo", "cleo 2,4,1,3 o cleo 3,1,4,2"),
-    ("ida", "I waver between\nida 1,2,4,3\nand\nida 4,3,2,1"),
-    ("gus", "gus 4,2,1,3\ngus 3,4,2,1"),
-    ("fay", "fay 3,4,2,1\n\nno, wait:\nfay 3,1,4,2"),
-    ("gus", "Au lieu de gus 1,2,4,3, mettez gus 2,1,3,4"),
-    ("gus", "What happens if I write gus 4,3,2,1"),
-    (
-        "cleo",
-        "FYI\n\n-------- Forwarded Message --------\nSubject: my vote\nDate: Sun, 22 Nov 2026 10:00:00 +0100\nFrom: Ada Lovelace <ada@club.example>\nTo: cleo@club.example\n\ncleo 3,4,2,1",
-    ),
-    (
-        "hal",
-        "Qu'en pensez-vous ?\n\n> -------- Message transféré --------\n> Sujet : mon idée\n> Date : Sun, 22 Nov 2026 10:00:00 +0100\n> De : Ida Vorbehalt <ida@club.example>\n> Pour : hal@club.example\n> \n> hal 3,4,2,1",
-    ),
-    ("ben", "Votaré más tarde.\n\n-- \nBen Bell\nben 3,1,4,2"),
-    ("fay", "Retiro este.\n\nEl 22/11/26 a las 10:00, Fay Wien escribió:\n> fay 2,4,1,3"),
-    ("cleo", "Le 22/11/2026 à 10:00, Cléo Martin a écrit :\n> cleo 1,2,4,3\n\nJe retire celui-ci."),
-    (
-        "hal",
-        "Thanks!\n\nOn 22/11/2026 10:00, Club wrote:\n> We counted your ballot:\n>\n> hal 3,1,4,2",
-    ),
-    ("fay", "fay 3,1,4,2 (provided that the hall is heated)"),
-    ("ada", "ada 3,4,2,1 sous réserve de l'accord de ma femme"),
-    ("hal", "hal 2,3,1,4 non efface ça"),
-    ("ada", "ada １，２，４，３\n\nnot valid"),
-    ("ben", "sin ben 3,1,4,2"),
-    ("fay", "fay ou ada 4,2,1,3"),
-    ("fay", "unfay 4,3,2,1"),
-    ("dan", "ohne dan 4,2,1,3"),
-    ("gus", "gus, no: 1,2,4,3"),
-    ("ida", "le mari de ida 4,2,1,3"),
-    ("cleo", "cleo would 3,4,2,1"),
-    ("fay", "fay vielleicht 2,1,3,4"),
+    "ben: ben 2,4,1,3 no.",
+    "gus: gus nein nein 1,2,4,3",
+    "ida: ida 1,2,4,3 (Vorbehalt, siehe Telefonat)",
+    "gus: Please ignore\n\nOn 22/11/2026 10:00, Club wrote:\n{q}\n\ngus 1,3,2,4",
+    "ben: El 22/11/26 a las 10:00, Club escribió:\n{q}\n\nPor favor no lo cuenten todavía.\n\n{q}\n\nben 1,3,2,4",
+    "dan: > Not my final vote\ndan 2,4,1,3",
+    "dan: dan 4,3,2,1\n\nUnter Vorbehalt schrieb Dan:\n{q}",
+    "hal: hal 3,1,4,2\n\nEl caso es que todavía no voto, Hal escribió:\n{q}",
+    "eve: eve 1,3,2,4\n\nLe vote ci-dessus ne compte pas, Fay a écrit :\n{q}",
+    "ben: ben 1,2,4,3\n\nNobody wrote:\n{q}",
+    "dan: dan 4,3,2,1\n\nDe : moi\nEnvoyé : par erreur\nÀ : vous\nObjet : à ignorer\n\n{call}",
+    "gus: gus 1,3,2,4 👎",
+    "gus: [ ] gus 2,1,3,4",
+    "ida: ida 2,1,3,4 ✗",
+    "fay: fay 4,2,1,3 !?",
+    "hal: hal 2,4,1,3 != hal 2,4,1,3",
+    "ada: // ada 4,3,2,1",
+    "ada: ~~ada 1,2,4,3~~",
+    "hal: (brouillon) hal 2,1,3,4",
+    "ida: ida 1,3,2,4 (1)\n\nLe 22/11/2026 à 10:00, Club a écrit :\n{q}\n\n(1) merci de ne pas encore compter",
+    "ben: ben 1,2,4,3¹\n\n-- \nBen Bell\n\n¹ unter Vorbehalt",
+    "eve: On 22/11/2026 10:00, Club wrote:\n> 1 is the best, equal ranks are allowed, and - is last:\nfor me 4 is the best\n>\n>   eve _,_,_,_\neve 4,3,2,1",
+    "gus: Points: gus 4,3,2,1",
+    "fay: fay 10,5,0,0",
+    "eve: Comme la dernière fois : eve 1,3,2,4, je crois.",
+    "eve: Macht es wie bei Hal, eve 3,4,2,1 falls das stimmt",
+    "dan: Dan and I cannot agree:\ndan 4,3,2,1\nben 2,4,1,3",
+    "fay: Entweder fay 3,4,2,1 oder ben 3,1,4,2, je nachdem, wer von uns zuerst kommt",
+    "ida: ida 4,3,2,1\nben 2,1,3,4",
+    "gus: eve 2,3,1,4",
+    "eve: ida 3,1,4,2",
+    "cleo: cleo 2,4,1,3 o cleo 3,1,4,2",
+    "ida: I waver between\nida 1,2,4,3\nand\nida 4,3,2,1",
+    "gus: gus 4,2,1,3\ngus 3,4,2,1",
+    "fay: fay 3,4,2,1\n\nno, wait:\nfay 3,1,4,2",
+    "gus: Au lieu de gus 1,2,4,3, mettez gus 2,1,3,4",
+    "gus: What happens if I write gus 4,3,2,1",
+    "cleo: FYI\n\n-------- Forwarded Message --------\nSubject: my vote\nDate: Sun, 22 Nov 2026 10:00:00 +0100\nFrom: Ada Lovelace <ada@club.example>\nTo: cleo@club.example\n\ncleo 3,4,2,1",
+    "hal: Qu'en pensez-vous ?\n\n> -------- Message transféré --------\n> Sujet : mon idée\n> Date : Sun, 22 Nov 2026 10:00:00 +0100\n> De : Ida Vorbehalt <ida@club.example>\n> Pour : hal@club.example\n> \n> hal 3,4,2,1",
+    "ben: Votaré más tarde.\n\n-- \nBen Bell\nben 3,1,4,2",
+    "fay: Retiro este.\n\nEl 22/11/26 a las 10:00, Fay Wien escribió:\n> fay 2,4,1,3",
+    "cleo: Le 22/11/2026 à 10:00, Cléo Martin a écrit :\n> cleo 1,2,4,3\n\nJe retire celui-ci.",
+    "hal: Thanks!\n\nOn 22/11/2026 10:00, Club wrote:\n> We counted your ballot:\n>\n> hal 3,1,4,2",
+    "fay: fay 3,1,4,2 (provided that the hall is heated)",
+    "ada: ada 3,4,2,1 sous réserve de l'accord de ma femme",
+    "hal: hal 2,3,1,4 non efface ça",
+    "ada: ada １，２，４，３\n\nnot valid",
+    "ben: sin ben 3,1,4,2",
+    "fay: fay ou ada 4,2,1,3",
+    "fay: unfay 4,3,2,1",
+    "dan: ohne dan 4,2,1,3",
+    "gus: gus, no: 1,2,4,3",
+    "ida: le mari de ida 4,2,1,3",
+    "cleo: cleo would 3,4,2,1",
+    "fay: fay vielleicht 2,1,3,4",
 )
 NOT_OFFERED_OF_SEVERAL = (
-    ("ida", "ida\nA 1,2\nBoard: no to everybody\nC 2,1"),
-    ("dan", "dan\nA 1,2\nC 2,1\nB dagegen"),
-    ("eve", "eve\nA 1,2 no\nB 2,1,3,4\nC 2,1"),
-    ("ida", "ida A 1,2 (contre le bateau) B 2,1,3,4 C 2,1"),
-    ("eve", "eve A 1,2 (I am against the boat) B 2,1,3,4 C 2,1"),
-    ("ida", "ida A 1,2 B 2,1,3,4 C 2,1\n\nA und C vertauscht, sorry!"),
-    ("fay", "fay A 1,2 B 2,1,3,4 C 2,1\n\nA y C al revés, perdón."),
-    (
-        "gus",
-        "El 22/11/26 a las 10:00, Club escribió:\n>   gus\n>   A 1,2\n>   B 2,1,3,4\n>   C 2,1\n\nno vale, solo rellenado",
-    ),
-    (
-        "cleo",
-        "Am 22.11.26 um 10:00 schrieb Club:\n>   cleo\n>   A 1,2\n>   B 2,1,3,4\n>   C 2,1\n\ngilt nicht, nur ausgefüllt",
-    ),
-    (
-        "ada",
-        "On 22/11/2026 10:00, Club wrote:\n>   ada\n>   A 1,2\n>   B 2,1,3,4\n>   C 2,1\n\ndoes not count, only filled in",
-    ),
-    ("hal", "hal A 1,2 B 2,1,3,4 C 2,1\n\nC solo si se aprueba A"),
-    ("hal", "hal\nA 1,2\nB encore ouvert, ne comptez pas encore\nC 2,1"),
-    ("fay", "fay A 1,2 oder 2,1 B 2,1,3,4 C 2,1"),
-    ("fay", "fay\nA 1,2\nB todavía abierto, no lo cuenten aún\nC 2,1"),
+    "ida: ida\nA 1,2\nBoard: no to everybody\nC 2,1",
+    "dan: dan\nA 1,2\nC 2,1\nB dagegen",
+    "eve: eve\nA 1,2 no\nB 2,1,3,4\nC 2,1",
+    "ida: ida A 1,2 (contre le bateau) B 2,1,3,4 C 2,1",
+    "eve: eve A 1,2 (I am against the boat) B 2,1,3,4 C 2,1",
+    "ida: ida A 1,2 B 2,1,3,4 C 2,1\n\nA und C vertauscht, sorry!",
+    "fay: fay A 1,2 B 2,1,3,4 C 2,1\n\nA y C al revés, perdón.",
+    "gus: El 22/11/26 a las 10:00, Club escribió:\n>   gus\n>   A 1,2\n>   B 2,1,3,4\n>   C 2,1\n\nno vale, solo rellenado",
+    "cleo: Am 22.11.26 um 10:00 schrieb Club:\n>   cleo\n>   A 1,2\n>   B 2,1,3,4\n>   C 2,1\n\ngilt nicht, nur ausgefüllt",
+    "ada: On 22/11/2026 10:00, Club wrote:\n>   ada\n>   A 1,2\n>   B 2,1,3,4\n>   C 2,1\n\ndoes not count, only filled in",
+    "hal: hal A 1,2 B 2,1,3,4 C 2,1\n\nC solo si se aprueba A",
+    "hal: hal\nA 1,2\nB encore ouvert, ne comptez pas encore\nC 2,1",
+    "fay: fay A 1,2 oder 2,1 B 2,1,3,4 C 2,1",
+    "fay: fay\nA 1,2\nB todavía abierto, no lo cuenten aún\nC 2,1",
 )
 # by the adversary, of ada
 BY_ADVERSARY = (
@@ -487,61 +415,53 @@ def validity(lines: Sequence[bytes]) -> Mapping[bytes, str | None]:
     }
 
 
-def judged(rows: Iterable[tuple[str, str]], *, are_several: bool) -> list[tuple[str, LetterCase]]:
-    """Each letter with what becomes of it, from the address of its elector and with their own mark."""
-    found, now = [], circumstances()
-    its_names = names(real_names=REAL, **(SEVERAL if are_several else {}))
-    for elector, row in rows:
-        text = (
-            row.replace("{q}", marked_by("> ", OURS))
-            .replace("{call}", OURS)
-            .replace("{gap}", "\n" * 200)
-        )
-        [one] = with_texts([parsed(letter(elector, re.sub("[⟦⟧]", "", text)))], its_names, validity)
-        found.append((text, judged_alone(one, now)))
-    return found
+def judged(
+    rows: Iterable[str], of_several: Iterable[str], elector: str = ""
+) -> Iterator[tuple[str, LetterCase]]:
+    """Each letter with what becomes of it, from the address of its elector and with their own mark. A row begins with their name, unless it is given."""
+    now = circumstances()
+    filled = {"{q}": marked_by("> ", OURS), "{call}": OURS, "{gap}": "\n" * 200}
+    for texts, how in ((rows, {}), (of_several, SEVERAL)):
+        its_names = names(real_names=REAL, **how)
+        for row in texts:
+            name, _, text = ("", "", row) if elector else row.partition(": ")
+            for mark, words in filled.items():
+                text = text.replace(mark, words)
+            data = parsed(letter(elector or name, re.sub("[⟦⟧]", "", text)))
+            [one] = with_texts([data], its_names, validity)
+            yield text, judged_alone(one, now)
 
 
 class Otherwise(unittest.TestCase):
     def test_those_that_are_offered(self) -> None:
         """What says otherwise is shown beside the ballot, or stands in the subject, which is shown, too."""
-        for rows, are_several in ((OFFERED, False), (OFFERED_OF_SEVERAL, True)):
-            for text, one in judged(rows, are_several=are_several):
-                self.assertEqual((one.outcome, one.is_offered), (LetterOutcome.WAITS, True), text)
-                shown, said = f"{one.read.subject} {' '.join(other_words(one))}", re.findall(
-                    "⟦(.*?)⟧", text
-                )
-                self.assertTrue(
-                    said
-                    and all(" ".join(words.split()) in " ".join(shown.split()) for words in said),
-                    (text, shown),
-                )
+        for text, one in judged(OFFERED, OFFERED_OF_SEVERAL):
+            self.assertEqual((one.outcome, one.is_offered), (LetterOutcome.WAITS, True), text)
+            shown = " ".join(f"{one.read.subject} {' '.join(other_words(one))}".split())
+            said = re.findall("⟦(.*?)⟧", text)
+            is_shown = [" ".join(words.split()) in shown for words in said]
+            self.assertTrue(said and all(is_shown), (text, shown))
 
     def test_those_that_are_not(self) -> None:
-        for rows, are_several in ((NOT_OFFERED, False), (NOT_OFFERED_OF_SEVERAL, True)):
-            for text, one in judged(rows, are_several=are_several):
-                self.assertEqual((one.outcome, one.is_offered), (LetterOutcome.WAITS, False), text)
+        for text, one in judged(NOT_OFFERED, NOT_OFFERED_OF_SEVERAL):
+            self.assertEqual((one.outcome, one.is_offered), (LetterOutcome.WAITS, False), text)
 
     def test_those_of_an_adversary(self) -> None:
         """Of those that are offered words are shown, but of the same ballot twice."""
-        for texts, are_several in ((BY_ADVERSARY, False), (BY_ADVERSARY_OF_SEVERAL, True)):
-            for text, one in judged((("ada", text) for text in texts), are_several=are_several):
-                self.assertEqual(one.outcome, LetterOutcome.WAITS, text)
-                self.assertTrue(
-                    not one.is_offered or one.read.text.words or len({*text.split("\n")}) == 1, text
-                )
+        for text, one in judged(BY_ADVERSARY, BY_ADVERSARY_OF_SEVERAL, "ada"):
+            self.assertEqual(one.outcome, LetterOutcome.WAITS, text)
+            is_twice = len({*text.split("\n")}) == 1
+            self.assertTrue(not one.is_offered or one.read.text.words or is_twice, text)
 
     def test_the_ballots_alone_go_in(self) -> None:
         """So it is the rest that keeps them out."""
-        for ballot, are_several in (
-            ("ada 1,2,4,3", False),
-            ("ada A 1,2 B 2,1,3,4 C 2,1", True),
-            ("Ada Lovelace\nA 1,2\nC 2,1", True),
-        ):
-            for text in (
-                ballot,
-                f"Hello,\n{ballot}\n\nBest wishes\nAda",
-                f"{ballot}\n\n{HEADS[0]}\n{marked_by('> ', OURS)}",
-            ):
-                [(_, one)] = judged([("ada", text)], are_several=are_several)
-                self.assertEqual(one.outcome, LetterOutcome.GOES_IN, text)
+        forms = (
+            "{}",
+            "Hello,\n{}\n\nBest wishes\nAda",
+            f"{{}}\n\n{HEADS[0]}\n{marked_by('> ', OURS)}",
+        )
+        several = "ada A 1,2 B 2,1,3,4 C 2,1", "Ada Lovelace\nA 1,2\nC 2,1"
+        texts = [form.format("ada 1,2,4,3") for form in forms]
+        of_several = [form.format(ballot) for form in forms for ballot in several]
+        for text, one in judged(texts, of_several, "ada"):
+            self.assertEqual(one.outcome, LetterOutcome.GOES_IN, text)
