@@ -3,12 +3,13 @@
 import collections
 import dataclasses
 import datetime
+import itertools
 import json
 import os
 import re
 import subprocess
 import sys
-from collections.abc import Callable, Collection, Mapping, Sequence
+from collections.abc import Callable, Collection, Iterator, Mapping, Sequence
 from typing import Any, TypeVar
 
 from debvote_tools.book import queries
@@ -235,6 +236,16 @@ def parted(how: Mapping[str, Any], names: Collection[str]) -> tuple[dict[str, An
 def of_letter(how: Mapping[str, Any]) -> tuple[dict[str, Any], dict[str, Any]]:
     """What of it `letter` takes, and the rest, which `judged` takes."""
     return parted(how, ("number", "time", "sender", "head", "kind", "subject"))
+
+
+def varied(
+    *texts: str | bytes, name: str = "ada", **how: Any
+) -> Iterator[tuple[bytes, dict[str, Any]]]:
+    """Letters of an elector, each with what is known when it is judged. Bytes are a whole letter; of a tuple in `how` each has its turn."""
+    for values in itertools.product(*(v if isinstance(v, tuple) else [v] for v in how.values())):
+        fields, known = of_letter(dict(zip(how, values)))
+        for text in texts:
+            yield text if isinstance(text, bytes) else letter(name, text, **fields), known
 
 
 def judged(

@@ -137,7 +137,7 @@ class Sentences(unittest.TestCase):
 
     def test_each_becomes_of_some_letter(self) -> None:
         test_signatures.Table.setUpClass()
-        signed = [becomes for _, becomes, _ in test_signatures.Table().rows()]
+        signed = test_signatures.Table().rows()
         texts = {f"waits: {reason}" for reason, _ in test_table_of_letters.OTHERS}
         found = {
             one.partition(": ")[2]
