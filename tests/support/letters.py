@@ -1,4 +1,6 @@
-"""What the tests of letters that come share: letters, the circumstances in which they are judged, and debvote, which is asked about lines."""
+"""What the tests of letters that come share: letters, the circumstances in which they are judged,
+and debvote, which is asked about lines.
+"""
 
 import collections
 import dataclasses
@@ -118,8 +120,9 @@ def circumstances(
     roll: Collection[str] = NAMES,
     **other: object,
 ) -> Circumstances:
-    """The circumstances of a vote that was called three days ago and has no end; with `keys` letters have to be signed. The electors of
-    `old_marks` had these on the first day."""
+    """The circumstances of a vote that was called three days ago and has no end; with `keys`
+    letters have to be signed. The electors of `old_marks` had these on the first day.
+    """
     listed = {name: [f"{name}@club.example"] for name in NAMES} if addresses is None else addresses
     electors = {
         name: Elector(
@@ -162,7 +165,9 @@ def letter(
     kind: str = "text/plain; charset=utf-8",
     subject: str | None = None,
 ) -> bytes:
-    """A letter of an elector. Its subject has the mark of the poll, with the own mark of who has the sender's address, unless it is given."""
+    """A letter of an elector. Its subject has the mark of the poll, with the own mark of who has
+    the sender's address, unless it is given.
+    """
     sender = sender or f"{name}@club.example"
     if not re.search("(?im)^subject", head):
         whose = re.search(r"([\w.-]+)@club\.example>?$", sender)
@@ -175,8 +180,15 @@ def letter(
     )
 
 
+def ballot(name: str, ranks: str = RANKS, **how: object) -> bytes:
+    """A letter that has a ballot of its elector alone."""
+    return letter(name, f"{name} {ranks}", **how)  # type: ignore[arg-type]
+
+
 def marked(name: str, text: str, **how: object) -> bytes:
-    """A letter of an elector whose subject has the own mark, whoever sent it, as that of each letter of ours to them."""
+    """A letter of an elector whose subject has the own mark, whoever sent it, as that of each
+    letter of ours to them.
+    """
     return letter(name, text, **{"subject": f"Re: Vote: {TITLE} [{MARK}-{OWN[name]}]", **how})  # type: ignore[arg-type]
 
 
@@ -238,10 +250,17 @@ def of_letter(how: Mapping[str, Any]) -> tuple[dict[str, Any], dict[str, Any]]:
     return parted(how, ("number", "time", "sender", "head", "kind", "subject"))
 
 
+def rows(text: str) -> tuple[str, ...]:
+    """Texts, each on a line between the first and the last one; a sign ⏎ is a line end in one."""
+    return tuple(line.replace("⏎", "\n") for line in text[1:-1].split("\n"))
+
+
 def varied(
     *texts: str | bytes, name: str = "ada", **how: Any
 ) -> Iterator[tuple[bytes, dict[str, Any]]]:
-    """Letters of an elector, each with what is known when it is judged. Bytes are a whole letter; of a tuple in `how` each has its turn."""
+    """Letters of an elector, each with what is known when it is judged. Bytes are a whole letter;
+    of a tuple in `how` each has its turn.
+    """
     for values in itertools.product(*(v if isinstance(v, tuple) else [v] for v in how.values())):
         fields, known = of_letter(dict(zip(how, values)))
         for text in texts:
@@ -255,7 +274,9 @@ def judged(
     decisions: Mapping[str, str] = {},
     **other: object,
 ) -> list[LetterCase]:
-    """What becomes of letters, in the order of their times; `decisions` are those of acts, by the digests of letters."""
+    """What becomes of letters, in the order of their times; `decisions` are those of acts, by the
+    digests of letters.
+    """
     of_names, _ = parted(other, ("roll", "language", "real_names", "words"))
     _, of_others = parted(other, ("language", "real_names", "words"))
     now = circumstances(**of_others)
@@ -282,7 +303,9 @@ def in_order(ballots: Mapping[str, Sequence[Ballot]]) -> BallotsByElector:
 
 
 def case_of(one: ReadLetter, now: Circumstances, state: str | None) -> LetterCase:
-    """A letter that the book has, by what the last act decided of it, and with the ballot that was entered."""
+    """A letter that the book has, by what the last act decided of it, and with the ballot that was
+    entered.
+    """
     kept = NOT_KEPT._replace(state=state or queries.NEVER_DECIDED)
     case = LetterCase(one, now, kept)
     if state not in (queries.ENTERED, queries.STRUCK, queries.TAKEN_BACK):
@@ -338,7 +361,9 @@ def label(why: ReasonWithValues) -> str:
 
 
 def outcome(one: LetterCase) -> str:
-    """What becomes of a letter, in a word and the ballot or the reason, which has all values that its sentence needs."""
+    """What becomes of a letter, in a word and the ballot or the reason, which has all values that
+    its sentence needs.
+    """
     if one.outcome is LetterOutcome.GOES_IN:
         return f"in: {one.ballots[0].as_entered}"
     if one.reason is None:

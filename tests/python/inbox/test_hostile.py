@@ -24,6 +24,7 @@ from tests.support.letters import (
     lines_in,
     outcomes,
     parsed,
+    rows,
     varied,
 )
 
@@ -45,7 +46,9 @@ def timed(*letters: bytes, **known: object) -> tuple[list[str], float]:
 
 class Bombs(unittest.TestCase):
     def test_each_ends_soon(self) -> None:
-        """None of 300 KB takes twice as long as one with as many words, none of any size twenty times."""
+        """None of 300 KB takes twice as long as one with as many words, none of any size twenty
+        times.
+        """
         part, html, in_base64 = (
             f"--b\n\n{BALLOT}\n",
             "text/html",
@@ -168,7 +171,9 @@ class Bombs(unittest.TestCase):
         self.assertEqual(outcomes(letter("ada", BALLOT, head="X: y\n" * 40_000)), [IN])
 
     def test_more_lines_than_debvote_takes_at_once(self) -> None:
-        """It is asked in parts. Else some hundred letters of a stranger would stop each command that judges letters."""
+        """It is asked in parts. Else some hundred letters of a stranger would stop each command
+        that judges letters.
+        """
         parts = [[b"x" * 31], [b"ada 1,2", b"ben 2,1"], [b"cleo 1", b"dan 1"], [b"y" * 15]]
         parts += [b"y" * 16], [b"z" * 15] * 2
         with unittest.mock.patch.multiple(vote, LINES_LIMIT=2, BALLOTS_LIMIT=32):
@@ -201,24 +206,26 @@ class Costs(unittest.TestCase):
         self.assertLess(above, 2 * four)
 
     def test_twice_as_many_lines_cost_twice_as_much(self) -> None:
-        for line in (
-            "some words\n",
-            f"{HEADS[0]}\n> x\ny\n",
-            "> x\n",
-            "I vote ada 1,2,4 or not\n",
-            "Hello\n",
-            "Thanks, Ada\n",
-            "From: x\n",
-            "ada no\n",
-            "A yes\n",
-            "A 1,2,3\n",
-            "ada A 1,2,3\n\n",
-            "ada 1,2,4,3\n\n",
-            "\n",
+        for line in rows(
+            f"""
+some words
+{HEADS[0]}⏎> x⏎y
+> x
+I vote ada 1,2,4 or not
+Hello
+Thanks, Ada
+From: x
+ada no
+A yes
+A 1,2,3
+ada A 1,2,3⏎
+ada 1,2,4,3⏎
+
+"""
         ):
             for known in ({}, self.several):
                 few, many = (
-                    calls_while_read(letter("ada", f"{BALLOT}\n\n{line * count}"), **known)
+                    calls_while_read(letter("ada", f"{BALLOT}\n\n" + f"{line}\n" * count), **known)
                     for count in (20, 40)
                 )
                 self.assertLess(many, 2.1 * few, (line, known))
