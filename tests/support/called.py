@@ -231,7 +231,7 @@ class LettersTest(CalledTest):
     def overtaken(
         self, module: object, name: str, other: Sequence[object], words: Sequence[str]
     ) -> None:
-        """Runs a command here; another one runs after a step of it, which it may have made untrue."""
+        """Runs a command here; another runs after a step of it, which it may have made untrue."""
         is_first, step = [True], getattr(module, name)
 
         def before_another(*given: Any, **how: Any) -> object:

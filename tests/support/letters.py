@@ -104,7 +104,7 @@ def names(options: int = RANKS.count(",") + 1, **other: object) -> Names:
         "longest_line": LONGEST_LINE,
         "words": {},
     }
-    found = Names(**{**usual, **other})  # type: ignore[arg-type]
+    found = Names(**{**usual, **other})
     fewest = 2 if found.labels else options
     return dataclasses.replace(
         found, answers=answer_pattern(fewest, "".join(found.labels), frozenset(found.words))
@@ -151,7 +151,7 @@ def circumstances(
         "is_closed": False,
         "now": at(9, day=25),
     }
-    return Circumstances(**{**usual, **other})  # type: ignore[arg-type]
+    return Circumstances(**{**usual, **other})
 
 
 def letter(
@@ -182,14 +182,14 @@ def letter(
 
 def ballot(name: str, ranks: str = RANKS, **how: object) -> bytes:
     """A letter that has a ballot of its elector alone."""
-    return letter(name, f"{name} {ranks}", **how)  # type: ignore[arg-type]
+    return letter(name, f"{name} {ranks}", **how)
 
 
 def marked(name: str, text: str, **how: object) -> bytes:
     """A letter of an elector whose subject has the own mark, whoever sent it, as that of each
     letter of ours to them.
     """
-    return letter(name, text, **{"subject": f"Re: Vote: {TITLE} [{MARK}-{OWN[name]}]", **how})  # type: ignore[arg-type]
+    return letter(name, text, **{"subject": f"Re: Vote: {TITLE} [{MARK}-{OWN[name]}]", **how})
 
 
 def answer(name: str, text: str, **how: object) -> bytes:
@@ -208,7 +208,7 @@ def with_mark(data: bytes, mark: str) -> bytes:
 
 def alternatives(name: str, plain: str, marked: str, **how: object) -> bytes:
     text = f"--b\nContent-Type: text/plain\n\n{plain}\n--b\nContent-Type: text/html\n\n{marked}\n--b--\n"
-    return letter(name, text, kind="multipart/alternative; boundary=b", **how)  # type: ignore[arg-type]
+    return letter(name, text, kind="multipart/alternative; boundary=b", **how)
 
 
 def mailbox(*letters: bytes) -> bytes:
@@ -349,7 +349,7 @@ def calls_while_judged(letters: Sequence[ReadLetter]) -> int:
 
 def calls_while_read(data: bytes, **of_names: object) -> int:
     """The same while a letter is read, where all ranks are valid, the second time."""
-    its_names = names(**of_names)  # type: ignore[arg-type]
+    its_names = names(**of_names)
     [(_, _), (_, calls)] = (
         counted(lambda: with_texts([parsed(data)], its_names, dict.fromkeys)) for _ in range(2)
     )

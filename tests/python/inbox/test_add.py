@@ -369,7 +369,7 @@ class NoBallots(StopsTest):
 
 
 class OtherOrder(StopsTest):
-    """Ranks that may stand in another order than the options: without `--force` nothing is entered."""
+    """Ranks that may be in another order than the options: without `--force` nothing is entered."""
 
     ROWS = "ada 1,2,4,3\nben 1,2,4,3\ncleo 2,1,4,3\n"
 
@@ -427,12 +427,12 @@ When/Who/Mail/Note/A/B/C/D
         self.assertEqual(self.lines(), lines)
 
     def test_what_looks_like_none(self) -> None:
-        """A refused ballot above others, a head without ranks below it, and notes of fewer words."""
+        """A refused ballot above others, a head without ranks below it, and notes of few words."""
         lines = f"Mrs Lovelace {RANKS}\nada {RANKS}\n# by phone, Monday\nben {RANKS}\ncleo {RANKS}\nName;A;B;C;D\n"
         self.adds(lines, "Added 6 lines (3 bad shape, 3 counted).")
 
     def test_lines_of_a_table_and_semicolons_between_ranks(self) -> None:
-        """Few are ballots if it has other signs, or words. Only blanks around commas are repaired."""
+        """Few are ballots if it has other signs, or words; only blanks at commas are repaired."""
         for table in ("ada|1|2|3|4\nben|1|2|3|4\n", "ada;1;2;3;4\nben;1;2;3;x\n", "ada 1\nben 2\n"):
             self.stops(table, "wrong: debvote takes none of the 2 lines as ballots")
         self.adds("ada 1,2,4,3\nben 1; 2 ;4; 3\ncleo 1, 2, 4, 3\ndan 1;2,4;3\n")

@@ -40,7 +40,7 @@ def without_marks(text: str) -> str:
 
 def worded(name: str, ranks: str = RANKS, **how: object) -> bytes:
     """A letter with more words than its ballot."""
-    return letter(name, f"We are 3:\n\n{name} {ranks}\n", **how)  # type: ignore[arg-type]
+    return letter(name, f"We are 3:\n\n{name} {ranks}\n", **how)
 
 
 class HeldTest(LettersTest):
@@ -471,7 +471,7 @@ class Couple(HeldTest):
         self.assertEqual(self.lines(), [f"ada {OTHER}", self.ben])
 
 
-class RealNames(HeldTest):
+class RealNamesOfLetters(HeldTest):
     """What the secretary types for a letter, and what is in it, may have a real name."""
 
     members = "who,mail,name\nAda Lovelace,ada@club.example,ada\nDan,dan@club.example,dan\n"

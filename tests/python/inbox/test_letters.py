@@ -795,7 +795,7 @@ class OwnMarks(LettersTest):
             self.assert_refused(f"held {number} --enter", 9, words, "--force")
 
 
-class Secret(OwnMarks):
+class SecretOwnMarks(OwnMarks):
     """Ballots come under names, and the mark is that of the poll that everybody sees."""
 
     poll = elections.POLL + "secret = true\n"

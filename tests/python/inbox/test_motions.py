@@ -96,7 +96,7 @@ class OfLines(unittest.TestCase):
             self.assertEqual(names().with_ranks(line), line)
 
 
-# ---------------------------------------------------------------- lines, a desk, held
+# ---------------------------------------- lines, a desk, held
 class Taken(LettersTest):
     poll = MOTION.replace("We buy", "Wir kaufen") + "motion = true\n"
     # one has the name on the roll that is another's real name
@@ -161,7 +161,7 @@ class Taken(LettersTest):
         self.assertEqual(self.lines(), ["ada 1,2", "ben 2,1", "cleo 1,2", "dan 1,1"])
 
     def test_words_of_letters_are_typed(self) -> None:
-        """Also beside a ballot, and those of two in one letter; receipts say the ballots in words."""
+        """Also beside a ballot, or those of two in a letter; receipts say the ballots in words."""
         said = self.add(
             letter("ada", "Ja"),
             letter("ben", "ben nein\ncleo 1,2"),
@@ -256,7 +256,7 @@ class AtDesk(TerminalTest):
         self.assertEqual(self.lines(), ["ada 1,2", "grace-hopper 1,1"])
 
 
-# ---------------------------------------------------------------- letters
+# ---------------------------------------- letters
 KIMS = {"subject": f"[{MARK}-kmn2345678]"}
 QUOTED = "\n\nOn Mon, Nov 23, 2026 at 10:00 AM Vote wrote:\n> "
 

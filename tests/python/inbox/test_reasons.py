@@ -98,8 +98,8 @@ class Sentences(unittest.TestCase):
             self.assertEqual(one.reason and for_secretary(one.reason), f"signed at {said}")
 
     def test_each_becomes_of_some_letter(self) -> None:
-        test_signatures.Table.setUpClass()
-        waiting = [*test_signatures.Table().rows(), *(row.becomes for row in TABLE)]
+        test_signatures.SignedTable.setUpClass()
+        waiting = [*test_signatures.SignedTable().rows(), *(row.becomes for row in TABLE)]
         found = {one.partition(": ")[2] for one in waiting} | {reason for reason, _ in OTHERS}
         # these are of letters beside others, of what an act decided, and of a gpgv that hangs
         found |= {"came before", "parted off", "taken back", "put back", "set aside", "struck"}
