@@ -1,4 +1,5 @@
-"""What the tests of commands read from the book of a called election, and how letters come to it."""
+"""What the tests of commands read from the book of a called election, and how letters come to it.
+"""
 
 import contextlib
 import hashlib
@@ -6,6 +7,7 @@ import io
 import json
 import os
 import pathlib
+import shlex
 import shutil
 from collections.abc import Sequence
 from typing import Any
@@ -16,7 +18,7 @@ from debvote_tools.book.book import Book, open_book
 from debvote_tools.commands import command_line
 
 from tests.support import elections
-from tests.support.letters import mailbox
+from tests.support.letters import letter, mailbox
 
 LAKE = "At the lake, then In the town hall, then Further discussion, then Sell the house and meet there"
 HALL = "In the town hall, then At the lake, then Further discussion, then Sell the house and meet there"
@@ -27,7 +29,8 @@ class CalledTest(elections.ElectionTest):
 
     def setUp(self) -> None:
         super().setUp()
-        # programs at a terminal and acts of the test itself write their notes where the other runs do
+        # programs at a terminal and acts of the test itself write their notes where the other runs
+        # do
         self.enterContext(mock.patch.dict(os.environ, {"XDG_STATE_HOME": str(self.state)}))
         self.first_act = self.last_act() + 1
 
@@ -61,7 +64,9 @@ class CalledTest(elections.ElectionTest):
                 act.insert("sealed", name=key, data=data)
 
     def lines(self, is_late: bool = False) -> list[str]:
-        """The lines that are counted, or those that came late; none that is struck. The test has words of its own for this."""
+        """The lines that are counted, or those that came late; none that is struck. The test has
+        words of its own for this.
+        """
         words = "SELECT line FROM envelope WHERE late = ? AND envelope NOT IN (SELECT envelope FROM struck) ORDER BY envelope"
         return [line.decode("utf-8", "replace") for line, in self.book.rows(words, int(is_late))]
 
@@ -79,10 +84,36 @@ class CalledTest(elections.ElectionTest):
     def sources(self) -> list[tuple[str, bytes]]:
         return [(name, data) for _, name, data in queries.sources(self.book)]
 
+    def election(self, *words: object, **how: Any) -> elections.Ended:
+        """Runs debvote-election. One text is a command with its arguments, as it is typed in a
+        shell.
+        """
+        typed = shlex.split(str(words[0])) if len(words) == 1 else words
+        return super().election(*typed, **how)
+
     def told(self, *words: object, **how: Any) -> str:
         ended = self.election(*words, **how)
         self.assertEqual((ended.status, ended.faults), (0, ""), ended)
         return ended.output
+
+    def tells(self, typed: str, *parts: str, **how: Any) -> str:
+        """What a command tells, which has these parts."""
+        said = self.told(typed, **how)
+        for part in parts:
+            self.assertIn(part, said)
+        return said
+
+    def adds(self, given: bytes | str, *parts: str, words: str = "") -> str:
+        """What `add` tells of lines from a pipe, which has these parts."""
+        return self.tells(f"add {words}", *parts, given=given)
+
+    def close_book(self, lines: int = 0) -> None:
+        """Closes the vote without the command, so at any time."""
+        self.act("close", {"lines": lines, "checksum": "", "early": False})
+
+    def cast(self, *lines: str) -> str:
+        """What a desk tells of lines that are typed there."""
+        return self.told("desk", given="".join(f"{line}\n" for line in lines))
 
     def assert_stops(self, ended: elections.Ended, before: int, status: int, *parts: str) -> None:
         """There is one fault, with these parts, and no act."""
@@ -92,15 +123,19 @@ class CalledTest(elections.ElectionTest):
     def assert_refused(
         self, words: Sequence[object], status: int, *parts: str, **how: Any
     ) -> elections.Ended:
-        """A command stops with one fault, which has these parts, and does no act."""
+        """A command, which may be one text, stops with one fault, which has these parts, and does
+        no act.
+        """
         before = self.last_act()
-        ended = self.election(*words, **how)
+        ended = self.election(*([words] if isinstance(words, str) else words), **how)
         self.assert_stops(ended, before, status, *parts)
         return ended
 
 
 class LettersTest(CalledTest):
-    """A test of an election that was called on 20 November, before letters came. Now it is the 25th."""
+    """A test of an election that was called on 20 November, before letters came. Now it is the
+    25th.
+    """
 
     now = "2026-11-25T09:00:00+00:00"
 
@@ -121,10 +156,17 @@ class LettersTest(CalledTest):
             name, self.of_this_vote(content.encode() if isinstance(content, str) else content)
         )
 
-    def add(self, *letters: bytes, words: Sequence[str] = ("--yes",)) -> str:
-        """What `add` tells of letters that come in a mailbox."""
+    def add(
+        self,
+        *letters: bytes,
+        words: str | Sequence[str] = "--yes",
+        says: str | Sequence[str] = (),
+    ) -> str:
+        """What `add` tells of letters that come in a mailbox, which has these parts."""
         self.write("inbox.mbox", mailbox(*letters))
-        return self.told("add", *words, "inbox.mbox")
+        typed = words if isinstance(words, str) else shlex.join(words)
+        parts = [says] if isinstance(says, str) else says
+        return self.tells(f"add {typed} inbox.mbox", *parts)
 
     def box(self, *letters: bytes) -> pathlib.Path:
         """A folder with letters, each in a file."""
@@ -137,6 +179,15 @@ class LettersTest(CalledTest):
     def add_lines(self, *lines: str, words: Sequence[str] = ()) -> str:
         """What `add` tells of lines from a pipe."""
         return self.told("add", *words, "-", given="".join(f"{line}\n" for line in lines))
+
+    def add_hello(self, name: str, number: int = 1) -> str:
+        """What `add` tells of a letter without a ballot."""
+        return self.add(letter(name, "hello", number=number))
+
+    def assert_waiting(self, count: int, *stopping: int) -> None:
+        """So many letters wait, and these would stop a close, or a count after it."""
+        numbers = self.numbers()
+        self.assertEqual((numbers["waiting"], numbers["stopping"]), (count, [*stopping]))
 
     def change_roll(self, before: str, after: str) -> None:
         """Reads a list of members in which some words are others."""
@@ -165,7 +216,9 @@ class LettersTest(CalledTest):
         return found[-1].partition(" ")[2] if found else ""
 
     def in_this_process(self, *words: str, path: str = "") -> str:
-        """Runs a command here, where a test puts something between two of its steps; returns its output."""
+        """Runs a command here, where a test puts something between two of its steps; returns its
+        output.
+        """
         with mock.patch.dict(
             os.environ, {"PATH": f"{path}{elections.environment()['PATH']}"}
         ), contextlib.chdir(self.folder):
@@ -178,7 +231,7 @@ class LettersTest(CalledTest):
     def overtaken(
         self, module: object, name: str, other: Sequence[object], words: Sequence[str]
     ) -> None:
-        """Runs a command here; another one runs after a step of it, which it may have made untrue."""
+        """Runs a command here; another runs after a step of it, which it may have made untrue."""
         is_first, step = [True], getattr(module, name)
 
         def before_another(*given: Any, **how: Any) -> object:

@@ -1,15 +1,18 @@
-"""What the tests of letters that come share: letters, the circumstances in which they are judged, and debvote, which is asked about lines."""
+"""What the tests of letters that come share: letters, the circumstances in which they are judged,
+and debvote, which is asked about lines.
+"""
 
 import collections
 import dataclasses
 import datetime
+import itertools
 import json
 import os
 import re
 import subprocess
 import sys
-from collections.abc import Callable, Collection, Mapping, Sequence
-from typing import TypeVar
+from collections.abc import Callable, Collection, Iterator, Mapping, Sequence
+from typing import Any, TypeVar
 
 from debvote_tools.book import queries
 from debvote_tools.book.queries import Elector, EnteredBallot, OwnMark
@@ -101,7 +104,7 @@ def names(options: int = RANKS.count(",") + 1, **other: object) -> Names:
         "longest_line": LONGEST_LINE,
         "words": {},
     }
-    found = Names(**{**usual, **other})  # type: ignore[arg-type]
+    found = Names(**{**usual, **other})
     fewest = 2 if found.labels else options
     return dataclasses.replace(
         found, answers=answer_pattern(fewest, "".join(found.labels), frozenset(found.words))
@@ -117,8 +120,9 @@ def circumstances(
     roll: Collection[str] = NAMES,
     **other: object,
 ) -> Circumstances:
-    """The circumstances of a vote that was called three days ago and has no end; with `keys` letters have to be signed. The electors of
-    `old_marks` had these on the first day."""
+    """The circumstances of a vote that was called three days ago and has no end; with `keys`
+    letters have to be signed. The electors of `old_marks` had these on the first day.
+    """
     listed = {name: [f"{name}@club.example"] for name in NAMES} if addresses is None else addresses
     electors = {
         name: Elector(
@@ -147,7 +151,7 @@ def circumstances(
         "is_closed": False,
         "now": at(9, day=25),
     }
-    return Circumstances(**{**usual, **other})  # type: ignore[arg-type]
+    return Circumstances(**{**usual, **other})
 
 
 def letter(
@@ -161,7 +165,9 @@ def letter(
     kind: str = "text/plain; charset=utf-8",
     subject: str | None = None,
 ) -> bytes:
-    """A letter of an elector. Its subject has the mark of the poll, with the own mark of who has the sender's address, unless it is given."""
+    """A letter of an elector. Its subject has the mark of the poll, with the own mark of who has
+    the sender's address, unless it is given.
+    """
     sender = sender or f"{name}@club.example"
     if not re.search("(?im)^subject", head):
         whose = re.search(r"([\w.-]+)@club\.example>?$", sender)
@@ -174,9 +180,16 @@ def letter(
     )
 
 
+def ballot(name: str, ranks: str = RANKS, **how: object) -> bytes:
+    """A letter that has a ballot of its elector alone."""
+    return letter(name, f"{name} {ranks}", **how)
+
+
 def marked(name: str, text: str, **how: object) -> bytes:
-    """A letter of an elector whose subject has the own mark, whoever sent it, as that of each letter of ours to them."""
-    return letter(name, text, **{"subject": f"Re: Vote: {TITLE} [{MARK}-{OWN[name]}]", **how})  # type: ignore[arg-type]
+    """A letter of an elector whose subject has the own mark, whoever sent it, as that of each
+    letter of ours to them.
+    """
+    return letter(name, text, **{"subject": f"Re: Vote: {TITLE} [{MARK}-{OWN[name]}]", **how})
 
 
 def answer(name: str, text: str, **how: object) -> bytes:
@@ -195,7 +208,7 @@ def with_mark(data: bytes, mark: str) -> bytes:
 
 def alternatives(name: str, plain: str, marked: str, **how: object) -> bytes:
     text = f"--b\nContent-Type: text/plain\n\n{plain}\n--b\nContent-Type: text/html\n\n{marked}\n--b--\n"
-    return letter(name, text, kind="multipart/alternative; boundary=b", **how)  # type: ignore[arg-type]
+    return letter(name, text, kind="multipart/alternative; boundary=b", **how)
 
 
 def mailbox(*letters: bytes) -> bytes:
@@ -226,6 +239,34 @@ def read(
     return kept
 
 
+def parted(how: Mapping[str, Any], names: Collection[str]) -> tuple[dict[str, Any], dict[str, Any]]:
+    """What of it has these names, and the rest."""
+    own = {name: value for name, value in how.items() if name in names}
+    return own, {name: value for name, value in how.items() if name not in names}
+
+
+def of_letter(how: Mapping[str, Any]) -> tuple[dict[str, Any], dict[str, Any]]:
+    """What of it `letter` takes, and the rest, which `judged` takes."""
+    return parted(how, ("number", "time", "sender", "head", "kind", "subject"))
+
+
+def rows(text: str) -> tuple[str, ...]:
+    """Texts, each on a line between the first and the last one; a sign ⏎ is a line end in one."""
+    return tuple(line.replace("⏎", "\n") for line in text[1:-1].split("\n"))
+
+
+def varied(
+    *texts: str | bytes, name: str = "ada", **how: Any
+) -> Iterator[tuple[bytes, dict[str, Any]]]:
+    """Letters of an elector, each with what is known when it is judged. Bytes are a whole letter;
+    of a tuple in `how` each has its turn.
+    """
+    for values in itertools.product(*(v if isinstance(v, tuple) else [v] for v in how.values())):
+        fields, known = of_letter(dict(zip(how, values)))
+        for text in texts:
+            yield text if isinstance(text, bytes) else letter(name, text, **fields), known
+
+
 def judged(
     *letters: bytes | ParsedLetter,
     reader: DebvoteReader | None = None,
@@ -233,23 +274,24 @@ def judged(
     decisions: Mapping[str, str] = {},
     **other: object,
 ) -> list[LetterCase]:
-    """What becomes of letters, in the order of their times; `decisions` are those of acts, by the digests of letters."""
-    of_names = {
-        name: value
-        for name, value in other.items()
-        if name in ("roll", "language", "real_names", "words")
-    }
-    of_others = {
-        name: value
-        for name, value in other.items()
-        if name not in ("language", "real_names", "words")
-    }
+    """What becomes of letters, in the order of their times; `decisions` are those of acts, by the
+    digests of letters.
+    """
+    of_names, _ = parted(other, ("roll", "language", "real_names", "words"))
+    _, of_others = parted(other, ("language", "real_names", "words"))
     now = circumstances(**of_others)
     cases = [
         case_of(one, now, decisions.get(one.digest))
         for one in read(*letters, reader=reader, **of_names)
     ]
     return judge_all(cases, in_order(ballots or {}))
+
+
+def case(name: str, text: str, **how: object) -> LetterCase:
+    """What becomes of one letter."""
+    own, known = of_letter(how)
+    [one] = judged(letter(name, text, **own), **known)
+    return one
 
 
 def in_order(ballots: Mapping[str, Sequence[Ballot]]) -> BallotsByElector:
@@ -261,7 +303,9 @@ def in_order(ballots: Mapping[str, Sequence[Ballot]]) -> BallotsByElector:
 
 
 def case_of(one: ReadLetter, now: Circumstances, state: str | None) -> LetterCase:
-    """A letter that the book has, by what the last act decided of it, and with the ballot that was entered."""
+    """A letter that the book has, by what the last act decided of it, and with the ballot that was
+    entered.
+    """
     kept = NOT_KEPT._replace(state=state or queries.NEVER_DECIDED)
     case = LetterCase(one, now, kept)
     if state not in (queries.ENTERED, queries.STRUCK, queries.TAKEN_BACK):
@@ -305,7 +349,7 @@ def calls_while_judged(letters: Sequence[ReadLetter]) -> int:
 
 def calls_while_read(data: bytes, **of_names: object) -> int:
     """The same while a letter is read, where all ranks are valid, the second time."""
-    its_names = names(**of_names)  # type: ignore[arg-type]
+    its_names = names(**of_names)
     [(_, _), (_, calls)] = (
         counted(lambda: with_texts([parsed(data)], its_names, dict.fromkeys)) for _ in range(2)
     )
@@ -317,13 +361,22 @@ def label(why: ReasonWithValues) -> str:
 
 
 def outcome(one: LetterCase) -> str:
-    """What becomes of a letter, in a word and the ballot or the reason, which has all values that its sentence needs."""
+    """What becomes of a letter, in a word and the ballot or the reason, which has all values that
+    its sentence needs.
+    """
     if one.outcome is LetterOutcome.GOES_IN:
         return f"in: {one.ballots[0].as_entered}"
     if one.reason is None:
         return one.outcome.value
     for_secretary(one.reason)
     return f"{one.outcome.value}: {label(one.reason)}"
+
+
+def how_entered(one: LetterCase) -> str:
+    """By itself, by the command that `add` prints, by a later one, or by a line that is typed."""
+    if one.outcome is LetterOutcome.GOES_IN:
+        return "in"
+    return "offered" if one.is_offered else "entered" if one.can_be_entered else "typed"
 
 
 def outcomes(*letters: bytes | ParsedLetter, **other: object) -> list[str]:

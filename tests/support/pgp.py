@@ -1,4 +1,6 @@
-"""Keys and signatures of OpenPGP, made by gpg for the tests of signed letters, once for all tests of a run."""
+"""Keys and signatures of OpenPGP, made by gpg for the tests of signed letters, once for all tests
+of a run.
+"""
 
 import functools
 import multiprocessing.util
@@ -9,7 +11,8 @@ import shutil
 import subprocess
 import tempfile
 
-# keys are older than all elections of the tests; the expired one has expired by the clock of any computer
+# keys are older than all elections of the tests; the expired one has expired by the clock of any
+# computer
 # at a time with this mark the clock of gpg stops
 BORN, EXPIRY = "20240101T000000!", "2024-06-01"
 

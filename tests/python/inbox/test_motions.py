@@ -1,7 +1,8 @@
-"""A motion that is answered in words: by lines, at a desk and by `held --as`; and in letters, in which a word is no ballot, and none that has one beside its ballot goes in."""
+"""A motion that is answered in words: by lines, at a desk and by `held --as`; and in letters, in
+which a word is no ballot, and none that has one beside its ballot goes in.
+"""
 
-import email.message
-import email.policy
+import collections
 import json
 import random
 import re
@@ -15,6 +16,7 @@ from debvote_tools.text.language import LANGUAGES
 from debvote_tools.text.motions import RANKS, WORDS, Words, words_of
 
 from tests.python.commands.test_desk import CAST, TerminalTest
+from tests.support import outgoing
 from tests.support.called import LettersTest
 from tests.support.elections import members_of
 from tests.support.letters import (
@@ -23,12 +25,15 @@ from tests.support.letters import (
     OWN,
     DebvoteReader,
     circumstances,
+    how_entered,
     judged_alone,
     letter,
     names,
     outcome,
     read,
+    rows,
 )
+from tests.support.outgoing import one_line
 
 YES, NO, _ = RANKS
 MOTION = """title = "A boat"
@@ -52,15 +57,11 @@ class MotionReader(DebvoteReader):
 
 def judged_by(data: Sequence[bytes], words: Words = WORDS_EN) -> list[LetterCase]:
     """What becomes of letters, each alone."""
-    found = read(
-        *data, reader=MotionReader(), words=words, real_names=REAL, roll=frozenset(ROLL), options=2
-    )
-    now = circumstances(
-        addresses={name: [f"{name}@club.example"] for name in ROLL},
-        own_marks={**OWN, "kim-no": "kmn2345678"},
-        roll=ROLL,
-    )
-    return [judged_alone(one, now) for one in found]
+    how = {"words": words, "real_names": REAL, "roll": frozenset(ROLL), "options": 2}
+    addresses = {name: [f"{name}@club.example"] for name in ROLL}
+    own_marks = {**OWN, "kim-no": "kmn2345678"}
+    now = circumstances(addresses=addresses, own_marks=own_marks, roll=ROLL)
+    return [judged_alone(one, now) for one in read(*data, reader=MotionReader(), **how)]
 
 
 class OfLines(unittest.TestCase):
@@ -68,62 +69,34 @@ class OfLines(unittest.TestCase):
         for language in LANGUAGES:
             known = names(words=words_of(language, motion=True), language=language, real_names=REAL)
             for word, ranks in zip((*WORDS[language], *WORDS["en"]), RANKS * 2):
-                for written in (
-                    word,
-                    word.upper(),
-                    word.capitalize(),
-                    unicodedata.normalize("NFD", word),
-                    f"{word}.",
-                    f"{word}!",
-                    f"{word} !",
-                ):
-                    for name in ("ada ", "Ada Lovelace: ", "Ada:", "ada : "):
-                        wanted = f"{name.rstrip(' :')} {ranks}"
-                        self.assertEqual(
-                            known.with_ranks(f"{name}{written}"), wanted, (language, name, written)
-                        )
-                    self.assertEqual(known.with_ranks(written), ranks)
+                cases = word, word.upper(), word.capitalize(), unicodedata.normalize("NFD", word)
+                for written in (*cases, f"{word}.", f"{word}!", f"{word} !"):
+                    for name in ("", "ada ", "Ada Lovelace: ", "Ada:", "ada : "):
+                        wanted = f"{name.rstrip(' :')} {ranks}".lstrip()
+                        found = known.with_ranks(name + written)
+                        self.assertEqual(found, wanted, (language, name, written))
 
     def test_nothing_else(self) -> None:
         known = names(words=words_of("es", motion=True), roll=frozenset(ROLL), real_names=REAL)
-        for line in (
-            "ada si",
-            "ada abstencion",
-            "ada ja",
-            "ada oui",
-            "yes ada",
-            "ada yes no!!",
-            "ada yes?",
-            "ada yes, please",
-            "ada 'yes'",
-            "ada,yes",
-            "ada yess",
-            "ada (yes)",
-            "|ada yes",
-            "ada yes 1,2",
-            "ada",
-            "",
-            "1,2",
-            "ada no1",
-            # what is the name of an elector is no ballot
-            "Kim No",
-            "kim no",
-            "kim-no",
-            "KIM NO.",
-        ):
+        # of the last four each is the name of an elector, and so no ballot
+        lines = "ada si|ada abstencion|ada ja|ada oui|yes ada|ada yes no!!|ada yes?|ada yes, please|ada 'yes'|ada,yes|ada yess|ada (yes)|ada yes 1,2|ada||1,2|ada no1|Kim No|kim no|kim-no|KIM NO."
+        for line in ("|ada yes", *lines.split("|")):
             ranked = known.with_ranks(line)
-            self.assertTrue(
-                ranked == line or ranked.split()[0] in ("|ada", "ada yes"), (line, ranked)
-            )
-        self.assertEqual(known.with_ranks("Kim No no"), f"Kim No {NO}")
-        self.assertEqual(known.with_ranks("Kim No: sí"), f"Kim No {YES}")
-        self.assertEqual(known.with_ranks(f"{'a' * 600} yes"), f"{'a' * 600} yes")
+            is_no_name = ranked.split()[:1] == ["|ada"] or ranked.startswith("ada yes ")
+            self.assertTrue(ranked == line or is_no_name, (line, ranked))
+        long = f"{'a' * 600} yes"
+        for line, ranked in {
+            "Kim No no": f"Kim No {NO}",
+            "Kim No: sí": f"Kim No {YES}",
+            long: long,
+        }.items():
+            self.assertEqual(known.with_ranks(line), ranked)
         # without a motion no line is changed
         for line in ("ada yes", "yes", "Kim No no"):
             self.assertEqual(names().with_ranks(line), line)
 
 
-# ---------------------------------------------------------------- lines, a desk, held
+# ---------------------------------------- lines, a desk, held
 class Taken(LettersTest):
     poll = MOTION.replace("We buy", "Wir kaufen") + "motion = true\n"
     # one has the name on the roll that is another's real name
@@ -134,154 +107,107 @@ class Taken(LettersTest):
     new_words = ("--language", "de")
 
     def test_a_file(self) -> None:
-        file = self.write(
+        self.write(
             "ballots.txt",
             "ada: JA\nBen nein!\ncleo Enthaltung.\nAda Lovelace: yes\ndan abstain\neve 2,1\nfay \u201cja\u201d\nKim No\n",
         )
-        said = self.told("add", "--force", file)
-        for part in (
+        self.tells(
+            "add --force ballots.txt",
             "ballots.txt:1: `ada: JA` was changed to `ada 1,2`\n1 counted  ada: Yes: Wir kaufen a second boat\n",
             "2: `Ben nein!` was changed to `ben 2,1`\n2 counted  ben: No\n",
             "3 counted  cleo: Abstain\n",
             "4 counted  ada-lovelace: Yes",
-            "\neve: ".replace("\n", "6 counted  "),
+            "6 counted  eve: ",
             "7 bad shape  fay",
             "8 bad shape  Kim No",
-        ):
-            self.assertIn(part, said)
-        self.assertEqual(
-            self.lines(),
-            [
-                "ada 1,2",
-                "ben 2,1",
-                "cleo 1,1",
-                "ada-lovelace 1,2",
-                "dan 1,1",
-                "eve 2,1",
-                "fay \u201cja\u201d",
-                "Kim No",
-            ],
         )
+        lines = (
+            "ada 1,2|ben 2,1|cleo 1,1|ada-lovelace 1,2|dan 1,1|eve 2,1|fay \u201cja\u201d|Kim No"
+        )
+        self.assertEqual(self.lines(), lines.split("|"))
         # the same lines, written otherwise, are not new
-        self.assertIn(
-            "There is nothing new", self.told("add", self.write("again.txt", "ada 1,2\nBEN: No\n"))
-        )
+        self.write("again.txt", "ada 1,2\nBEN: No\n")
+        self.tells("add again.txt", "There is nothing new")
 
     def test_a_desk_from_a_pipe(self) -> None:
-        said = self.told("desk", given="ada ja\nben: oui\nKim No nein\n")
+        said = self.cast("ada ja", "ben: oui", "Kim No nein")
         self.assertIn("1 counted  ada: Yes: Wir kaufen a second boat", said)
-        said = self.told("desk", given="max: yes\nMax: yes\nMAX no\nmax-2 no.\n")
-        self.assertEqual(
-            re.findall(r"desk:(\d): it has the name of max and max-2; it was not entered", said),
-            ["2", "3"],
+        said = self.cast("max: yes", "Max: yes", "MAX no", "max-2 no.")
+        unclear = re.findall(
+            r"desk:(\d): it has the name of max and max-2; it was not entered", said
         )
+        self.assertEqual(unclear, ["2", "3"])
         # no French
-        self.assertEqual(
-            self.lines(), ["ada 1,2", "ben: oui", "kim-no 2,1", "max 1,2", "max-2 2,1"]
-        )
+        lines = ["ada 1,2", "ben: oui", "kim-no 2,1", "max 1,2", "max-2 2,1"]
+        self.assertEqual(self.lines(), lines)
 
     def test_a_word_counts_as_a_rank_of_a_table(self) -> None:
-        said = "the lines look like a table"
-        for row in ("ada ja", "ada 1,2"):
-            table = f"Name;Vote\n{row}\n"
-            for command in ("add", "desk"):
-                self.assert_stops(
-                    self.election(command, given=table),
-                    self.first_act - 1,
-                    4 if command == "desk" else 9,
-                    said,
-                )
+        tables = ["Name;Vote\nada ja\n", "Name;Vote\nada 1,2\n"]
         # a head may have the words of the motion, and then it may be below ballots
         for head in ("Name Nein,Ja", "NAME | Nein | Ja | Enthaltung", "Name nein ja"):
-            for table in (
-                f"{head}\nada 2,1\n",
-                f"ben ja\n{head}\nada 2,1\n",
-                f"Kim No nein\n{head}\nada ja\n",
-            ):
-                for command in ("add", "desk"):
-                    self.assert_stops(
-                        self.election(command, given=table),
-                        self.first_act - 1,
-                        4 if command == "desk" else 9,
-                        said,
-                    )
+            tables.append(f"{head}\nada 2,1\n")
+            tables += f"ben ja\n{head}\nada 2,1\n", f"Kim No nein\n{head}\nada ja\n"
+        for table in tables:
+            for command, status in (("add", 9), ("desk", 4)):
+                self.assert_refused(command, status, "the lines look like a table", given=table)
         # but a word is none of its ranks, and notes between ballots are no heads
-        self.told(
-            "add",
-            "--look",
-            given="adda ja\nben ja\n# by phone, Monday\ncleo 1,2\nper Telefon\ndan nein\nben ja nein\neve ja\nper Brief, danke\nfay ja\n",
-        )
-        self.told("add", "--look", given="Mrs Bennet nein\nben ja\n")
-        self.told("add", given="ada ja\nben: Nein!\n")
-        self.told("desk", given="Cleo ja\ndan enthaltung\n")
+        for lines in (
+            "adda ja\nben ja\n# by phone, Monday\ncleo 1,2\nper Telefon\ndan nein\nben ja nein\neve ja\nper Brief, danke\nfay ja\n",
+            "Mrs Bennet nein\nben ja\n",
+        ):
+            self.adds(lines, words="--look")
+        self.adds("ada ja\nben: Nein!\n")
+        self.cast("Cleo ja", "dan enthaltung")
         self.assertEqual(self.lines(), ["ada 1,2", "ben 2,1", "cleo 1,2", "dan 1,1"])
 
-    def test_what_was_typed_for_a_letter(self) -> None:
-        self.add(letter("ada", "Bin dafür.\n"))
-        self.told("held", "1", "--as", "Ada Lovelace: Ja", "--force", "--yes")
-        self.assertEqual(self.lines(), ["ada-lovelace 1,2"])
-
     def test_words_of_letters_are_typed(self) -> None:
-        """Also beside a ballot, and those of two in one letter; receipts say the ballots in words."""
-        texts = {
-            "ada": "Ja",
-            "ben": "ben nein\ncleo 1,2",
-            "dan": "dan 1,2\n\nJa\n",
-            "eve": "Eve: Enthaltung",
-            "fay": "fay 1,2",
-        }
-        said = self.add(*(letter(name, text) for name, text in texts.items()))
-        self.assertEqual(self.lines(), ["fay 1,2"])
+        """Also beside a ballot, or those of two in a letter; receipts say the ballots in words."""
+        said = self.add(
+            letter("ada", "Ja"),
+            letter("ben", "ben nein\ncleo 1,2"),
+            letter("dan", "dan 1,2\n\nJa\n"),
+            letter("eve", "Eve: Enthaltung"),
+            letter("fay", "fay 1,2"),
+            letter("gus", "Bin dafür.\n"),
+        )
         self.assertNotIn("--enter", said)
-        said = self.told("held")
-        for reason in (
-            "no ballot found\n        written: Ja\n",
-            "no ballot found\n        written: Eve: Enthaltung\n",
-            "line 1 is a ballot, and there are other lines\n        line 1: dan 1,2\n        written: Ja\n",
-        ):
-            self.assertIn(f"        {reason}", said)
+        self.assertEqual(self.lines(), ["fay 1,2"])
+        none, words = "        no ballot found\n        written: ", "\n        written: Ja\n"
+        self.tells(
+            "held",
+            f"{none}Ja\n",
+            f"{none}Eve: Enthaltung\n",
+            f"        line 1 is a ballot, and there are other lines\n        line 1: dan 1,2{words}",
+        )
         # the receipt says that the letter waits, and not that it is written wrongly
-        self.told("letters", "receipts")
+        self.told("letters receipts")
         self.assertIn(
             "Noch ist kein Stimmzettel daraus erfasst: Die Wahlleitung muss sie erst ansehen. Der Grund: Keine ihrer Zeilen ist ein Stimmzettel",
             self.receipt("ada"),
         )
-        for number, count in (
-            (1, "0 ballots"),
-            (2, "1 ballot, and other lines that look like answers"),
-            (3, "1 ballot, and other lines that look like answers"),
-        ):
-            self.assert_refused(
-                ("held", number, "--enter", "--yes"),
-                9,
-                f"letter {number}: it has {count}",
-                "--as LINE",
-            )
-        self.told("held", 1, "--as", "ada ja", "--yes")
+        like_answers = "1 ballot, and other lines that look like answers"
+        for number, count in ((1, "0 ballots"), (2, like_answers), (3, like_answers)):
+            said = f"letter {number}: it has {count}"
+            self.assert_refused(f"held {number} --enter --yes", 9, said, "--as LINE")
+        self.told("held 1 --as 'ada ja' --yes")
         # her address is not that of the ballot
-        self.told("held", 2, "--as", "ben nein", "--yes")
-        self.assert_refused(
-            ("held", 2, "--as", "cleo ja", "--yes"),
-            9,
-            "its sender and its subject do not show that it is of cleo",
-        )
-        self.told("held", 2, "--as", "cleo ja", "--yes", "--force")
-        self.told("held", 3, "--as", "dan ja", "--yes")
-        self.assertEqual(self.lines(), ["fay 1,2", "ada 1,2", "ben 2,1", "cleo 1,2", "dan 1,2"])
-        self.told("letters", "receipts")
+        self.told("held 2 --as 'ben nein' --yes")
+        said = "its sender and its subject do not show that it is of cleo"
+        self.assert_refused("held 2 --as 'cleo ja' --yes", 9, said)
+        self.told("held 2 --as 'cleo ja' --yes --force")
+        self.told("held 3 --as 'dan ja' --yes")
+        self.told("held 6 --as 'Ada Lovelace: Ja' --force --yes")
+        lines = ["fay 1,2", "ada 1,2", "ben 2,1", "cleo 1,2", "dan 1,2", "ada-lovelace 1,2"]
+        self.assertEqual(self.lines(), lines)
+        self.told("letters receipts")
         self.assertIn("Ja: Wir kaufen a second boat.", self.receipt("ada"))
         self.assertIn("Nein: No, one is enough.", self.receipt("ben"))
 
     def receipt(self, name: str) -> str:
         """The words of the last receipt of an elector."""
-        found = {
-            int(file.split("/")[2]): data
-            for file, data in self.contents().items()
-            if "letters/receipts" in file and f"To: {name}@".encode() in data
-        }
-        letter = email.message_from_bytes(found[max(found)], policy=email.policy.default)
-        assert isinstance(letter, email.message.EmailMessage)
-        return " ".join(letter.get_content().split())
+        files = (self.folder / "letters" / "receipts").rglob(f"{name}.eml")
+        last = max(files, key=lambda file: int(file.parent.name))
+        return one_line(outgoing.parsed(last.read_bytes()))
 
 
 class Answering(LettersTest):
@@ -295,24 +221,18 @@ class Answering(LettersTest):
 
     def test_our_letter_below_a_ballot_has_no_answer(self) -> None:
         """As programs quote that mark nothing; a word that its elector wrote above it is one."""
-        self.told("letters", "call")
-        ours = {
-            name: email.message_from_bytes(data, policy=email.policy.default)
-            for name in ("ada", "ben")
-            for data in self.contents().values()
-            if f"To: {name}@".encode() in data
-        }
+        self.told("letters call")
         head = "\n-----Original Message-----\nFrom: Vote\nSubject: Vote\n\n"
-        self.add(
-            *(
-                letter(name, f"{name} 1,2\n{more}{head}{ours[name].get_content()}")
-                for name, more in (("ada", ""), ("ben", "\nYes\n"))
-            )
-        )
+        letters = []
+        for name, more in (("ada", ""), ("ben", "\nYes\n")):
+            [ours] = (self.folder / "letters" / "call").rglob(f"{name}.eml")
+            quoted = outgoing.parsed(ours.read_bytes()).get_content()
+            letters.append(letter(name, f"{name} 1,2\n{more}{head}{quoted}"))
+        self.add(*letters)
         self.assertEqual(self.lines(), ["ada 1,2"])
-        self.assertIn(
+        self.tells(
+            "held",
             "line 1 is a ballot, and there are other lines\n        line 1: ben 1,2\n        written: Yes\n",
-            self.told("held"),
         )
 
 
@@ -322,154 +242,125 @@ class AtDesk(TerminalTest):
 
     def test_words_for_parts_of_names_too(self) -> None:
         desk = self.at_terminal()
-        self.assertIn("\nada: Yes: We buy a second boat\n", desk.after("Ada: yes.\n", CAST))
-        desk.after("y\n", "Ballot: ")
-        self.assertIn(
-            "`hopp` was completed to `grace-hopper`\ngrace-hopper: Abstain\n",
-            desk.after("hopp abstain\n", CAST),
-        )
-        desk.after("y\n", "Ballot: ")
-        self.assertIn(
-            "\nada has a ballot, which will be replaced: Yes: We buy a second boat",
-            desk.after("ada no\n", CAST),
-        )
-        desk.after("n\n", "Ballot: ")
+        completed = "`hopp` was completed to `grace-hopper`\ngrace-hopper: Abstain\n"
+        replaced = "\nada has a ballot, which will be replaced: Yes: We buy a second boat"
+        for typed, said, answer in (
+            ("Ada: yes.\n", "\nada: Yes: We buy a second boat\n", "y\n"),
+            ("hopp abstain\n", completed, "y\n"),
+            ("ada no\n", replaced, "n\n"),
+        ):
+            self.assertIn(said, desk.after(typed, CAST))
+            desk.after(answer, "Ballot: ")
         self.assertIn("It would be refused: Kim No", desk.after("Kim No\n", "anyway? "))
         self.end(desk, "n\nq\n")
         self.assertEqual(self.lines(), ["ada 1,2", "grace-hopper 1,1"])
 
 
-# ---------------------------------------------------------------- letters
+# ---------------------------------------- letters
+KIMS = {"subject": f"[{MARK}-kmn2345678]"}
 QUOTED = "\n\nOn Mon, Nov 23, 2026 at 10:00 AM Vote wrote:\n> "
 
 
 class InLetters(unittest.TestCase):
     def test_a_table(self) -> None:
-        """What becomes of a letter, and whether its ballot is offered, or has to be typed since a word looks like an answer."""
+        """What becomes of a letter, and whether its ballot is offered, or has to be typed since a
+        word looks like an answer.
+        """
         for becomes, texts in {
-            "waits: no ballot, typed": (
-                "ada yes",
-                "Ada Lovelace: No!",
-                "Hello,\n\nada abstain\n",
-                "yes",
-                "No.",
-                "Kim No",
-                "ada 1,2 yes",
-                "ada yes 1,2",
-                "ada\nyes",
-                "> yes",
-                "ada: no",
-                "ben yes",
+            "waits: no ballot, typed": rows(
+                """
+ada yes
+Ada Lovelace: No!
+Hello,⏎⏎ada abstain⏎
+yes
+No.
+Kim No
+ada 1,2 yes
+ada yes 1,2
+ada⏎yes
+> yes
+ada: no
+ben yes
+"""
             ),
-            "in: ada 1,2": (
-                "ada 1,2",
-                "Hello,\n\nada 1,2\n\nbest wishes",
-                f"ada 1,2{QUOTED}Yes to all of it",
-                f"ada 1,2{QUOTED}Option 1: Yes",
-                f"ada 1,2{QUOTED}Kim No",
-                "ada 1,2\n-- \nI say no to it",
+            "in: ada 1,2": rows(
+                """
+ada 1,2
+Hello,⏎⏎ada 1,2⏎⏎best wishes
+ada 1,2{q}Yes to all of it
+ada 1,2{q}Option 1: Yes
+ada 1,2{q}Kim No
+ada 1,2⏎-- ⏎I say no to it
+"""
             ),
-            "waits: not alone, typed": (
-                "ada 1,2\n\nyes",
-                "ada 1,2\n\nYES!",
-                "ada 1,2\n\nben no",
-                "ada 1,2\nAda: no.",
-                "yes\nada 1,2",
-                "ada 1,2\n> yes",
-                "ada 1,2\n-- \nyes",
-                "ada 1,2\n-- \nAda Lovelace no",
-                f"ada 1,2{QUOTED}x\n\nabstain",
+            "waits: not alone, typed": rows(
+                """
+ada 1,2⏎⏎yes
+ada 1,2⏎⏎YES!
+ada 1,2⏎⏎ben no
+ada 1,2⏎Ada: no.
+yes⏎ada 1,2
+ada 1,2⏎> yes
+ada 1,2⏎-- ⏎yes
+ada 1,2⏎-- ⏎Ada Lovelace no
+ada 1,2{q}x⏎⏎abstain
+"""
             ),
-            "waits: answer below, typed": (
-                f"ada 1,2{QUOTED}yes",
-                f"ada 1,2{QUOTED}> ada no",
-                "ada 1,2\n\n-----Original Message-----\nyes",
+            "waits: answer below, typed": rows(
+                """
+ada 1,2{q}yes
+ada 1,2{q}> ada no
+ada 1,2⏎⏎-----Original Message-----⏎yes
+"""
             ),
-            "waits: not alone, offered": (
-                "ada 1,2\n\nNo, not that one",
-                "ada 1,2\n\nI say no to it",
-                "ada 1,2\n\nThanks, no",
-                "ada 1,2\n\nja",
-                "nobody yes\n\nada 1,2",
-                "ada 1,2\n\nKim No",
+            "waits: not alone, offered": rows(
+                """
+ada 1,2⏎⏎No, not that one
+ada 1,2⏎⏎I say no to it
+ada 1,2⏎⏎Thanks, no
+ada 1,2⏎⏎ja
+nobody yes⏎⏎ada 1,2
+ada 1,2⏎⏎Kim No
+"""
             ),
             # whose own name is a word: it is not known by it
             "in: kim-no 1,2": ("Kim No 1,2", "Hello\nkim-no 1,2\n\nBest, Kim"),
         }.items():
-            for text in texts:
-                [one] = judged_by(
-                    [
-                        letter(
-                            "kim-no" if "kim" in becomes else "ada",
-                            text,
-                            subject=f"[{MARK}-kmn2345678]" if "kim" in becomes else None,
-                        )
-                    ]
-                )
-                how = (
-                    ""
-                    if one.outcome is LetterOutcome.GOES_IN
-                    else ", offered"
-                    if one.is_offered
-                    else ", entered"
-                    if one.can_be_entered
-                    else ", typed"
-                )
-                self.assertEqual(f"{outcome(one)}{how}", becomes, text)
+            name, how = ("kim-no", KIMS) if "kim" in becomes else ("ada", {})
+            letters = [letter(name, text.replace("{q}", QUOTED), **how) for text in texts]
+            for one in judged_by(letters):
+                found = f"{outcome(one)}, {how_entered(one)}"
+                self.assertEqual(found.removesuffix(", in"), becomes, one.read.body.lines)
 
     def test_random_letters(self) -> None:
-        """A word makes no letter go in that does not without a motion, and none goes in with a line that is one; of those that wait for it alone the words are shown."""
-        chance, words = random.Random(81), (
-            "ada yes",
-            "ADA: NO",
-            "yes",
-            "No.",
-            "no !",
-            "Kim No",
-            "Yes, dear all,",
-            "12 or no",
-            "Ada",
-            "ada 2,1",
-            "> yes",
-            "> ada no",
+        """A word makes no letter go in that does not without a motion, and none goes in with a line
+        that is one; of those that wait for it alone the words are shown.
+        """
+        chance = random.Random(81)
+        words = (
+            "ada yes|ADA: NO|yes|No.|no !|Kim No|Yes, dear all,|12 or no|Ada|ada 2,1|> yes|> ada no"
         )
-        tails = (
-            "",
-            "-- \nWORD",
-            QUOTED[2:] + "WORD",
-            QUOTED[2:] + "> WORD",
-            "-----Original Message-----\nWORD",
-            "Best\nAda",
-            "WORD",
-        )
-        texts = [
-            chance.choice(("", "", "Hello,", chance.choice(words)))
-            + "\nada 1,2\n\n"
-            + chance.choice(tails)
-            for _ in range(1_500)
-        ]
-        letters = [letter("ada", text.replace("WORD", chance.choice(words))) for text in texts]
-        going_in, held_back = 0, 0
+        words = words.split("|")
+        tails = ("", "-- \nWORD", f"{QUOTED[2:]}WORD", f"{QUOTED[2:]}> WORD", "Best\nAda", "WORD")
+        tails += ("-----Original Message-----\nWORD",)
+        letters = []
+        for _ in range(1_500):
+            first = chance.choice(("", "", "Hello,", chance.choice(words)))
+            tail = chance.choice(tails).replace("WORD", chance.choice(words))
+            letters.append(letter("ada", f"{first}\nada 1,2\n\n{tail}"))
+        found = collections.Counter[str]()
         for one, plain in zip(judged_by(letters), judged_by(letters, words={})):
-            text = one.read.body.lines
+            if plain.outcome is not LetterOutcome.GOES_IN:
+                self.assertIsNot(one.outcome, LetterOutcome.GOES_IN)
+                continue
+            text, shown = one.read.body.lines, [*other_words(one)]
+            found[outcome(one)] += 1
             if one.outcome is LetterOutcome.GOES_IN:
-                going_in += 1
                 self.assertEqual(outcome(plain), outcome(one), text)
-                self.assertFalse(
-                    [
-                        line
-                        for line in text
-                        if re.fullmatch(r"(?i)[> ]*(ada:? )?(yes|no)[ .!]*", line)
-                    ],
-                    text,
-                )
-            elif plain.outcome is LetterOutcome.GOES_IN:
-                held_back += 1
-                is_seen = [*other_words(one)] != []
-                self.assertEqual(
-                    (outcome(one), one.can_be_entered),
-                    (f"waits: {'not alone' if is_seen else 'answer below'}", False),
-                    text,
-                )
-                self.assertTrue({*one.read.text.quoted} or [*other_words(one)], text)
-        self.assertGreater(min(going_in, held_back), 40)
+                is_word = re.compile(r"(?i)[> ]*(ada:? )?(yes|no)[ .!]*").fullmatch
+                self.assertFalse([*filter(is_word, text)], text)
+            else:
+                wanted = f"waits: {'not alone' if shown else 'answer below'}, typed"
+                self.assertEqual(f"{outcome(one)}, {how_entered(one)}", wanted, text)
+                self.assertTrue([*one.read.text.quoted, *shown], text)
+        self.assertGreater(min(found["in: ada 1,2"], found.total() - found["in: ada 1,2"]), 40)
