@@ -223,11 +223,34 @@ def with_names(poll, count, names):
     return mark + said.encode() + poll.removeprefix(mark)
 
 
+def of_few_opinions(seed):
+    """The poll and the ballots of a random election whose options often beat each other in circles."""
+    rng = random.Random(seed)
+    number, voters = rng.randint(2, 7), range(rng.randint(3, 30))
+    opinions = [
+        ",".join(rng.choice([*map(str, range(1, number + 1)), "-"]) for _ in range(number + 1))
+        for _ in range(rng.randint(3, 6))
+    ]
+    values = {
+        "title": "T",
+        "options": [str(option) for option in range(1, number + 1)],
+        "ratios": [rng.choice([1, 1, 1, 2, 3]) for _ in range(number)],
+        "default": "N",
+        "quorum": rng.choice([0, 1]),
+        "roll": [f"v{voter}" for voter in voters],
+    }
+    ballots = "".join(f"v{voter} {rng.choice(opinions)}\n" for voter in voters)
+    return {"poll": publishing.plain(values), "ballots": ballots.encode(), "casting": None}
+
+
 def meet(seed):
     """Publishes the poll of a seed, in the language of the seed. Returns the kinds of sentences, or none if the poll is refused, and what
     is wrong."""
     election = random_polls().election_of(seed)
-    election = election._replace(ballots=b"") if seed % 27 == 0 else election
+    if seed % 4 == 3:
+        election = election._replace(**of_few_opinions(seed))
+    if seed % 27 == 0:
+        election = election._replace(ballots=b"")
     try:
         casting = (
             election.casting
