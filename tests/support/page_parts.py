@@ -233,18 +233,56 @@ def try_page(expect, name, folder):
     )
 
 
-class Parts:
-    """The parts of a page beside the count of the reference, in a language. A page of several questions has a label."""
+class Reasons:
+    """Why options have won and lost, by the count of the reference."""
 
-    def __init__(self, page, letter, count, names, spoken=ENGLISH, *, label="", is_motion=False):
-        """`names` are those that people read of title (0) and options, where they differ from the plain ones."""
-        self.page, self.letter = tree_of(page), f" {in_one_line(letter)} "
-        self.count, self.poll, self.votes, self.names = count, count.poll, count.votes, names
+    def __init__(self, count):
+        self.count, self.poll, self.votes = count, count.poll, count.votes
         self.default, self.winner, self.final = count.poll.default, count.winner, count.final
         self.voters = len(count.last)
         self.removed = [pair for _, pairs in count.rounds for pair in sorted(pairs)]
         # those that were not dropped
         self.kept = [option for option in self.poll.options if option not in count.dropped]
+
+    def nearest(self):
+        """The options that were dropped, by what they lacked for quorum and majority."""
+        count = self.count
+        return sorted(
+            (max(least_of(count), majority_of(count, o)) - self.votes[o, self.default], o)
+            for o in count.dropped
+        )
+
+    def chain(self, option):
+        """The shortest chain of defeats that were there when an option left the set: to the winner if one is, or else to the least number."""
+        gone = [removed for kept, removed in self.count.rounds if option in kept]
+        defeats = sorted(self.count.defeats.difference(*gone))
+        within = {*self.count.rounds[len(gone)][0]}
+        chains, last = {option: []}, [option]
+        while not within & chains.keys():
+            step = {}
+            for loser in last:
+                for a, b in defeats:
+                    if b == loser and a not in chains.keys() | step.keys():
+                        step[a] = [*chains[loser], (a, b)]
+            chains, last = chains | step, sorted(step)
+        return chains[self.winner if self.winner in chains else min(within & chains.keys())]
+
+    def beaten(self):
+        """Those whom the winner beats by defeats that hold, the nearest first."""
+        return sorted(
+            (self.votes[pair] - self.votes[pair[::-1]], pair[1])
+            for pair in self.count.defeats - {*self.removed}
+            if pair[0] == self.winner
+        )
+
+
+class Parts(Reasons):
+    """The parts of a page beside the count of the reference, in a language. A page of several questions has a label."""
+
+    def __init__(self, page, letter, count, names, spoken=ENGLISH, *, label="", is_motion=False):
+        """`names` are those that people read of title (0) and options, where they differ from the plain ones."""
+        super().__init__(count)
+        self.page, self.letter, self.names = tree_of(page), f" {in_one_line(letter)} ", names
         self.spoken, self.label, self.is_motion = spoken, label, is_motion
         self.say, self.say_number = spoken.say, spoken.say_number
         self.sections = sections_of(page)
@@ -415,14 +453,6 @@ class Parts:
         """Whether more prefer the first option than the second."""
         return self.votes[a, b] > self.votes[b, a]
 
-    def nearest(self):
-        """The options that were dropped, by what they lacked for quorum and majority."""
-        count = self.count
-        return sorted(
-            (max(least_of(count), majority_of(count, o)) - self.votes[o, self.default], o)
-            for o in count.dropped
-        )
-
     def bar(self, a, b, needed=0):
         """A bar, all of which have one scale: it ends at the voters, and what is needed beyond them is dashed, up to as much again."""
         voters, over, under = self.voters, self.votes[a, b], self.votes[b, a]
@@ -475,21 +505,6 @@ class Parts:
     def against(self, *pair):
         is_removed = {pair, pair[::-1]} & {*self.removed}
         return self.told("left with a removed defeat" if is_removed else "left in a tie", pair)
-
-    def chain(self, option):
-        """The shortest chain of defeats that were there when an option left the set: to the winner if one is, or else to the least number."""
-        gone = [removed for kept, removed in self.count.rounds if option in kept]
-        defeats = sorted(self.count.defeats.difference(*gone))
-        within = {*self.count.rounds[len(gone)][0]}
-        chains, last = {option: []}, [option]
-        while not within & chains.keys():
-            step = {}
-            for loser in last:
-                for a, b in defeats:
-                    if b == loser and a not in chains.keys() | step.keys():
-                        step[a] = [*chains[loser], (a, b)]
-            chains, last = chains | step, sorted(step)
-        return chains[self.winner if self.winner in chains else min(within & chains.keys())]
 
     def how_it_ended(self):
         is_default = self.winner == self.default
@@ -595,14 +610,6 @@ class Parts:
         """The row of the panel for those that have none of their own."""
         if len(rows) > 3:
             yield [self.say("and {number} other options", number=len(rows) - 2)], None
-
-    def beaten(self):
-        """Those whom the winner beats by defeats that hold, the nearest first."""
-        return sorted(
-            (self.votes[pair] - self.votes[pair[::-1]], pair[1])
-            for pair in self.count.defeats - {*self.removed}
-            if pair[0] == self.winner
-        )
 
     def in_letter(self):
         """In the letter, below the head of a question of several: how it ended, what decides it, and the numbers of the result."""

@@ -1,10 +1,12 @@
-"""The words for a ballot and for a share, which are written down here one by one; and the kinds of acts."""
+"""The words for a ballot and for a share, which are written down here one by one; the kinds of acts; and why options have lost."""
 
 import datetime
 import unittest
 
 from debvote_tools.result.facts import Act
 from debvote_tools.result.page import share
+from debvote_tools.result.why import Why
+from debvote_tools.sheet import sheet_in
 from debvote_tools.text.ballots import (
     ballot_lines,
     ballots_in_words,
@@ -15,6 +17,12 @@ from debvote_tools.text.ballots import (
 from debvote_tools.text.language import ENGLISH, language_of
 from debvote_tools.text.rendering import templates_of
 from debvote_tools.text.times import days_in_words
+
+from tests import reference
+from tests.support import page_parts, result_checks
+
+# elections in which options often beat each other in circles
+ELECTIONS = 1_000
 
 
 class WordsTest(unittest.TestCase):
@@ -107,3 +115,20 @@ class WordsTest(unittest.TestCase):
             (80, 100, "80 %"),
         ]:
             self.assertEqual(share(voters, electors), wanted)
+
+    def test_why_options_of_random_elections_have_lost(self):
+        """Beside the count of the reference, in more circles than published polls have."""
+        for seed in range(ELECTIONS):
+            election = result_checks.of_few_opinions(seed)
+            poll, ballots = election["poll"], election["ballots"]
+            sheet = sheet_in(reference.count(poll, ballots)[0])
+            why = Why(sheet, {option: str(option) for option in sheet.names})
+            wanted = page_parts.Reasons(result_checks.count_of(poll, ballots, None))
+            for option in {*wanted.kept} - {*wanted.final}:
+                found = [(int(row["option"]), row["rival"]) for row in why.chain(option)]
+                self.assertEqual(found, wanted.chain(option), seed)
+            if sheet.winner:
+                found = [
+                    (row["over"] - row["under"], row["rival"]) for row in why.beaten(sheet.winner)
+                ]
+                self.assertEqual(found, wanted.beaten(), seed)
