@@ -357,25 +357,25 @@ class Several(PageTest):
         many = Questions(dict.fromkeys(LABELS, poll_of(20, 9)), "Assembly 2026")
         self.open(call_of(many), f"#e01/{OWN}")
         ranks = [str(rank) for rank in range(1, 21)]
-        lines = ["e01", *(f"{label} {','.join(ranks)}" for label in LABELS)]
-        of_all = {"letter": False, "ready": True, "missing": "", "wide": 360}
-        self.ballot("e01", ranks * 24, line=" ".join(lines), **of_all)
-        self.assertEqual(self.copied(TAKES)[0], "\n".join(lines))
-        # what would take most of the window, once it is open, lies below the questions
-        self.ask("document.getElementById('Lines').open = true")
-        self.window.until(
-            "getComputedStyle(document.getElementById('Bottom')).position === 'static'"
-        )
 
         def link(count: int) -> str:
+            lines = ["e01", *(f"{label} {','.join(ranks)}" for label in LABELS[:count])]
             answered = f"{count} of 24 answered; not {', '.join(LABELS[count:])}"
+            shown = {"answered": answered, "line": " ".join(lines), "ready": True, "wide": 360}
             given = [*ranks * count, *["-"] * 20 * (24 - count)]
-            return self.ballot("e01", given, answered=answered)["letter"] or ""
+            found = self.ballot("e01", given, missing="", **shown)
+            self.assertEqual(self.copied(TAKES)[0], "\n".join(lines))
+            return found["letter"] or ""
 
         # each answer makes it as much longer
         one, two = len(link(1)), len(link(2))
         most = 1 + (2_000 - one) // (two - one)
         self.assertEqual([bool(link(most)), bool(link(most + 1))], [True, False])
+        # what would take most of the window, once it is open, lies below the questions
+        self.ask("document.getElementById('Lines').open = true")
+        self.window.until(
+            "getComputedStyle(document.getElementById('Bottom')).position === 'static'"
+        )
 
     def test_several_without_script_and_on_paper(self) -> None:
         shown = (
