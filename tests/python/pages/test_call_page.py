@@ -456,8 +456,8 @@ class Names(PageTest):
         # without the roll each name that one may have gets its line, and none is told
         self.open_poll(with_roll(POLL, [f"x{number}" for number in range(2_001)]))
         self.sees(offered, [])
-        for typed in wanted:
-            is_name = re.fullmatch("[A-Za-z0-9.-]+", typed) is not None
+        for typed in (*wanted, "x" * 33):
+            is_name = re.fullmatch("[A-Za-z0-9.-]{1,32}", typed) is not None
             line = f"{typed.lower()} 1,2,3,4" if is_name else ""
             said = self.ballot(typed, "1234", line=line, suggested=[])["said"]
             self.assertEqual("Names on the roll have only small letters" in said, not is_name)
@@ -601,14 +601,18 @@ class Looks(PageTest):
 
     def test_long_texts_are_cut_and_read_at_a_touch(self) -> None:
         """And leave room for the ranks on a telephone, in each language."""
-        free = """document.getElementById("Bottom").getBoundingClientRect().top
-          - [...document.querySelectorAll("div.rank")].at(-1).getBoundingClientRect().bottom"""
+        # the ranks end above the line and the buttons, which are in the window, and a finger finds each
+        room = """((place) => { const bar = place(document.getElementById("Bottom"));
+          const ranks = [...document.querySelectorAll("div.rank label")].map(place);
+          const ends = ["Copy", "Letter"].map((id) => place(document.getElementById(id)).bottom);
+          return ranks.every(({ bottom, height }) => bottom <= bar.top && height >= 41) && Math.max(...ends) <= innerHeight;
+        })((node) => node.getBoundingClientRect())"""
         for code in LANGUAGES:
             poll = replace(POLL, explanations=TEXTS[:1] * 3)
-            self.open_poll(poll, language=language_of(code))
+            self.open_poll(poll, f"#ada/{OWN}", language=language_of(code))
             self.ballot("ada", "21-3")
             self.ask("scrollTo(0, 0)")
-            self.assertGreaterEqual(self.ask(free), 0, code)
+            self.sees(room, True, code)
         self.open_poll(replace(POLL, explanations=TEXTS))
         shown = "[...document.querySelectorAll('.text')].map((node) => node.clientHeight >= node.scrollHeight - 1)"
         self.sees(shown, [False, True])

@@ -118,22 +118,13 @@ class InBrowser(languages.LanguageTest):
         self.assertEqual(f"5 : 4, {round_} 1" in texts, name == "circle", name)
 
     def check_call(self, file: pathlib.Path) -> None:
-        """The form with four options is on one screen of a small telephone: name, ranks, line and buttons."""
+        """Of an address whose place is named once it is open."""
         window, words = self.window, CALL_SENTENCES
         window.open(file)
         window.ask("location.hash = 'e01/23456789ab'")
         window.until("document.getElementById('Name').value === 'e01'")
         subject = window.ballot("e01", "21-3")["subject"]
         self.says(subject.rpartition(" [")[0], words, "subject", title="Where we meet in spring")
-        scroll, ranks, bar, *ends = window.ask(
-            """((end, side = "bottom") => [scrollY, Math.max(...[...document.querySelectorAll(".rank")].map((node) => end(node).bottom)),
-            end(document.getElementById("Bottom")).top, ...["Copy", "Letter"].map((id) => end(document.getElementById(id)).bottom)])(
-            (node) => node.getBoundingClientRect())"""
-        )
-        is_seen = scroll == 0, ranks <= bar, max(ends) <= SMALL[1]
-        self.assertEqual(is_seen, (True, True, True), (ranks, bar, ends))
-        heights = "[...document.querySelectorAll('.rank label')].map((node) => node.getBoundingClientRect().height)"
-        self.assertGreaterEqual(min(window.ask(heights)), 41)
         self.says(window.ballot("\u00c901", "-1--")["said"], words, "on_roll", names="e01")
         found = window.ballot("x_y", "1234")
         self.says(found["said"], words, "not_on_roll", name="x_y")
