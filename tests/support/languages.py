@@ -49,6 +49,7 @@ LETTERS = {
 }
 AT, TO = "https://example.org/", "vote@example.org"
 FIRST_END, END, REASON = "2031-12-01 18:00", "2031-12-03 18:00:30", "Nobody has answered"
+UNTIL = ("--zone", "Europe/Berlin", "--until")
 
 # each of our words is between these characters in the language of `marked_german`
 BEGIN, END_MARK = "\u27e6", "\u27e7"
@@ -71,17 +72,8 @@ def marked_german() -> Iterator[None]:
         raise unittest.SkipTest("the language with marked words is in forks of the test alone")
     forks.read_ahead()
     head = (sentences.LOCALE / "de.po").read_text(encoding="utf-8").split("\n\n")[0]
-    catalog = catalog_of(
-        "\n".join(
-            [
-                f"{head}\n",
-                *[
-                    sentences.as_po(texts, tuple(map(marked, texts)))
-                    for texts in sentences.in_code()
-                ],
-            ]
-        ).encode()
-    )
+    entries = [sentences.as_po(texts, tuple(map(marked, texts))) for texts in sentences.in_code()]
+    catalog = catalog_of("\n".join([f"{head}\n", *entries]).encode())
     with unittest.mock.patch.dict(vars(language_of("de").catalog), vars(catalog)):
         forget_german()
         yield
@@ -124,10 +116,8 @@ class LanguageTest(elections.ElectionTest):
         self.program("debvote-election", "new", "--language", language, folder)
         place = self.scratch / folder
         (place / "poll.toml").write_text(poll if codes is None else f"secret = true\n{poll}")
-        (place / "members.csv").write_text(
-            "who,mail,name\n"
-            + "".join(f"Person {name[1:]},{name}@example.org,{name}\n" for name in ELECTORS)
-        )
+        rows = (f"Person {name[1:]},{name}@example.org,{name}\n" for name in ELECTORS)
+        (place / "members.csv").write_text("who,mail,name\n" + "".join(rows))
         self.election(folder, "roll")
         if codes is not None:
             self.election(folder, "codes", *codes)
@@ -138,54 +128,49 @@ class LanguageTest(elections.ElectionTest):
     ) -> pathlib.Path:
         """A called election in a language, with all that a call may have."""
         place = self.begun(folder, language, codes=codes)
-        names = ("--names",) if codes is None else ()
-        self.election(
-            folder,
-            "call",
-            "--until",
-            FIRST_END,
-            "--zone",
-            "Europe/Berlin",
-            "--to",
-            TO,
-            "--at",
-            AT,
-            *names,
-        )
+        words = ("call", *UNTIL, FIRST_END, "--to", TO, "--at", AT)
+        self.election(folder, *words, *["--names"] * (codes is None))
         return place
 
     def held(
         self, folder: str, language: str, *, is_secret: bool = False, has_letters: bool = True
     ) -> pathlib.Path:
         """An election in a language, from its beginning to its publication, with everything that pages and letters can say."""
-
-        def send(*kinds: str) -> None:
-            for kind in kinds if has_letters else ():
-                self.election(folder, "letters", kind)
-
         place = self.called(folder, language, codes=() if is_secret else None)
-        send("call")
-        self.election(folder, "call", "--until", END, "--zone", "Europe/Berlin")
-        send("call")
-        self.election(folder, "add", "--yes", given=BALLOTS)
-        self.election(folder, "add", "--yes", *self.letters(place))
-        self.election(folder, "strike", 5, "--because", REASON)
-        send("reminders", "receipts")
-        self.election(folder, "close", "--early", "--force", "--because", REASON)
-        self.election(folder, "reopen", "--because", REASON)
-        self.election(folder, "add", "--yes", "--came-before-close", "yes", given="e12 2,1,3,4\n")
-        self.election(folder, "close", "--early", "--force", "--because", REASON)
-        send("closed")
-        self.election(folder, "add", "--yes", given="e05 1,2,3,4\n")
-        self.election(folder, "publish", "--yes")
-        send("result")
+        because = ("--because", REASON)
+
+        def do(command: str, *more: object, given: str = "") -> None:
+            if has_letters or not command.startswith("letters"):
+                self.election(folder, *command.split(), *more, given=given)
+
+        do("letters call")
+        do("call", *UNTIL, END)
+        do("letters call")
+        do("add --yes", given=BALLOTS)
+        do("add --yes", *self.letters(place))
+        do("strike 5", *because)
+        do("letters reminders")
+        do("letters receipts")
+        do("close --early --force", *because)
+        do("reopen", *because)
+        do("add --yes --came-before-close yes", given="e12 2,1,3,4\n")
+        do("close --early --force", *because)
+        do("letters closed")
+        do("add --yes", given="e05 1,2,3,4\n")
+        do("publish --yes")
+        do("letters result")
         return place
 
     def letters(self, place: pathlib.Path) -> list[pathlib.Path]:
         """Files with the letters of electors, which have arrived now."""
-        files = {self.scratch / f"{name}.eml": name for name in LETTERS}
-        for file, name in files.items():
-            head = f"From: {name}@example.org\nTo: {TO}\nSubject: {in_brackets(elections.ANY_MARK, elections.any_own(name))}\nMessage-ID: <{name}@x>\n"
-            text = f"{head}Received: from a by b; {email.utils.formatdate()}\nDate: {email.utils.formatdate()}\n\n{LETTERS[name]}\n"
-            file.write_bytes(elections.of_vote(place, text.encode()))
-        return list(files)
+        files = []
+        for name, text in LETTERS.items():
+            subject = in_brackets(elections.ANY_MARK, elections.any_own(name))
+            now = email.utils.formatdate()
+            head = (
+                f"From: {name}@example.org\nTo: {TO}\nSubject: {subject}\nMessage-ID: <{name}@x>\n"
+            )
+            letter = f"{head}Received: from a by b; {now}\nDate: {now}\n\n{text}\n"
+            files.append(self.scratch / f"{name}.eml")
+            files[-1].write_bytes(elections.of_vote(place, letter.encode()))
+        return files

@@ -89,6 +89,7 @@ ANSWERS = {
 }
 
 ENGLISH = Spoken("en")
+EQUAL = "{equal}\u00a0equal"
 
 
 class Wrong(Exception):
@@ -102,6 +103,10 @@ def demand(holds, why):
 
 def demand_equal(what, found, wanted):
     demand(found == wanted, f"{what}: {str(found)[:600]} in place of {str(wanted)[:600]}")
+
+
+def in_one_line(text):
+    return " ".join(text.split())
 
 
 def escaped(text):
@@ -228,17 +233,56 @@ def try_page(expect, name, folder):
     )
 
 
-class Parts:
+class Reasons:
+    """Why options have won and lost, by the count of the reference."""
+
+    def __init__(self, count):
+        self.count, self.poll, self.votes = count, count.poll, count.votes
+        self.default, self.winner, self.final = count.poll.default, count.winner, count.final
+        self.voters = len(count.last)
+        self.removed = [pair for _, pairs in count.rounds for pair in sorted(pairs)]
+        # those that were not dropped
+        self.kept = [option for option in self.poll.options if option not in count.dropped]
+
+    def nearest(self):
+        """The options that were dropped, by what they lacked for quorum and majority."""
+        count = self.count
+        return sorted(
+            (max(least_of(count), majority_of(count, o)) - self.votes[o, self.default], o)
+            for o in count.dropped
+        )
+
+    def chain(self, option):
+        """The shortest chain of defeats that were there when an option left the set: to the winner if one is, or else to the least number."""
+        gone = [removed for kept, removed in self.count.rounds if option in kept]
+        defeats = sorted(self.count.defeats.difference(*gone))
+        within = {*self.count.rounds[len(gone)][0]}
+        chains, last = {option: []}, [option]
+        while not within & chains.keys():
+            step = {}
+            for loser in last:
+                for a, b in defeats:
+                    if b == loser and a not in chains.keys() | step.keys():
+                        step[a] = [*chains[loser], (a, b)]
+            chains, last = chains | step, sorted(step)
+        return chains[self.winner if self.winner in chains else min(within & chains.keys())]
+
+    def beaten(self):
+        """Those whom the winner beats by defeats that hold, the nearest first."""
+        return sorted(
+            (self.votes[pair] - self.votes[pair[::-1]], pair[1])
+            for pair in self.count.defeats - {*self.removed}
+            if pair[0] == self.winner
+        )
+
+
+class Parts(Reasons):
     """The parts of a page beside the count of the reference, in a language. A page of several questions has a label."""
 
     def __init__(self, page, letter, count, names, spoken=ENGLISH, *, label="", is_motion=False):
         """`names` are those that people read of title (0) and options, where they differ from the plain ones."""
-        self.page, self.letter, self.count, self.names = (
-            page,
-            f" {' '.join(letter.split())} ",
-            count,
-            names,
-        )
+        super().__init__(count)
+        self.page, self.letter, self.names = tree_of(page), f" {in_one_line(letter)} ", names
         self.spoken, self.label, self.is_motion = spoken, label, is_motion
         self.say, self.say_number = spoken.say, spoken.say_number
         self.sections = sections_of(page)
@@ -247,7 +291,11 @@ class Parts:
 
     def plain(self, option):
         """The name of an option without its number."""
-        return self.names.get(option, self.count.poll.names[option])
+        return self.names.get(option, self.poll.names[option])
+
+    @property
+    def title(self):
+        return self.names.get(0, self.poll.title)
 
     def name(self, option):
         return self.spoken.numbered.format(number=option, name=self.plain(option))
@@ -256,17 +304,13 @@ class Parts:
         return self.spoken.joined(map(self.name, options))
 
     def entries(self, heading, kind="ul"):
-        return [
-            entry.text()
-            for found in list(self.sections[heading].all(kind))
-            for entry in found.all("li")
-        ]
+        """The entries of the lists of a part."""
+        return [entry for found in self.sections[heading].all(kind) for entry in found.all("li")]
 
     def check(self):
         """Meets all parts with the count. Raises Wrong, or returns the kinds of sentences that the page has."""
-        for (
-            part
-        ) in "headings named facts panel lines rule others options table defeats rounds ballots who_voted".split():
+        parts = "headings named facts panel lines rule others options table defeats rounds ballots who_voted"
+        for part in parts.split():
             getattr(self, part)()
         self.spoken = self.spoken.in_letters()
         self.in_letter()
@@ -276,403 +320,250 @@ class Parts:
         """A sentence of a kind, in which a pair of options may have its names, numbers and round."""
         self.met[kind] += 1
         if pair is not None:
-            (a, b), removed = pair, [
+            removed = [
                 number
                 for number, (_, gone) in enumerate(self.count.rounds, start=1)
                 if {pair, pair[::-1]} & gone
             ]
-            numbers = {
-                "over": self.count.votes[a, b],
-                "under": self.count.votes[b, a],
-                "round": sum(removed),
-            }
-            places |= {"option": self.name(a), "other": self.name(b), **numbers}
+            places |= self.pair(*pair) | {"round": sum(removed)}
         return self.say(SENTENCES[kind], **places)
+
+    def pair(self, a, b):
+        """The places of a sentence on two options."""
+        names = {"option": self.name(a), "other": self.name(b)}
+        return names | {"over": self.votes[a, b], "under": self.votes[b, a]}
 
     def headings(self):
         """Each part has a heading with its place, and a part of a group is one deeper than the group."""
         for place, section in self.sections.items():
-            demand_equal(
-                f"the heading of {place}",
-                [node.attributes.get("id") for tag in ("h2", "h3") for node in section.all(tag)],
-                [place],
-            )
+            heads = [head.attributes.get("id") for tag in ("h2", "h3") for head in section.all(tag)]
+            demand_equal(f"the heading of {place}", heads, [place])
+        demand_equal("the title", self.page.one("h1").text(), self.title)
+        tags = [node.tag for node in self.page.within()]
+        levels = [0, *(int(tag[1]) for tag in tags if re.fullmatch("h[1-6]", tag))]
+        steps = [after - before for before, after in zip(levels, levels[1:])]
         demand_equal(
-            "the title",
-            tree_of(self.page).one("h1").text(),
-            self.names.get(0, self.count.poll.title),
-        )
-        levels = [
-            int(node.tag[1])
-            for node in tree_of(self.page).within()
-            if re.fullmatch("h[1-6]", node.tag)
-        ]
-        demand_equal("the first heading", levels[0], 1)
-        demand_equal(
-            "headings that skip a level",
-            [level for before, level in zip(levels, levels[1:]) if level > before + 1],
-            [],
+            "the first heading, and those that skip a level", (steps[0], max(steps)), (1, 1)
         )
 
     def named(self):
         """Each name of an option beside its number is that of this option."""
-        for node in tree_of(self.page).within():
-            pairs = [
-                pair
-                for pair in zip(node.inner, node.inner[2:])
-                if isinstance(pair[0], Node) and pair[0].tag == "i"
-            ]
-            for number, name in pairs:
-                demand_equal(
-                    "a named option",
-                    (name.tag, name.text()),
-                    ("bdi", self.plain(int(number.text()))),
-                )
+        for node in self.page.within():
+            for number, name in zip(node.inner, node.inner[2:]):
+                if isinstance(number, Node) and number.tag == "i":
+                    wanted = "bdi", self.plain(int(number.text()))
+                    demand_equal("a named option", (name.tag, name.text()), wanted)
 
     def facts(self):
         """The numbers below the winner."""
-        demand_equal(
-            "the facts",
-            [entry.text() for entry in tree_of(self.page).one("ul", "facts").all("li")],
-            list(self.numbers()),
-        )
+        found = [entry.text() for entry in self.page.one("ul", "facts").all("li")]
+        demand_equal("the facts", found, list(self.numbers()))
 
     def numbers(self):
         """The numbers of a result; what is none is not told."""
-        count, poll = self.count, self.count.poll
-        quorum, refused, voters = least_of(count), len(count.lines) - count.valid, len(count.last)
-        reached = any(count.votes[option, poll.default] >= quorum for option in poll.ratios)
-        abstained = voters - count.votes[1, 2] - count.votes[2, 1] if self.is_motion else 0
+        quorum, lines = least_of(self.count), len(self.count.lines)
+        refused, electors = lines - self.count.valid, len(self.poll.roll)
         of_voters = "{voters} of {electors} voted"
-        yield self.say_number(of_voters, of_voters, voters, voters=voters, electors=len(poll.roll))
-        if poll.quorum:
-            yield self.say(
-                "quorum {quorum} reached" if reached else "quorum {quorum} not reached",
-                quorum=quorum,
-            )
+        yield self.say_number(
+            of_voters, of_voters, self.voters, voters=self.voters, electors=electors
+        )
+        if self.poll.quorum:
+            over = max(self.votes[option, self.default] for option in self.poll.ratios)
+            said = "quorum {quorum} reached" if over >= quorum else "quorum {quorum} not reached"
+            yield self.say(said, quorum=quorum)
         if refused:
             of_lines = "{refused} of {lines} line refused", "{refused} of {lines} lines refused"
-            yield self.say_number(
-                *of_lines, len(count.lines), refused=refused, lines=len(count.lines)
-            )
-        if abstained:
+            yield self.say_number(*of_lines, lines, refused=refused, lines=lines)
+        if self.is_motion and (abstained := self.voters - self.votes[1, 2] - self.votes[2, 1]):
             yield self.say("{number} abstained", number=abstained)
 
     def lines(self):
-        count, poll, valid, voters = (
-            self.count,
-            self.count.poll,
-            self.count.valid,
-            len(self.count.last),
-        )
-        numbers = {"valid": valid, "refused": len(count.lines) - valid}
+        valid, lines = self.count.valid, len(self.count.lines)
         one = "{number} line is in the ballot file: {valid} valid, {refused} refused."
-        wanted = [
-            self.say_number(
-                one,
-                "{number} lines are in the ballot file: {valid} valid, {refused} refused.",
-                len(count.lines),
-                **numbers,
-            )
-        ]
-        if valid != voters:
+        many = "{number} lines are in the ballot file: {valid} valid, {refused} refused."
+        wanted = [self.say_number(one, many, lines, valid=valid, refused=lines - valid)]
+        if valid != self.voters:
             more = "{valid} valid lines: electors who voted again account for the difference, and the last valid line of each counts."
-            wanted.append(
-                self.say_number(
-                    f"{{number}} voter has {more}",
-                    f"{{number}} voters have {more}",
-                    voters,
-                    valid=valid,
-                )
-            )
-        if poll.last_envelope is not None:
-            wanted.append(
-                self.say(
-                    "The last envelope is {number}: a line with a greater number is late, and is refused.",
-                    number=poll.last_envelope,
-                )
-            )
-        demand_equal(
-            "the lines",
-            " ".join(next(self.sections["Refused-lines"].all("p")).text().split()),
-            " ".join(wanted),
-        )
+            one, many = (f"{{number}} {said} {more}" for said in ("voter has", "voters have"))
+            wanted.append(self.say_number(one, many, self.voters, valid=valid))
+        if self.poll.last_envelope is not None:
+            said = "The last envelope is {number}: a line with a greater number is late, and is refused."
+            wanted.append(self.say(said, number=self.poll.last_envelope))
+        found = next(self.sections["Refused-lines"].all("p")).text()
+        demand_equal("the lines", in_one_line(found), " ".join(wanted))
 
     def rule(self):
-        poll, said = self.count.poll, self.sections["Options"].text()
-        sentences = (
-            "At least the ratio times as many electors must prefer it as prefer the default option, and in any case more.",
-            "More than the ratio times as many electors must prefer it as prefer the default option.",
-            "more than the ratio, where the Constitution of Debian has at least the ratio",
-        )
-        wanted = [not poll.is_more_than, poll.is_more_than, poll.is_more_than]
-        demand_equal(
-            "the wording of majorities",
-            [self.say(sentence) in said for sentence in sentences],
-            wanted,
-        )
+        poll, said = self.poll, self.sections["Options"].text()
+        sentences = {
+            "At least the ratio times as many electors must prefer it as prefer the default option, and in any case more.": not poll.is_more_than,
+            "More than the ratio times as many electors must prefer it as prefer the default option.": poll.is_more_than,
+            "more than the ratio, where the Constitution of Debian has at least the ratio": poll.is_more_than,
+            "No quorum is asked for.": not poll.quorum,
+        }
+        for sentence, is_told in sentences.items():
+            demand_equal(sentence, self.say(sentence) in said, is_told)
         of = ": at least {multiple}Q, where Q is half of the square root of the number of electors."
-        quorum = self.say_number(
-            f"The quorum is {{number}} vote{of}",
-            f"The quorum is {{number}} votes{of}",
-            least_of(self.count),
-            multiple=poll.quorum,
-        )
-        none = self.say("No quorum is asked for.")
-        demand_equal(
-            "the quorum", (quorum in said, none in said), (poll.quorum > 0, poll.quorum == 0)
-        )
+        one, many = f"The quorum is {{number}} vote{of}", f"The quorum is {{number}} votes{of}"
+        quorum = self.say_number(one, many, least_of(self.count), multiple=poll.quorum)
+        demand_equal("the quorum", quorum in said, poll.quorum > 0)
 
     def others(self):
         """Below the panel, each whose fate the panel does not say, as the rounds leave them, and last those that were dropped: of each
         the name, the chip, and what became of it; of one that was dropped a bar with its numbers, too.
         """
-        count, poll, votes = self.count, self.count.poll, self.count.votes
-        default, winner, final = poll.default, count.winner, count.final
-        told = {winner} | {o for _, o in few(self.nearest())} if winner == default else {winner}
-        told |= set(final) if winner is None and len(final) == 2 else set()
-        last = {
-            o: max((n for n, (kept, _) in enumerate(count.rounds, 1) if o in kept), default=0)
-            for o in poll.options
-        }
-        order = [
-            o
-            for o in sorted(poll.options, key=lambda o: (o in count.dropped, -last[o], o))
-            if o not in told and len(poll.options) > 2
-        ]
-        demand_equal("whether others are told", "Why-not-the-others" in self.sections, order != [])
+        count, options = self.count, self.poll.options
+        told = {self.winner}
+        if self.winner == self.default:
+            told |= {option for _, option in few(self.nearest())}
+        elif self.winner is None and len(self.final) == 2:
+            told |= {*self.final}
+        # in how many rounds each is
+        rounds = collections.Counter(option for kept, _ in count.rounds for option in kept)
+        order = sorted(
+            options, key=lambda option: (option in count.dropped, -rounds[option], option)
+        )
+        order = [option for option in order if option not in told and len(options) > 2]
+        heading = "Why-not-the-others"
+        demand_equal("whether others are told", heading in self.sections, order != [])
         if not order:
             return
-        lists = [
-            list(found.all("li"))
-            for found in self.sections["Why-not-the-others"].all("ol", "options")
-        ]
-        demand_equal(
-            "how many options are seen, and folded",
-            list(map(len, lists)),
-            [len(order)] if len(order) <= 8 else [5, len(order) - 5],
-        )
+        seen = [len(list(part.all("li"))) for part in self.sections[heading].all("ol", "options")]
+        wanted = [len(order)] if len(order) <= 8 else [5, len(order) - 5]
+        demand_equal("how many options are seen, and folded", seen, wanted)
         chips = {"quorum": "no quorum", "majority": "no majority", "left": "tied"}
-        for option, entry in zip(order, [entry for entries in lists for entry in entries]):
-            head = [
-                part.text() for part in entry.one("p", "option").inner if isinstance(part, Node)
-            ]
-            demand_equal(
-                f"the head of {option}",
-                head,
-                [self.name(option), self.say(chips.get(count.ended(option), "lost"))],
-            )
-            reasons, bars = [part.text() for part in entry.all("p", "reason")], list(
-                map(bar_of, entry.all("svg", "bar"))
-            )
-            if option not in count.dropped:
-                demand_equal(
-                    f"why {option} has not won",
-                    (reasons, bars),
-                    ([" ".join(self.fate(option))], []),
+        for option, entry in zip(order, self.entries(heading, "ol")):
+            head = [one.text() for one in entry.one("p", "option").inner if isinstance(one, Node)]
+            chip = self.say(chips.get(count.ended(option), "lost"))
+            demand_equal(f"the head of {option}", head, [self.name(option), chip])
+            reasons, bars = [" ".join(self.fate(option))], []
+            if option in count.dropped:
+                said = self.say(
+                    "{over} for it, {under} for {other}.", **self.pair(option, self.default)
                 )
-                continue
-            numbers = {
-                "over": votes[option, default],
-                "under": votes[default, option],
-                "other": self.name(default),
-            }
-            wanted = [
-                f"{self.say('{over} for it, {under} for {other}.', **numbers)} {self.lack(option)}"
-            ]
-            if winner not in (None, default) and votes[option, winner] > votes[winner, option]:
-                wanted.append(self.told("dropped, and preferred to the winner", (option, winner)))
-            demand_equal(
-                f"why {option} was dropped",
-                (reasons, bars),
-                (wanted, [self.bar(option, default, needed_by(count, option))]),
-            )
+                reasons = [f"{said} {self.lack(option)}"]
+                bars = [self.bar(option, self.default, needed_by(count, option))]
+                beside = option, self.winner
+                if self.winner not in (None, self.default) and self.is_over(*beside):
+                    reasons.append(self.told("dropped, and preferred to the winner", beside))
+            found = [part.text() for part in entry.all("p", "reason")]
+            found = found, list(map(bar_of, entry.all("svg", "bar")))
+            demand_equal(f"what became of {option}", found, (reasons, bars))
 
-    def nearest(self):
-        """The options that were dropped, by what they lacked for quorum and majority."""
-        count, default = self.count, self.count.poll.default
-        return sorted(
-            (max(least_of(count), majority_of(count, o)) - count.votes[o, default], o)
-            for o in count.dropped
-        )
+    def is_over(self, a, b):
+        """Whether more prefer the first option than the second."""
+        return self.votes[a, b] > self.votes[b, a]
 
     def bar(self, a, b, needed=0):
         """A bar, all of which have one scale: it ends at the voters, and what is needed beyond them is dashed, up to as much again."""
-        count, voters = self.count, len(self.count.last)
-        whole = max(
-            voters, min(max((needed_by(count, o) for o in count.dropped), default=0), 2 * voters), 1
-        )
-        over, under = count.votes[a, b], count.votes[b, a]
-        demand(
-            over + under <= voters <= whole,
-            f"the bar of {a} and {b} is longer than its numbers say",
-        )
+        voters, over, under = self.voters, self.votes[a, b], self.votes[b, a]
+        most = max((needed_by(self.count, o) for o in self.count.dropped), default=0)
+        whole = max(voters, min(most, 2 * voters), 1)
+        is_right = over + under <= voters <= whole
+        demand(is_right, f"the bar of {a} and {b} is longer than its numbers say")
         dashed = [(voters, min(needed, whole) - voters)] if needed > voters else []
-        return (
-            (whole, voters),
-            over,
-            (voters - under, under),
-            dashed,
-            [needed] if 0 < needed <= whole else [],
-        )
+        marks = [needed] if 0 < needed <= whole else []
+        return (whole, voters), over, (voters - under, under), dashed, marks
 
     def lack(self, option):
         """What an option lacks that was dropped."""
-        count, ratio = self.count, self.count.poll.ratios[option]
-        kind = "missed more than a ratio" if count.poll.is_more_than else "missed a ratio"
-        kind = (
-            "missed the quorum"
-            if count.dropped[option] == "quorum"
-            else "missed its majority"
-            if ratio == 1
-            else kind
-        )
-        return self.told(
-            f"a motion {kind}" if self.is_motion else kind,
-            needed=needed_by(count, option),
-            ratio=ratio,
-        )
+        ratio = self.poll.ratios[option]
+        kind = "missed more than a ratio" if self.poll.is_more_than else "missed a ratio"
+        if self.count.dropped[option] == "quorum":
+            kind = "missed the quorum"
+        elif ratio == 1:
+            kind = "missed its majority"
+        kind = f"a motion {kind}" if self.is_motion else kind
+        return self.told(kind, needed=needed_by(self.count, option), ratio=ratio)
 
     def for_and_against(self, option):
-        numbers = {
-            "over": self.count.votes[option, self.count.poll.default],
-            "under": self.count.votes[self.count.poll.default, option],
-        }
-        return self.say(
-            "{over} yes, {under} no" if self.is_motion else "{over} for, {under} against", **numbers
-        )
+        said = "{over} yes, {under} no" if self.is_motion else "{over} for, {under} against"
+        return self.say(said, **self.pair(option, self.default))
 
     def fate(self, option):
         """What became of an option that was not dropped and has not won, a sentence each."""
-        count = self.count
-        if option not in count.final:
-            if (
-                count.winner
-                and count.votes[option, count.winner] == count.votes[count.winner, option]
-            ):
-                yield self.told("equal with the winner", (count.winner, option))
-            yield from (
-                self.told("its own defeat removed", pair)
-                for _, gone in count.rounds
-                for pair in sorted(gone)
-                if pair[0] == option
-            )
+        if option in self.count.dropped:
+            return
+        if option not in self.final:
+            beside = self.winner, option
+            if self.winner and self.votes[beside] == self.votes[beside[::-1]]:
+                yield self.told("equal with the winner", beside)
+            for pair in self.removed:
+                if pair[0] == option:
+                    yield self.told("its own defeat removed", pair)
             first, *more = self.chain(option)
             yield self.told("loses directly", first)
             yield from (self.told("loses by a chain", pair) for pair in more)
             return
-        others = [other for other in count.final if other != option]
+        others = [other for other in self.final if other != option]
         if len(others) < 3:
             yield from (self.against(option, other) for other in others)
         else:
             yield self.told("left with many", number=len(others))
-        if count.winner not in (None, option):
-            yield self.told("lost by the casting vote", option=self.name(count.winner))
+        if self.winner not in (None, option):
+            yield self.told("lost by the casting vote", option=self.name(self.winner))
 
-    def against(self, option, other):
-        is_removed = any({(option, other), (other, option)} & gone for _, gone in self.count.rounds)
-        return self.told(
-            "left with a removed defeat" if is_removed else "left in a tie", (option, other)
-        )
-
-    def chain(self, option):
-        """The shortest chain of defeats that were there when an option left the set: to the winner if one is, or else to the least number."""
-        gone = [removed for kept, removed in self.count.rounds if option in kept]
-        defeats, within = sorted(self.count.defeats.difference(*gone)), set(
-            self.count.rounds[len(gone)][0]
-        )
-        chains, last = {option: []}, [option]
-        while not within & chains.keys():
-            step = {}
-            for loser in last:
-                step |= {
-                    a: [*chains[loser], (a, b)]
-                    for a, b in defeats
-                    if b == loser and a not in chains.keys() | step.keys()
-                }
-            chains, last = chains | step, sorted(step)
-        return chains[
-            self.count.winner if self.count.winner in chains else min(within & chains.keys())
-        ]
+    def against(self, *pair):
+        is_removed = {pair, pair[::-1]} & {*self.removed}
+        return self.told("left with a removed defeat" if is_removed else "left in a tie", pair)
 
     def how_it_ended(self):
-        count, is_default = self.count, self.count.winner == self.count.poll.default
-        kind = (
-            ("rejected" if is_default else "carried")
-            if self.is_motion
-            else "default"
-            if is_default
-            else "won"
-        )
-        return self.say(
-            ENDED["tie" if count.winner is None else "casting" if count.final[1:] else kind]
-        )
+        is_default = self.winner == self.default
+        kind = "default" if is_default else "won"
+        if self.winner is None:
+            kind = "tie"
+        elif self.final[1:]:
+            kind = "casting"
+        elif self.is_motion:
+            kind = "rejected" if is_default else "carried"
+        return self.say(ENDED[kind])
 
     def panel(self):
         """How it ended, the name of the winner, and the winner against each rival: no bar but that of a defeat that was set aside has
         fewer for the winner than against it."""
-        count, section, default = self.count, self.sections["Result"], self.count.poll.default
+        section = self.sections["Result"]
         head, texts = section.one("h2"), [part.text() for part in section.all("p")]
         demand_equal("how it ended", texts.pop(0), self.how_it_ended())
-        if count.winner is None:
-            wanted = [
-                self.all_names(count.final),
-                f"{self.say('The casting vote has to choose one of them.')} {self.tied()}",
-            ]
-            demand_equal(
-                "a tie", (head.text(), list(head.within()), texts), (self.say("A tie"), [], wanted)
-            )
+        found = head.text(), [node.tag for node in head.within()]
+        if self.winner is None:
+            said = self.say("The casting vote has to choose one of them.")
+            wanted = [self.all_names(self.final), f"{said} {self.tied()}"]
+            demand_equal("a tie", (*found, texts), (self.say("A tie"), [], wanted))
             return
-        name = self.plain(count.winner)
-        demand_equal(
-            "the head of the result",
-            (head.text(), [node.tag for node in head.within()]),
-            (name, ["b", "bdi"]),
-        )
-        demand_equal(
-            "whether it is long", head.attributes.get("class"), "long" if len(name) > 60 else None
-        )
+        name = self.plain(self.winner)
+        demand_equal("the head of the result", found, (name, ["b", "bdi"]))
         is_grey = "default" in section.attributes["class"].split()
-        demand_equal("whether the panel is grey", is_grey, count.winner == default)
-        if count.final[1:]:
+        found = head.attributes.get("class"), is_grey
+        wanted = "long" if len(name) > 60 else None, self.winner == self.default
+        demand_equal("whether it is long, and grey", found, wanted)
+        if self.final[1:]:
             said = "Those who publish this page do not say whose casting vote it was, or when it was given."
             demand_equal("a casting vote", texts, [self.left(), self.say(said)])
             return
         rows = [self.shown(entry) for entry in section.one("ul", "duels").all("li")]
-        rivals = (
-            self.failed()
-            if count.winner == default
-            else self.carried()
-            if self.is_motion
-            else self.rivals(count.winner)
-        )
-        demand_equal("the rivals", rows, list(rivals))
+        rivals = self.rivals
+        if self.winner == self.default:
+            rivals = self.failed
+        elif self.is_motion:
+            rivals = self.carried
+        demand_equal("the rivals", rows, list(rivals()))
 
     def tied(self):
         """Why there is a tie: two have their numbers."""
-        final = self.count.final
-        if not final[2:]:
-            return self.against(*final)
-        among = {pair for _, gone in self.count.rounds for pair in gone if {*pair} <= {*final}}
+        if not self.final[2:]:
+            return self.against(*self.final)
+        among = [pair for pair in self.removed if {*pair} <= {*self.final}]
         return self.told("a tie by defeats that were removed" if among else "a tie without defeats")
 
     def left(self):
         """Among which the casting vote chose."""
-        final = self.count.final
-        return (
-            self.told("the casting vote among many", options=self.all_names(final))
-            if final[2:]
-            else self.against(*final)
-        )
+        if not self.final[2:]:
+            return self.against(*self.final)
+        return self.told("the casting vote among many", options=self.all_names(self.final))
 
     def shown(self, entry):
         """A row of the panel: its texts, its bar, and whether it is one of a defeat that holds."""
-        texts = [
-            part.text()
-            for head in entry.all("p", "duel")
-            for part in head.inner
-            if isinstance(part, Node)
-        ] or [entry.text()]
+        heads = [part for head in entry.all("p", "duel") for part in head.inner]
+        texts = [part.text() for part in heads if isinstance(part, Node)] or [entry.text()]
         texts += [part.text() for part in entry.all("p", "reason")]
         return texts, *map(bar_of, entry.all("svg", "bar")), entry.attributes.get("class")
 
@@ -681,108 +572,69 @@ class Parts:
         rows = self.nearest()
         for _, option in few(rows):
             texts = [self.name(option), self.for_and_against(option), self.lack(option)]
-            yield texts, self.bar(
-                option, self.count.poll.default, needed_by(self.count, option)
-            ), None
+            yield texts, self.bar(option, self.default, needed_by(self.count, option)), None
         yield from self.more(rows)
 
     def carried(self):
         """A motion that was carried, whose name stands above."""
         yield ["", self.for_and_against(1)], self.bar(1, 2, needed_by(self.count, 1)), "won"
 
-    def rivals(self, winner):
+    def rivals(self):
         """Those whom the winner beats, the nearest first; defeats that were set aside; and those whom it beats by chains."""
-        count, votes = self.count, self.count.votes
-        removed = [pair for _, pairs in count.rounds for pair in sorted(pairs)]
-        aside = [a if b == winner else b for a, b in removed if winner in (a, b)]
+        winner, beaten = self.winner, self.beaten()
+        aside = [a if b == winner else b for a, b in self.removed if winner in (a, b)]
 
         def row(rival, *more, kind=None):
-            over, under, whole = votes[winner, rival], votes[rival, winner], len(count.last)
-            demand(kind is None or over > under, f"the bar of {rival} contradicts the result")
-            said = [self.say("{over} to {under}", over=over, under=under)]
-            said += (
-                [self.say("{equal}\u00a0equal", equal=whole - over - under)]
-                if over + under < whole
-                else []
-            )
+            pair = self.pair(winner, rival)
+            over, equal = pair["over"], self.voters - pair["over"] - pair["under"]
+            demand(not kind or over > pair["under"], f"the bar of {rival} contradicts the result")
+            said = self.say("{over} to {under}", **pair)
+            if equal:
+                said += f" {self.say(EQUAL, equal=equal)}"
             # by its name alone: a number there would be read as one of votes
-            return (
-                [self.say("against {option}", option=self.plain(rival)), " ".join(said), *more],
-                self.bar(winner, rival),
-                kind,
-            )
+            against = self.say("against {option}", option=self.plain(rival))
+            return [against, said, *more], self.bar(winner, rival), kind
 
-        beaten = self.beaten()
         yield from (row(rival, kind="won") for _, rival in few(beaten))
         yield from self.more(beaten)
         why = self.say("set aside: the weakest defeat in a circle of options that beat each other")
         yield from (row(rival, why) for rival in few(aside))
         yield from self.more(aside)
-        rest = (
-            set(count.poll.options)
-            - set(count.dropped)
-            - {winner, *aside, *(rival for _, rival in beaten)}
-        )
+        rest = {*self.kept} - {winner, *aside, *(rival for _, rival in beaten)}
         if rest:
-            chains = (
-                "and {number} other option by a chain of defeats",
-                "and {number} other options by chains of defeats",
-            )
-            yield [self.say_number(*chains, len(rest))], None
+            one = "and {number} other option by a chain of defeats"
+            many = "and {number} other options by chains of defeats"
+            yield [self.say_number(one, many, len(rest))], None
 
     def more(self, rows):
         """The row of the panel for those that have none of their own."""
         if len(rows) > 3:
             yield [self.say("and {number} other options", number=len(rows) - 2)], None
 
-    def beaten(self):
-        """Those whom the winner beats by defeats that hold, the nearest first."""
-        count, votes = self.count, self.count.votes
-        removed = {pair for _, pairs in count.rounds for pair in pairs}
-        return sorted(
-            (votes[pair] - votes[pair[::-1]], pair[1])
-            for pair in count.defeats - removed
-            if pair[0] == count.winner
-        )
-
     def in_letter(self):
         """In the letter, below the head of a question of several: how it ended, what decides it, and the numbers of the result."""
-        count = self.count
-        if count.winner is None:
-            wanted = f"{self.told('a tie', options=self.all_names(count.final))} {self.tied()}"
+        if self.winner is None:
+            wanted = f"{self.told('a tie', options=self.all_names(self.final))} {self.tied()}"
         else:
-            kind, decides = (
-                ("the casting vote", [self.left()])
-                if count.final[1:]
-                else ("a winner", self.deciding())
-            )
-            wanted = " ".join([f"{self.told(kind, option=self.name(count.winner))}.", *decides])
+            kind, decides = "a winner", self.deciding()
+            if self.final[1:]:
+                kind, decides = "the casting vote", [self.left()]
+            won = self.told(kind, option=self.name(self.winner))
+            wanted = " ".join([f"{won}.", *decides])
         if self.label:
-            title = self.names.get(0, count.poll.title)
-            wanted = (
-                f"{self.say('Question {label}: {title}', label=self.label, title=title)} {wanted}"
-            )
-        demand(
-            f" {' '.join(wanted.split())} " in self.letter,
-            f"what decides it, in the letter: {wanted} is not in {self.letter[:900]}",
-        )
-        facts = ", ".join(self.numbers())
-        demand(
-            f" {facts}. " in self.letter,
-            f"the numbers, in the letter: {facts}. is not in {self.letter[:900]}",
-        )
+            question = "Question {label}: {title}"
+            wanted = f"{self.say(question, label=self.label, title=self.title)} {wanted}"
+        for said in (wanted, f"{', '.join(self.numbers())}."):
+            is_there = f" {in_one_line(said)} " in self.letter
+            demand(is_there, f"in the letter: {said} is not in {self.letter[:900]}")
 
     def deciding(self):
         """The sentences on what decides it where one option is left."""
-        count, winner, default = self.count, self.count.winner, self.count.poll.default
-        if winner == default:
-            demand_equal(
-                "all others were dropped", set(count.dropped), set(count.poll.options) - {default}
-            )
+        if self.winner == self.default:
+            demand_equal("all others were dropped", self.kept, [self.default])
             nearest = self.nearest()
-            yield from (
-                self.failure(option) for _, option in (nearest if len(nearest) < 4 else nearest[:1])
-            )
+            shown = nearest if len(nearest) < 4 else nearest[:1]
+            yield from (self.failure(option) for _, option in shown)
             if len(nearest) > 3:
                 yield self.told("many failed", number=len(nearest) - 1)
         elif self.is_motion:
@@ -792,51 +644,31 @@ class Parts:
 
     def failure(self, option):
         """What an option had that was dropped, and what it lacks."""
-        votes = self.for_and_against(option)
-        said = (
-            f"{votes}."
-            if self.is_motion
-            else self.told("an option failed", option=self.name(option), votes=votes)
-        )
+        said = votes = f"{self.for_and_against(option)}."
+        if not self.is_motion:
+            said = self.told("an option failed", option=self.name(option), votes=votes[:-1])
         return f"{said} {self.lack(option)}"
 
     def whom_it_beats(self):
-        count, winner, rows = self.count, self.count.winner, self.beaten()
-        removed = [pair for _, pairs in count.rounds for pair in sorted(pairs)]
-        others = set(count.poll.options) - set(count.dropped) - {winner}
-        demand(
-            not any(b == winner for _, b in count.defeats - set(removed)),
-            "nothing beats the winner",
-        )
-        by = [
-            self.say(
-                "{other} by {over} to {under}",
-                other=self.name(b),
-                over=count.votes[winner, b],
-                under=count.votes[b, winner],
+        winner, removed, rows = self.winner, self.removed, self.beaten()
+        others = {*self.kept} - {winner}
+        holding = self.count.defeats - {*removed}
+        demand(winner not in [b for _, b in holding], "nothing beats the winner")
+        by = [self.say("{other} by {over} to {under}", **self.pair(winner, b)) for _, b in rows]
+        said = self.spoken.joined(by)
+        if len(by) > 2:
+            said = self.say(
+                "{number} options, most narrowly {option}", number=len(by), option=by[0]
             )
-            for _, b in rows
-        ]
-        said = (
-            self.say("{number} options, most narrowly {option}", number=len(by), option=by[0])
-            if len(by) > 2
-            else self.spoken.joined(by)
-        )
         if removed:
-            yield self.told(
-                "circles" if removed[1:] else "a circle",
-                number=len(removed),
-                defeat=self.defeat(removed[-1]),
-            )
+            kind, last = "circles" if removed[1:] else "a circle", self.defeat(removed[-1])
+            yield self.told(kind, number=len(removed), defeat=last)
             yield self.told("beats after circles", options=said)
             return
         if len(by) < len(others):
-            chains = reference.transitive_defeats(
-                [o for o in count.poll.options if o not in count.dropped], count.defeats
-            )
-            demand(
-                {b for a, b in chains if a == winner} >= others, "the winner beats all by chains"
-            )
+            chains = reference.transitive_defeats(self.kept, self.count.defeats)
+            beaten = {b for a, b in chains if a == winner}
+            demand(beaten >= others, "the winner beats all by chains")
             yield self.told("beats by chains", options=said)
             return
         kind = {1: "beats one", 2: "beats each of two"}.get(len(others), "beats each of many")
@@ -844,160 +676,108 @@ class Parts:
 
     def above(self, front):
         """On the page of all questions: label, title, how it ended, the name, and the numbers by which; a tie is framed."""
-        count, default = self.count, self.count.poll.default
         # it has no list of options, so none has a number there
         self.spoken = Spoken(self.spoken.code, "{name}")
         section = sections_of(front)[f"Question-{self.label}"]
-        kind = "tie" if count.winner is None else "default" if count.winner == default else None
-        demand_equal(
-            "the kind of question", section.attributes["class"].split()[1:], [kind] if kind else []
-        )
-        demand_equal(
-            "its title",
-            section.one("h2").text(),
-            f"{self.label} {self.names.get(0, count.poll.title)}",
-        )
-        name = self.all_names(count.final) if count.winner is None else self.plain(count.winner)
-        texts = [
-            " ".join(section.one("p", part).text().split()) for part in ("ended", "won", "votes")
-        ]
-        demand_equal(
-            "how a question ended",
-            texts,
-            [
-                self.how_it_ended(),
-                " ".join(name.split()),
-                " ".join(self.by_which_numbers().split()),
-            ],
-        )
+        kinds = {None: ["tie"], self.default: ["default"]}.get(self.winner, [])
+        found = section.attributes["class"].split()[1:], section.one("h2").text()
+        demand_equal("kind and title of a question", found, (kinds, f"{self.label} {self.title}"))
+        name = self.all_names(self.final) if self.winner is None else self.plain(self.winner)
+        wanted = [self.how_it_ended(), name, self.by_which_numbers()]
+        texts = [section.one("p", part).text() for part in ("ended", "won", "votes")]
+        demand_equal("how it ended", [*map(in_one_line, texts)], [*map(in_one_line, wanted)])
         return self.met
 
     def by_which_numbers(self):
-        count, winner = self.count, self.count.winner
-        if count.final[1:]:
-            return self.tied() if winner is None else self.left()
-        if winner == count.poll.default:
+        if self.final[1:]:
+            return self.tied() if self.winner is None else self.left()
+        if self.winner == self.default:
             return self.failure(self.nearest()[0][1])
         if self.is_motion:
             return f"{self.for_and_against(1)}."
-        rows = self.beaten()
-        return self.told("on the page of all questions", (winner, rows[0][1]))
+        return self.told("on the page of all questions", (self.winner, self.beaten()[0][1]))
 
     def defeat(self, pair):
-        a, b = pair
-        numbers = {"over": self.count.votes[a, b], "under": self.count.votes[b, a]}
-        return self.say(
-            "{option} over {other} by {over} to {under}",
-            option=self.name(a),
-            other=self.name(b),
-            **numbers,
-        )
+        return self.say("{option} over {other} by {over} to {under}", **self.pair(*pair))
 
     def options(self):
-        count, poll = self.count, self.count.poll
         wanted = []
-        for o in poll.options:
-            said = (
-                self.say("the default option")
-                if o == poll.default
-                else self.say("majority ratio {ratio}", ratio=poll.ratios[o])
-            )
+        for o, plain in self.poll.names.items():
+            said = self.say("the default option")
+            if o != self.default:
+                said = self.say("majority ratio {ratio}", ratio=self.poll.ratios[o])
             said = f"{self.name(o)}, {said}"
             if o in self.names:
-                said += (
-                    f" ({self.say('plain name, on the result sheet: {name}', name=poll.names[o])})"
-                )
-            if o != poll.default:
-                numbers = {
-                    "quorum": least_of(count),
-                    "majority": majority_of(count, o),
-                    "over": count.votes[o, poll.default],
-                }
-                needs = self.say(
-                    "{quorum} are the quorum, {majority} a majority; it has {over}", **numbers
-                )
+                said += f" ({self.say('plain name, on the result sheet: {name}', name=plain)})"
+            if o != self.default:
+                needs = "{quorum} are the quorum, {majority} a majority; it has {over}"
+                numbers = {"quorum": least_of(self.count), "majority": majority_of(self.count, o)}
+                needs = self.say(needs, **numbers, over=self.votes[o, self.default])
                 said = self.spoken.with_colon(said, needs)
             wanted.append(said)
-        demand_equal("Options", self.entries("Options"), wanted)
+        demand_equal("Options", [entry.text() for entry in self.entries("Options")], wanted)
 
     def table(self):
         """The table: its numbers, which cells are marked as those of a defeat, and how each row is marked."""
-        count, poll = self.count, self.count.poll
-        rows = list(self.sections["Votes"].one("tbody").all("tr"))
-        demand_equal("how many rows", len(rows), len(poll.options))
+        rows = self.sections["Votes"].one("tbody").all("tr")
         chips = {"won": ("won", "won"), "left": ("tied", "left"), "lost": ("", None)}
-        for a, row in zip(poll.options, rows):
-            ended = count.ended(a)
+        for a, row in zip(self.poll.options, rows, strict=True):
+            ended = self.count.ended(a)
             said, kind = chips.get(ended, (f"no {ended}", "dropped"))
-            default = [self.say("default option")] if a == poll.default else []
-            head = [self.name(a), *default, *([self.say(said)] if said else [])]
-            demand_equal(f"the head of row {a}", row.one("th").text(), " ".join(head))
-            demand_equal(f"the kind of row {a}", row.attributes.get("class"), kind)
+            head = [self.name(a), *["default option"] * (a == self.default), *[said] * bool(said)]
+            head[1:] = map(self.say, head[1:])
+            found = row.one("th").text(), row.attributes.get("class")
+            demand_equal(f"the head of row {a}", found, (" ".join(head), kind))
             cells = [(cell.text(), cell.attributes.get("class")) for cell in row.all("td")]
-            beats = {b: "beats" if (a, b) in count.defeats else None for b in poll.options}
-            demand_equal(
-                f"row {a}",
-                cells,
-                [
-                    ("-", None) if a == b else (str(count.votes[a, b]), beats[b])
-                    for b in poll.options
-                ],
-            )
+            wanted = [
+                ("-", None)
+                if a == b
+                else (str(self.votes[a, b]), "beats" if (a, b) in self.count.defeats else None)
+                for b in self.poll.options
+            ]
+            demand_equal(f"row {a}", cells, wanted)
 
     def defeats(self):
-        wanted = list(map(self.defeat, sorted(self.count.defeats)))
-        demand_equal("Defeats", self.entries("Defeats")[: len(wanted)], wanted)
-        rows = [
-            entry for found in list(self.sections["Defeats"].all("ul")) for entry in found.all("li")
-        ][: len(wanted)]
-        numbers = [
-            [str(self.count.votes[a, b]), str(self.count.votes[b, a])]
-            for a, b in sorted(self.count.defeats)
+        """Their sentences, in which numbers are bold."""
+        pairs = sorted(self.count.defeats)
+        wanted = [
+            (self.defeat(pair), [str(self.votes[pair]), str(self.votes[pair[::-1]])])
+            for pair in pairs
         ]
-        demand_equal(
-            "numbers in sentences are bold",
-            [[number.text() for number in row.all("b")] for row in rows],
-            numbers,
-        )
+        found = [
+            (row.text(), [number.text() for number in row.all("b")])
+            for row in self.entries("Defeats")[: len(pairs)]
+        ]
+        demand_equal("Defeats", found, wanted)
 
     def rounds(self):
         wanted = []
         for kept, removed in self.count.rounds:
             places = {"options": self.all_names(kept)}
+            said = "The set is {options}. No defeat is within it, and the count ends."
             if removed:
                 places["defeats"] = self.spoken.joined(map(self.defeat, sorted(removed)))
-            wanted.append(
-                self.say(
-                    "The set is {options}. Removed: {defeats}."
-                    if removed
-                    else "The set is {options}. No defeat is within it, and the count ends.",
-                    **places,
-                )
-            )
-        demand_equal("Rounds", self.entries("Defeats", "ol"), wanted)
+                said = "The set is {options}. Removed: {defeats}."
+            wanted.append(self.say(said, **places))
+        found = [entry.text() for entry in self.entries("Defeats", "ol")]
+        demand_equal("Rounds", found, wanted)
 
     def ballots(self):
-        count = self.count
-        found, wanted = [
-            (entry.attributes["id"], entry.text()) for entry in self.sections["Ballots"].all("li")
-        ], []
-        for voter, ranks in sorted(count.last.items()):
-            name, spelled = count.poll.roll[voter], ",".join(
-                "-" if rank is None else str(rank) for rank in ranks
-            )
+        listed = self.sections["Ballots"].all("li")
+        found, wanted = [(entry.attributes["id"], entry.text()) for entry in listed], []
+        for voter, ranks in sorted(self.count.last.items()):
+            name = self.poll.roll[voter]
+            spelled = ",".join("-" if rank is None else str(rank) for rank in ranks)
             said = self.answer(ranks) if self.is_motion else self.ballot_words(ranks)
             wanted.append((name, self.spoken.with_colon(f"{name} {spelled}", said)))
         demand_equal("Ballots", found, wanted)
 
     def ballot_words(self, ranks):
         steps = []
-        for rank in sorted({rank for rank in ranks if rank is not None}):
-            equal = self.all_names(
-                option for option, other in enumerate(ranks, start=1) if other == rank
-            )
-            steps.append(
-                self.say("{options} equally", options=equal) if ranks.count(rank) > 1 else equal
-            )
+        for rank in sorted({*ranks} - {None}):
+            options = [option for option, other in enumerate(ranks, start=1) if other == rank]
+            equal = self.all_names(options)
+            steps.append(self.say("{options} equally", options=equal) if options[1:] else equal)
         if not steps:
             return self.say("no option is ranked, so nothing is preferred")
         ranked, *rest = steps
@@ -1005,57 +785,40 @@ class Parts:
             ranked = self.say("{before}, then {step}", before=ranked, step=step)
         if None not in ranks:
             return ranked
-        unranked = self.all_names(
-            option for option, rank in enumerate(ranks, start=1) if rank is None
-        )
-        return self.say(
-            "{ranked}; not ranked, and so behind all others: {unranked}",
-            ranked=ranked,
-            unranked=unranked,
-        )
+        unranked = [option for option, rank in enumerate(ranks, start=1) if rank is None]
+        behind = "{ranked}; not ranked, and so behind all others: {unranked}"
+        return self.say(behind, ranked=ranked, unranked=self.all_names(unranked))
 
     def answer(self, ranks):
         """What a ballot says to a motion: a word, and the name of what it is for, unless that begins with the word."""
         one, other = (100 if rank is None else rank for rank in ranks)
+        yes, no, abstain = ANSWERS[self.spoken.code]
         if one == other:
-            return ANSWERS[self.spoken.code][2]
-        option = 1 if one < other else 2
-        word = ANSWERS[self.spoken.code][option - 1]
-        first = re.match(r"\W*(\w*)", self.plain(option))[1]
-        return (
-            word
-            if first.lower() == word.lower()
-            else self.spoken.with_colon(word, self.plain(option))
-        )
+            return abstain
+        word, name = (yes, self.plain(1)) if one < other else (no, self.plain(2))
+        first = re.match(r"\W*(\w*)", name)[1]
+        return word if first.lower() == word.lower() else self.spoken.with_colon(word, name)
 
     def who_voted(self):
         """The electors in the order of the roll: who has a ballot that counts, and who has none and so a place here."""
-        count, section = self.count, self.sections["Who-voted"]
-        voted = [name for voter, name in enumerate(count.poll.roll) if voter in count.last]
-        absent = [name for voter, name in enumerate(count.poll.roll) if voter not in count.last]
+        count, section, lists = self.count, self.sections["Who-voted"], ([], [])
+        for voter, name in enumerate(self.poll.roll):
+            is_absent = voter not in count.last
+            lists[is_absent].append((name, name if is_absent else None))
         heads = [head.text() for head in section.all("h4")]
-        wanted = [
-            self.say("Voted ({number})", number=len(voted)),
-            self.say("No ballot that counts ({number})", number=len(absent)),
-        ]
+        said = ("Voted ({number})", "No ballot that counts ({number})")
+        wanted = [self.say(text, number=len(names)) for text, names in zip(said, lists)]
         demand_equal("who voted, heads", heads, wanted)
-        lists = [
+        found = [
             [(entry.text(), entry.attributes.get("id")) for entry in names.all("li")]
             for names in section.all("ul", "roll")
         ]
-        demand_equal(
-            "who voted",
-            lists,
-            [
-                names
-                for names in ([(name, None) for name in voted], [(name, name) for name in absent])
-                if names
-            ],
-        )
+        demand_equal("who voted", found, [names for names in lists if names])
         one = "{number} elector of {electors} has a ballot that counts, which is {share}."
         many = "{number} electors of {electors} have a ballot that counts, which is {share}."
-        part = share(len(voted), len(count.poll.roll), self.spoken)
-        said = self.say_number(one, many, len(voted), electors=len(count.poll.roll), share=part)
+        voters, electors = self.voters, len(self.poll.roll)
+        part = share(voters, electors, self.spoken)
+        said = self.say_number(one, many, voters, electors=electors, share=part)
         demand_equal("who voted, number", next(section.all("p")).text(), said)
 
 

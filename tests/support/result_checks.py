@@ -54,25 +54,15 @@ class Count:
 
     @property
     def winner(self):
-        return (
-            self.final[0]
-            if len(self.final) == 1
-            else self.casting
-            if self.casting in self.final
-            else None
-        )
+        if len(self.final) == 1:
+            return self.final[0]
+        return self.casting if self.casting in self.final else None
 
     def ended(self, option):
         """How it ended for an option, in a word: what it was dropped for, `won`, `left` in a tie or `lost`."""
-        if option in self.dropped:
-            return self.dropped[option]
-        return (
-            "won"
-            if option == self.winner
-            else "left"
-            if self.winner is None and option in self.final
-            else "lost"
-        )
+        is_left = self.winner is None and option in self.final
+        ended = "won" if option == self.winner else "left" if is_left else "lost"
+        return self.dropped.get(option, ended)
 
 
 def count_of(poll_data, ballots, casting_name):
@@ -81,8 +71,9 @@ def count_of(poll_data, ballots, casting_name):
     votes = reference.votes_of(poll, last)
     dropped = reference.dropped_options(poll, votes)
     kept = [option for option in poll.options if option not in dropped]
-    casting = next((option for option in poll.options if poll.names[option] == casting_name), None)
+    numbers = {name: option for option, name in poll.names.items()}
     defeats, rounds = reference.defeats_among(kept, votes), reference.rounds_of(kept, votes)
+    casting = numbers.get(casting_name)
     return Count(poll, lines, replies, last, votes, dropped, defeats, rounds, casting)
 
 
@@ -143,41 +134,32 @@ def table_of(count):
 
 def try_refused(page, count, spoken):
     """The page has each refused line with its cause, in their order, and nothing else."""
-    part, found = page.partition('<h3 id="Refused-lines">')[2].partition("</section>")[0], []
-    for entry in pages.sections_of(page)["Refused-lines"].all("li"):
+    found = []
+    part = pages.sections_of(page)["Refused-lines"]
+    for entry in part.all("li"):
         said, head = entry.text(), entry.one("b").text()
-        numbers = list(map(int, re.findall(r"\d+", head)))
-        one, many = spoken.say("line {number}", number=numbers[0]), spoken.say(
-            "lines {first} to {last}", first=numbers[0], last=numbers[-1]
-        )
-        demand(head == (many if numbers[1:] else one), f"the number of a refused line: {head}")
-        for number in range(numbers[0], numbers[-1] + 1):
-            before = spoken.with_colon(
-                head, spoken.with_colon(line_shown(count.lines[number - 1], spoken), "")
-            )
+        first, *last = map(int, re.findall(r"\d+", head))
+        wanted = spoken.say("line {number}", number=first)
+        if last:
+            wanted = spoken.say("lines {first} to {last}", first=first, last=last[0])
+        demand(head == wanted, f"the number of a refused line: {head}")
+        for number in range(first, (last or [first])[0] + 1):
+            line = spoken.with_colon(line_shown(count.lines[number - 1], spoken), "")
+            before = spoken.with_colon(head, line)
             demand(said.startswith(before), f"the text of line {number}: {said}")
             cause = said.removeprefix(before)
-            # in other languages what debvote says stands in brackets
-            cause = (
-                cause
-                if spoken.code == "en"
-                else re.fullmatch(r"(?:.+? )?\(((?:late|bad [a-z ]+): .*)\)", cause, re.DOTALL)[1]
-            )
+            if spoken.code != "en":
+                # what debvote says stands in brackets
+                in_brackets = r"(?:.+? )?\(((?:late|bad [a-z ]+): .*)\)"
+                cause = re.fullmatch(in_brackets, cause, re.DOTALL)[1]
             # a remark about the line is open
             found.append(reference_checks.promised(count.poll, f"ballots:{number}: {cause}"))
-    wanted = list(
-        reference_checks.refusals(
-            count.poll,
-            count.lines,
-            count.replies,
-            reference_checks.is_other_file(b"\n".join(count.lines)),
-        )
-    )
+    is_other = reference_checks.is_other_file(b"\n".join(count.lines))
+    given = (count.poll, count.lines, count.replies, is_other)
+    wanted = list(reference_checks.refusals(*given))
     demand(found == wanted, f"refused lines {found[:3]} in place of {wanted[:3]}")
-    demand(
-        (spoken.say("No line was refused, and none came late.") in part) == (not wanted),
-        "that no line was refused",
-    )
+    none = spoken.say("No line was refused, and none came late.")
+    demand((none in part.text()) == (not wanted), "that no line was refused")
 
 
 def line_shown(line, spoken):
@@ -185,16 +167,10 @@ def line_shown(line, spoken):
     seen = "".join(sign if sign.isprintable() else f"\\u{ord(sign):04X}" for sign in text[:100])
     if not line:
         return spoken.say("(an empty line)")
-    return (
-        spoken.say(
-            "{text} (the first {shown} of {number} characters)",
-            text=seen,
-            shown=100,
-            number=len(text),
-        )
-        if len(text) > 100
-        else seen
-    )
+    if len(text) <= 100:
+        return seen
+    cut = "{text} (the first {shown} of {number} characters)"
+    return spoken.say(cut, text=seen, shown=100, number=len(text))
 
 
 def names_of(seed, count):
@@ -217,23 +193,40 @@ def with_names(poll, count, names):
         "shown_options": [names.get(number, name) for number, name in count.poll.names.items()],
     }
     mark = b"\xef\xbb\xbf" if poll.startswith(b"\xef\xbb\xbf") else b""
-    said = "".join(
-        f"{key} = {json.dumps(value, ensure_ascii=False)}\n" for key, value in keys.items()
-    )
-    return mark + said.encode() + poll.removeprefix(mark)
+    return mark + publishing.plain(keys) + poll.removeprefix(mark)
+
+
+def of_few_opinions(seed):
+    """The poll and the ballots of a random election whose options often beat each other in circles."""
+    rng = random.Random(seed)
+    number, voters = rng.randint(2, 7), range(rng.randint(3, 30))
+    opinions = [
+        ",".join(rng.choice([*map(str, range(1, number + 1)), "-"]) for _ in range(number + 1))
+        for _ in range(rng.randint(3, 6))
+    ]
+    values = {
+        "title": "T",
+        "options": [str(option) for option in range(1, number + 1)],
+        "ratios": [rng.choice([1, 1, 1, 2, 3]) for _ in range(number)],
+        "default": "N",
+        "quorum": rng.choice([0, 1]),
+        "roll": [f"v{voter}" for voter in voters],
+    }
+    ballots = "".join(f"v{voter} {rng.choice(opinions)}\n" for voter in voters)
+    return {"poll": publishing.plain(values), "ballots": ballots.encode(), "casting": None}
 
 
 def meet(seed):
     """Publishes the poll of a seed, in the language of the seed. Returns the kinds of sentences, or none if the poll is refused, and what
     is wrong."""
     election = random_polls().election_of(seed)
-    election = election._replace(ballots=b"") if seed % 27 == 0 else election
+    if seed % 4 == 3:
+        election = election._replace(**of_few_opinions(seed))
+    if seed % 27 == 0:
+        election = election._replace(ballots=b"")
     try:
-        casting = (
-            election.casting
-            if election.casting in reference.poll_in(election.poll).names.values()
-            else None
-        )
+        names = reference.poll_in(election.poll).names.values()
+        casting = election.casting if election.casting in names else None
         count = count_of(election.poll, election.ballots, casting)
     except reference.Fault:
         return None, None
@@ -242,44 +235,31 @@ def meet(seed):
         try:
             return try_folder(pathlib.Path(name), seed, election, count, casting, spoken), None
         except (Wrong, KeyError, TypeError, ValueError, AttributeError, OSError) as wrong:
-            return (
-                collections.Counter(),
-                f"seed {seed}, in {spoken.code}: {type(wrong).__name__}: {wrong}",
-            )
+            said = f"seed {seed}, in {spoken.code}: {type(wrong).__name__}: {wrong}"
+            return collections.Counter(), said
 
 
 def try_folder(room, seed, election, count, casting, spoken):
     names = names_of(seed, count)
     (room / "poll.toml").write_bytes(with_names(election.poll, count, names))
     (room / "ballots").write_bytes(election.ballots)
-    words = [
-        "--poll",
-        "poll.toml",
-        "--ballots",
-        "ballots",
-        *([] if casting is None else [f"--casting={casting}"]),
-    ]
+    cast = [] if casting is None else [f"--casting={casting}"]
+    words = [*publishing.FILES, *cast, "--language", spoken.code]
     folders = [room / "one", *([room / "two"] if seed % 10 == 0 else [])]
+    programs = str(PROGRAM.parent)
     for folder in folders:
         # no Graphviz: pictures are tested elsewhere
-        _, faults, status = publishing.publish(
-            room, *words, "--language", spoken.code, folder.name, path=str(PROGRAM.parent)
-        )
-        if casting is not None and count.casting not in count.final:
-            demand(
-                (status, folder.exists()) == (8, False), f"status {status} in place of 8: {faults}"
-            )
+        _, faults, status = publishing.publish(room, *words, folder.name, path=programs)
+        made = status, folder.exists()
+        if cast and count.casting not in count.final:
+            demand(made == (8, False), f"status {status} in place of 8: {faults}")
             left = " and ".join(f"{option} {count.poll.names[option]}" for option in count.final)
-            demand(
-                f"which is not left; left {'are' if count.final[1:] else 'is'} {left};" in faults,
-                faults,
-            )
+            verb = "are" if count.final[1:] else "is"
+            demand(f"which is not left; left {verb} {left};" in faults, faults)
             return collections.Counter()
         if "write the poll as TOML 1.0" in faults:
-            demand(
-                (status, is_toml_1_0(room / "poll.toml")) == (3, False),
-                "a poll that is TOML 1.0 was refused",
-            )
+            is_refused = made == (3, False) and not is_toml_1_0(room / "poll.toml")
+            demand(is_refused, "a poll that is TOML 1.0 was refused")
             return None
         wanted = 1 if count.winner is None else 0
         demand(status == wanted, f"status {status} in place of {wanted}: {faults}")
@@ -288,16 +268,8 @@ def try_folder(room, seed, election, count, casting, spoken):
     sheet, _ = reference.count(election.poll, election.ballots, casting)
     demand(contents[0]["sheet.txt"] == sheet.encode(), "sheet.txt")
     if seed % 5 == 0:
-        words = [
-            sys.executable,
-            "recount.py",
-            "count",
-            "--poll",
-            "poll.toml",
-            "--ballots",
-            "ballots.txt",
-            *words[4:],
-        ]
+        files = ["--poll", "poll.toml", "--ballots", "ballots.txt", *cast]
+        words = [sys.executable, "recount.py", "count", *files]
         demand(publishing.run(words, cwd=room / "one")[:2] == (sheet, ""), "recount.py")
     return try_made(room / "one", count, names, spoken) + try_beside_a_motion(
         room, seed, count, names, spoken
@@ -307,41 +279,30 @@ def try_folder(room, seed, election, count, casting, spoken):
 def try_beside_a_motion(room, seed, count, names, spoken):
     """The page of all questions, and the letter, where the poll of a folder is one of them, and the other one is a motion; and the page
     of that motion. Returns the kinds of sentences found."""
-    rng, values = random.Random(seed), tomllib.loads((room / "one" / "poll.toml").read_text())
-    keys = {
-        "title": "The fee",
-        "options": ["Raise it"],
-        "ratios": [rng.choice([1, 1, 2, 4])],
-        "default": "As it is",
-        "quorum": rng.choice([0, 1, 1, 3]),
-    }
+    rng, one = random.Random(seed), room / "one"
+    roll = tomllib.loads((one / "poll.toml").read_text())["roll"]
+    keys = {"title": "The fee", "options": ["Raise it"], "ratios": [rng.choice([1, 1, 2, 4])]}
+    keys |= {"default": "As it is", "quorum": rng.choice([0, 1, 1, 3])}
     keys |= {"wording": "more_than"} if rng.random() < 0.4 else {}
-    keys |= {"roll": values["roll"]} | (
-        {"shown_options": ["Yes, raise it", "Nein, wie bisher"]} if rng.random() < 0.4 else {}
-    )
+    shown = ["Yes, raise it", "Nein, wie bisher"] if rng.random() < 0.4 else []
+    keys |= {"roll": roll} | ({"shown_options": shown} if shown else {})
     likings = [rng.choice(["1,2", "2,1", "1,1", "-,-", "-,9"]) for _ in range(3)]
-    motion = (
-        "".join(
-            f"{voter} {rng.choice(likings)}\n" for voter in values["roll"] if rng.random() < 0.8
-        ).encode()
-        if seed % 19
-        else b""
-    )
-    polls = {"A": (room / "one" / "poll.toml").read_bytes(), "B": publishing.plain(keys)}
-    ballots = {"A": (room / "one" / "ballots.txt").read_bytes(), "B": motion}
+    voters = [voter for voter in roll if seed % 19 and rng.random() < 0.8]
+    motion = "".join(f"{voter} {rng.choice(likings)}\n" for voter in voters).encode()
+    polls = {"A": (one / "poll.toml").read_bytes(), "B": publishing.plain(keys)}
+    ballots = {"A": (one / "ballots.txt").read_bytes(), "B": motion}
     castings = {} if count.casting is None else {"A": count.poll.names[count.casting]}
     letter = publishing.publish_questions(
         room / "both", polls, ballots, spoken.code, motions=["B"], castings=castings
     )
     counts = {"A": count, "B": count_of(polls["B"], motion, None)}
-    shown = {"A": names, "B": dict(enumerate(keys.get("shown_options", []), start=1))}
+    names = {"A": names, "B": dict(enumerate(shown, start=1))}
     met = collections.Counter()
     front = (room / "both" / "index.html").read_text()
     for label, its in counts.items():
         page = (room / "both" / label / "index.html").read_text()
-        found = pages.Parts(
-            page, letter, its, shown[label], spoken, label=label, is_motion=label == "B"
-        )
+        kind = {"label": label, "is_motion": label == "B"}
+        found = pages.Parts(page, letter, its, names[label], spoken, **kind)
         found.check()
         met += found.above(front)
     return met
@@ -365,17 +326,15 @@ def try_made(folder, count, names, spoken):
     demand(list(csv.reader(io.StringIO(table))) == list(table_of(count)), f"votes.csv: {table}")
     for number, text in names.items():
         shown = (
-            f"<bdi>{pages.escaped(text)}</bdi>"
+            f"bdi>{pages.escaped(text)}</bdi>"
             if number
-            else f'<h1 dir="auto">{pages.escaped(text)}</h1>'
+            else f'h1 dir="auto">{pages.escaped(text)}</h1>'
         )
-        demand(shown in page, f"name of {number}")
+        demand(f"<{shown}" in page, f"name of {number}")
     # on paper a table is never larger than the text around it, and smaller only if it has many columns
     [size] = re.findall(r"@media print \{ table \{ font-size: ([\d.]+)rem; \} \}", page)
-    demand(
-        float(size) == 1 if len(count.poll.names) < 10 else float(size) <= 1,
-        f"the table on paper: {size}",
-    )
+    is_right = float(size) <= 1 and (float(size) == 1 or len(count.poll.names) >= 10)
+    demand(is_right, f"the table on paper: {size}")
     try_refused(page, count, spoken)
     return pages.Parts(page, letter, count, names, spoken).check()
 
@@ -384,20 +343,10 @@ def try_published(expect, name, folder, casting):
     """Compares an existing folder. Returns the kinds of sentences found."""
     poll_bytes = (folder / "poll.toml").read_bytes()
     count = count_of(poll_bytes, (folder / "ballots.txt").read_bytes(), casting)
-    poll = tomllib.loads(poll_bytes.decode())
-    names = dict(
-        enumerate(
-            [
-                poll.get("shown_title", poll["title"]),
-                *poll.get("shown_options", count.poll.names.values()),
-            ]
-        )
-    )
-    names = {
-        number: text
-        for number, text in names.items()
-        if text != {0: poll["title"], **count.poll.names}[number]
-    }
+    poll, plain = tomllib.loads(poll_bytes.decode()), count.poll.names
+    shown = [poll.get("shown_title"), *poll.get("shown_options", plain.values())]
+    plain = {0: None, **plain}
+    names = {number: text for number, text in enumerate(shown) if text != plain[number]}
     try:
         return try_made(folder, count, names, pages.ENGLISH)
     except Wrong as wrong:

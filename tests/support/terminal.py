@@ -1,6 +1,7 @@
 """A program at its own terminal, where a test types."""
 
 import contextlib
+import functools
 import os
 import pty
 import select
@@ -14,10 +15,23 @@ from tests.support import elections, forks
 SECONDS = 120
 
 
+@functools.cache
+def has_terminals() -> bool:
+    """Whether this system gives terminals: in some containers there is no /dev/pts."""
+    try:
+        for end in os.openpty():
+            os.close(end)
+    except OSError:
+        return False
+    return True
+
+
 class Terminal:
     """debvote-election at its own terminal, where a test types; without arguments it is a desk."""
 
     def __init__(self, test: elections.ElectionTest, *words: str) -> None:
+        if not has_terminals():
+            test.skipTest("there are no terminals in /dev/pts")
         self.test, self.text = test, ""
         program = [sys.executable, str(elections.ELECTION), *(words or ("desk",))]
         env = elections.environment() | test.clock | {"XDG_STATE_HOME": str(test.state)}

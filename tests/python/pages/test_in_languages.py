@@ -1,6 +1,5 @@
 """The pages of each language in a browser: what their scripts say and do, and that none is wider than its window."""
 
-import functools
 import json
 import pathlib
 import re
@@ -23,36 +22,38 @@ FIRST = """Math.max(...['.outcome', '.facts', '.options li'].map((place) => docu
 # the names of options beside their chips, and the rivals of the winner
 NAMES = "[...document.querySelectorAll('.option > :first-child, .duel > :first-child')]"
 
+# how elections end: who votes how, the casting vote, and the status of the program
+OUTCOMES = {
+    "tie": (["1,2,3,4", "3,1,2,4", "2,3,1,4"] * 3, [], 1),
+    "two": (["1,2,3,4", "2,1,3,4"] * 4, [], 1),
+    "cast": (["1,2,3,4", "3,1,2,4", "2,3,1,4"] * 3, ["--casting=At the lake"], 0),
+    "circle": (["1,2,3,4"] * 4 + ["3,1,2,4"] * 3 + ["2,3,1,4"] * 2, [], 0),
+    "default": (["1,2,3,4"] * 4 + ["4,3,2,1"] * 7, [], 0),
+}
+
 
 @at_browser.NEEDS_BROWSER
 class InBrowser(languages.LanguageTest):
     def check_language(self, code: str) -> None:
         self.language = language_of(code)
-        places = {
-            name: self.held(name, code, is_secret=name == "secret", has_letters=False)
-            for name in ("open", "secret")
-        }
-        files = [
-            place / page / "index.html" for place in places.values() for page in ("call", "result")
-        ]
         self.window = self.enterContext(at_browser.Window(*TELEPHONE))
-        for file in (*files, places["secret"] / "private" / "slips.html"):
-            self.check_widths(file)
-        self.check_call(places["open"])
-        for name, place in places.items():
-            self.window.open(place / "result" / "index.html")
+        for name in ("open", "secret"):
+            place = self.held(name, code, is_secret=name == "secret", has_letters=False)
+            pages = [place / page / "index.html" for page in ("call", "result")]
+            for file in (*pages, *place.glob("private/slips.html")):
+                self.check_widths(file)
+            self.window.resize(*SMALL)
             if name == "open":
-                if elections.HAS_PICTURES:
-                    self.check_picture()
-                self.check_find()
-            else:
-                self.check_find_in_secret(place)
+                self.check_call(pages[0])
+            self.window.open(pages[1])
+            self.check_find(place / "private" / "codes.csv")
             self.check_count(place / "result")
-            self.check_telephone(place)
+            self.window.open(pages[1])
+            self.check_telephone(name)
         self.check_outcomes(code)
 
-    def said(self, sentences: dict[str, str], key: str, /, **places: object) -> str:
-        return self.language.say(sentences[key], **places)
+    def says(self, found: object, sentences: dict[str, str], key: str, **places: object) -> None:
+        self.assertEqual(found, self.language.say(sentences[key], **places))
 
     def check_widths(self, file: pathlib.Path) -> None:
         """No page is wider than the window, with all that is folded opened; what may be wider scrolls by itself."""
@@ -65,203 +66,113 @@ class InBrowser(languages.LanguageTest):
             found = self.window.ask(
                 "[document.documentElement.scrollWidth, document.documentElement.lang]"
             )
-            self.assertEqual(
-                found, [size[0], self.language.code], str(file.relative_to(self.scratch))
-            )
+            self.assertEqual(found, [size[0], self.language.code], file)
 
-    def check_telephone(self, place: pathlib.Path) -> None:
-        """On a small one the winner, the facts and the first other option are on the first screen, also with doubts."""
-        self.window.open(place / "result" / "index.html")
+    def check_first_screen(self, name: str) -> None:
+        """On a small telephone the winner, the facts and the first other option are there, and no line is without a word."""
         self.window.resize(*SMALL)
-        self.assertLessEqual(
-            self.window.ask(FIRST), SMALL[1], f"{place.name}: the first screen of a small telephone"
-        )
-        self.assertEqual(
-            self.window.ask(at_browser.LONE_LINES), [], f"{place.name}: lines without a word"
-        )
+        self.assertLessEqual(self.window.ask(FIRST), SMALL[1], name)
+        lone, broken = self.window.ask(at_browser.LONE_LINES), self.window.broken_words(NAMES)
+        self.assertEqual((lone, broken), ([], []), name)
+
+    def check_telephone(self, name: str) -> None:
+        """Also with doubts. Who has won, one's own ballot, the bars and the reasons are on three screens."""
+        self.check_first_screen(name)
         # what is folded says each doubt, and what a doubt is; it links no file
         folded = self.window.ask(
             """((doubts) => [doubts.querySelector("summary").textContent.trim().length > 10,
           doubts.querySelector("details").open, doubts.querySelectorAll('a:not([href^="#"])').length])(document.querySelector(".doubts"))"""
         )
-        self.assertEqual(folded, [True, False, 0], place.name)
+        self.assertEqual(folded, [True, False, 0], name)
         self.window.ask("document.querySelector('.doubts').remove()")
         self.window.resize(*TELEPHONE)
-        end = self.window.ask(
+        end = (
             "document.getElementById('Find-your-ballot').parentNode.getBoundingClientRect().bottom"
         )
-        self.assertLessEqual(
-            end,
-            3 * TELEPHONE[1],
-            f"{place.name}: who has won, one's own ballot, the bars and the reasons are on three screens",
-        )
-        self.window.resize(*SMALL)
-        self.assertEqual(self.window.broken_words(NAMES), [], f"{place.name}: words on two lines")
-        self.window.resize(*TELEPHONE)
+        self.assertLessEqual(self.window.ask(end), 3 * TELEPHONE[1], name)
 
     def check_outcomes(self, code: str) -> None:
-        """In a tie, by a casting vote, where a defeat was set aside and where the default option has won the first other option is on the
-        first screen, too, and the count in the browser finds the page right."""
-        ranks = {
-            "tie": ["1,2,3,4", "3,1,2,4", "2,3,1,4"] * 3,
-            "two": ["1,2,3,4", "2,1,3,4"] * 4,
-            "circle": ["1,2,3,4"] * 4 + ["3,1,2,4"] * 3 + ["2,3,1,4"] * 2,
-        }
-        ranks["default"] = ["1,2,3,4"] * 4 + ["4,3,2,1"] * 7
-        poll = (
-            languages.POLL.replace("[1, 1, 3]", "[1, 1, 1]")
-            + f"roll = {json.dumps(languages.ELECTORS)}\n"
-        )
+        """In a tie, by a casting vote, where a defeat was set aside and where the default option has won the first screen is as full, and
+        the count in the browser finds the page right."""
+        roll = f"roll = {json.dumps(languages.ELECTORS)}\n"
+        poll = languages.POLL.replace("[1, 1, 3]", "[1, 1, 1]") + roll
         (self.scratch / "poll.toml").write_text(poll)
-        for name, *casting in (
-            ("tie",),
-            ("two",),
-            ("tie", "--casting=At the lake"),
-            ("circle",),
-            ("default",),
-        ):
-            (self.scratch / "ballots").write_text(
-                "".join(f"{who} {given}\n" for who, given in zip(languages.ELECTORS, ranks[name]))
-            )
-            folder = f"{name}{len(casting)}"
-            files, status = (
-                "--poll",
-                "poll.toml",
-                "--ballots",
-                "ballots",
-            ), 0 if casting or name in ("circle", "default") else 1
-            self.program(
-                "debvote-publish", *files, "--language", code, *casting, folder, status=status
-            )
-            self.window.resize(*SMALL)
-            self.window.open(self.scratch / folder / "index.html")
-            self.assertLessEqual(
-                self.window.ask(FIRST), SMALL[1], f"{folder}: the first screen of a small telephone"
-            )
-            broken = self.window.ask(at_browser.LONE_LINES), self.window.broken_words(NAMES)
-            self.assertEqual(
-                broken, ([], []), f"{folder}: lines without a word, and words on two lines"
-            )
-            if name == "circle" and elections.HAS_PICTURES:
-                self.assertIn(f"5 : 4, {ROUNDS[code]} 1", self.window.ask(PICTURE_TEXTS))
-            # what it shows is what its files come to
-            self.assertIn(
-                self.said(COUNT_AGAIN, "page_same", ballots=len(ranks[name])),
-                self.window.count_again(),
-            )
+        files = ("--poll", "poll.toml", "--ballots", "ballots", "--language", code)
+        for name, (ranks, casting, status) in OUTCOMES.items():
+            lines = (f"{who} {given}\n" for who, given in zip(languages.ELECTORS, ranks))
+            (self.scratch / "ballots").write_text("".join(lines))
+            self.program("debvote-publish", *files, *casting, name, status=status)
+            self.window.open(self.scratch / name / "index.html")
+            self.check_first_screen(name)
+            if elections.HAS_PICTURES:
+                self.check_picture(name, ROUNDS[code])
+            same = self.language.say(COUNT_AGAIN["page_same"], ballots=len(ranks))
+            self.assertIn(same, self.window.count_again())
 
-    def check_picture(self) -> None:
+    def check_picture(self, name: str, round_: str) -> None:
         """It says in the language why an option was dropped, and numbers stand apart from names."""
-        texts = self.window.ask(PICTURE_TEXTS)
+        texts = {*self.window.ask(PICTURE_TEXTS)}
         self.assertIn(f"1{self.language.between('{before}: {after}')}At the lake", texts)
-        self.assertEqual({"majority", "quorum"} & {*texts}, set())
-        self.assertNotEqual(
-            {self.language.say(text) for text in ("no majority", "no quorum")} & {*texts}, set()
-        )
+        self.assertFalse({"majority", "quorum"} & texts)
+        self.assertEqual(self.language.say("no majority") in texts, name == "default", name)
+        self.assertEqual(f"5 : 4, {round_} 1" in texts, name == "circle", name)
 
-    def check_call(self, place: pathlib.Path) -> None:
-        """The form with four options is on one screen of a small telephone: name, ranks, line and buttons."""
-        said, window = functools.partial(self.said, CALL_SENTENCES), self.window
-        window.resize(*SMALL)
-        window.open(place / "call" / "index.html")
+    def check_call(self, file: pathlib.Path) -> None:
+        """Of an address whose place is named once it is open."""
+        window, words = self.window, CALL_SENTENCES
+        window.open(file)
         window.ask("location.hash = 'e01/23456789ab'")
         window.until("document.getElementById('Name').value === 'e01'")
-        window.ballot("e01", "21-3")
-        bottom = window.ask(
-            "[...document.querySelectorAll('.rank')].at(-1).getBoundingClientRect().bottom"
-        )
-        ends = [
-            window.ask(f"document.getElementById('{place}').getBoundingClientRect().{side}")
-            for place, side in (("Bottom", "top"), ("Copy", "bottom"), ("Letter", "bottom"))
-        ]
-        self.assertEqual(
-            (window.ask("scrollY"), bottom <= ends[0], max(ends) <= SMALL[1]),
-            (0, True, True),
-            (bottom, ends),
-        )
-        heights = window.ask(
-            "[...document.querySelectorAll('.rank label')].map((node) => node.getBoundingClientRect().height)"
-        )
-        self.assertGreaterEqual(min(heights), 41)
-        window.resize(*TELEPHONE)
-        found = window.ballot(" E01", "21-2")
-        self.assertEqual(
-            (found["line"], found["said"], found["words"]),
-            ("e01 2,1,-,2", "", "1 {2}, 2 {1}, 2 {4}, \u2013 {3}"),
-        )
-        title = said("subject", title="Where we meet in spring")
-        self.assertRegex(found["subject"], f"^{re.escape(title)} \\[[0-9a-f]{{16}}-23456789ab\\]$")
-        found = window.ballot("\u00c901", "-1--")
-        self.assertEqual(
-            (found["line"], found["said"]), ("e01 -,1,-,-", said("on_roll", names="e01"))
-        )
+        subject = window.ballot("e01", "21-3")["subject"]
+        self.says(subject.rpartition(" [")[0], words, "subject", title="Where we meet in spring")
+        self.says(window.ballot("\u00c901", "-1--")["said"], words, "on_roll", names="e01")
         found = window.ballot("x_y", "1234")
-        self.assertEqual(
-            (found["said"], found["missing"]), (said("not_on_roll", name="x_y"), said("type_name"))
-        )
-        self.assertEqual(window.ballot("e01", "----")["missing"], said("rank_missing"))
+        self.says(found["said"], words, "not_on_roll", name="x_y")
+        self.says(found["missing"], words, "type_name")
+        self.says(window.ballot("e01", "----")["missing"], words, "rank_missing")
         window.ballot("e01", "1234")
         window.ask("document.getElementById('Copy').click()")
         window.until("document.getElementById('Copied').textContent !== ''")
-        self.assertIn(
-            window.ask("document.getElementById('Copied').textContent"),
-            (said("copied"), said("selected")),
-        )
+        said = window.ask("document.getElementById('Copied').textContent")
+        self.assertIn(said, [self.language.say(words[key]) for key in ("copied", "selected")])
 
     def check_count(self, folder: pathlib.Path) -> None:
-        said, rows = functools.partial(self.said, COUNT_AGAIN), self.window.count_again()
+        *rows, last = self.window.count_again()
         sheet, standing = (
             (folder / name).read_text().splitlines() for name in ("sheet.txt", "standing.txt")
         )
-        self.assertEqual(rows[0], said("same", sheet=said("sheet_published"), lines=len(sheet)))
-        self.assertEqual(
-            rows[1:3], [said("last", line=sheet[-1]), said("page_same", ballots=len(standing))]
-        )
-        self.assertEqual(
-            self.window.ask("document.querySelector('#Again-answer p code').textContent"), sheet[-1]
-        )
-        self.assertEqual(rows[-1], said("second"))
+        published = self.language.say(COUNT_AGAIN["sheet_published"])
+        self.says(rows[0], COUNT_AGAIN, "same", sheet=published, lines=len(sheet))
+        self.says(rows[1], COUNT_AGAIN, "last", line=sheet[-1])
+        self.says(rows[2], COUNT_AGAIN, "page_same", ballots=len(standing))
+        self.says(last, COUNT_AGAIN, "second")
         self.window.ask("document.querySelector('#Result b').textContent = 'Nobody'")
-        self.assertIn(
-            said("page_differs", where=said("the_result")), " ".join(self.window.count_again())
-        )
+        where = self.language.say(COUNT_AGAIN["the_result"])
+        differs = self.language.say(COUNT_AGAIN["page_differs"], where=where)
+        self.assertIn(differs, " ".join(self.window.count_again()))
 
-    def check_find(self) -> None:
-        said, find = functools.partial(self.said, FIND | FIND_IN_OPEN), self.window.find
-        first, *_, last = found = find("Person 02")
-        self.assertEqual(
-            (first, len(found), last),
-            (said("counts", name="e02"), 6, said("line", line="e02 2,1,4,3")),
-        )
-        # what came from e05 was entered after the close
-        self.assertEqual(
-            find("e05"),
-            [
-                said("no_ballot", name="e05"),
-                said("uncounted", lines=self.language.say("Refused and late lines")),
-            ],
-        )
-        self.assertEqual(
-            find("nobody") + find(""), [said("no_elector", name="nobody"), said("type_name")]
-        )
-
-    def check_find_in_secret(self, place: pathlib.Path) -> None:
-        said, find = functools.partial(self.said, FIND | FIND_IN_SECRET), self.window.find
-        rows = [
-            line.split(",")
-            for line in (place / "private" / "codes.csv").read_text().splitlines()[1:]
-        ]
-        codes, aliases = {row[0]: row[3] for row in rows}, {row[0]: row[4] for row in rows}
-        first, *_, last = find("e02", codes["e02"])
-        self.assertEqual(
-            (first, last),
-            (said("counts", name="e02"), said("line", line=f"{aliases['e02']} 2,1,4,3")),
-        )
-        self.assertEqual(find("e05", codes["e05"]), [said("no_ballot", alias=aliases["e05"])])
-        self.assertEqual(
-            find("e02", "1234") + find("", codes["e02"]), [said("type_code"), said("type_name")]
-        )
-        self.assertEqual(len(find("e02", codes["e01"])), 1)
+    def check_find(self, file: pathlib.Path) -> None:
+        """What came from e05 was entered after the close."""
+        find, uncounted = self.window.find, self.language.say("Refused and late lines")
+        if not file.exists():
+            words = FIND | FIND_IN_OPEN
+            first, *_, last = find("Person 02")
+            self.says(last, words, "line", line="e02 2,1,4,3")
+            none, came = find("e05")
+            self.says(none, words, "no_ballot", name="e05")
+            self.says(came, words, "uncounted", lines=uncounted)
+            self.says(find("nobody")[0], words, "no_elector", name="nobody")
+        else:
+            words, rows = FIND | FIND_IN_SECRET, re.findall(
+                r"(?m)^(e\d\d),.*,(\w+),(\w+)", file.read_text()
+            )
+            known = {name: (code, alias) for name, code, alias in rows}
+            first, *_, last = find("e02", known["e02"][0])
+            self.says(last, words, "line", line=f"{known['e02'][1]} 2,1,4,3")
+            self.says(find("e05", known["e05"][0])[0], words, "no_ballot", alias=known["e05"][1])
+            self.says(find("e02", "1234")[0], words, "type_code")
+        self.says(first, words, "counts", name="e02")
+        self.says(find("")[0], words, "type_name")
 
 
 def class_of(language: str) -> type:

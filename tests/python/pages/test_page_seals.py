@@ -4,29 +4,25 @@ Each time it says what became of the ballot, and sends nothing that it does not 
 """
 
 import base64
-import dataclasses
 import json
 import shutil
 import subprocess
 import unittest
+from dataclasses import replace
 
 from debvote_tools.call.box import page_of, personal_link, script_of
 from debvote_tools.poll.questions import LABELS
 from debvote_tools.text.rendering import resources
 
 from tests.python.call import test_sealed_ballots as vector
-from tests.python.pages.test_box_page import CALL, EMPTY, LINKS, MARK, NOW, OWNS, PLACES, WORDS
+from tests.python.pages.test_box_page import CALL, MARK, NOW, OWNS, PLACES, WORDS
 from tests.python.pages.test_box_page import BoxPageTest, RealBoxTest, page_with_box
 from tests.support import sealing
 from tests.support.calls import SECRET
 from tests.support.web_host import (
     KEY,
-    NEEDS_PHP,
-    STRACE,
-    Host,
     Liar,
     answered,
-    passed_on,
     request_of,
 )
 
@@ -38,6 +34,13 @@ BODY = request_of(
     f"{page_of(vector.KEY, vector.MARK)} {sealing.proof_of(vector.MARK, PLACE)} {vector.NUMBER}",
     vector.SEALED,
 )
+
+# what the page of the vector has in its data
+OF_VECTOR = {
+    "mark": vector.MARK,
+    "page": page_of(vector.KEY, vector.MARK),
+    "seal": sealing.key_pair(vector.KEY, vector.MARK)[0],
+}
 
 # with this a browser makes the own key, the number and the time of the vector
 FIXED = """
@@ -77,21 +80,10 @@ def fixed() -> str:
 
 def sent_under_node(line: str, place: str, options: int) -> bytes:
     """What the script sends of a line by a personal link; `options` are those of the form, and its questions if they are several."""
-    data = {"box": "vote.php", "mark": vector.MARK, "page": page_of(vector.KEY, vector.MARK)}
-    data |= {
-        "seal": sealing.key_pair(vector.KEY, vector.MARK)[0],
-        "until": "",
-        "words": json.dumps(WORDS),
-    }
-    given = {
-        "place": json.dumps(place),
-        "line": json.dumps(line),
-        "data": json.dumps(data),
-        "options": options,
-    }
-    script = (
-        AROUND % given + fixed() + resources("debvote_tools.call", "box.js") + "\npressed[0]();"
-    )
+    data = {"box": "vote.php", "until": "", "words": json.dumps(WORDS), **OF_VECTOR}
+    given = {"place": json.dumps(place), "line": json.dumps(line), "data": json.dumps(data)}
+    around = AROUND % (given | {"options": options})
+    script = around + fixed() + resources("debvote_tools.call", "box.js") + "\npressed[0]();"
     ended = subprocess.run([str(NODE), "-"], input=script.encode(), capture_output=True, timeout=60)
     assert (ended.returncode, ended.stderr) == (0, b""), ended
     return ended.stdout
@@ -104,20 +96,14 @@ class Node(unittest.TestCase):
 
     def test_the_longest_ballot_is_as_long_as_the_shortest(self) -> None:
         """Of one question and of as many as there can be; and the host takes it."""
-        most = len(LABELS)
-        for options, questions in ((2, 1), (10, 1), (32, 1), (2, 2), (32, most)):
-            lengths = set[int]()
+        for options, questions in ((2, 1), (10, 1), (32, 1), (2, 2), (32, len(LABELS))):
+            lengths, several = set[int](), LABELS[:questions] if questions > 1 else ""
+            size = options * questions + len(several)
             for name, rank in (("a", "-"), ("a" * 32, "32")):
                 ranks = ",".join([rank] * options)
-                answers = (
-                    " ".join(f"{label} {ranks}" for label in LABELS[:questions])
-                    if questions > 1
-                    else ranks
-                )
-                size = options * questions + (questions if questions > 1 else 0)
-                body = sent_under_node(
-                    f"{name} {answers}", personal_link(vector.KEY, name, "2" * 10), size
-                )
+                line = " ".join([name, *(f"{label} {ranks}" for label in several)])
+                link = personal_link(vector.KEY, name, "2" * 10)
+                body = sent_under_node(line if several else f"{name} {ranks}", link, size)
                 lengths.add(len(body.splitlines()[1]))
             self.assertEqual(lengths, {4 * (65 + 3 * (42 + size) + 16) // 3}, (options, questions))
             self.assertLess(max(lengths), 3_800)
@@ -126,20 +112,15 @@ class Node(unittest.TestCase):
 class Browser(BoxPageTest):
     def test_the_vector(self) -> None:
         page = page_with_box().decode()
-        for what, before, after in (
-            ("mark", CALL.questions.mark, vector.MARK),
-            ("page", CALL.page, page_of(vector.KEY, vector.MARK)),
-            ("seal", CALL.public_key, sealing.key_pair(vector.KEY, vector.MARK)[0]),
-        ):
+        for what, before in {"mark": MARK, "page": CALL.page, "seal": CALL.public_key}.items():
             self.assertEqual(page.count(f'data-{what}="{before}"'), 1, what)
-            page = page.replace(f'data-{what}="{before}"', f'data-{what}="{after}"')
+            page = page.replace(f'data-{what}="{before}"', f'data-{what}="{OF_VECTOR[what]}"')
         said = {
             b"GET": answered(page.encode(), 200, "Content-Type: text/html"),
             b"POS": answered(b"received " + NOW + b"\n"),
         }
-        with Liar(
-            lambda request: [said.get(request[:3], b"")]
-        ) as host, self.window.before_each_page(f"{{ {fixed()} }}"):
+        host = self.enterContext(Liar(lambda request: [said.get(request[:3], b"")]))
+        with self.window.before_each_page(f"{{ {fixed()} }}"):
             self.visit(host.at, f"#{PLACE}")
             self.assertEqual(self.choose("1234")["line"], LINE)
             self.assertRegex(self.sent(), "^It has arrived, sent ")
@@ -147,7 +128,6 @@ class Browser(BoxPageTest):
         self.assertEqual(posted.partition(b"\r\n\r\n")[2], BODY)
 
 
-@NEEDS_PHP
 class Fails(RealBoxTest):
     def test_a_browser_that_fails_at_any_call(self) -> None:
         """Later or at once: nothing was sent, and the form is free."""
@@ -160,112 +140,29 @@ class Fails(RealBoxTest):
             };
           } })()"""
         self.visit(self.host.at, PLACES["ada"])
-        self.window.ask(count)
+        self.ask(count)
         self.choose("1234")
-        self.assertRegex(self.sent(), "^It has arrived")
-        calls = self.window.ask("calls")
-        steps = {
-            "digest",
-            "generateKey",
-            "exportKey",
-            "importKey",
-            "deriveBits",
-            "deriveKey",
-            "encrypt",
-        }
-        self.assertEqual({*calls}, steps)
-        free = EMPTY | {
-            "said": WORDS["unsealed"],
-            "seen": True,
-            "button": True,
-            "line": "ada 4,3,2,1",
-        }
+        self.demand_arrived()
+        calls = self.ask("calls")
+        steps = "digest generateKey exportKey importKey deriveBits deriveKey encrypt"
+        self.assertEqual({*calls}, {*steps.split()})
         self.choose("4321")
         for failed in ("Promise.reject(new DOMException('x'))", "{ throw new Error('x') }"):
             for number, name in enumerate(calls, start=1):
                 with self.subTest(failed=failed, call=f"{number}: {name}"):
-                    self.window.ask(
-                        f"calls.length = 0; failing = {number}; failed = () => {failed}; undefined"
-                    )
-                    self.window.ask("document.getElementById('Sent').textContent = ''")
-                    self.assertEqual(self.sent(), WORDS["unsealed"])
-                    self.assertEqual(self.state(), free)
+                    self.ask(f"calls.length = 0; failing = {number}; failed = () => {failed}; 0")
+                    self.ask("document.getElementById('Sent').textContent = ''")
+                    said = self.sent()
+                    self.assertEqual(said, WORDS["unsealed"])
+                    self.assert_state(said=said, seen=True, button=True, line="ada 4,3,2,1")
         self.assertEqual(len(self.records()), 1)
         # pressed again where nothing fails, it goes
-        self.window.ask("failing = 0; undefined")
-        self.assertRegex(self.sent(), "^It has arrived")
-        self.assertEqual(self.records()[-1], f"{LINKS['ada']}/ada 4,3,2,1")
+        self.ask("failing = 0")
+        self.demand_arrived()
+        self.assertEqual(self.lines(), ["ada 1,2,3,4", "ada 4,3,2,1"])
         self.assertEqual(self.host.requests(), ["GET /", "POST /vote.php", "POST /vote.php"])
 
-    def test_a_disk_of_the_host_that_is_full(self) -> None:
-        """The member is told that it was not taken, and goes on where there is room again. What arrived before stays."""
-        lost = EMPTY | {
-            "said": WORDS["lost"],
-            "line": "ben 2,1,4,3",
-            "seen": True,
-            "button": True,
-            "fields": 21,
-        }
-        with Liar(lambda request: [passed_on(request, host)]) as between:
-            host = self.host
-            self.visit(between.at, PLACES["ada"])
-            self.choose("1234")
-            self.assertRegex(self.sent(), "^It has arrived")
-            before = self.file.read_bytes()
-            self.visit(between.at, PLACES["ben"])
-            self.choose("2143")
-            with Host(self.folder, most_bytes=len(before) + 100) as host:
-                self.assertEqual(self.sent(), WORDS["lost"])
-            self.assertEqual((self.state(), self.file.read_bytes()), (lost, before))
-            host = self.host
-            self.assertRegex(self.sent(), "^It has arrived")
-        self.assertEqual(
-            self.records(), [f"{LINKS['ada']}/ada 1,2,3,4", f"{LINKS['ben']}/ben 2,1,4,3"]
-        )
 
-    @unittest.skipUnless(STRACE, "strace is not installed")
-    def test_a_host_that_is_killed(self) -> None:
-        """Before it writes, before that is on the disk, and before it answers: nobody knows whether the ballot has arrived, and pressed again
-        it is there once.
-        """
-        of_file = ["-P", self.file]
-        with Liar(lambda request: [passed_on(request, host)]) as between:
-            for name, call, where in (
-                ("ada", "write", of_file),
-                ("ben", "fsync", of_file),
-                ("cleo", "sendto", []),
-            ):
-                with self.subTest(call):
-                    host = self.host
-                    self.visit(between.at, PLACES[name])
-                    self.choose("1234")
-                    # the file is there
-                    host.ask()
-                    before = len(self.records())
-                    tracer = [
-                        str(STRACE),
-                        "-f",
-                        "-o",
-                        "/dev/null",
-                        *where,
-                        "-e",
-                        f"inject={call}:signal=KILL:when=1",
-                    ]
-                    with Host(self.folder, tracer=tracer) as host:
-                        self.assertEqual(self.sent(), WORDS["unsure"])
-                        host.process.wait(60)
-                    self.assertEqual(len(self.records()), before + (call != "write"))
-                    # nothing can be changed until it is known
-                    self.assertEqual(self.state()["fields"], 0)
-                    host = self.host
-                    self.assertRegex(self.sent(), "^It has arrived")
-                    self.assertEqual(self.state()["fields"], 21)
-        self.assertEqual(
-            self.records(), [f"{LINKS[name]}/{name} 1,2,3,4" for name in ("ada", "ben", "cleo")]
-        )
-
-
-@NEEDS_PHP
 class Elsewhere(RealBoxTest):
     """A page that is not where it belongs."""
 
@@ -281,62 +178,47 @@ class Elsewhere(RealBoxTest):
             "addEventListener('activate', (event) => event.waitUntil(clients.claim()));"
             "addEventListener('fetch', (event) => event.respondWith(new Response('received 2026-11-28T12:19:04Z\\n')));"
         )
-        at, wanted = f"{self.host.at}vote/", EMPTY | {"line": "ada 1,2,3,4", "worked": True}
-        self.visit(at, PLACES["ada"])
+        self.visit(f"{self.host.at}vote/", PLACES["ada"])
         self.assertTrue(self.choose("1234")["button"])
         # the page itself may not, but another page of the web site registers it while this one is open
         self.in_another_tab(self.host.at, "navigator.serviceWorker.register('worker.js')")
         self.window.until("navigator.serviceWorker.controller !== null")
         self.press()
-        self.assertEqual(self.state(), wanted)
+        self.assert_state(line="ada 1,2,3,4", worked=True)
         self.assertFalse(any(request.startswith("POST") for request in self.host.requests()))
-        self.assertEqual(sorted(file.name for file in vote.iterdir()), ["index.html", "vote.php"])
 
     def in_another_tab(self, url: str, script: str) -> None:
         """Opens a page beside this one, and runs a script in it."""
         window, own = self.window, self.window.session
         window.session = None
-        tab = window.tell("Target.createTarget", url=url, browserContextId=window.context)[
-            "targetId"
-        ]
-        window.session = window.tell("Target.attachToTarget", targetId=tab, flatten=True)[
-            "sessionId"
-        ]
+        tab = window.tell("Target.createTarget", url=url, browserContextId=window.context)
+        target = tab["targetId"]
+        found = window.tell("Target.attachToTarget", targetId=target, flatten=True)
+        window.session = found["sessionId"]
         window.until(f"document.readyState === 'complete' && location.href === '{url}'")
         window.ask(f"{script}.then(() => true)")
         window.session = None
-        window.tell("Target.closeTarget", targetId=tab)
+        window.tell("Target.closeTarget", targetId=target)
         window.session = own
 
     def test_a_page_of_another_book_with_this_poll(self) -> None:
         """A rehearsal, whose page a browser kept, or that was uploaded: its ballots could never be opened."""
         other = bytes(range(1, 33))
-        self.assertNotEqual(page_of(other, MARK), page_of(KEY, MARK))
-        links = {name: personal_link(other, name, own) for name, own in OWNS.items()}
-        for page_key, script_key in ((KEY, other), (other, KEY)):
-            call = CALL if page_key == KEY else dataclasses.replace(CALL, box_key=other)
+        link = f"#{personal_link(other, 'ada', OWNS['ada'])}"
+        for page_key, script_key, place in ((KEY, other, PLACES["ada"]), (other, KEY, link)):
+            call = replace(CALL, box_key=page_key)
             (self.folder / "index.html").write_bytes(page_with_box(call=call))
             (self.folder / "vote.php").write_bytes(script_of(script_key, MARK, OWNS))
-            for place in (PLACES["ada"], f"#{links['ada']}"):
-                with self.subTest(page=page_key[:1], place=place):
-                    self.visit(self.host.at, place)
-                    self.choose("1234")
-                    self.assertEqual(self.sent(), WORDS["old"])
-                    self.assertEqual(
-                        self.state(),
-                        EMPTY
-                        | {
-                            "said": WORDS["old"],
-                            "line": "ada 1,2,3,4",
-                            "seen": True,
-                            "button": True,
-                        },
-                    )
+            self.visit(self.host.at, place)
+            self.choose("1234")
+            said = self.sent()
+            self.assertEqual(said, WORDS["old"])
+            self.assert_state(said=said, line="ada 1,2,3,4", seen=True, button=True)
         self.assertEqual([*self.folder.glob("box-*")], [])
 
     def test_a_copy_of_the_page_of_a_secret_vote_from_the_disk(self) -> None:
         """There is nothing to press, and the page says which link to open."""
-        call = dataclasses.replace(SECRET, until=CALL.until, box_key=KEY)
+        call = replace(SECRET, until=CALL.until, box_key=KEY)
         (self.folder / "index.html").write_bytes(page_with_box(call=call))
         for place in (PLACES["ada"], ""):
             self.window.tell("Page.navigate", url="about:blank")
@@ -344,6 +226,5 @@ class Elsewhere(RealBoxTest):
             found = self.choose("1234")
             self.assertEqual((found["seen"], found["button"], found["fields"]), (False, False, 20))
             seen = "[...document.querySelectorAll('#Unlinked, #Missing')].filter((node) => node.checkVisibility())"
-            said = self.window.ask(f"{seen}.map((node) => node.textContent).join(' ')")
+            said = self.ask(f"{seen}.map((node) => node.textContent).join(' ')")
             self.assertIn("open the link in your own letter", said)
-        self.assertEqual(self.host.requests(), [])

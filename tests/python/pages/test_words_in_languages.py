@@ -56,21 +56,16 @@ def unmarked(text: str) -> list[str]:
 
 def unsaid(page: str) -> list[str]:
     """What of a page is read and is unmarked."""
-    said = [html.unescape(found) for found in SAID.findall(page)]
-    texts = [
-        html.unescape(text)
-        for text in re.split(r"<[^>]*>", UNSAID.sub(" ", page[page.index("<title>") :]))
-    ]
-    return [word for text in [" ".join(texts), *map(words_of, said)] for word in unmarked(text)]
+    texts = re.split(r"<[^>]*>", UNSAID.sub(" ", page[page.index("<title>") :]))
+    said = [words_of(html.unescape(found)) for found in SAID.findall(page)]
+    return [word for text in [html.unescape(" ".join(texts)), *said] for word in unmarked(text)]
 
 
 def words_of(said: str) -> str:
     """The sentences of a script, or an attribute as it is."""
-    return (
-        re.sub(r"\{\w+\}", " ", "\n".join(json.loads(said).values()))
-        if said.startswith("{")
-        else said
-    )
+    if not said.startswith("{"):
+        return said
+    return re.sub(r"\{\w+\}", " ", "\n".join(json.loads(said).values()))
 
 
 class Marked(languages.LanguageTest):
@@ -86,14 +81,18 @@ class Marked(languages.LanguageTest):
         return said
 
     def check(self, text: str, name: str) -> None:
+        is_page = name.endswith(".html")
         with self.subTest(name):
             self.assertIn(BEGIN, text)
-            self.assertEqual(unsaid(text) if name.endswith(".html") else unmarked(text), [])
-            self.assertEqual('<html lang="de">' in text, name.endswith(".html"))
+            self.assertEqual(unsaid(text) if is_page else unmarked(text), [])
+            self.assertEqual('<html lang="de">' in text, is_page)
 
-    def check_files(self, place: pathlib.Path, *files: str) -> None:
-        for name in files:
-            self.check((place / name).read_text(encoding="utf-8"), f"{place.name}/{name}")
+    def check_files(self, place: pathlib.Path, *files: str) -> str:
+        """Checks these files, and returns the text of the first."""
+        texts = [(place / name).read_text(encoding="utf-8") for name in files]
+        for name, text in zip(files, texts):
+            self.check(text, f"{place.name}/{name}")
+        return texts[0]
 
     def check_messages(self, place: pathlib.Path, *kinds: str) -> None:
         """The messages that go out, each with its subject."""
@@ -103,24 +102,18 @@ class Marked(languages.LanguageTest):
             message = email.message_from_bytes(file.read_bytes(), policy=email.policy.default)
             body = message.get_body()
             assert body is not None
-            self.check(
-                f"{message['Subject']}\n{body.get_content()}", str(file.relative_to(self.scratch))
-            )
+            self.check(f"{message['Subject']}\n{body.get_content()}", str(file))
 
     def test_the_test_finds_a_word(self) -> None:
-        self.assertEqual(
-            unmarked(f"{BEGIN}What{END_MARK} 12 At the lake, e01 {BEGIN}.{END_MARK}"), []
-        )
-        self.assertEqual(unmarked(f"{BEGIN}What{END_MARK} 12 lines"), ["lines"])
+        what = f"{BEGIN}What{END_MARK} 12"
+        self.assertEqual(unmarked(f"{what} At the lake, e01 {BEGIN}.{END_MARK}"), [])
+        self.assertEqual(unmarked(f"{what} lines"), ["lines"])
         self.assertEqual(unsaid('<title></title><p aria-label="Bars"><code>x</code></p>'), ["Bars"])
-        self.assertEqual(unsaid(f"<title>{BEGIN}x{END_MARK}</title><p>has <b>1</b></p>"), ["has"])
+        self.assertEqual(unsaid(f"<title>{what}</title><p>has <b>1</b></p>"), ["has"])
 
     def test_from_the_beginning_to_the_end(self) -> None:
-        files = [
-            "call/index.html",
-            "call/call.txt",
-            *(f"letters/{name}.txt" for name in ("extension", "closed", "result")),
-        ]
+        letters = (f"letters/{name}.txt" for name in ("extension", "closed", "result"))
+        files = ["call/index.html", "call/call.txt", *letters]
         for name, more in (("open", ()), ("secret", ("private/slips.html",))):
             place = self.held(name, "de", is_secret=name == "secret")
             self.check_files(place, *files, "result/index.html", "result/closed.txt", *more)
@@ -128,87 +121,65 @@ class Marked(languages.LanguageTest):
 
     def test_other_calls(self) -> None:
         """With codes on the roll, one that says little, and one whose letters are printed."""
-        self.check_files(
-            self.called("codes", "de", codes=("--on-roll",)),
-            "call/index.html",
-            "call/call.txt",
-            "private/slips.html",
-        )
-        place = self.begun(
-            "little", "de", poll=POLL.replace("quorum = 1", "quorum = 0\nwording = 'more_than'")
-        )
-        (place / "members.csv").write_text(
-            (place / "members.csv").read_text().replace("e01@example.org", "")
-        )
-        self.election("little", "roll")
+        files = ("call/index.html", "call/call.txt")
+        place = self.called("codes", "de", codes=("--on-roll",))
+        self.check_files(place, *files, "private/slips.html")
+        poll = POLL.replace("quorum = 1", "quorum = 0\nwording = 'more_than'")
+        place = self.begun("little", "de", poll=poll)
+        self.change_members(place, "e01@example.org", "")
         self.election("little", "call")
-        self.check_files(place, "call/index.html", "call/call.txt")
+        self.check_files(place, *files)
         self.election("little", "letters", "call", "--from", languages.TO)
         (page,) = place.rglob("letters/*/*/*.html")
-        self.assertNotEqual(MARKED.findall(page.read_text(encoding="utf-8")), [])
+        self.assertIn(BEGIN, page.read_text(encoding="utf-8"))
+
+    def change_members(self, place: pathlib.Path, before: str, after: str) -> None:
+        members = place / "members.csv"
+        members.write_text(members.read_text().replace(before, after))
+        self.election(place.name, "roll", "--yes")
 
     def test_what_debvote_publish_makes_of_two_files(self) -> None:
-        poll = POLL + f"roll = {languages.ELECTORS}\n".replace("'", '"')
+        poll = POLL + f"roll = {json.dumps(languages.ELECTORS)}\n"
         equal = poll.replace("[1, 1, 3]", "[1, 1, 1]").replace("quorum = 1", "quorum = 0")
-        options = ", ".join(f'"{number}"' for number in range(1, 15))
-        many = f'title = "Wohin?"\noptions = [{options}]\nratios = {[1] * 14}\ndefault = "Further discussion"\nquorum = 0\nroll = ["e01"]\n'
-        cycle = "".join(
-            f"e0{n} {ranks}\n"
-            for n, ranks in enumerate(["1,2,3,4", "2,3,1,4", "3,1,2,4"] * 3, start=1)
-        )
+        options = json.dumps([str(number) for number in range(1, 15)])
+        many = f'title = "Wohin?"\noptions = {options}\nratios = {[1] * 14}\ndefault = "Further discussion"\nquorum = 0\nroll = ["e01"]\n'
+        ranks = ["1,2,3,4", "2,3,1,4", "3,1,2,4"] * 3
+        cycle = "".join(f"e0{number} {given}\n" for number, given in enumerate(ranks, start=1))
         tie = "e01 1,2,3,4\ne02 2,1,3,4\ne03 1,2,-,4\ne04 2,1,-,4\n"
-        for name, given, ballots, words, status in (
-            ("cycle", equal, cycle, (), 1),
-            ("tie", equal, tie, (), 1),
-            ("cast", equal, tie, ("--casting=At the lake",), 0),
-            ("nobody", poll, "", (), 0),
-            ("dropped", poll, "e01 4,4,4,1\ne02 2,2,2,1\ne03 1,4,4,2\n", (), 0),
-            ("windows", poll, "e01 1,2,3,4\r\ne02 1,2,3,4\r\n", (), 0),
-            ("long", poll, f"e01 1,2,3,4\n{'x' * 150}\n\n\n", (), 0),
-            ("late", "last_envelope = 2\n" + poll, BALLOTS, (), 1),
-            ("one", equal, "e01 1,2,3,4\n", (), 0),
-            ("many", many, f"e01 {','.join(map(str, range(1, 16)))}\n", (), 0),
-            ("many-equal", many, f"e01 {'1,' * 14}2\n", (), 1),
+        for name, given, ballots, *words in (
+            ("cycle", equal, cycle),
+            ("tie", equal, tie),
+            ("cast", equal, tie, "--casting=At the lake"),
+            ("nobody", poll, ""),
+            ("dropped", poll, "e01 4,4,4,1\ne02 2,2,2,1\ne03 1,4,4,2\n"),
+            ("windows", poll, "e01 1,2,3,4\r\ne02 1,2,3,4\r\n"),
+            ("long", poll, f"e01 1,2,3,4\n{'x' * 150}\n\n\n"),
+            ("late", "last_envelope = 2\n" + poll, BALLOTS),
+            ("one", equal, "e01 1,2,3,4\n"),
+            ("many", many, f"e01 {','.join(map(str, range(1, 16)))}\n"),
+            ("many-equal", many, f"e01 {'1,' * 14}2\n"),
         ):
             (self.scratch / "poll.toml").write_text(given)
             (self.scratch / "ballots").write_text(ballots)
-            self.program(
-                "debvote-publish",
-                "--poll",
-                "poll.toml",
-                "--ballots",
-                "ballots",
-                "--language",
-                "de",
-                *words,
-                name,
-                status=status,
-            )
+            files = ("--poll", "poll.toml", "--ballots", "ballots", "--language", "de")
+            status = int(name in ("cycle", "tie", "late", "many-equal"))
+            self.program("debvote-publish", *files, *words, name, status=status)
             self.check_files(self.scratch / name, "index.html", "letter.txt")
 
     def test_casting_votes(self) -> None:
-        place = self.begun(
-            "cast",
-            "de",
-            poll=POLL.replace("[1, 1, 3]", "[1, 1, 1]").replace("quorum = 1", "quorum = 0"),
-        )
+        poll = POLL.replace("[1, 1, 3]", "[1, 1, 1]").replace("quorum = 1", "quorum = 0")
+        place = self.begun("cast", "de", poll=poll)
         self.election("cast", "call", "--to", languages.TO, "--at", languages.AT)
         self.election("cast", "add", "--yes", given="e01 1,2,3,4\ne02 2,1,3,4\n")
         self.election("cast", "close")
-        given = (
-            "--cast-by",
-            "Person 01",
-            "--cast-on",
-            str(datetime.datetime.now().astimezone().date()),
-        )
+        today = str(datetime.datetime.now().astimezone().date())
+        given = ("--cast-by", "Person 01", "--cast-on", today)
         again = ("--casting", "In the town hall", *given, "--force", "--because", languages.REASON)
         for words, status in (((), 1), (("--casting", "At the lake", *given), 0), (again, 0)):
             self.election("cast", "publish", *words, status=status)
-            self.check_files(place, "result/index.html", "letters/result.txt")
+            page = self.check_files(place, "result/index.html", "letters/result.txt")
             self.election("cast", "letters", "result")
-        self.assertIn(
-            'class="doubts"', (place / "result" / "index.html").read_text(encoding="utf-8")
-        )
+        self.assertIn('class="doubts"', page)
         self.check_messages(place, "closed", "result")
 
     def test_doubts(self) -> None:
@@ -224,26 +195,18 @@ class Marked(languages.LanguageTest):
             if name != "open":
                 self.election(name, "close", "--early")
             self.election(name, "publish", "--force", "--because", languages.REASON, "--yes")
-            self.check_files(place, "result/index.html")
-            self.assertIn(
-                'class="doubts"', (place / "result" / "index.html").read_text(encoding="utf-8")
-            )
+            self.assertIn('class="doubts"', self.check_files(place, "result/index.html"))
             if name != "open":
                 self.election(name, "letters", "result")
                 self.check_messages(place, "closed", "result")
 
     def test_what_was_done(self) -> None:
-        place = self.called("done", "de")
-        self.election("done", "call", "--take-back", "--because", languages.REASON)
+        place, because = self.called("done", "de"), ("--because", languages.REASON)
+        self.election("done", "call", "--take-back", *because)
         self.election("done", "call", "--to", languages.TO)
-        (place / "members.csv").write_text(
-            (place / "members.csv").read_text().replace("e01@", "other@")
-        )
-        self.election("done", "roll", "--yes")
+        self.change_members(place, "e01@", "other@")
         (self.scratch / "state").rename(self.scratch / "other-state")
-        self.election(
-            "done", "add", "--yes", "--moved", "--because", languages.REASON, given="e01 1,2,3,4\n"
-        )
+        self.election("done", "add", "--yes", "--moved", *because, given="e01 1,2,3,4\n")
         self.election("done", "close")
         self.election("done", "publish")
         self.check_files(place, "result/index.html")

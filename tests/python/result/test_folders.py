@@ -4,7 +4,6 @@ DEBVOTE_LARGEST_ELECTORS says how many electors the largest election has; 10000 
 """
 
 import hashlib
-import json
 import os
 import random
 import re
@@ -14,10 +13,14 @@ from tests.support import examples, looks, page_parts, publishing, result_checks
 
 ELECTORS = int(os.environ.get("DEBVOTE_LARGEST_ELECTORS", "10000"))
 
-# the files of a folder, but for picture, sums and letter
-FILES = "poll.toml ballots.txt sheet.txt standing.txt result.json votes.csv recount.py recount.js READING-A-SHEET.md index.html"
+# the files of a folder, but for picture and letter
+FILES = "poll.toml ballots.txt sheet.txt standing.txt result.json votes.csv recount.py recount.js READING-A-SHEET.md index.html SHA256SUMS"
 # the keys of a poll in plain form, in their order
 KEYS = "title options ratios default quorum wording roll last_envelope deadline address secret shown_title shown_options explanations"
+
+
+def digest(data):
+    return hashlib.sha256(data).hexdigest()
 
 
 def try_folder(expect, name, poll, ballots, more, folder):
@@ -31,61 +34,32 @@ def try_folder(expect, name, poll, ballots, more, folder):
     ]
     expect(f"{name}: its status", (status, doubts), (wanted, []))
     if not folder.exists():
-        return False
-    verified = publishing.run(
-        [publishing.PROGRAM, "verify", *files, "--sheet", folder / "sheet.txt"]
-    )[0]
+        return
+    words = [publishing.PROGRAM, "verify", *files, "--sheet", folder / "sheet.txt"]
+    verified = publishing.run(words)[0]
     expect(f"{name}: what is said", output, sheet.splitlines()[-1] + "\n" + verified)
     made = {file.name: file.read_bytes() for file in folder.iterdir()}
     document = tomllib.loads(poll.read_bytes().decode("utf-8-sig"))
-    plain = [
-        f"{key} = {json.dumps(document[key], ensure_ascii=False)}\n"
-        for key in KEYS.split()
-        if key in document
-    ]
+    values = {key: document[key] for key in KEYS.split() if key in document}
     wanted = {
         "ballots.txt": ballots.read_bytes(),
         "sheet.txt": sheet.encode(),
-        "poll.toml": "".join(plain).replace("\x7f", "\\u007f").encode(),
+        "poll.toml": publishing.plain(values).replace(b"\x7f", b"\\u007f"),
+        "standing.txt": publishing.run([publishing.PROGRAM, "standing", *files])[0].encode(),
+        "READING-A-SHEET.md": (publishing.ROOT / "docs" / "READING-A-SHEET.md").read_bytes(),
     }
-    wanted["standing.txt"] = publishing.run([publishing.PROGRAM, "standing", *files])[0].encode()
-    wanted["READING-A-SHEET.md"] = (publishing.ROOT / "docs" / "READING-A-SHEET.md").read_bytes()
     expect(f"{name}: its files", {file: made[file] for file in wanted}, wanted)
-    sums = [hashlib.sha256(data).hexdigest() for data in (poll.read_bytes(), made["poll.toml"])]
+    sums = digest(poll.read_bytes()), digest(made["poll.toml"])
     named = [
         f"has the checksum (SHA-256) <code>{sums[0]}</code>",
         f"have the poll's checksum? <code>{sums[1][:16]}…</code>",
     ]
-    expect(
-        f"{name}: the checksums of the poll",
-        [text.encode() in made["index.html"] for text in named],
-        [sums[0] != sums[1], True],
-    )
-    found = {file: hashlib.sha256(data).hexdigest() for file, data in made.items()}
-    # the letter has the checksum of the checksums
-    letter = made["letter.txt"].decode()
-    expect(
-        f"{name}: its letter",
-        [f"{found[file]}  {file}\n" in letter for file in ("SHA256SUMS", "index.html")],
-        [True, True],
-    )
-    expect(f"{name}: a letter without an own mark", "own mark" in letter, False)
-    del found["SHA256SUMS"], found["letter.txt"]
-    expect(
-        f"{name}: its sums",
-        dict(reversed(line.split("  ")) for line in made["SHA256SUMS"].decode().splitlines()),
-        found,
-    )
-    expect(
-        f"{name}: its names",
-        set(found),
-        {*FILES.split(), *["picture.svg"] * publishing.HAS_PICTURES},
-    )
-    modes = {file.stat().st_mode & 0o777 for file in folder.iterdir()}
-    expect(
-        f"{name}: it can be read by all", (folder.stat().st_mode & 0o777, modes), (0o755, {0o644})
-    )
-    return True
+    found = [text.encode() in made["index.html"] for text in named]
+    expect(f"{name}: the checksums of the poll", found, [sums[0] != sums[1], True])
+    # sums, modes and what the letter names are as `publish` makes them
+    expect(f"{name}: its letter", b"own mark" in made.pop("letter.txt"), False)
+    names = {*FILES.split(), *["picture.svg"] * publishing.HAS_PICTURES}
+    expect(f"{name}: its names", {*made}, names)
 
 
 HOSTILE = "</b><script>alert(1)</script> & \"'<img src=x onerror=alert(1)>"
@@ -93,29 +67,21 @@ HOSTILE = "</b><script>alert(1)</script> & \"'<img src=x onerror=alert(1)>"
 
 def try_names(expect, scratch):
     """The names that people read stand where names stand, and the plain ones in the list of the options alone. Returns the folder."""
-    room, names = publishing.room_with(scratch / "names", "supermajority_and_recasts"), [
-        HOSTILE,
-        "72 Euro",
-        "דיון נוסף",
-    ]
+    room = publishing.room_with(scratch / "names", "supermajority_and_recasts")
     keys = {
         "shown_title": "Ob die Satzung geändert wird",
-        "shown_options": names,
+        "shown_options": [HOSTILE, "72 Euro", "דיון נוסף"],
         "explanations": ["Changes § 4.\n\n\u200fÜber <b>alles</b>.", ""],
+        "deadline": "2026-12-04T18:00:00+01:00",
+        "note": "not kept",
     }
-    keys |= {"deadline": "2026-12-04T18:00:00+01:00", "note": "not kept"}
-    poll = (room / "poll.toml").read_text()
-    (room / "poll.toml").write_text(
-        "".join(f"{key} = {json.dumps(value, ensure_ascii=False)}\n" for key, value in keys.items())
-        + poll
-    )
+    poll = publishing.plain(keys) + (room / "poll.toml").read_bytes()
+    (room / "poll.toml").write_bytes(poll)
     expect("names: its status", publishing.publish(room, *publishing.FILES, "result")[1:], ("", 0))
-    expect(
-        "names: the poll keeps what is sealed",
-        "note" in (room / "result" / "poll.toml").read_text(),
-        False,
+    poll, page, letter = (
+        (room / "result" / name).read_text() for name in ("poll.toml", "index.html", "letter.txt")
     )
-    page = (room / "result" / "index.html").read_text()
+    expect("names: the poll keeps what is sealed", "note" in poll, False)
     whose = f"About <i>1</i>\u00a0<bdi>{page_parts.escaped(HOSTILE)}</bdi>, in the words of those who publish this page."
     for wanted in (
         "<title>Result: Ob die Satzung geändert wird</title>",
@@ -127,19 +93,11 @@ def try_names(expect, scratch):
     shown = page.partition('id="Poll-file"')[0]
     for name in ("Amend it", "Write guidelines", "Further discussion"):
         # in the picture each is a text of its own
-        found = re.finditer(f"(?<!>)(?<!>\\d: )(?<!default option ){name}", shown)
-        expect(
-            f"names: {name} once",
-            [shown[match.start() - 40 : match.end()] for match in found][1:],
-            [],
-        )
+        found = re.findall(f"(?<!>)(?<!>\\d: )(?<!default option ){name}", shown)
+        expect(f"names: {name} once", found[1:], [])
     expect("names: nothing runs", (page.count("<script"), "<img" in page), (1, False))
-    letter = (room / "result" / "letter.txt").read_text()
-    expect(
-        "names: the letter",
-        ("Ob die Satzung geändert wird" in letter, "Winner: Option 2: 72 Euro" in letter),
-        (True, True),
-    )
+    for said in ("Ob die Satzung geändert wird", "Winner: Option 2: 72 Euro"):
+        expect("names: the letter", said in letter, True)
     return room / "result"
 
 
@@ -167,24 +125,16 @@ def try_slip(expect, name, scratch):
     told, shown = ([pair[place].format(number) for pair in doubts] for place in (0, 1))
     room = publishing.plain_room(scratch / "slips" / name.replace(" ", "-"), ballots=ballots)
     output, faults, status = publishing.publish(room, *publishing.FILES, "result")
-    expect(
-        f"{name}: what is told",
-        faults,
-        "".join(f"Note: {line}; the result page says so\n" for line in told),
-    )
+    notes = "".join(f"Note: {line}; the result page says so\n" for line in told)
+    expect(f"{name}: what is told", faults, notes)
     sheet, _, wanted = publishing.run([publishing.PROGRAM, "count", *publishing.FILES], cwd=room)
-    expect(
-        f"{name}: how it ended", (output, status), (sheet.splitlines()[-1] + "\nverified\n", wanted)
-    )
+    ended = sheet.splitlines()[-1] + "\nverified\n", wanted
+    expect(f"{name}: how it ended", (output, status), ended)
     text = (room / "result" / "index.html").read_text()
-    is_below = (
-        "doubts" in text.partition("<body>")[2].partition("</section>")[2].partition("<script>")[0]
-    )
-    expect(
-        f"{name}: what the page says, in the part of the result alone",
-        (page_parts.doubts_of(text), is_below),
-        (shown, False),
-    )
+    below = text.partition("<body>")[2].partition("</section>")[2].partition("<script>")[0]
+    # in the part of the result alone
+    found = page_parts.doubts_of(text), "doubts" in below
+    expect(f"{name}: what the page says", found, (shown, False))
     page_parts.try_page(expect, name, room / "result")
     result_checks.try_published(expect, name, room / "result", None)
     return room / "result"
@@ -192,45 +142,34 @@ def try_slip(expect, name, scratch):
 
 def large_poll(options, electors):
     """A poll with names of the greatest length, and ballots that make a cycle."""
-    rng, names = random.Random(1), [
-        f"{number} {'WMwm' * 10}"[:40] for number in range(1, options + 1)
-    ]
+    rng = random.Random(1)
+    *names, default = (f"{number} {'WMwm' * 10}"[:40] for number in range(1, options + 1))
+    values = {"title": "W" * 80, "options": names, "ratios": [1] * (options - 1)}
     roll = [f"elector-{number}-".ljust(32, "m") for number in range(electors)]
-    poll = f'title = "{"W" * 80}"\noptions = {json.dumps(names[:-1])}\nratios = {[1] * (options - 1)}\n'
-    poll += f'default = "{names[-1]}"\nquorum = 1\nroll = {json.dumps(roll)}\n'
+    values |= {"default": default, "quorum": 1, "roll": roll}
     ballots = ""
     for name in roll:
-        turn, ranks = rng.choice([0, options // 3, 2 * options // 3]), list(range(1, options))
+        turn, ranks = rng.choice([0, options // 3, 2 * options // 3]), [*range(1, options)]
         ballots += f"{name} {','.join(map(str, [*ranks[turn:], *ranks[:turn], options]))}\n"
-    return poll, ballots
+    return publishing.plain(values).decode(), ballots
 
 
 def publish_large(expect, scratch, options, electors):
     """Publishes a large election, and says how many bytes it has. Returns the folder."""
     name = f"{options}-options-{electors}-electors"
     room = publishing.plain_room(scratch / name, *large_poll(options, electors))
+    status = publishing.publish(room, *publishing.FILES, name)[2]
     # whether it is a tie does not matter here
-    expect(
-        f"{name}: its status", publishing.publish(room, *publishing.FILES, name)[2] in (0, 1), True
-    )
+    expect(f"{name}: its status", status in (0, 1), True)
     sizes = {file.name: file.stat().st_size for file in (room / name).iterdir()}
-    print(
-        f"{name}: index.html {sizes['index.html']} bytes, the folder {sum(sizes.values())} bytes",
-        flush=True,
-    )
-    expect(f"{name}: its bytes", sizes["index.html"] < publishing.LARGEST_PAGE, True)
+    size = sizes["index.html"]
+    print(f"{name}: index.html {size} bytes, the folder {sum(sizes.values())} bytes", flush=True)
+    expect(f"{name}: its bytes", size < publishing.LARGEST_PAGE, True)
     page = (room / name / "index.html").read_text()
-    has_picture = (
-        '<div class="picture">\n<svg' in page,
-        'href="picture.svg"' in page,
-        "scrolls sideways by itself" in page,
-    )
+    parts = ('<div class="picture">\n<svg', 'href="picture.svg"', "scrolls sideways by itself")
     if "picture.svg" in sizes:
-        expect(
-            f"{name}: its picture",
-            has_picture,
-            (True, True, True) if options <= 12 else (False, True, False),
-        )
+        wanted = [options <= 12, True, options <= 12]
+        expect(f"{name}: its picture", [part in page for part in parts], wanted)
     return room / name
 
 
@@ -238,28 +177,22 @@ class FoldersTest(looks.LooksTest):
     @classmethod
     def made(cls):
         # an option whose name has the words of a casting vote outside of a tie, and which wins, is told as the winner alone
-        room = publishing.plain_room(
-            cls.scratch / "of-words",
-            publishing.PLAIN_POLL.replace('"A"', '"A, casting option 2 is not among them"'),
-        )
+        words = '"A, casting option 2 is not among them"'
+        poll = publishing.PLAIN_POLL.replace('"A"', words)
+        room = publishing.plain_room(cls.scratch / "of-words", poll)
         words = "words-of-the-sheet", room / "poll.toml", room / "ballots", []
-        published = [
-            cls.publish(election) for election in (*examples.elections(cls.scratch), words)
-        ]
-        cls.castings = {folder: casting for folder, casting in published if folder.exists()}
+        # of each folder what its casting vote is for
+        cls.castings = {}
+        for name, poll, ballots, more in (*examples.elections(cls.scratch), words):
+            folder = cls.scratch / name
+            try_folder(cls.note, name, poll, ballots, more, folder)
+            if folder.exists():
+                cls.castings[folder] = more[-1].removeprefix("--casting=") if more else None
         cls.note("how many", len(cls.castings) > len(examples.CASES), True)
         slips = [try_slip(cls.note, name, cls.scratch) for name in SLIPS]
-        large = [
-            publish_large(cls.note, cls.scratch, *size) for size in ((12, 20), (13, 20), (32, 100))
-        ]
+        sizes = ((12, 20), (13, 20), (32, 100))
+        large = [publish_large(cls.note, cls.scratch, *size) for size in sizes]
         return [*cls.castings, *slips, *large, try_names(cls.note, cls.scratch)]
-
-    @classmethod
-    def publish(cls, election):
-        """Publishes an election, notes what is to be said of its files, and returns its folder and what the casting vote is for."""
-        name, poll, ballots, more = election
-        try_folder(cls.note, name, poll, ballots, more, cls.scratch / name)
-        return cls.scratch / name, more[-1].removeprefix("--casting=") if more else None
 
     def test_pages(self):
         for folder, casting in self.castings.items():
@@ -275,16 +208,9 @@ class FoldersTest(looks.LooksTest):
             if look["picture"]:
                 width, region, drawn, ink = look["picture"]
                 fits = width <= region + 1
-                self.expect(
-                    f"{look['folder']}: a picture in {region}",
-                    fits or abs(width - round(drawn * 0.75)) <= 1,
-                    True,
-                )
-                self.expect(
-                    f"{look['folder']}: a picture of {drawn} is not blown up",
-                    width <= drawn + 1,
-                    True,
-                )
+                # and is not blown up
+                is_right = (fits or abs(width - round(drawn * 0.75)) <= 1) and width <= drawn + 1
+                self.expect(f"{look['folder']}: {drawn} in {region}", is_right, True)
                 (large if "12-options" in look["folder"].name else kinds).add(fits)
                 inks.add(ink)
         self.expect("pictures that fit and that scroll", (kinds, large), ({True, False}, {False}))
@@ -297,40 +223,30 @@ class FoldersTest(looks.LooksTest):
         for look in self.looks():
             for bar in look["bars"]:
                 fill, edge = bar["colours"]
-                name, wanted = (
-                    f"{look['folder']}: a bar of {bar['number']} of {bar['whole']}",
-                    1000 * bar["number"] / bar["whole"],
-                )
+                wanted = 1000 * bar["number"] / bar["whole"]
                 # one that is folded has no width
-                self.expect(name, bar["share"] is None or abs(bar["share"] - wanted) <= 10, True)
-                self.expect(f"{name} can be seen", looks.contrast(edge, look["paper"]) >= 3, True)
+                is_right = bar["share"] is None or abs(bar["share"] - wanted) <= 10
+                is_seen = looks.contrast(edge, look["paper"]) >= 3
+                name = f"{look['folder']}: a bar of {bar['number']} of {bar['whole']}"
+                self.expect(name, (is_right, is_seen), (True, True))
                 fills.add((look["is_dark"], bar["kind"], fill))
-        self.expect(
-            "bars of each kind have one fill in light and one in dark",
-            (len(fills), len({fill for _, _, fill in fills})),
-            (10, 7),
-        )
+        # one fill of each kind in light and one in dark
+        found = len(fills), len({fill for _, _, fill in fills})
+        self.expect("fills of bars", found, (10, 7))
 
     @looks.NEEDS_BROWSER
     def test_doubts(self):
         """The doubts of each page are seen in the first window, and can be read on their own ground, light and dark."""
-        grounds, doubtful = set(), {
-            folder
-            for folder in self.folders
-            if page_parts.doubts_of((folder / "index.html").read_text())
-        }
-        self.expect("doubtful pages", len(doubtful) >= 3, True)
+        grounds, doubtful = set(), set()
         for look in self.looks():
-            if look["folder"] not in doubtful or look["width"] not in looks.DOUBT_WIDTHS:
-                continue
-            is_seen, ground, ink, word = look["doubts"]
-            is_read = min(looks.contrast(ground, ink), looks.contrast(ground, word)) >= 4.5
-            self.expect(
-                f"{look['folder']}: doubts",
-                (is_seen, is_read, ground != look["paper"]),
-                (True, True, True),
-            )
-            grounds.add(ground)
+            if look["doubts"] and look["width"] in looks.DOUBT_WIDTHS:
+                is_seen, ground, ink, word = look["doubts"]
+                is_read = min(looks.contrast(ground, ink), looks.contrast(ground, word)) >= 4.5
+                found = is_seen, is_read, ground != look["paper"]
+                self.expect(f"{look['folder']}: doubts", found, (True, True, True))
+                grounds.add(ground)
+                doubtful.add(look["folder"])
+        self.expect("doubtful pages", len(doubtful) >= 3, True)
         self.expect("doubts have one ground in light and another in dark", len(grounds), 2)
 
 
@@ -346,8 +262,8 @@ class RandomTest(publishing.PublishTest):
     def test_random_polls(self):
         # no random poll leaves as many options in a tie
         many = "rounds-cycle-of-31-options"
+        folder = self.scratch / many
         poll, ballots, _ = examples.of_case(many, self.scratch)
-        publishing.publish_files(poll, ballots, self.scratch / many)
-        result_checks.try_random_polls(
-            self.expect, result_checks.try_published(self.expect, many, self.scratch / many, None)
-        )
+        publishing.publish_files(poll, ballots, folder)
+        met = result_checks.try_published(self.expect, many, folder, None)
+        result_checks.try_random_polls(self.expect, met)

@@ -2,7 +2,6 @@
 
 import os
 import pathlib
-import shutil
 import signal
 import subprocess
 import sys
@@ -14,296 +13,176 @@ from debvote_tools.files import left_beside, remove_left
 from debvote_tools.result.folder import BESIDE_PLACE, NewFolder
 
 from tests.support import page_parts, publishing
+from tests.support.publishing import FILES, PLAIN_POLL, PROGRAM, plain_room, publish, publish_files
 
-
-def stand_in(folder, text):
-    """A folder with a program debvote of this text, and nothing of Graphviz."""
-    folder.mkdir()
-    (folder / "debvote").write_text(f"#!/bin/sh\n{text}\n")
-    (folder / "debvote").chmod(0o755)
-    return str(folder)
+WIN = publishing.EXAMPLES / "plain_win"
+POLL, BALLOTS = WIN / "poll.toml", WIN / "ballots"
+AS_IT_IS = f'*) exec {PROGRAM} "$@" ;; esac'
 
 
 class RefusedTest(publishing.PublishTest):
+    def stand_in(self, name, text):
+        """A folder with a program debvote of this text, and nothing of Graphviz."""
+        folder = self.scratch / name
+        folder.mkdir()
+        (folder / "debvote").write_text(f"#!/bin/sh\n{text}\n")
+        (folder / "debvote").chmod(0o755)
+        return str(folder)
+
     def assert_refused(self, found, status, said):
-        """A run ended with this status, and its fault begins with these words."""
-        self.expect(
-            f"{found[1]}",
-            (found[0], found[1].startswith(f"debvote-publish: {said}"), found[2]),
-            ("", True, status),
-        )
+        """A run ended with this status, and its fault has these words."""
+        self.assertEqual((found[0], said in found[1], found[2]), ("", True, status), found[1])
 
     def test_what_is_refused(self):
         """What is refused leaves no folder, and nothing beside it."""
-        example = publishing.EXAMPLES / "plain_win"
-        poll, ballots = example / "poll.toml", example / "ballots"
         room = self.scratch / "refusals"
         (room / "full").mkdir(parents=True)
         (room / "full" / "file").touch()
-        bad_poll, many = self.scratch / "bad.toml", self.scratch / "many"
+        bad_poll, many, result = self.scratch / "bad.toml", self.scratch / "many", room / "result"
         bad_poll.write_text("title = 1\n")
         many.write_bytes(b"\n" * 100_001)
-        for name, words, wanted in [
-            ("a folder that is not empty", (poll, ballots, room / "full"), 2),
-            ("a file in place of a folder", (poll, ballots, room / "full" / "file"), 2),
-            (
-                "a folder in a folder that is not there",
-                (poll, ballots, room / "none" / "result"),
-                7,
-            ),
-            ("a poll that is refused", (bad_poll, ballots, room / "result"), 3),
-            ("no poll", (room / "none", ballots, room / "result"), 3),
-            ("no ballots", (poll, room / "none", room / "result"), 4),
-            ("too many ballots", (poll, many, room / "result"), 4),
-            (
-                "a casting vote for no option",
-                (poll, ballots, room / "result", "--casting", "Zed"),
-                8,
-            ),
-            (
-                "a casting vote for an option that is not left",
-                (poll, ballots, room / "result", "--casting", "B"),
-                8,
-            ),
-            ("a word that went", (poll, ballots, room / "result", "--even-so"), 2),
-            ("desks that are none", (poll, ballots, room / "result", "--desks", "9"), 2),
+        for status, said, *words in [
+            (2, "it exists already", POLL, BALLOTS, room / "full"),
+            (2, "full/file: it exists already", POLL, BALLOTS, room / "full" / "file"),
+            (7, "the folder can't be made", POLL, BALLOTS, room / "none" / "result"),
+            (3, "poll refused", bad_poll, BALLOTS, result),
+            (3, "none: it can't be read", room / "none", BALLOTS, result),
+            (4, "none: it can't be read", POLL, room / "none", result),
+            (4, "too many lines", POLL, many, result),
+            (8, "casting option is not in the poll", POLL, BALLOTS, result, "--casting", "Zed"),
+            (8, "which is not left; left is 1 Brest;", POLL, BALLOTS, result, "--casting", "Kochi"),
+            (2, "--even-so", POLL, BALLOTS, result, "--even-so"),
+            (2, "desks", POLL, BALLOTS, result, "--desks", "9"),
         ]:
-            output, faults, status = publishing.publish_files(*words)
-            self.expect(f"{name}: its status", (output, status, bool(faults)), ("", wanted, True))
-            self.expect(f"{name}: what is left", sorted(os.listdir(room)), ["full"])
-        words = [sys.executable, publishing.PUBLISH, "--poll", poll, "--ballots", ballots]
-        with open("/dev/full", "w") as full:
-            where = {**os.environ, "PATH": publishing.PATH}
-            ended = subprocess.run(
-                [*words, room / "result"],
-                stdout=full,
-                stderr=subprocess.PIPE,
-                text=True,
-                timeout=publishing.SECONDS,
-                env=where,
-            )
-        said = f"debvote-publish: the output failed; the folder {room / 'result'} was made nevertheless: look at its page index.html"
-        self.expect(
-            "a full disk for what is said",
-            (ended.returncode, ended.stderr.splitlines()[-1:]),
-            (7, [said]),
-        )
-        before = {file: file.read_bytes() for file in (room / "result").iterdir()}
-        said = f"{room}/result/x: it would be in {room}/result, whose files are published as they are; nothing was published: name a folder outside"
-        self.assert_refused(publishing.publish_files(poll, ballots, room / "result" / "x"), 2, said)
-        self.expect(
-            "the published one",
-            {file: file.read_bytes() for file in (room / "result").iterdir()} == before,
-            True,
-        )
-        shutil.rmtree(room / "result")
-        self.expect(
-            "no program",
-            (
-                publishing.publish_files(poll, ballots, room / "result", path="/nowhere")[2],
-                os.listdir(room),
-            ),
-            (127, ["full"]),
-        )
-        # other programs in place of debvote, no Graphviz, and a run that is asked to end
-        as_it_is = f'*) exec {publishing.PROGRAM} "$@" ;; esac'
-        for name, text, status in [
-            ("a sheet that is not verified", 'verify) echo "differs at line 1"; exit 9 ;;', 9),
-            (
-                "a count that is killed",
-                'count) echo "Poll: half"; kill -KILL $$ ;;',
-                128 + signal.SIGKILL,
-            ),
-            (
-                "a sheet of another format",
-                'count) echo "Result: 1" ;; verify) echo verified ;;',
-                10,
-            ),
-        ]:
-            found = publishing.run(
-                [*words, room / "result"],
-                path=stand_in(self.scratch / name, f"case $1 in {text} {as_it_is}"),
-            )
-            self.expect(name, (found[2], os.listdir(room)), (status, ["full"]))
-        # what debvote says, and says again when it is asked to verify it, the second count does not
-        for task, change, said in (
+            self.assert_refused(publish_files(*words), status, said)
+            self.assertEqual(os.listdir(room), ["full"], words)
+        self.assertEqual(publish_files(POLL, BALLOTS, result, path="/nowhere")[2], 127)
+        # other programs in place of debvote
+        second = "recount.py, the second count, differs from debvote in its `{}`: {}; nothing was published"
+        verified = "verify) echo verified ;;"
+        for name, text, status, said in [
+            ("not verified", 'verify) echo "differs at line 1"; exit 9 ;;', 9, "differs"),
+            ("killed", 'count) echo "Poll: half"; kill -KILL $$ ;;', 128 + signal.SIGKILL, ""),
+            ("another format", f'count) echo "Result: 1" ;; {verified}', 10, ""),
+            # what debvote says, and says again when it is asked to verify it, the second count does not
             (
                 "count",
-                "s/by 4 to 3/by 5 to 2/",
+                f'count) {PROGRAM} "$@" | /bin/sed "s/by 4 to 3/by 5 to 2/" ;; {verified}',
+                9,
                 "line 22 is `  1 over 2 by 4 to 3`, where debvote has `  1 over 2 by 5 to 2`",
             ),
-            ("standing", "/^gus/d", "line 7 is `gus 1,2,3,4`, where debvote has `(end)`"),
-        ):
-            text = f'case $1 in {task}) {publishing.PROGRAM} "$@" | /bin/sed "{change}" ;; verify) echo verified ;; {as_it_is}'
-            found = publishing.run(
-                [*words, room / "result"], path=stand_in(self.scratch / task, text)
-            )
-            said = f"recount.py, the second count, differs from debvote in its `{task}`: {said}; nothing was published"
-            self.expect(
-                f"{task}: {found[1]}",
-                (found[2], said in found[1], os.listdir(room)),
-                (9, True, ["full"]),
-            )
-        found = publishing.run(
-            [*words, room / "result"],
-            path=stand_in(self.scratch / "plain", f'exec {publishing.PROGRAM} "$@"'),
-        )
-        is_told = (
-            "Graphviz" in found[1]
-            and "There is no picture" in (room / "result" / "index.html").read_text()
-        )
-        self.expect(
-            "no Graphviz",
-            (found[2], is_told, (room / "result" / "picture.svg").exists()),
-            (0, True, False),
-        )
-        slow = stand_in(
-            self.scratch / "slow", f'case "$*" in *ballots.txt*) exec /bin/sleep 60 ;; {as_it_is}'
-        )
-        started = subprocess.Popen(
-            list(map(str, [*words, room / "late"])), env={"PATH": slow}, start_new_session=True
-        )
-        while len(os.listdir(room)) < 3 and started.poll() is None:
+            (
+                "standing",
+                f'standing) {PROGRAM} "$@" | /bin/sed "/^gus/d" ;; {verified}',
+                9,
+                "line 7 is `gus 1,2,3,4`, where debvote has `(end)`",
+            ),
+        ]:
+            path = self.stand_in(name, f"case $1 in {text} {AS_IT_IS}")
+            said = second.format(name, said) if said.startswith("line") else said
+            self.assert_refused(publish_files(POLL, BALLOTS, result, path=path), status, said)
+            self.assertEqual(os.listdir(room), ["full"], name)
+
+    def test_a_folder_that_is_there(self):
+        """An empty one is taken, by any name, and none that was published; an input may come from /dev/stdin."""
+        place, link = self.scratch / "empty", self.scratch / "link"
+        place.mkdir()
+        link.symlink_to("empty")
+        with open(BALLOTS) as ballots:
+            path = self.stand_in("plain", f'exec {PROGRAM} "$@"')
+            found = publish_files(POLL, "/dev/stdin", link, stdin=ballots, path=path)
+        # without Graphviz
+        self.assertEqual((found[2], "Graphviz" in found[1]), (0, True))
+        self.assertIn("There is no picture", (place / "index.html").read_text())
+        before = {file: file.read_bytes() for file in place.iterdir()}
+        said = f"{place}/x: it would be in {place}, whose files are published as they are; nothing was published: name a folder outside"
+        self.assert_refused(publish_files(POLL, BALLOTS, place / "x"), 2, said)
+        self.assertEqual({file: file.read_bytes() for file in place.iterdir()}, before)
+
+    def test_a_run_that_can_not_say_or_is_asked_to_end(self):
+        room = self.scratch / "ended"
+        room.mkdir()
+        words = [sys.executable, publishing.PUBLISH, "--poll", POLL, "--ballots", BALLOTS]
+        how = {"stderr": subprocess.PIPE, "text": True, "timeout": publishing.SECONDS}
+        env = {**os.environ, "PATH": publishing.PATH}
+        with open("/dev/full", "w") as full:
+            ended = subprocess.run([*words, room / "result"], stdout=full, env=env, **how)
+        said = f"debvote-publish: the output failed; the folder {room / 'result'} was made nevertheless: look at its page index.html"
+        self.assertEqual((ended.returncode, ended.stderr.splitlines()[-1:]), (7, [said]))
+        slow = f'case "$*" in *ballots.txt*) exec /bin/sleep 60 ;; {AS_IT_IS}'
+        env = {"PATH": self.stand_in("slow", slow)}
+        started = subprocess.Popen([*words, room / "late"], env=env, start_new_session=True)
+        while len(os.listdir(room)) < 2 and started.poll() is None:
             time.sleep(0.05)
         started.terminate()
-        found = started.wait(publishing.SECONDS), sorted(os.listdir(room))
-        self.expect("a run that is asked to end", found, (128 + signal.SIGTERM, ["full", "result"]))
-
-    def test_an_empty_folder(self):
-        """A folder that is there and empty is taken, by any name; and an input may come from /dev/stdin."""
-        example = publishing.EXAMPLES / "plain_win"
-        (self.scratch / "empty").mkdir()
-        (self.scratch / "link").symlink_to("empty")
-        with open(example / "ballots") as ballots:
-            found = publishing.publish_files(
-                example / "poll.toml", "/dev/stdin", self.scratch / "link", stdin=ballots
-            )
-        self.expect(
-            "an empty folder by a link",
-            (found[2], (self.scratch / "empty" / "index.html").exists()),
-            (0, True),
-        )
+        self.assertEqual(started.wait(publishing.SECONDS), 128 + signal.SIGTERM)
+        self.assertEqual(os.listdir(room), ["result"])
 
     def test_numbers_that_no_float_holds(self):
         (self.scratch / "none").touch()
-        poll, second = self.scratch / "numbers.toml", [
-            sys.executable,
-            "-I",
-            publishing.ROOT / "tests" / "reference.py",
-        ]
-        for number, is_taken in {
-            "1e309": False,
-            "-0.1e999": False,
-            "[{a = 1_0e400}]": False,
-            "1e308": True,
-            "1e-400": True,
-            "-inf": True,
+        poll = self.scratch / "numbers.toml"
+        second = [sys.executable, "-I", publishing.ROOT / "tests" / "reference.py"]
+        refused = ("debvote: poll refused: syntax\n", 3)
+        for number, wanted in {
+            "-0.1e999": refused,
+            "[{a = 1_0e400}]": refused,
+            "1e308": ("", 0),
+            "1e-400": ("", 0),
+            "-inf": ("", 0),
         }.items():
-            poll.write_text(f"{publishing.PLAIN_POLL}note = {number}\n")
+            poll.write_text(f"{PLAIN_POLL}note = {number}\n")
             words = ["count", "--poll", poll, "--ballots", self.scratch / "none"]
-            found = [
-                publishing.run([*program, *words])[1:] for program in ([publishing.PROGRAM], second)
-            ]
-            self.expect(
-                number, found, [("", 0) if is_taken else ("debvote: poll refused: syntax\n", 3)] * 2
-            )
+            for program in ([PROGRAM], second):
+                self.assertEqual(publishing.run([*program, *words])[1:], wanted, number)
 
     def test_refused_polls(self):
         """Where the poll is refused, the fault says what tells more (also that two files are exchanged), and nothing is made."""
-        room = publishing.plain_room(self.scratch / "refused")
+        room = plain_room(self.scratch / "refused")
         (room / "bad.toml").write_text("title = 1\n")
-        (room / "new.toml").write_text(publishing.PLAIN_POLL + 'note = "\\e"\n')
-        for poll, ballots, wanted in [
-            (
-                "ballots",
-                "poll.toml",
-                "ballots: poll refused: syntax; nothing was published: debvote explain --poll ballots says what",
-            ),
-            (
-                "bad.toml",
-                "ballots",
-                "bad.toml: poll refused: key title; nothing was published: debvote explain --poll bad.toml says what",
-            ),
+        (room / "new.toml").write_text(PLAIN_POLL + 'note = "\\e"\n')
+        before = sorted(os.listdir(room))
+        explain = "{}: poll refused: {}; nothing was published: debvote explain --poll {} says what"
+        for poll, ballots, said in [
+            ("ballots", "poll.toml", explain.format("ballots", "syntax", "ballots")),
+            ("bad.toml", "ballots", explain.format("bad.toml", "key title", "bad.toml")),
             ("new.toml", "ballots", "new.toml: it can't be read (Unescaped '\\' in a string"),
         ]:
-            self.assert_refused(
-                publishing.publish(room, "--poll", poll, "--ballots", ballots, "result"), 3, wanted
-            )
-        self.expect(
-            "what is left",
-            sorted(os.listdir(room)),
-            ["bad.toml", "ballots", "new.toml", "poll.toml"],
-        )
+            found = publish(room, "--poll", poll, "--ballots", ballots, "result")
+            self.assert_refused(found, 3, f"debvote-publish: {said}")
+        self.assertEqual(sorted(os.listdir(room)), before)
 
     def test_secret_votes(self):
-        # one name is enough
-        room = publishing.plain_room(
-            self.scratch / "secret",
-            poll=publishing.PLAIN_POLL.replace('"ada"', f'"{"0" * 32}"') + "secret = true\n",
-        )
-        wanted = "poll.toml: the vote is secret, and this would publish each name with its vote; publish it from its election, "
-        self.assert_refused(publishing.publish(room, *publishing.FILES, "result"), 9, wanted)
         roll = ["0" * 31 + digit for digit in "0123"]
-        poll = (
-            publishing.PLAIN_POLL.replace(
-                '["ada", "ben", "cleo", "dan"]', str(roll).replace("'", '"')
-            )
-            + "secret = true\n"
-        )
-        twice = publishing.plain_room(
-            self.scratch / "twice",
-            poll=poll,
-            ballots=f"{roll[0]} 1,2,3\n{roll[1]} 2,1,3\n{roll[0]} 2,1,3\n",
-        )
-        _, faults, status = publishing.publish(twice, *publishing.FILES, "result")
-        self.expect(
-            f"an alias twice: {faults}",
-            (
-                "a line of this secret vote does not count, or counts more than once" in faults,
-                status,
-            ),
-            (True, 9),
-        )
+        one = PLAIN_POLL.replace('"ada"', f'"{roll[0]}"') + "secret = true\n"
+        poll = one
+        for name, alias in zip(("ben", "cleo", "dan"), roll[1:]):
+            poll = poll.replace(name, alias)
         once = f"{roll[1]} 2,1,3\n{roll[0]} 1,2,3\n{roll[2]} 1,2,3\n"
-        # whoever publishes a secret vote leaves out what is late
-        late = publishing.plain_room(
-            self.scratch / "late",
-            poll=poll.replace("secret", "last_envelope = 3\nsecret"),
-            ballots=once,
-        )
-        _, faults, status = publishing.publish(late, *publishing.FILES, "result")
-        self.expect(
-            f"a last envelope: {faults}",
-            ("a line of this secret vote does not count" in faults, status),
-            (True, 9),
-        )
-        room = publishing.plain_room(self.scratch / "aliases", poll=poll, ballots=once)
-        self.expect(
-            "a secret vote with aliases",
-            publishing.publish(room, *publishing.FILES, "result")[1:],
-            ("", 0),
-        )
+        # one name is enough; whoever publishes a secret vote leaves out what is late
+        names = "poll.toml: the vote is secret, and this would publish each name with its vote; publish it from its election, "
+        late = poll.replace("secret", "last_envelope = 3\nsecret")
+        more = "a line of this secret vote does not count"
+        for name, text, ballots, said in (
+            ("names", one, "", names),
+            ("twice", poll, f"{once}{roll[0]} 2,1,3\n", f"{more}, or counts more than once"),
+            ("late", late, once, more),
+        ):
+            room = plain_room(self.scratch / name, text, ballots)
+            self.assert_refused(publish(room, *FILES, "result"), 9, said)
+        room = plain_room(self.scratch / "aliases", poll, once)
+        self.assertEqual(publish(room, *FILES, "result")[1:], ("", 0))
         sections = page_parts.sections_of((room / "result" / "index.html").read_text())
-        self.expect("nobody is listed as one who voted", "Who-voted" in sections, False)
-        self.expect(
-            "the refused lines",
-            "What was refused or came late is not published." in sections["Refused-lines"].text(),
-            True,
-        )
-        self.expect(
-            "those who did not vote",
-            [item.text() for item in sections["Find-your-ballot"].all("li")],
-            [roll[3]],
-        )
+        self.assertNotIn("Who-voted", sections)
+        said = "What was refused or came late is not published."
+        self.assertIn(said, sections["Refused-lines"].text())
+        absent = [item.text() for item in sections["Find-your-ballot"].all("li")]
+        self.assertEqual(absent, [roll[3]])
 
     def test_a_folder_that_another_run_takes_away(self):
-        self.scratch.joinpath("file").touch()
-        with mock.patch.object(
-            pathlib.Path,
-            "glob",
-            return_value=[self.scratch / "gone", self.scratch / "file", self.scratch.parent],
-        ):
-            self.expect("what is left", left_beside(self.scratch, "left"), [self.scratch.parent])
+        (self.scratch / "file").touch()
+        found = [self.scratch / "gone", self.scratch / "file", self.scratch.parent]
+        with mock.patch.object(pathlib.Path, "glob", return_value=found):
+            self.assertEqual(left_beside(self.scratch, "left"), [self.scratch.parent])
 
     def test_a_folder_that_gets_no_place(self):
         """The one that was published before stays there."""
@@ -320,15 +199,11 @@ class RefusedTest(publishing.PublishTest):
         for new in (self.scratch / "before" / "none", late):
             with self.assertRaises(FileNotFoundError):
                 NewFolder(new).take_place(place)
-            self.expect(
-                "what is there",
-                [list(place.parent.iterdir()), list(place.glob("*"))],
-                [[place], [place / "index.html"]],
-            )
+            self.assertEqual([*place.parent.iterdir()], [place])
+            self.assertEqual([*place.iterdir()], [place / "index.html"])
 
     def test_the_program_beside_is_taken_first(self):
         (self.scratch / "debvote").touch(0o755)
         with mock.patch.dict(os.environ, {"PATH": publishing.PATH}):
-            self.expect(
-                "which one", Debvote(self.scratch, self.scratch).path, str(self.scratch / "debvote")
-            )
+            found = Debvote(self.scratch, self.scratch).path
+        self.assertEqual(found, str(self.scratch / "debvote"))
