@@ -46,6 +46,10 @@ class OutTest(LettersTest):
     )
     now = TEN
 
+    def extend(self, until: str) -> None:
+        """Another end of the vote, in the zone of the first one."""
+        self.done("call", "--until", until)
+
     def rows(self, kind: str) -> list[tuple[str, str]]:
         """The states of the letters of a kind, in their order, each with the name of its elector."""
         words = (
@@ -119,10 +123,7 @@ class MailServer:
             self.port = probe.getsockname()[1]
         self.controller = Controller(self, hostname="127.0.0.1", port=self.port, ready_timeout=60, **how)  # type: ignore[arg-type]
         self.controller.start()
-
-    @property
-    def name(self) -> str:
-        return f"127.0.0.1:{self.port}"
+        self.name = f"127.0.0.1:{self.port}"
 
     def stop(self) -> None:
         if not self.is_stopped:
@@ -131,6 +132,10 @@ class MailServer:
 
     def addresses(self) -> list[str]:
         return [one.to for one in self.taken]
+
+    def texts(self) -> dict[str, str]:
+        """What it has taken, by the names before the @."""
+        return {one.to.partition("@")[0]: one_line(parsed(one.data)) for one in self.taken}
 
     def is_cut(self, step: str, server: SMTP) -> bool:
         self.steps.append((step, self.started))
@@ -231,6 +236,11 @@ class SendTest(OutTest):
         self.addCleanup(server.stop)
         return server
 
+    def mail_server_with_login(self) -> MailServer:
+        return self.mail_server(
+            authenticator=lambda *words: self.server.authenticated(*words), auth_require_tls=False
+        )
+
     def send(self, kind: str, *words: object) -> elections.Ended:
         """Sends letters; reminders also within a day of the last ones."""
         words = (*words, "--yes") if kind == "reminders" else words
@@ -244,26 +254,17 @@ class SendTest(OutTest):
         return ended
 
     def assert_none_is_due(self, kind: str) -> None:
+        before = self.server.addresses()
         self.assert_sent(
             kind, "There is no letter to send: the server has taken all that are due.\n"
         )
+        self.assertEqual(self.server.addresses(), before)
 
-    def sending(self, kind: str) -> subprocess.Popen:
+    def sending(self) -> subprocess.Popen:
+        """A run of its own that sends the call."""
+        words = f"letters call --send --server {self.server.name}".split()
         env = elections.environment() | self.clock | {"XDG_STATE_HOME": str(self.state)}
-        words = [
-            sys.executable,
-            elections.ELECTION,
-            "letters",
-            kind,
-            "--send",
-            "--server",
-            self.server.name,
-        ]
+        how = {"stdout": subprocess.PIPE, "stderr": subprocess.DEVNULL, "text": True}
         return subprocess.Popen(
-            words,
-            cwd=self.folder,
-            env=env,
-            stdout=subprocess.PIPE,
-            stderr=subprocess.DEVNULL,
-            text=True,
+            [sys.executable, elections.ELECTION, *words], cwd=self.folder, env=env, **how
         )
