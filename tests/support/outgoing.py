@@ -80,6 +80,9 @@ class OutTest(LettersTest):
             if file.suffix == ".eml"
         }
 
+    def receivers(self, kind: str) -> list[str]:
+        return [message["To"] for message in self.written(kind).values()]
+
     def texts(self, kind: str, *words: object) -> dict[str, str]:
         return {name: one_line(message) for name, message in self.written(kind, *words).items()}
 

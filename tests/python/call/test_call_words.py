@@ -176,6 +176,7 @@ class Files(unittest.TestCase):
         text = page_of(changed(questions=of_poll(wording="more_than", quorum=0)))
         self.assertIn("Majority ratio 3: more than 3 times as many electors", text)
         self.assertIn("There is no quorum. The roll has 4 electors.", text)
+        self.assertNotIn("ajority ratio 3", page_of(changed(questions=of_poll(ratios=(1, 1, 1)))))
         # of more than eight options the ranks are in lists, where buttons would be too many
         for size, wanted in ((8, (0, 8 * 9)), (9, (9, 0))):
             options = tuple(f"Plan {number}" for number in range(1, size))
@@ -414,6 +415,9 @@ class Addresses(unittest.TestCase):
             "",
             "a",
             "a@b@c",
+            "a@b, c@d",
+            "a@b\nBcc: c@d",
+            "-a@b",
             "Ada <a@b.org>",
             "a@b.org\n",
             "a b@c.org",

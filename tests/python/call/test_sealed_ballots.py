@@ -66,30 +66,31 @@ class Refused(unittest.TestCase):
         point, rest = data[:65], data[65:]
         compressed = bytes([2 + point[64] % 2]) + point[1:33]
         changed = [
-            ("another point", sealing.point_of(3) + rest),
-            ("off the curve", point[:64] + bytes([point[64] ^ 1]) + rest),
-            ("at infinity", bytes(1) + rest),
-            ("at infinity, as long", bytes(65) + rest),
-            ("compressed", compressed + rest),
-            ("compressed, as long", compressed + bytes(32) + rest),
-            ("a cut tag", data[:-3]),
-            ("no tag", point),
-            ("half a point", point[:33]),
-            ("nothing", b""),
-            ("more", data + bytes(3)),
+            # another point, one off the curve, and that at infinity
+            sealing.point_of(3) + rest,
+            point[:64] + bytes([point[64] ^ 1]) + rest,
+            bytes(1) + rest,
+            bytes(65) + rest,
+            # a compressed one
+            compressed + rest,
+            compressed + bytes(32) + rest,
+            # a cut tag, none, half a point, nothing, and more
+            data[:-3],
+            point,
+            point[:33],
+            b"",
+            data + bytes(3),
         ]
         for place in (0, 30, 64, 65, 100, len(data) - 1):
-            other = bytes([data[place] ^ 4])
-            changed.append((f"a sign at {place}", data[:place] + other + data[place + 1 :]))
-        texts = [(what, base64.urlsafe_b64encode(one).decode()) for what, one in changed]
-        texts += [(f"{end!r} at the end", SEALED[:-1] + end) for end in ("+", "", "\u00b9")]
+            changed.append(data[:place] + bytes([data[place] ^ 4]) + data[place + 1 :])
+        texts = [base64.urlsafe_b64encode(one).decode() for one in changed]
+        texts += [SEALED[:-1] + end for end in ("+", "", "\u00b9")]
         public, opened = key_pair(KEY, MARK)
-        odd = sealing.sealed(public, MARK, NUMBER, INSIDE.replace("1,2", "\u00b9,2"))
-        for what, text in [*texts, ("not ASCII within", odd)]:
-            with self.subTest(what), self.assertRaises(ValueError):
-                opened(NUMBER, text)
-        with self.assertRaises(ValueError):
-            opened(f"{2:032x}", SEALED)
+        # what is not ASCII within
+        texts.append(sealing.sealed(public, MARK, NUMBER, INSIDE.replace("1,2", "\u00b9,2")))
+        for number, text in [*((NUMBER, text) for text in texts), (f"{2:032x}", SEALED)]:
+            with self.subTest(text), self.assertRaises(ValueError):
+                opened(number, text)
 
     def test_a_computer_without_the_library(self) -> None:
         with unittest.mock.patch.dict(sys.modules, {"cryptography.exceptions": None}):

@@ -35,6 +35,7 @@ from debvote_tools.call.secret import (
 from debvote_tools.cli.faults import Fault
 from debvote_tools.inbox.letter_lines import with_texts
 from debvote_tools.poll.codes import has_code
+from debvote_tools.poll.questions import LABELS, Questions
 from debvote_tools.poll.sealed import read_plain
 from debvote_tools.text.language import LANGUAGES, language_of
 
@@ -305,21 +306,32 @@ class Slips(unittest.TestCase):
         self.assertEqual(window.ask(copied), CODES["ada"])
         # an empty side follows each side of slips, however long their options are: none has the code of somebody else on its back
         electors = [elector(f"e{number}", f"Person {number}", CODES["ada"]) for number in range(20)]
-        for size, long, rows in ((3, 10, 4), (8, 30, 3), (8, 60, 2), (20, 44, 2), (31, 60, 1)):
-            names = tuple(("Ein Name " * 9)[:long] for _ in range(size))
-            poll = dataclasses.replace(
+        sizes = (3, 10, 4), (8, 30, 3), (8, 60, 2), (20, 44, 2), (31, 60, 1)
+        names = [(("Ein Name " * 9)[:long],) * size for size, long, _ in sizes]
+        polls = [
+            dataclasses.replace(
                 POLL,
-                options=tuple(map(str, range(1, size))),
-                ratios=(1,) * (size - 1),
-                shown_options=names,
+                options=tuple(map(str, range(1, len(shown)))),
+                ratios=(1,) * (len(shown) - 1),
+                shown_options=shown,
             )
-            how = {"questions": alone(poll), "language": language_of("de")}
-            page = show(dataclasses.replace(on_paper, **how), electors)
+            for shown in names
+        ]
+        printed = [(alone(poll), rows) for poll, (_, _, rows) in zip(polls, sizes)]
+        # of more questions fewer slips are on a side
+        fee = dataclasses.replace(
+            POLL, options=("Yes",), ratios=(2,), default="No", explanations=()
+        )
+        for count, rows in ((2, 3), (6, 2), (12, 1)):
+            printed.append((Questions(dict.fromkeys(LABELS[:count], fee), "Assembly 2026"), rows))
+        for questions, rows in printed:
+            call = dataclasses.replace(on_paper, questions=questions, language=language_of("de"))
+            page = show(call, electors)
             sides = -(-len(electors) // (2 * rows))
             count = window.ask("document.querySelectorAll('.slips').length")
-            self.assertEqual(count, sides, (size, long))
+            self.assertEqual(count, sides, questions)
             pages = base64.b64decode(window.tell("Page.printToPDF", preferCSSPageSize=True)["data"])
-            self.assertEqual(len(re.findall(rb"/Type /Page\b", pages)), 2 * sides, (size, long))
+            self.assertEqual(len(re.findall(rb"/Type /Page\b", pages)), 2 * sides, questions)
         self.assertIn("Drucken Sie einseitig.", page)
 
 

@@ -111,12 +111,9 @@ class Call(OutTest):
         self.assertRegex(found["ada"]["Subject"], rf"^Vote: {TITLE} ")
         self.assertNotIn("You have more time", texts.pop("ada"))
         for name, text in texts.items():
-            self.assertTrue(
-                text.startswith(f"Dear {name.title()}, You have more time to vote."), text
-            )
-            when = "Vote until: Sunday, 6 December 2026, 12:00 (UTC) The time was extended. The call said at first: Friday, 4 December"
-            self.assertIn(f"{TITLE} {when} 2026, 18:00 (UTC) {FORM}#{name}/", text)
-            self.assertIn(f"{LINE}{name} _,_,_,_", text)
+            begin = f"Dear {name.title()}, You have more time to vote. "
+            self.assertTrue(text.startswith(begin), text)
+            self.assertRegex(text, rf"6 December 2026, 12:00 \(UTC\) .* {LINE}{name} _,_,_,_")
         # one that went out after an extension is a call
         self.extend("2026-12-08 12:00")
         text = self.texts("call")["ada"]
@@ -179,9 +176,7 @@ class Refused(OutTest):
         self.assertEqual(self.written("call")["ada"]["To"], "home@ada.example")
         # the one that she had before the call gets no receipt
         self.add_lines(f"ada {RANKS}")
-        self.assertEqual(
-            [message["To"] for message in self.written("receipts").values()], ["home@ada.example"]
-        )
+        self.assertEqual(self.receivers("receipts"), ["home@ada.example"])
         # where the result is published is an act, and none if no letter can say it
         self.done("close")
         result = ("letters", "result")
@@ -353,16 +348,12 @@ class Names(OutTest):
                 f"  receipt, 2026-11-23 11:00:00 UTC+01:00, to {address}: written\n", shown
             )
         self.add_lines(f"ada {OTHER_RANKS}")
-        self.assertEqual(
-            [message["To"] for message in self.written("receipts").values()], ["ada@new.example"]
-        )
+        self.assertEqual(self.receivers("receipts"), ["ada@new.example"])
         # whoever changes an address back, and once more, does not hide what came meanwhile
         for address in (",ada@club", ",ada@new", ",ada@club"):
             self.change_roll(",ada@club", address)
         self.add_lines("ada 1,1,1,1")
-        self.assertEqual(
-            sorted(message["To"] for message in self.written("receipts").values()), both
-        )
+        self.assertEqual(sorted(self.receivers("receipts")), both)
 
 
 class ReceiptsAndReminders(OutTest):
@@ -433,17 +424,12 @@ class ReceiptsAndReminders(OutTest):
 
         self.add_lines(f"ada {RANKS}", f"ben {RANKS}")
         self.done("letters", "receipts")
-        self.add_lines(f"cleo {RANKS}")
-        self.done("letters", "receipts")
         before, rows = there(), self.rows("receipts")
-        [ada, ben, cleo] = sorted(before, key=lambda file: file.name)
-        self.assertEqual([ada.stem, ben.stem, cleo.stem], ["ada", "ben", "cleo"])
+        [ada, ben] = sorted(before)
         shutil.rmtree(place)
-        output = self.told("letters", "receipts")
+        said = f"Wrote 2 earlier letters, since the folder was not there: letters/receipts/{ada.parent.name}\n"
+        self.assertIn(said, self.told("letters", "receipts"))
         self.assertEqual((there(), self.rows("receipts")), (before, rows))
-        for file, said in ((ada, "2 earlier letters"), (cleo, "1 earlier letter")):
-            said += f", since the folder was not there: letters/receipts/{file.parent.name}\n"
-            self.assertIn(f"Wrote {said}", output)
         # a file that was taken out may have been sent
         ada.unlink()
         self.assertEqual(self.told("letters", "receipts"), "There is no letter to send.\n")
@@ -452,12 +438,12 @@ class ReceiptsAndReminders(OutTest):
         shutil.rmtree(place)
         self.done("letters", "receipts")
         self.assertIn("the secretary has struck it", one_line(parsed(there()[ben])))
-        self.assertEqual([there()[ada], there()[cleo]], [before[ada], before[cleo]])
+        self.assertEqual(there()[ada], before[ada])
 
     def test_a_ballot_that_counts_is_told_again_beside_what_does_not(self) -> None:
         """A letter without a ballot, a line that is refused, a ballot that is taken back, and after the close one that is late."""
         self.add_lines(*(f"{name} {RANKS}" for name in ("ada", "ben", "cleo", "dan", "eve")))
-        first = self.texts("receipts")
+        self.done("letters", "receipts")
         self.add(letter("ada", "Thank you, all is right.\n"))
         self.add_lines("ben 1,2")
         self.add_lines(f"cleo {OTHER_RANKS}")
@@ -469,26 +455,22 @@ class ReceiptsAndReminders(OutTest):
         self.done("close", "--early")
         self.add_lines(f"dan {OTHER_RANKS}", f"fay {RANKS}", "gus 1,2")
         late = self.texts("receipts")
-        self.assertEqual(
-            (sorted(found), sorted(late)),
-            (["ada", "ben", "cleo", "eve"], ["dan", "fay", "gus", "hal"]),
-        )
-        counts = "It counts unless you send a later one."
-        for name, counts, said in (
-            ("ada", counts, "No ballot from it is entered yet"),
-            ("ben", counts, "has 2 ranks"),
-            ("cleo", counts, "taken it back"),
-            ("dan", "has arrived, and it counts.", "it is late"),
-        ):
-            self.assertNotIn(said, first[name])
-            told = rf"{re.escape(counts)} It was read as: {LAKE}\..* {said}"
-            self.assertRegex((found | late)[name], told)
-        # what is struck later is told, and what is late
-        self.assertIn("the secretary has struck it", found["eve"])
-        self.assertIn("has arrived, and it counts. It was read as", late["hal"])
-        said = f"It was entered after the close, so it is late and does not count. It was read as: {LAKE}"
-        self.assertIn(said, late["fay"])
-        self.assertIn("so it is late and does not count.", late["gus"])
+        names = sorted(found), sorted(late)
+        self.assertEqual(names, (["ada", "ben", "cleo", "eve"], ["dan", "fay", "gus", "hal"]))
+        counts = rf"It counts unless you send a later one\. It was read as: {LAKE}\. .*"
+        is_late = "It was entered after the close, so it is late and does not count."
+        for name, said in {
+            "ada": f"{counts}No ballot from it is entered yet",
+            "ben": f"{counts}has 2 ranks",
+            "cleo": f"{counts}taken it back",
+            # what is struck later is told, and what is late
+            "eve": "the secretary has struck it",
+            "dan": rf"has arrived, and it counts\. It was read as: {LAKE}\. .*{is_late}",
+            "fay": f"{is_late} It was read as: {LAKE}",
+            "gus": is_late,
+            "hal": r"has arrived, and it counts\. It was read as",
+        }.items():
+            self.assertRegex((found | late)[name], said)
         for text in late.values():
             self.assertNotRegex(text, r"_,_|unless you|You can send")
         # what is entered again is told alone
@@ -614,13 +596,20 @@ class ReceiptsAndReminders(OutTest):
             twice.replace(b"Received: from a", b"Received: from c"),
             letter("cleo", "hi\n"),
             b"X-Y: z\n" + letter("cleo", "hi\n"),
-            letter("fay", f"fay {RANKS}\n", sender="F\u00e1y <fay@club.example>"),
+            letter(
+                "fay",
+                f"fay {RANKS}\n",
+                number="1@x>\nX-Old: <1",
+                head="References: <a@b>\n Bcc: all@x.example\nReply-To: <\xff\xfe@b>\n",
+                sender="F\u00e1y <fay@club.example>",
+            ),
         )
         why = "the name of its sender is not encoded"
         self.assertIn(
             f"\n        {why}, so programs may read it in different ways\n", self.told("held")
         )
-        texts = self.texts("receipts")
+        messages = self.written("receipts")
+        texts = {name: one_line(message) for name, message in messages.items()}
         self.assertEqual(
             {name: text.count("has arrived") for name, text in texts.items()},
             {"ada": 3, "ben": 1, "cleo": 1, "dan": 1, "eve": 0, "fay": 1},
@@ -638,25 +627,10 @@ class ReceiptsAndReminders(OutTest):
             ("fay", rf" first\. The reason: {why}\. Send it with a name without accents"),
         ):
             self.assertRegex(texts[name], said)
-
-    def test_heads_that_came_add_no_line(self) -> None:
-        coded = "=?utf-8?q?=3Ca=40b=3E=0D=0ABcc=3A_all=40x.example?="
-        senders = ("ada@club.example", '"=?utf-8?q?Ada=0ABcc:_x=40y.example?=" <ada@club.example>')
-        texts = ("<a@b>\n Bcc: all@x.example", coded, "<\xff\xfe@b>", f"<{'a' * 5000}@b>", "")
-        for number, text in enumerate(texts):
-            self.add(
-                letter(
-                    "ada",
-                    "no ballot\n",
-                    number=f"{number}@x>\nX-Old: <{number}",
-                    head=f"References: {text}\nSubject: {text}\nReply-To: {text}\n",
-                    sender=senders[number % 2],
-                )
-            )
-        [message] = self.written("receipts").values()
-        self.assertEqual(message["To"], "ada@club.example")
+        # heads that came add no line
         names = "From To Subject Date Message-ID X-Unsent Auto-Submitted MIME-Version Content-Type Content-Transfer-Encoding"
-        self.assertEqual([name for name, _ in message.raw_items()], names.split())
+        self.assertEqual([name for name, _ in messages["fay"].raw_items()], names.split())
+        self.assertEqual(messages["fay"]["To"], "fay@club.example")
 
     def test_to_whom_reminders_go(self) -> None:
         """A line that came and does not count is told with the reason, as in the receipt. A letter that was set aside is not told again."""
@@ -701,20 +675,16 @@ class ReceiptsAndReminders(OutTest):
         waits = r"(?m)^5 letters wait until you have looked at them: debvote-election held$"
         self.assertRegex(self.told("letters", "reminders", "--yes"), waits)
 
-    def test_the_end_after_two_extensions_in_reminders_and_receipts(self) -> None:
-        ids = set()
-        for day, words in ((6, "Sunday, 6 December"), (8, "Tuesday, 8 December")):
-            self.extend(f"2026-12-{day:02} 18:00")
-            reminder = self.written("reminders", "--yes")["ada"]
-            self.assertIn(f"Vote until: {words} 2026, 18:00 (UTC)", one_line(reminder))
-            ids.add(reminder["Message-ID"])
-            self.set_clock(f"2026-12-{day - 1:02}T10:00:00+00:00")
-            time = f"Fri, {day - 1:02} Dec 2026 09:00:00 +0000"
-            self.add(letter("ben", "hi\n", number=day, time=time))
-            self.assertNotIn("after the end", self.texts("receipts")["ben"])
-            self.set_clock(self.now)
+    def test_the_end_after_an_extension_in_reminders_and_receipts(self) -> None:
+        self.extend("2026-12-06 18:00")
+        found = [self.written("reminders", "--yes")["ada"] for _ in range(2)]
+        for message in found:
+            self.assertIn("Vote until: Sunday, 6 December 2026, 18:00 (UTC)", one_line(message))
         # each run that writes files is a new one
-        self.assertEqual(len(ids), 2)
+        self.assertNotEqual(*(message["Message-ID"] for message in found))
+        self.set_clock("2026-12-05T10:00:00+00:00")
+        self.add(letter("ben", "hi\n", time="Sat, 05 Dec 2026 09:00:00 +0000"))
+        self.assertNotIn("after the end", self.texts("receipts")["ben"])
 
 
 class FullDisk(OutTest):

@@ -25,7 +25,6 @@ from debvote_tools.outbox.letter_folder import message, rows_to_print
 from debvote_tools.outbox.words import OF_BALLOT, PACKAGE, SUBJECTS, Composer, OutgoingText
 from debvote_tools.poll.questions import Questions
 from debvote_tools.poll.sealed import SealedPoll
-from debvote_tools.text.addresses import is_mail_address
 from debvote_tools.text.ballots import faults_of
 from debvote_tools.text.language import LANGUAGES, language_of
 from debvote_tools.text.rendering import one_line as on_one_line, render_page, resources
@@ -373,26 +372,18 @@ class CallLetter(unittest.TestCase):
         for now, is_extension in ((now, True), (vote(questions=told), False)):
             self.assertNotIn("A lake", now.call_letter(ADA, is_extension=is_extension).text)
 
-    def test_it_says_what_asks_for_more_than_a_plain_majority_as_the_page_does(self) -> None:
-        rule = "Majority ratio {ratio}: at least {ratio} times as many electors must prefer the option to the default option as prefer the default option to it."
-        for code in LANGUAGES:
-            language = language_of(code)
-            short = language.say("majority ratio {ratio}", ratio=3)
-            electors = "The roll has {number} elector.", "The roll has {number} electors."
-            for ratios, quorum, is_told in (((1, 3), 1, True), ((1, 1), 0, False)):
-                poll = dataclasses.replace(POLL, ratios=ratios, quorum=quorum)
-                now = vote(code, questions=alone(poll))
-                letter = now.call_letter(ADA, is_extension=False).text
-                text, page = is_read(letter), is_read(call_page(now.call_data).decode())
-                wanted = [(is_told, is_told), (is_told, True)]
-                for said, found in zip(
-                    (language.say(rule, ratio=3), language.say_number(*electors, 2)), wanted
-                ):
-                    self.assertEqual((is_read(said) in text, is_read(said) in page), found)
-                self.assertEqual(f"Hall ({short})" in text, is_told)
-                self.assertNotIn(f"Lake ({language.say('majority ratio {ratio}', ratio=1)})", text)
-                # one page
-                self.assertLess(len(letter.splitlines()), 60)
+    def test_it_says_what_asks_for_more_than_a_plain_majority(self) -> None:
+        for ratios, quorum, is_told in (((1, 3), 1, True), ((1, 1), 0, False)):
+            poll = dataclasses.replace(POLL, ratios=ratios, quorum=quorum)
+            text = is_read(vote(questions=alone(poll)).call_letter(ADA, is_extension=False).text)
+            for said in (
+                "Majority ratio 3: at least 3 times as many electors must prefer the option to the default option",
+                "The quorum is 1 vote: ",
+                "The roll has 2 electors.",
+                "Hall (majority ratio 3)",
+            ):
+                self.assertEqual(said in text, is_told, said)
+            self.assertNotIn("majority ratio 1", text.lower())
 
 
 @unittest.skipUnless(BROWSER, "chromium is not installed")
@@ -558,20 +549,6 @@ class Bytes(unittest.TestCase):
         text = vote().letter("closed", elector, letter="CLOSED\n").text
         self.assertRegex(text, r"\ADear Ada [^\n]+(\n[^\n]+)*\n\nCLOSED\n\Z")
         self.assertLess(len(text), 250)
-        right = ("a@b.example", "a.b+c@d-e.example")
-        wrong = (
-            "",
-            "a",
-            "a@b\nBcc: c@d",
-            "a@b, c@d",
-            "<a@b>",
-            "a b@c.example",
-            "\u00e4@b.example",
-            "a@b@c",
-            "-a@b",
-            "a@b.example\n",
-        )
-        self.assertEqual([text for text in (*right, *wrong) if is_mail_address(text)], list(right))
 
     def test_one_fault_a_line(self) -> None:
         ranks = "bad rank count: {} ranks, the poll has 3 options".format

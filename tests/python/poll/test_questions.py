@@ -4,8 +4,6 @@ import dataclasses
 import hashlib
 import hmac
 import itertools
-import pathlib
-import tempfile
 import unittest
 
 from debvote_tools.book.queries import Elector
@@ -15,7 +13,6 @@ from debvote_tools.election import Sealed
 from debvote_tools.poll.questions import LABELS, Questions, read_questions
 
 from tests.support import calls
-from tests.support.at_browser import NEEDS_BROWSER, Window
 from tests.support.calls import CALL, KINDS, POLL, ROLL
 
 FEE = dataclasses.replace(
@@ -153,38 +150,9 @@ class Aliases(unittest.TestCase):
         # a code of the roll is its own alias
         self.assertEqual(alias_in("", Elector(1, "c" * 32, 1, "", ())), "c" * 32)
 
-    @NEEDS_BROWSER
-    def test_slips_fit_their_sides(self) -> None:
-        """Of more questions fewer slips are on a side, and none is printed over two sides."""
-        secret = dataclasses.replace(calls.SECRET, at=None)
-        with tempfile.TemporaryDirectory(prefix="debvote-slips-") as folder, Window(
-            756, 1000
-        ) as window:
-            window.show(on_paper=True)
-            for count, rows in ((2, 3), (6, 2), (12, 1)):
-                questions = Questions(dict.fromkeys(LABELS[:count], FEE), "Assembly 2026")
-                file = pathlib.Path(folder) / f"{count}.html"
-                file.write_bytes(
-                    slips(dataclasses.replace(secret, questions=questions), self.electors)
-                )
-                window.open(file)
-                heights = window.ask(
-                    "[...document.querySelectorAll('.slip')].map((slip) => slip.getBoundingClientRect().height)"
-                )
-                self.assertEqual(len(heights), len(ROLL))
-                self.assertLessEqual(max(heights) * rows, 287 / 25.4 * 96, count)
-                lines = window.ask("document.querySelector('.line code').innerText")
-                self.assertEqual(
-                    lines, "\n".join(["ada", *(f"{label} _,_" for label in questions)])
-                )
-
-    def test_the_table_of_codes_has_none(self) -> None:
-        rows = (
-            codes_csv(dataclasses.replace(CALL, questions=SEVERAL), self.electors)
-            .decode()
-            .splitlines()
-        )
+    def test_slips_and_the_table_of_codes(self) -> None:
+        call = dataclasses.replace(calls.SECRET, at=None, questions=SEVERAL)
+        page = slips(call, self.electors).decode()
+        self.assertIn("<code>ada<br>A _,_<br>B _,_,_,_<br>C _,_</code>", page)
+        rows = codes_csv(call, self.electors).decode().splitlines()
         self.assertEqual(rows[:2], ["name,who,mail,code,mark", f"ada,Ada,,{'a' * 32},"])
-        self.assertEqual(
-            codes_csv(CALL, self.electors).decode().splitlines()[0], "name,who,mail,code,alias,mark"
-        )
