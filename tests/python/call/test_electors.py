@@ -32,7 +32,7 @@ class RollTest(unittest.TestCase):
     ) -> Roll:
         """The roll of rows of who, mail, name and key; the first is on line 2."""
         data = "\n".join(["who;mail;name;key", *rows]).encode()
-        self.faults: list[Fault] = []
+        self.faults = []
         try:
             return roll_of(data, "members.csv", known or [], language, is_called=is_called)
         except Fault as fault:

@@ -284,8 +284,8 @@ class Requests(ClickTest):
                 sent = list(pool.map(host.send, bodies))
                 self.assertEqual([one.status for one in sent], [200] * 6)
                 self.assertEqual((sent[0].text, sent[4].word), (sent[3].text, "box"))
-        records = [record for record in host.records() if digest_of("ada") in record]
-        times = [re.findall(r"Received: by box; (.*) \+0000", record)[0] for record in records]
+        by_ada = rf"Received: by box; (.*) \+0000\nX-Proof: {digest_of('ada')}"
+        times = re.findall(by_ada, "".join(host.records()))
         read = [datetime.datetime.strptime(one, "%a, %d %b %Y %H:%M:%S") for one in times]
         self.assertEqual((len(read), read), (9, sorted(set(read))))
 
@@ -474,8 +474,7 @@ class Killed(ClickTest):
                 self.assertEqual(host.send(body).status, 200)
                 host.send(b"")
             lines = [line for line in trace.read().splitlines() if re.match(r"\d+ +\w+\(", line)]
-        counts: dict[str, int] = {}
-        calls = []
+        counts, calls = {}, []
         for line in lines:
             name = line.split()[1].partition("(")[0]
             counts[name] = counts.get(name, 0) + 1
@@ -508,7 +507,7 @@ class Killed(ClickTest):
         for is_new in (True, False):
             calls = self.calls_of(ballot("ada", "1,2", int(is_new)))
             self.assertGreater(len([call for call, _, line in calls if FILE in line]), 10)
-            there: list[int] = []
+            there = []
             for call, count, _ in calls:
                 if is_new or len(there) in (0, OF_A_LINK):
                     self.file.unlink(missing_ok=True)

@@ -40,13 +40,9 @@ class Sending(SendTest):
         self.assertEqual("Not reached" in said, bool(wanted))
 
     def test_each_gets_one_letter_and_a_second_run_sends_none(self) -> None:
-        noted: list[tuple[str, int, list[tuple[str, str]]]] = []
-
-        def note(step: str, number: int) -> bool:
-            noted.append((step, number, self.rows("call")[9:]))
-            return False
-
-        self.server.at = note
+        noted = []
+        # each is noted before the next begins
+        self.server.at = lambda _, number: noted.append((number, self.rows("call")[9:]))
         self.assertEqual(self.assert_sent("call", "Sent 9 of 9 letters.\n").faults, "")
         self.assertEqual(self.server.addresses(), ALL)
         for taken in self.server.taken:
@@ -55,12 +51,8 @@ class Sending(SendTest):
             self.assertIn(f" {taken.to.partition('@')[0]} _,_,_,_ ", one_line(message))
             # each line ends as in letters
             self.assertEqual(taken.data.count(b"\n"), taken.data.count(b"\r\n"))
-        # each is noted before the next begins
-        for step, number, rows in noted:
-            self.assertEqual(
-                rows, [(name, "taken") for name in elections.NAMES[:number]], (step, number)
-            )
-        self.assertEqual(len(noted), 27)
+        taken = [(name, "taken") for name in elections.NAMES]
+        self.assertEqual(noted, [(number, taken[:number]) for number in range(9) for _ in range(3)])
         self.assert_none_is_due("call")
         self.assertEqual(list((self.folder / "letters").glob("*/*")), [])
 
@@ -81,8 +73,8 @@ class Sending(SendTest):
         ):
             self.assertIn(said, ended.output)
         self.assertNotIn("\x1b", ended.output)
-        for name, said in {"ben": "refused (451 4.7.1 greylisted)\n", "eve": "taken\n"}.items():
-            self.assertIn(f"UTC, to {name}@club.example: {said}", self.told("show", name))
+        said = "UTC, to ben@club.example: refused (451 4.7.1 greylisted)\n"
+        self.assertIn(said, self.told("show", "ben"))
         self.assertEqual(self.server.addresses(), ALL[4:])
         # each run tries them again
         self.server.rcpt_answers = {ALL[0]: "550 5.1.1 no such user"}
@@ -122,15 +114,16 @@ class Sending(SendTest):
         """One whose address changed since, and those whom a run that was cut off did not come to; not who gets it printed."""
         self.change_roll(ALL[6], "")
         self.assert_unreached()
-        self.server.at = lambda step, number: (step, number) == ("data", 6)
         self.assertEqual(self.numbers()["printed"], [])
+        self.server.at = lambda step, number: (step, number) == ("data", 6)
         self.assertEqual(self.send("call").status, 7)
         self.server.at = lambda step, number: False
         self.assert_unreached(hal="no letter", ida="no letter")
         self.assertIn("Get the call printed (1):\n  gus\n", self.told("status"))
-        ended = self.send("call")
-        self.assertIn("Without an address: gus. Print letters/call/", ended.output)
-        self.assertNotIn("Not reached", ended.output)
+        said = self.send("call").output
+        self.assertRegex(
+            said, "(?s)^(?!.*Not reached).*Without an address: gus. Print letters/call/"
+        )
         # who has no address any more gets it printed, too
         self.change_roll(ALL[7], "")
         self.assert_unreached(gus="no letter")
@@ -511,7 +504,7 @@ class Sending(SendTest):
         said = "lost during the letter to dan@club.example", "3 of 9 letters taken in this run"
         self.assert_fault(self.send("call"), 7, *said)
         # lost between letters it is made anew
-        cut: set[int] = set()
+        cut = set()
 
         def once(step: str, number: int) -> bool:
             is_new = step in ("mail", "rcpt") and number in (5, 7) and number not in cut
@@ -652,8 +645,7 @@ class Endless(unittest.TestCase):
     """A server that answers now and then, and never to the end."""
 
     def test_a_conversation_has_an_end(self) -> None:
-        begin: list[str] = []
-        drops = []
+        begin, drops = [], []
 
         class Dropping(PlainServer):
             def converse(self, connection: socket.socket) -> None:
