@@ -460,6 +460,13 @@ class Sending(SendTest):
         self.send("receipts")
         self.assertEqual(len(list(place.rglob("*.html"))), 2)
 
+    def test_after_a_second_close_its_letter_goes_out_too(self) -> None:
+        for _ in range(2):
+            self.done("close", "--early")
+            self.assert_sent("closed", "Sent 9 of 9 letters.\n")
+            self.assert_none_is_due("closed")
+            self.done("reopen", "--because", "a bag was forgotten")
+
     def test_who_was_not_reached_gets_the_whole_call_after_an_extension(self) -> None:
         """A run that took nothing reaches nobody, whether the letters were files before or not; nor does a call that was refused, or came back."""
         self.server.mail_answer = "553 not yours"
@@ -741,6 +748,7 @@ class SeveralRuns(SendTest):
             self.assert_sent("reminders", "Sent 7 of 8 letters.", 9)
 
     def test_two_runs_at_once_send_each_letter_once(self) -> None:
+        """Processes of their own, at the same time."""
         runs = [self.sending() for _ in range(3)]
         outputs = [run.communicate(timeout=elections.SECONDS)[0] for run in runs]
         self.assertEqual([run.returncode for run in runs], [0, 0, 0])
@@ -847,7 +855,7 @@ class Encrypted(unittest.TestCase):
     def test_a_certificate_that_nobody_vouches_for_is_refused_and_a_good_one_is_taken(self) -> None:
         with tempfile.TemporaryDirectory() as place:
             key, certificate = f"{place}/key", f"{place}/certificate"
-            words = f"openssl req -x509 -newkey rsa:2048 -nodes -keyout {key} -out {certificate} -days 2"
+            words = f"openssl req -x509 -newkey ec -pkeyopt ec_paramgen_curve:P-256 -nodes -keyout {key} -out {certificate} -days 2"
             name = " -subj /CN=localhost -addext subjectAltName=DNS:localhost"
             subprocess.run((words + name).split(), check=True, capture_output=True)
             context = ssl.SSLContext(ssl.PROTOCOL_TLS_SERVER)
