@@ -13,7 +13,7 @@ import sys
 import threading
 import typing
 import unittest
-from collections.abc import Callable, Mapping, Sequence
+from collections.abc import Mapping, Sequence
 
 from tests.support import elections
 from tests.support.called import LettersTest
@@ -113,18 +113,16 @@ class MailServer:
     def __init__(self, **how: object) -> None:
         if Controller is None:
             raise unittest.SkipTest("aiosmtpd is not installed")
-        self.taken: list[Taken] = []
-        self.rcpt_answers: dict[str, str] = {}
-        self.data_answers: dict[str, str] = {}
-        self.mail_answer = "250 OK"
-        self.steps: list[tuple[str, int]] = []
-        self.at: Callable[[str, int], bool] = lambda step, number: False
-        self.logins: list[tuple[bytes, bytes]] = []
+        self.taken, self.steps, self.logins = [], [], []
+        self.rcpt_answers, self.data_answers, self.mail_answer = {}, {}, "250 OK"
+        self.at = lambda step, number: False
         self.started, self.is_stopped, self.was_encrypted = 0, False, False
         with socket.socket() as probe:
             probe.bind(("127.0.0.1", 0))
             self.port = probe.getsockname()[1]
-        self.controller = Controller(self, hostname="127.0.0.1", port=self.port, ready_timeout=60, **how)  # type: ignore[arg-type]
+        self.controller = Controller(
+            self, hostname="127.0.0.1", port=self.port, ready_timeout=60, **how
+        )
         self.controller.start()
         self.name = f"127.0.0.1:{self.port}"
 
@@ -147,40 +145,34 @@ class MailServer:
             return True
         return False
 
-    async def handle_MAIL(
-        self, server: SMTP, session: object, envelope: object, address: str, options: object
-    ) -> str:
+    async def handle_MAIL(self, server, session, envelope, address, options):
         if self.is_cut("mail", server):
             return "421 gone"
-        envelope.mail_from = address  # type: ignore[attr-defined]
+        envelope.mail_from = address
         return self.mail_answer
 
-    async def handle_RCPT(
-        self, server: SMTP, session: object, envelope: object, address: str, options: object
-    ) -> str:
+    async def handle_RCPT(self, server, session, envelope, address, options):
         if self.is_cut("rcpt", server):
             return "421 gone"
         answer = self.rcpt_answers.get(address, "250 OK")
         if answer.startswith("250"):
-            envelope.rcpt_tos.append(address)  # type: ignore[attr-defined]
+            envelope.rcpt_tos.append(address)
         return answer
 
-    async def handle_DATA(self, server: SMTP, session: object, envelope: object) -> str:
-        [to] = envelope.rcpt_tos  # type: ignore[attr-defined]
-        self.was_encrypted = session.ssl is not None  # type: ignore[attr-defined]
+    async def handle_DATA(self, server, session, envelope):
+        [to] = envelope.rcpt_tos
+        self.was_encrypted = session.ssl is not None
         if self.is_cut("data", server):
             return "421 gone"
         answer = self.data_answers.get(to, "250 taken")
         if answer.startswith("250"):
-            self.taken.append(Taken(to, envelope.content))  # type: ignore[attr-defined]
+            self.taken.append(Taken(to, envelope.content))
         self.started += 1
         return answer
 
-    def authenticated(
-        self, server: object, session: object, envelope: object, mechanism: str, data: object
-    ) -> AuthResult:
-        self.logins.append((data.login, data.password))  # type: ignore[attr-defined]
-        return AuthResult(success=data.password == b"right", handled=False)  # type: ignore[attr-defined]
+    def authenticated(self, server, session, envelope, mechanism, data):
+        self.logins.append((data.login, data.password))
+        return AuthResult(success=data.password == b"right", handled=False)
 
 
 class PlainServer:

@@ -1,7 +1,6 @@
 """Several questions as one value: title, checksums and mark, the form of a ballot, aliases, and texts that read as answers."""
 
 import dataclasses
-import hashlib
 import hmac
 import itertools
 import unittest
@@ -10,6 +9,7 @@ from debvote_tools.book.queries import Elector
 from debvote_tools.call.call import call_files
 from debvote_tools.call.secret import alias_in, aliased, codes_csv, slips
 from debvote_tools.election import Sealed
+from debvote_tools.files import sha256_of
 from debvote_tools.poll.questions import LABELS, Questions, read_questions
 
 from tests.support import calls
@@ -19,10 +19,6 @@ FEE = dataclasses.replace(
     POLL, title="Raise the fee", options=("Yes",), ratios=(2,), default="No", quorum=0
 )
 SEVERAL = Questions({"A": FEE, "B": POLL, "C": FEE}, "Assembly & 2026")
-
-
-def sha256_of(data: bytes) -> str:
-    return hashlib.sha256(data).hexdigest()
 
 
 class Value(unittest.TestCase):
@@ -58,12 +54,10 @@ class Value(unittest.TestCase):
         others = [
             Questions({"A": POLL, "B": FEE, "C": FEE}, SEVERAL.title),
             Questions({"A": FEE, "B": POLL}, SEVERAL.title),
-        ]
-        others += [
             Questions(SEVERAL, "Assembly 2027"),
             Questions(SEVERAL | {"C": dataclasses.replace(FEE, quorum=1)}, SEVERAL.title),
         ]
-        self.assertEqual(len({SEVERAL.mark, *(other.mark for other in others)}), 5)
+        self.assertEqual(len({one.mark for one in (SEVERAL, *others)}), 5)
 
     def test_what_is_sealed_is_read_again(self) -> None:
         sealed = Sealed(SEVERAL, SEVERAL)
@@ -95,24 +89,18 @@ class Words(unittest.TestCase):
         )
 
     def test_the_letter(self) -> None:
-        quorums = {"A": 0, "B": 1, "C": 0}
-        letters = {
-            kind: call_files(dataclasses.replace(call, questions=SEVERAL, quorum_votes=quorums))[
-                "call.txt"
-            ].decode()
-            for kind, call in KINDS.items()
-            if kind != "codes"
-        }
-        for kind, text in letters.items():
+        how = {"questions": SEVERAL, "quorum_votes": {"A": 0, "B": 1, "C": 0}}
+        for kind in ("open", "secret", "signed"):
             with self.subTest(kind):
+                call = dataclasses.replace(KINDS[kind], **how)
+                text = call_files(call)["call.txt"].decode()
                 self.assertIn("\n  NAME\n  A _,_\n  B _,_,_,_\n  C _,_\n\n", text)
                 question = "\n\nQuestion A: Raise the fee\n  Option 1: Yes (majority ratio 2)\n  Option 2: No (the default option)\n\nQuestion B: "
                 self.assertIn(question, text)
                 rows = "".join(f"  {row}\n" for row in SEVERAL.checksums)
                 self.assertIn(f"the last is that of this list:\n{rows}\n", text)
                 # the names of one question's line, and no other
-                self.assertNotIn("Your line", text)
-                self.assertNotIn("Send your line", text)
+                self.assertNotRegex(text, "Your line|Send your line")
 
 
 class Aliases(unittest.TestCase):
