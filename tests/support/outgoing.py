@@ -50,6 +50,10 @@ class OutTest(LettersTest):
         """Another end of the vote, in the zone of the first one."""
         self.done("call", "--until", until)
 
+    def text_in(self, name: str) -> str:
+        """A file, each blank as one space."""
+        return " ".join(self.read(name).decode().split())
+
     def rows(self, kind: str) -> list[tuple[str, str]]:
         """The states of the letters of a kind, in their order, each with the name of its elector."""
         words = (

@@ -70,7 +70,7 @@ class Call(OutTest):
             self.assertRegex(message["Message-ID"], r"^<[0-9a-f]{32}@club\.example>$")
         self.assertEqual(len({message["Message-ID"] for message in found.values()}), 9)
         # the letter to all has gaps, and the mark of the poll
-        text = " ".join(self.read("call/call.txt").decode().split())
+        text = self.text_in("call/call.txt")
         begin = f"{WHEN} {FORM} {LINE}NAME _,_,_,_ Write your name on the roll in the place of NAME. The options"
         self.assertTrue(text.startswith(begin), text)
         self.assertIn("Open the link in your letter, or answer that letter: then the subject", text)
@@ -167,7 +167,7 @@ class Refused(OutTest):
         self.done("close", "--early")
         self.done("publish", "--force", "--because", "nobody has voted")
         said = "The end of the vote was announced: one could vote until Friday, 4 .* The time was extended: one could vote until Sunday, 6 "
-        self.assertRegex(" ".join(self.read("letters/result.txt").decode().split()), said)
+        self.assertRegex(self.text_in("letters/result.txt"), said)
 
     def test_addresses_of_before_the_call_and_that_of_the_result(self) -> None:
         # of several addresses the first that each server takes
@@ -269,14 +269,12 @@ class Paper(OutTest):
         self.assertIn("Wrote 1 letter, none of them new: ", self.done("letters", "call").output)
         self.assertEqual(self.read(name[2]).decode(), page)
         # with letter.txt it says where
-        self.assertIn("give it to whoever sent you this letter", " ".join(page.split()))
+        self.assertIn("give it to whoever sent you this letter", self.text_in(name[2]))
         self.write("letter.txt", "Paper goes into the box.\n")
         self.done("call")
         self.assertNotIn("Note", self.done("letters", "call").output)
-        self.assertIn(
-            "The words at the head of this letter say where it goes.",
-            " ".join(self.read(name[2]).decode().split()),
-        )
+        said = "The words at the head of this letter say where it goes."
+        self.assertIn(said, self.text_in(name[2]))
         # with an address since, a letter that answers none is no answer to the one on paper
         self.write("members.csv", self.members.replace("Eve,", "Eve,eve@club.example"))
         self.told("roll", "--yes")
@@ -295,7 +293,7 @@ class Paper(OutTest):
         pages = {}
         for kinds in (("call", "reminders", "receipts"), ("closed", "result")):
             for kind in kinds:
-                self.done("letters", kind, "--from", "vote@club.example")
+                self.done("letters", kind, "--from", "eve@club.example")
                 pages[kind] = self.files(kind)[-1].read_text()
             if kind == "receipts":
                 self.done("close", "--early")
@@ -306,10 +304,9 @@ class Paper(OutTest):
             # who has no real name is named as on the roll
             self.assertEqual("<h2><bdi>gus</bdi></h2>" in page, kind != "receipts", kind)
         # only what comes by e-mail has a subject
-        [ben, _] = self.files("result")
-        texts = parsed(ben.read_bytes()).get_content(), page
-        found = ["subject of each true letter" in " ".join(text.split()) for text in texts]
-        self.assertEqual(found, [True, False])
+        said = "subject of each true letter"
+        self.assertIn(said, self.texts("result", "--from", "eve@club.example")["ben"])
+        self.assertNotIn(said, " ".join(page.split()))
 
 
 class Names(OutTest):
@@ -784,8 +781,7 @@ class CloseAndResult(OutTest):
         own = f"Your own ballot in words: {LAKE}. The page shows it at: {AT}#ada "
         text = texts["ada"]
         self.assertIn(f"Dear Ada, {begin}{AT} {own}What is doubtful", text)
-        to_all = " ".join(self.read("letters/result.txt").decode().split())
-        self.assertEqual(f"Dear Ada, {to_all}", text.replace(own, ""))
+        self.assertEqual(f"Dear Ada, {self.text_in('letters/result.txt')}", text.replace(own, ""))
         self.assertIn(f"{AT}#ben", texts["ben"])
         self.assertIn(f"{AT} The result has no ballot of yours that counts.", texts["cleo"])
         self.assertNotIn("#", texts["cleo"])
@@ -862,7 +858,7 @@ class CloseAndResult(OutTest):
                 self.assertIn(text, message.get_content())
                 subject = rf"^Vote closed: Where we meet in spring {MARKS}$"
                 self.assertRegex(message["Subject"], subject)
-            text = " ".join(text.split())
+            text = self.text_in("letters/closed.txt")
             self.assertIn(f"{count} came in time.", text)
             told = re.search(f"{before}{checksum} Keep this letter", text)
             self.assertEqual(bool(told), bool(checksum), text)
