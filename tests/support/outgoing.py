@@ -1,4 +1,4 @@
-"""What the tests of letters that go out share: elections with addresses, what was written, and a mail server on this computer."""
+"""What tests of outgoing letters share: elections, what was written, and a mail server."""
 
 import contextlib
 import email
@@ -32,7 +32,9 @@ logging.getLogger("mail.log").setLevel(logging.CRITICAL)
 
 
 class OutTest(LettersTest):
-    """A test with an election that was called with an end and the address of its page; the clock is some days later."""
+    """A test with an election that was called with an end and the address of its page; the clock is
+    some days later.
+    """
 
     call_words: Sequence[str] | None = (
         "--to",
@@ -55,7 +57,7 @@ class OutTest(LettersTest):
         return " ".join(self.read(name).decode().split())
 
     def rows(self, kind: str) -> list[tuple[str, str]]:
-        """The states of the letters of a kind, in their order, each with the name of its elector."""
+        """The states of the letters of a kind, in order, each with the name of its elector."""
         words = (
             "SELECT name, state FROM sent JOIN elector USING (elector) WHERE kind = ? ORDER BY sent"
         )
@@ -110,8 +112,9 @@ class Taken(typing.NamedTuple):
 
 
 class MailServer:
-    """A mail server that notes what it takes. `answers` has the answer to RCPT or DATA by address. `at` is called at each step of
-    each letter, by its name and the number of the letter from 0, and the connection is cut if it says so.
+    """A mail server that notes what it takes. `answers` has the answer to RCPT or DATA by address.
+    `at` is called at each step of each letter, by its name and the number of the letter from 0, and
+    the connection is cut if it says so.
     """
 
     def __init__(self, **how: object) -> None:
@@ -180,7 +183,9 @@ class MailServer:
 
 
 class PlainServer:
-    """A mail server that answers by itself, as no good one does: to each step by its name, else as it should."""
+    """A mail server that answers by itself, as no good one does: to each step by its name, else as
+    it should.
+    """
 
     usual = {
         "helo": "250 here",

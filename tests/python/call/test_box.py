@@ -80,7 +80,9 @@ class Links(unittest.TestCase):
 
 class Words(unittest.TestCase):
     def test_what_the_page_says_of_each_answer(self) -> None:
-        """Who reads that a ballot was not taken does not send it again, and who reads that it arrived waits."""
+        """Who reads that a ballot was not taken does not send it again, and who reads that it
+        arrived waits.
+        """
         for word, begin in {
             "received": "It has arrived, sent {time}. The secretary fetches it, and you get a receipt by e-mail that names this time, ",
             "late": "It has arrived, sent {time}, after {end}, the end that this page knows. If the vote was extended it may still count",
@@ -93,7 +95,8 @@ class Words(unittest.TestCase):
             "unsealed": "This browser can't seal a ballot. Open the link in another one.",
         }.items():
             self.assertTrue(SENTENCES[word].startswith(begin), word)
-        # nobody is asked to send a secret ballot by e-mail, or told that a receipt says what is in it
+        # nobody is asked to send a secret ballot by e-mail, or told that a receipt says what is in
+        # it
         for word, said in (SENTENCES | SECRET_SENTENCES).items():
             for part in ("your ballot by e-mail", "how it was read", "answer your"):
                 self.assertNotIn(part, said, word)

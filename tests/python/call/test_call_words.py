@@ -1,4 +1,4 @@
-"""What goes out with a call: the files of its folder, the letter of an extension, and what no text of them may be taken for."""
+"""What goes out with a call: page and letters, and that hostile texts in them stay texts."""
 
 import base64
 import dataclasses
@@ -296,7 +296,9 @@ class Files(unittest.TestCase):
 
 
 class Hostile(unittest.TestCase):
-    """Texts that would be markup, or turn what stands around them, in each place where a text can be."""
+    """Texts that would be markup, or turn what stands around them, in each place where a text can
+    be.
+    """
 
     def test_they_are_texts(self) -> None:
         plain = self.elements(page_parts.built(html_of(self.hostile(["x"] * 3))))

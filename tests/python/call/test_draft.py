@@ -1,4 +1,4 @@
-"""The poll as the secretary writes it: what is wrong with it is found at once, and how it is sealed, as debvote reads it."""
+"""The poll as the secretary writes it: what is wrong with it, and how it is sealed."""
 
 import dataclasses
 import os

@@ -1,4 +1,4 @@
-"""From the list of members to the roll: who is who, which names are proposed, and what may change after the call."""
+"""From the list of members to the roll: who is who, and what may change after the call."""
 
 import unittest
 from collections.abc import Iterable

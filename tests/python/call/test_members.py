@@ -85,7 +85,8 @@ class Read(MembersTest):
             # the delimiter is that of the head line
             ("who;mail\nLovelace, Ada, Countess;a@x\n", "", "Lovelace, Ada, Countess", "a@x"),
             ("who;mail;a, b, c, d\nAda;a@x;,,,\n", "", "Ada", "a@x"),
-            # spaces, a long cell, a name in parts, several addresses in one cell, a name of the greatest length
+            # spaces, a long cell, a name in parts, several addresses in one cell, a name of the
+            # greatest length
             ("name,who,mail\n ada ,\xa0Ada  L\t, a@x \n", "ada", "Ada L", "a@x"),
             (f"who,mail,note\nAda,a@x,{'x' * 200_000}\n", "", "Ada", "a@x"),
             ("who,mail\nZoe\u0308,\n", "", "Zoë", ""),

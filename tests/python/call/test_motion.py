@@ -1,4 +1,4 @@
-"""The poll of a motion: what `check` says and refuses, how it is sealed, and what a call of it says in letters."""
+"""The poll of a motion: what `check` refuses, how it is sealed, and what its letters say."""
 
 import html
 
@@ -51,7 +51,8 @@ class Checked(MotionTest):
             ("Raise", "Abstain", no),
             ("No, as", "Yes! as", "the default option of a motion begins with a word for yes"),
             ("motion = true", "motion = 1", "`motion` is neither true nor false"),
-            # words of a language that is neither that of the election nor English, and other words that begin so
+            # words of a language that is neither that of the election nor English, and other words
+            # that begin so
             ("Raise", "Nein, raise", ""),
             ("Raise", "Noise", ""),
             ("No, as", "Oui, as", ""),
@@ -74,7 +75,9 @@ class Checked(MotionTest):
 
 class Sealed(MotionTest):
     def test_beside_the_poll(self) -> None:
-        """The poll has the bytes that it has without, so debvote reads it as ever; and a call that was taken back says nothing of the next."""
+        """The poll has the bytes that it has without, so debvote reads it as ever; and a call that
+        was taken back says nothing of the next.
+        """
         self.told("call", "--to", "vote@club.example")
         poll = self.read("call/poll.toml")
         self.assertNotIn(b"motion", poll)

@@ -1,4 +1,4 @@
-"""What the page seals the secretary alone opens: a vector that was made by other means, and what is refused."""
+"""What the page seals the secretary alone opens: a vector, and what is refused."""
 
 import base64
 import runpy

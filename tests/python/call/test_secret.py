@@ -1,4 +1,4 @@
-"""Secret votes by their parts: codes and aliases, what is published under aliases, the seal of the close, the slips and the table."""
+"""Secret votes by their parts: codes, aliases, the seal of the close, slips and table."""
 
 import base64
 import csv
@@ -103,7 +103,8 @@ class Codes(unittest.TestCase):
             self.assertEqual(codes_for_roll(3), ["a2" * 5, "b" * 10, "c" * 10])
         codes = [code for code in codes_for_roll(500) if re.fullmatch("[2-9a-hjkmnp-z]{10}", code)]
         self.assertEqual((len(codes), codes), (500, sorted(codes)))
-        # such a code is kept out of what everybody gets, and one of another kind, also as people type it
+        # such a code is kept out of what everybody gets, and one of another kind, also as people
+        # type it
         for code in (codes[0], new_code("ada")):
             for typed in (
                 code.upper(),
@@ -159,7 +160,9 @@ class Published(unittest.TestCase):
             aliased(alone(POLL), ELECTORS[:1])
 
     def test_the_ballots_are_in_normal_form_and_in_the_order_of_aliases(self) -> None:
-        """Ranks are numbers, and no texts. Whoever has no ballot has no line, and each line is of its own elector."""
+        """Ranks are numbers, and no texts. Whoever has no ballot has no line, and each line is of
+        its own elector.
+        """
         for standing, wanted in (
             (
                 {"ada": "17,33,99", "dan": "2,-,2", "ben": "-,-,-", "cleo": "3,1,2"},
@@ -295,7 +298,8 @@ class Slips(unittest.TestCase):
             tops = "[...document.querySelectorAll('.slip')].map((slip) => slip.getBoundingClientRect().top)"
             first, second, *_ = window.ask(tops)
             self.assertEqual(first, second)
-            # the line stands in a row of its own below words without a gap, so that nothing is copied with it
+            # the line stands in a row of its own below words without a gap, so that nothing is
+            # copied with it
             above = "((words, line) => [words.textContent.includes('_'), line.getBoundingClientRect().top >= words.getBoundingClientRect().bottom])"
             above += "(...document.querySelectorAll('.slip dt:has(+ .line), .line'))"
             self.assertEqual(window.ask(above), [False, True], code)
@@ -304,7 +308,8 @@ class Slips(unittest.TestCase):
         # the code is one word where it is copied
         copied = "(() => { getSelection().selectAllChildren(document.querySelector('.code')); return String(getSelection()); })()"
         self.assertEqual(window.ask(copied), CODES["ada"])
-        # an empty side follows each side of slips, however long their options are: none has the code of somebody else on its back
+        # an empty side follows each side of slips, however long their options are: none has the
+        # code of somebody else on its back
         electors = [elector(f"e{number}", f"Person {number}", CODES["ada"]) for number in range(20)]
         sizes = (3, 10, 4), (8, 30, 3), (8, 60, 2), (20, 44, 2), (31, 60, 1)
         names = [(("Ein Name " * 9)[:long],) * size for size, long, _ in sizes]

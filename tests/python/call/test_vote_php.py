@@ -1,6 +1,7 @@
 """The web box of a vote on a real server of PHP.
 
-It says what each request is answered, what the file has then, and that nothing that was acknowledged is lost, whatever fails.
+It says what each request is answered, what the file has then, and that nothing that was
+acknowledged is lost, whatever fails.
 """
 
 import concurrent.futures
@@ -241,8 +242,8 @@ class Requests(ClickTest):
         self.assertEqual(len(host.lines()), OF_A_LINK + 1)
 
     def test_a_clock_that_is_put_back(self) -> None:
-        """Of one link what comes later has a later time, and is not kept if that would be far ahead;
-        others have the time of the clock.
+        """Of one link what comes later has a later time, and is not kept if that would be far
+        ahead; others have the time of the clock.
         """
         room = pathlib.Path(self.enterContext(tempfile.TemporaryDirectory(prefix="debvote-clock-")))
         host, times = self.host(*clock_of_php(room)), []
@@ -299,7 +300,7 @@ class Requests(ClickTest):
         self.assertEqual(len(host.lines()), many // 100)
 
     def test_a_click_takes_no_time_in_a_large_box(self) -> None:
-        """Of the processor, of which a web host gives little; in a vote of ten thousand electors."""
+        """Of the processor, of which a web host gives little; with ten thousand electors."""
         owns = OWNS | {f"e{number:04}": "56789abcde" for number in range(10_000)}
         (self.folder / SCRIPT).write_bytes(script_of(KEY, MARK, owns))
         host = self.host()
@@ -437,7 +438,9 @@ class Broken(ClickTest):
             self.assertEqual(len(host.lines()), 1)
 
     def test_a_php_without_fsync(self) -> None:
-        """PHP 8.0 compiles all but that: it kept ballots, failed before the answer, and was asked well."""
+        """PHP 8.0 compiles all but that: it kept ballots, failed before the answer, and was asked
+        well.
+        """
         host = self.host("-d", "disable_functions=fsync")
         self.assert_lost(host.ask(), click(host, 1), host.ask())
         self.assertFalse(self.file.exists())

@@ -1,4 +1,4 @@
-"""`letters`: what goes to the electors as files, to whom, and that nothing of it reads as a ballot."""
+"""`letters`: what goes to the electors as files, to whom, and that none of it is a ballot."""
 
 import contextlib
 import datetime
@@ -90,7 +90,8 @@ class Call(OutTest):
         self.written("call")
         self.assertEqual({file: file.read_bytes() for file in self.files("call")}, before)
         self.assertEqual(self.last_act(), last)
-        # above the quotation of a letter to herself, which has her own mark; it is that of nobody else
+        # above the quotation of a letter to herself, which has her own mark; it is that of nobody
+        # else
         quoted = "\n".join(f"> {line}" for line in found["ada"].get_content().splitlines())
         for name in ("ada", "ben"):
             text = f"{name} {RANKS}\n\nOn Mon, 23 Nov 2026 at 09:00, Vote wrote:\n{quoted}\n"
@@ -194,7 +195,9 @@ class Refused(OutTest):
 
 
 class OwnWords(OutTest):
-    """What the secretary writes begins each letter that asks for a ballot, and a name of the society is in From."""
+    """What the secretary writes begins each letter that asks for a ballot, and a name of the
+    society is in From.
+    """
 
     call_words = None
     letter = "Dear friends,\n\npaper goes into the box in the hall.\n\n"
@@ -314,11 +317,14 @@ class Names(OutTest):
     call_words = (*Call.call_words[:-1], "Europe/Berlin")
 
     def test_no_letter_takes_the_place_of_another(self) -> None:
-        """Two letters to ada, at her old address and her new one, beside one to ada-2. Their times are in the zone of the end."""
+        """Two letters to ada, at her old address and her new one, beside one to ada-2. Their times
+        are in the zone of the end.
+        """
         self.change_roll(",ada@club", ",ada@new")
         self.add_lines("ada 1", f"ada-2 {RANKS}")
         found = self.written("receipts").values()
-        # the old address does not learn the own mark, neither in the subject nor in the text, which has the right line
+        # the old address does not learn the own mark, neither in the subject nor in the text, which
+        # has the right line
         said = {
             message["To"]: (
                 bool(re.search(MARKS, message["Subject"])),
@@ -355,7 +361,9 @@ class Names(OutTest):
 
 class ReceiptsAndReminders(OutTest):
     def test_each_has_its_own_reply(self) -> None:
-        """A line that counts, one that is replaced, one that is refused, one that is struck, one that is taken back, and a late one."""
+        """A line that counts, one that is replaced, one that is refused, one that is struck, one
+        that is taken back, and a late one.
+        """
         self.add_lines(
             f"ada {RANKS}",
             f"ben {RANKS}",
@@ -373,7 +381,8 @@ class ReceiptsAndReminders(OutTest):
         texts = self.texts("receipts")
         self.assertEqual(sorted(texts), ["ada", "ben", "cleo", "dan", "eve", "fay", "gus"])
         refused = "It is not a valid ballot of this vote, so it does not count. It has 2 ranks, and the vote has 4 options."
-        # a receipt that refuses says why, then where the form is and how a right line looks; another has neither
+        # a receipt that refuses says why, then where the form is and how a right line looks;
+        # another has neither
         form = f"If you have not sent this, or it is not what you meant, answer at once. You vote under the name gus. {RIGHT} {WHEN.removeprefix(f'{TITLE} ')} {FORM}#gus/"
         for name, *parts in (
             (
@@ -413,7 +422,9 @@ class ReceiptsAndReminders(OutTest):
         )
 
     def test_a_folder_that_is_removed_is_made_again(self) -> None:
-        """With the same bytes, as long as what they say holds; a receipt of a ballot that is struck since says so."""
+        """With the same bytes, as long as what they say holds; a receipt of a ballot that is struck
+        since says so.
+        """
         place = self.folder / "letters" / "receipts"
 
         def there() -> dict[pathlib.Path, bytes]:
@@ -438,7 +449,9 @@ class ReceiptsAndReminders(OutTest):
         self.assertEqual(there()[ada], before[ada])
 
     def test_a_ballot_that_counts_is_told_again_beside_what_does_not(self) -> None:
-        """A letter without a ballot, a line that is refused, a ballot that is taken back, and after the close one that is late."""
+        """A letter without a ballot, a line that is refused, a ballot that is taken back, and after
+        the close one that is late.
+        """
         self.add_lines(*(f"{name} {RANKS}" for name in ("ada", "ben", "cleo", "dan", "eve")))
         self.done("letters", "receipts")
         self.add(letter("ada", "Thank you, all is right.\n"))
@@ -478,7 +491,9 @@ class ReceiptsAndReminders(OutTest):
         self.assertIn(f"has arrived, and it counts. It was read as: {LAKE}", again["fay"])
 
     def test_a_letter_of_which_one_ballot_is_entered(self) -> None:
-        """Its elector is told once of that, and the other elector that none of theirs was: Ben, who has the same address, or Dan."""
+        """Its elector is told once of that, and the other elector that none of theirs was: Ben, who
+        has the same address, or Dan.
+        """
         self.change_roll("ben@club", "ada@club")
         self.add(
             letter("ada", f"ada {RANKS}\nben {OTHER_RANKS}\n"),
@@ -489,7 +504,8 @@ class ReceiptsAndReminders(OutTest):
         self.done("held", 2, "--as", f"cleo {RANKS}")
         self.done("held", 3, "--enter", "--force")
         texts = self.texts("receipts")
-        # one goes to the address that Ben had; who sent one for somebody else alone is told nothing of it
+        # one goes to the address that Ben had; who sent one for somebody else alone is told nothing
+        # of it
         self.assertEqual(sorted(texts), ["ada", "ben", "ben_2", "cleo", "dan", "hal"])
         of_others = "10:00 (UTC) has a ballot of somebody else, which was entered. No ballot of yours from it was entered."
         for name in ("ada", "ben", "cleo", "dan"):
@@ -501,8 +517,8 @@ class ReceiptsAndReminders(OutTest):
         self.assertEqual(shown, [True, True, False])
 
     def test_letters_that_are_in_no_receipt_are_named(self) -> None:
-        """Letters of a couple and of a stranger. Not a ballot in an elector's name, who is told, whatever its head says; and not what a program
-        wrote.
+        """Letters of a couple and of a stranger. Not a ballot in an elector's name, who is told,
+        whatever its head says; and not what a program wrote.
         """
         self.change_roll("ben@club", "ada@club")
         automatic = "Auto-Submitted: auto-replied\n"
@@ -568,7 +584,8 @@ class ReceiptsAndReminders(OutTest):
         self.assertEqual(self.texts("receipts"), {})
         # one that waited and is entered now
         self.done("held", 3, "--enter", "--force")
-        # a ballot that the secretary typed is told as the letter, with its time, and how it was read
+        # a ballot that the secretary typed is told as the letter, with its time, and how it was
+        # read
         self.done("held", 6, "--as", f"gus {RANKS}")
         texts = self.texts("receipts")
         self.assertEqual(list(texts), ["dan", "gus"])
@@ -630,7 +647,9 @@ class ReceiptsAndReminders(OutTest):
         self.assertEqual(messages["fay"]["To"], "fay@club.example")
 
     def test_to_whom_reminders_go(self) -> None:
-        """A line that came and does not count is told with the reason, as in the receipt. A letter that was set aside is not told again."""
+        """A line that came and does not count is told with the reason, as in the receipt. A letter
+        that was set aside is not told again.
+        """
         self.add_lines(f"ada {RANKS}", "fay 1,2", f"gus {RANKS}")
         self.done("strike", 3, "--because", "not his")
         self.add(letter("hal", "hello\n"))
@@ -685,7 +704,9 @@ class ReceiptsAndReminders(OutTest):
 
 
 class FullDisk(OutTest):
-    """A disk that is full at any write: receipts are noted if their files are there, and the next run writes the others."""
+    """A disk that is full at any write: receipts are noted if their files are there, and the next
+    run writes the others.
+    """
 
     names = ["ada", "ben", "cleo"]
 
@@ -704,7 +725,9 @@ class FullDisk(OutTest):
             self.assertEqual([file.name for file in place.parent.iterdir()], ["4"])
 
     def test_the_fault_names_the_place(self) -> None:
-        """And not the folder beside it in which a file that has no room is, under a name that nobody knows."""
+        """And not the folder beside it in which a file that has no room is, under a name that
+        nobody knows.
+        """
         # in bytes: no letter and no page is as short
         full = functools.partial(resource.setrlimit, resource.RLIMIT_FSIZE, (500, 500))
 
@@ -728,7 +751,9 @@ class FullDisk(OutTest):
         self.assertEqual(raised.exception.filename, str(self.folder / "gone" / "closed.txt"))
 
     def test_it_loses_no_receipt(self) -> None:
-        """The calls are those that write into the folder and the book; some come in each run, and the disk is full at each of them."""
+        """The calls are those that write into the folder and the book; some come in each run, and
+        the disk is full at each of them.
+        """
         place = self.folder / "letters" / "receipts"
 
         def receipts() -> dict[pathlib.Path, bytes]:
@@ -898,7 +923,8 @@ class Secret(OutTest):
         self.extend("2026-12-06 12:00")
         for message in self.written("call").values():
             self.assertFalse([code for code in codes.values() if code in message.get_content()])
-        # the mark in its subject is that of the poll that everybody sees, with the own one; the link has no name
+        # the mark in its subject is that of the poll that everybody sees, with the own one; the
+        # link has no name
         found = letters["ada"]
         self.assertEqual([self.mark], [mark for mark, _ in re.findall(MARKS, found["Subject"])])
         self.assertRegex(one_line(found), rf"the result will be: {AT} {LINE}ada _,_,_,_ ")
@@ -907,7 +933,9 @@ class Secret(OutTest):
         self.assertEqual(self.numbers()["valid"], 1)
 
     def test_a_code_that_went_to_an_address_that_goes(self) -> None:
-        """`roll` says who will see that vote, and the letter to the new address; not of an address that goes before the code went there."""
+        """`roll` says who will see that vote, and the letter to the new address; not of an address
+        that goes before the code went there.
+        """
         self.written("call")
         earlier = []
         for before, address in (
@@ -927,7 +955,8 @@ class Secret(OutTest):
                 told = f"It went to another address before: {one}. Whoever reads letters there will see how you vote."
                 self.assertIn(told, texts["ada"])
             self.assertNotIn("It went to another address", texts["ben"])
-        # an address that is added; on paper, by a letter that has no code, and to one that is put back it went to none
+        # an address that is added; on paper, by a letter that has no code, and to one that is put
+        # back it went to none
         for address, kind in (
             ("ada@new.example home@x.example", "receipts"),
             ("", "call"),

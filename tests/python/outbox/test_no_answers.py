@@ -1,6 +1,7 @@
 """No line of what is sent looks like an answer, so an answer that quotes it goes in.
 
-That holds however a mail program breaks a line; what the secretary has written is named, or refused, if it looks like one.
+That holds however a mail program breaks a line; what the secretary has written is named, or
+refused, if it looks like one.
 """
 
 import dataclasses
@@ -35,7 +36,9 @@ VOTES = [(alone(PLACES), "1,2,3"), (alone(MOTION), "1,2"), (SEVERAL, "A 1,2 B 1,
 
 
 def like_answers(letters: Iterable[str], questions: Questions, code: str) -> list[str]:
-    """The lines that look like answers: as they are, each joined to the next, or quoted in narrow columns."""
+    """The lines that look like answers: as they are, each joined to the next, or quoted in narrow
+    columns.
+    """
     parted = [text.splitlines() for text in letters]
     lines = {one for its in parted for one in (*its, *map(" ".join, itertools.pairwise(its)))}
     lines |= {
@@ -109,7 +112,9 @@ class Several(QuestionsTest):
 
 
 class OfSecretary(OutTest):
-    """What the secretary writes: `check` names what looks like an answer, and nothing goes on with what reads as a ballot."""
+    """What the secretary writes: `check` names what looks like an answer, and nothing goes on with
+    what reads as a ballot.
+    """
 
     call_words = None
     texts = {

@@ -1,4 +1,4 @@
-"""`letters --send`: each letter goes out once, whatever happens between, and what a server refuses, or what comes back, is told."""
+"""`letters --send`: each letter goes out once; what is refused, or comes back, is told."""
 
 import base64
 import contextlib
@@ -57,7 +57,9 @@ class Sending(SendTest):
         self.assertEqual(list((self.folder / "letters").glob("*/*")), [])
 
     def test_refused_for_good_or_for_now(self) -> None:
-        """Who was refused is named by each later run, of whatever letters, and by `status`, until a letter is taken."""
+        """Who was refused is named by each later run, of whatever letters, and by `status`, until a
+        letter is taken.
+        """
         self.assert_unreached()
         self.server.rcpt_answers = {
             ALL[0]: "550 5.1.1 no such\x1b user",
@@ -86,7 +88,8 @@ class Sending(SendTest):
         self.assertIn(named, self.send("receipts").output)
         self.assertIn(named, self.told("letters", "receipts"))
         self.assert_unreached(ada="refused")
-        # what is written as files now is the letter that no server has taken; a new address is another try, with a new own mark
+        # what is written as files now is the letter that no server has taken; a new address is
+        # another try, with a new own mark
         [message] = self.written("call").values()
         self.assertEqual(message["To"], ALL[0])
         self.change_roll("ada@club", "ada@new")
@@ -111,7 +114,9 @@ class Sending(SendTest):
             self.assert_none_is_due("call")
 
     def test_who_got_no_letter_is_named(self) -> None:
-        """One whose address changed since, and those whom a run that was cut off did not come to; not who gets it printed."""
+        """One whose address changed since, and those whom a run that was cut off did not come to;
+        not who gets it printed.
+        """
         self.change_roll(ALL[6], "")
         self.assert_unreached()
         self.assertEqual(self.numbers()["printed"], [])
@@ -142,7 +147,8 @@ class Sending(SendTest):
         self.assert_sent("call", status=9)
         self.assert_unreached(cleo="refused")
         self.assertIn("You have more time to vote.", self.files("call")[0].read_text())
-        # what a server refused of a call that was taken back is no news of the next one, nor who leaves the list
+        # what a server refused of a call that was taken back is no news of the next one, nor who
+        # leaves the list
         self.done("call", "--take-back")
         self.change_roll("Dan,dan@club.example\n", "")
         self.done("call", *self.call_words)
@@ -196,8 +202,8 @@ class Sending(SendTest):
         )
 
     def test_what_is_no_letter_that_came_back(self) -> None:
-        """A program answers for somebody who is away, or reports from the elector's own address; a delivery is late, or done; a stranger
-        has no own mark; a person answers.
+        """A program answers for somebody who is away, or reports from the elector's own address; a
+        delivery is late, or done; a stranger has no own mark; a person answers.
         """
         self.change_roll(ALL[0], f"{ALL[0]} Ada@Home.example")
         self.assert_sent("call")
@@ -239,7 +245,9 @@ class Sending(SendTest):
             self.assert_unreached(**{"ada": "came back"} if number == 4 else {})
 
     def test_whose_letter_came_back_is_named_and_gets_it_again(self) -> None:
-        """In each run, until the address is another one. A server that takes letters, as a reminder, shows nothing."""
+        """In each run, until the address is another one. A server that takes letters, as a
+        reminder, shows nothing.
+        """
         self.change_roll(ALL[0], "ada@home.example")
         self.assert_sent("call")
         first = {taken.to: parsed(taken.data)["Message-ID"] for taken in self.server.taken[:6]}
@@ -325,7 +333,9 @@ class Sending(SendTest):
         self.assert_sent("reminders", "Sent 1 of 1 letter.\n")
 
     def test_each_own_mark_is_told_by_a_letter(self) -> None:
-        """That of a second address, and of an address that is put back: whoever knows the first address has the old mark. A receipt is none."""
+        """That of a second address, and of an address that is put back: whoever knows the first
+        address has the old mark. A receipt is none.
+        """
         self.assert_sent("call")
         for number, addresses in enumerate(
             (f"{ALL[0]} ada@second.example", "ada@new.example", ALL[0]), start=1
@@ -360,7 +370,8 @@ class Sending(SendTest):
             self.add_lines(f"ada {OTHER_RANKS}")
 
     def test_no_other_answer_than_that_it_was_taken_is_one(self) -> None:
-        """After the letter, and not before it; what is no answer of a mail server is none. Nobody else would learn that it is lost.
+        """After the letter, and not before it; what is no answer of a mail server is none. Nobody
+        else would learn that it is lost.
 
         All but 4 as its first digit is for good.
         """
@@ -384,7 +395,9 @@ class Sending(SendTest):
                 self.assertEqual(found, (state, is_for_good), answer)
 
     def test_a_receipt_that_was_refused_goes_to_a_new_address(self) -> None:
-        """One that was refused for now, as servers answer of a domain that has no mail server, goes to the old address, too."""
+        """One that was refused for now, as servers answer of a domain that has no mail server, goes
+        to the old address, too.
+        """
         self.add_lines(f"ada {RANKS}", f"ben {RANKS}", f"cleo {RANKS}")
         self.server.rcpt_answers = {
             ALL[0]: "450 4.1.2 domain not found",
@@ -468,7 +481,9 @@ class Sending(SendTest):
             self.done("reopen", "--because", "a bag was forgotten")
 
     def test_who_was_not_reached_gets_the_whole_call_after_an_extension(self) -> None:
-        """A run that took nothing reaches nobody, whether the letters were files before or not; nor does a call that was refused, or came back."""
+        """A run that took nothing reaches nobody, whether the letters were files before or not; nor
+        does a call that was refused, or came back.
+        """
         self.server.mail_answer = "553 not yours"
         for _ in range(2):
             self.assertEqual(self.send("call").status, 7)
@@ -583,7 +598,9 @@ class Sending(SendTest):
 
 
 class Remembered(SendTest):
-    """Server and user of the last letters are used when --send is given without them; the password is never kept."""
+    """Server and user of the last letters are used when --send is given without them; the password
+    is never kept.
+    """
 
     def test_the_server_of_the_last_letters(self) -> None:
         send = self.election("letters", "call", "--send")
@@ -684,7 +701,9 @@ class Killed(SendTest):
     names = ["ada", "ben", "cleo"]
 
     def status_of_killed(self, step: str, number: int) -> int:
-        """Sends the call by a program that is killed at a step of one of the letters; returns how it ended."""
+        """Sends the call by a program that is killed at a step of one of the letters; returns how
+        it ended.
+        """
         began, process = self.server.started, self.sending()
         self.addCleanup(process.kill)
 
@@ -723,7 +742,8 @@ class SeveralRuns(SendTest):
         self.assert_sent("reminders", status=9)
         self.assertEqual(len(self.server.taken), 6)
         self.server.rcpt_answers = {}
-        # who has voted meanwhile is not reminded, who has a new address is, and the old one holds up no new run
+        # who has voted meanwhile is not reminded, who has a new address is, and the old one holds
+        # up no new run
         self.add_lines("dan 1,2,4,3")
         self.change_roll("cleo@club", "cleo@new")
         self.assert_sent("reminders")
@@ -732,7 +752,9 @@ class SeveralRuns(SendTest):
         self.assertEqual(self.server.addresses()[6:], wanted)
 
     def test_a_reminder_that_no_server_can_take_holds_up_no_new_run(self) -> None:
-        """One to be printed, or to an address that was wrong, or that the server postpones for days."""
+        """One to be printed, or to an address that was wrong, or that the server postpones for
+        days.
+        """
         self.change_roll(ALL[6], "")
         self.assert_sent("reminders", "Sent 8 of 8 letters.")
         self.server.rcpt_answers = {ALL[1]: "450 4.1.2 domain not found"}
@@ -788,7 +810,8 @@ class SeveralRuns(SendTest):
         self.set_clock("2026-11-24T11:00:00+00:00")
         self.assertEqual(terminal.Terminal(self, *words).end()[1], 0)
         self.assertEqual(len(self.server.taken), 36)
-        # a run that goes on asks nothing, though somebody has another address since; nor does one that reminds nobody
+        # a run that goes on asks nothing, though somebody has another address since; nor does one
+        # that reminds nobody
         self.set_clock("2026-11-25T12:00:00+00:00")
         self.server.rcpt_answers = {ALL[1]: "451 later"}
         self.assertEqual(self.election(*words).status, 9)

@@ -1,4 +1,4 @@
-"""`close` and `publish` write their letters, and `letters --send` alone sends what is made and no run has sent."""
+"""`letters --send` alone sends what is made, as by `close` and `publish`, and not sent."""
 
 import json
 
@@ -148,7 +148,7 @@ class WithBox(boxes.BoxElectionTest):
         self.addCleanup(self.server.stop)
 
     def test_a_call_whose_page_nobody_has_seen(self) -> None:
-        """It is not sent; `letters --send` asks itself, and sends it once the right page is there."""
+        """It is not sent; `letters --send` asks itself, and sends it once the page is there."""
         words = (*boxes.UNTIL, "--to", "vote@club.example", "--at", self.host.at, "--box")
         next_ = ", vote.php too; then debvote-election letters --send sends the letters, or debvote-election letters call writes them, and tries first"
         self.assertIn(next_, self.done("call", *words).output)

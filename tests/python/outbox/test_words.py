@@ -1,4 +1,4 @@
-"""What letters say, and their bytes: each outcome in each language, and names and titles that try to do harm."""
+"""What letters say, and their bytes: each outcome in each language, and hostile names."""
 
 import dataclasses
 import datetime
@@ -201,7 +201,9 @@ class Texts(unittest.TestCase):
             self.assertEqual("The secretary typed it" in told, is_told)
 
     def test_of_a_result(self) -> None:
-        """The letter for all, and within it, behind the winner, the own ballot and where the result is."""
+        """The letter for all, and within it, behind the winner, the own ballot and where the result
+        is.
+        """
         place = f"The result is published at:\n  {AT}\n"
         rest = "\nDOUBTS\n\nTHE FILES OF THE RESULT\n\nDownload them.\n"
         how = {"answers": "2,1,3", "fates": ()}
@@ -317,7 +319,8 @@ class CallLetter(unittest.TestCase):
             self.assertIn(limit + said, text)
 
     def test_what_one_letter_says_and_another_does_not(self) -> None:
-        # the texts are in the call on paper, and not in what follows it; a word is an answer to a motion alone
+        # the texts are in the call on paper, and not in what follows it; a word is an answer to a
+        # motion alone
         motion = SealedPoll("Fee", ("Yes",), (1,), "No", 0, ("ada", "ben"), motion=True)
         questions = Questions({"A": explained("A lake.")[""], "B": motion}, "Meeting")
         now = vote(questions=questions, quorum_votes={"A": 1, "B": 0})
@@ -408,7 +411,9 @@ class Printed(unittest.TestCase):
             self.assertEqual(self.sides(is_secret=is_secret, letters=letters), sides)
 
     def test_a_letter_has_at_most_two_sides_and_the_texts_or_where_they_are(self) -> None:
-        """With twelve options, no page, a secret code, and 600 characters of the secretary's own; or with texts, if they have room."""
+        """With twelve options, no page, a secret code, and 600 characters of the secretary's own;
+        or with texts, if they have room.
+        """
         printed = []
         names = tuple(
             f"A rather long name of an option, as societies have them, number {number}"

@@ -1,4 +1,4 @@
-"""Several questions as one value: title, checksums and mark, the form of a ballot, aliases, and texts that read as answers."""
+"""Several questions as one value: title, checksums and mark, form of a ballot, aliases."""
 
 import dataclasses
 import hmac
