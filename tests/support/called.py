@@ -189,9 +189,12 @@ class LettersTest(CalledTest):
         numbers = self.numbers()
         self.assertEqual((numbers["waiting"], numbers["stopping"]), (count, [*stopping]))
 
-    def change_roll(self, before: str, after: str) -> None:
-        """Reads a list of members in which some words are others."""
-        self.write("members.csv", elections.members_of(self.names).replace(before, after))
+    def change_roll(self, *changes: str) -> None:
+        """Reads a list of members in which some words are others: before, after, before, .."""
+        members = elections.members_of(self.names)
+        for before, after in zip(changes[::2], changes[1::2], strict=True):
+            members = members.replace(before, after)
+        self.write("members.csv", members)
         self.told("roll", "--yes")
 
     @property

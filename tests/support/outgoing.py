@@ -1,4 +1,4 @@
-"""What the tests of letters that go out share: elections with addresses, what was written, and a mail server on this computer."""
+"""What tests of outgoing letters share: elections, what was written, and a mail server."""
 
 import contextlib
 import email
@@ -13,7 +13,7 @@ import sys
 import threading
 import typing
 import unittest
-from collections.abc import Callable, Mapping, Sequence
+from collections.abc import Mapping, Sequence
 
 from tests.support import elections
 from tests.support.called import LettersTest
@@ -32,7 +32,9 @@ logging.getLogger("mail.log").setLevel(logging.CRITICAL)
 
 
 class OutTest(LettersTest):
-    """A test with an election that was called with an end and the address of its page; the clock is some days later."""
+    """A test with an election that was called with an end and the address of its page; the clock is
+    some days later.
+    """
 
     call_words: Sequence[str] | None = (
         "--to",
@@ -46,8 +48,16 @@ class OutTest(LettersTest):
     )
     now = TEN
 
+    def extend(self, until: str) -> None:
+        """Another end of the vote, in the zone of the first one."""
+        self.done("call", "--until", until)
+
+    def text_in(self, name: str) -> str:
+        """A file, each blank as one space."""
+        return " ".join(self.read(name).decode().split())
+
     def rows(self, kind: str) -> list[tuple[str, str]]:
-        """The states of the letters of a kind, in their order, each with the name of its elector."""
+        """The states of the letters of a kind, in order, each with the name of its elector."""
         words = (
             "SELECT name, state FROM sent JOIN elector USING (elector) WHERE kind = ? ORDER BY sent"
         )
@@ -76,6 +86,9 @@ class OutTest(LettersTest):
             if file.suffix == ".eml"
         }
 
+    def receivers(self, kind: str) -> list[str]:
+        return [message["To"] for message in self.written(kind).values()]
+
     def texts(self, kind: str, *words: object) -> dict[str, str]:
         return {name: one_line(message) for name, message in self.written(kind, *words).items()}
 
@@ -99,30 +112,26 @@ class Taken(typing.NamedTuple):
 
 
 class MailServer:
-    """A mail server that notes what it takes. `answers` has the answer to RCPT or DATA by address. `at` is called at each step of
-    each letter, by its name and the number of the letter from 0, and the connection is cut if it says so.
+    """A mail server that notes what it takes. `answers` has the answer to RCPT or DATA by address.
+    `at` is called at each step of each letter, by its name and the number of the letter from 0, and
+    the connection is cut if it says so.
     """
 
     def __init__(self, **how: object) -> None:
         if Controller is None:
             raise unittest.SkipTest("aiosmtpd is not installed")
-        self.taken: list[Taken] = []
-        self.rcpt_answers: dict[str, str] = {}
-        self.data_answers: dict[str, str] = {}
-        self.mail_answer = "250 OK"
-        self.steps: list[tuple[str, int]] = []
-        self.at: Callable[[str, int], bool] = lambda step, number: False
-        self.logins: list[tuple[bytes, bytes]] = []
+        self.taken, self.steps, self.logins = [], [], []
+        self.rcpt_answers, self.data_answers, self.mail_answer = {}, {}, "250 OK"
+        self.at = lambda step, number: False
         self.started, self.is_stopped, self.was_encrypted = 0, False, False
         with socket.socket() as probe:
             probe.bind(("127.0.0.1", 0))
             self.port = probe.getsockname()[1]
-        self.controller = Controller(self, hostname="127.0.0.1", port=self.port, ready_timeout=60, **how)  # type: ignore[arg-type]
+        self.controller = Controller(
+            self, hostname="127.0.0.1", port=self.port, ready_timeout=60, **how
+        )
         self.controller.start()
-
-    @property
-    def name(self) -> str:
-        return f"127.0.0.1:{self.port}"
+        self.name = f"127.0.0.1:{self.port}"
 
     def stop(self) -> None:
         if not self.is_stopped:
@@ -132,6 +141,10 @@ class MailServer:
     def addresses(self) -> list[str]:
         return [one.to for one in self.taken]
 
+    def texts(self) -> dict[str, str]:
+        """What it has taken, by the names before the @."""
+        return {one.to.partition("@")[0]: one_line(parsed(one.data)) for one in self.taken}
+
     def is_cut(self, step: str, server: SMTP) -> bool:
         self.steps.append((step, self.started))
         if self.at(step, self.started):
@@ -139,44 +152,40 @@ class MailServer:
             return True
         return False
 
-    async def handle_MAIL(
-        self, server: SMTP, session: object, envelope: object, address: str, options: object
-    ) -> str:
+    async def handle_MAIL(self, server, session, envelope, address, options):
         if self.is_cut("mail", server):
             return "421 gone"
-        envelope.mail_from = address  # type: ignore[attr-defined]
+        envelope.mail_from = address
         return self.mail_answer
 
-    async def handle_RCPT(
-        self, server: SMTP, session: object, envelope: object, address: str, options: object
-    ) -> str:
+    async def handle_RCPT(self, server, session, envelope, address, options):
         if self.is_cut("rcpt", server):
             return "421 gone"
         answer = self.rcpt_answers.get(address, "250 OK")
         if answer.startswith("250"):
-            envelope.rcpt_tos.append(address)  # type: ignore[attr-defined]
+            envelope.rcpt_tos.append(address)
         return answer
 
-    async def handle_DATA(self, server: SMTP, session: object, envelope: object) -> str:
-        [to] = envelope.rcpt_tos  # type: ignore[attr-defined]
-        self.was_encrypted = session.ssl is not None  # type: ignore[attr-defined]
+    async def handle_DATA(self, server, session, envelope):
+        [to] = envelope.rcpt_tos
+        self.was_encrypted = session.ssl is not None
         if self.is_cut("data", server):
             return "421 gone"
         answer = self.data_answers.get(to, "250 taken")
         if answer.startswith("250"):
-            self.taken.append(Taken(to, envelope.content))  # type: ignore[attr-defined]
+            self.taken.append(Taken(to, envelope.content))
         self.started += 1
         return answer
 
-    def authenticated(
-        self, server: object, session: object, envelope: object, mechanism: str, data: object
-    ) -> AuthResult:
-        self.logins.append((data.login, data.password))  # type: ignore[attr-defined]
-        return AuthResult(success=data.password == b"right", handled=False)  # type: ignore[attr-defined]
+    def authenticated(self, server, session, envelope, mechanism, data):
+        self.logins.append((data.login, data.password))
+        return AuthResult(success=data.password == b"right", handled=False)
 
 
 class PlainServer:
-    """A mail server that answers by itself, as no good one does: to each step by its name, else as it should."""
+    """A mail server that answers by itself, as no good one does: to each step by its name, else as
+    it should.
+    """
 
     usual = {
         "helo": "250 here",
@@ -231,6 +240,11 @@ class SendTest(OutTest):
         self.addCleanup(server.stop)
         return server
 
+    def mail_server_with_login(self) -> MailServer:
+        return self.mail_server(
+            authenticator=lambda *words: self.server.authenticated(*words), auth_require_tls=False
+        )
+
     def send(self, kind: str, *words: object) -> elections.Ended:
         """Sends letters; reminders also within a day of the last ones."""
         words = (*words, "--yes") if kind == "reminders" else words
@@ -244,26 +258,17 @@ class SendTest(OutTest):
         return ended
 
     def assert_none_is_due(self, kind: str) -> None:
+        before = self.server.addresses()
         self.assert_sent(
             kind, "There is no letter to send: the server has taken all that are due.\n"
         )
+        self.assertEqual(self.server.addresses(), before)
 
-    def sending(self, kind: str) -> subprocess.Popen:
+    def sending(self) -> subprocess.Popen:
+        """A run of its own that sends the call."""
+        words = f"letters call --send --server {self.server.name}".split()
         env = elections.environment() | self.clock | {"XDG_STATE_HOME": str(self.state)}
-        words = [
-            sys.executable,
-            elections.ELECTION,
-            "letters",
-            kind,
-            "--send",
-            "--server",
-            self.server.name,
-        ]
+        how = {"stdout": subprocess.PIPE, "stderr": subprocess.DEVNULL, "text": True}
         return subprocess.Popen(
-            words,
-            cwd=self.folder,
-            env=env,
-            stdout=subprocess.PIPE,
-            stderr=subprocess.DEVNULL,
-            text=True,
+            [sys.executable, elections.ELECTION, *words], cwd=self.folder, env=env, **how
         )

@@ -1,4 +1,4 @@
-"""Says sentences in a language by its file of translations, for tests that share nothing with debvote_tools.
+"""Says sentences in a language by its file of translations, without debvote_tools.
 
 A no-break space is a blank here: where lines may break is seen in a browser.
 """
@@ -11,7 +11,9 @@ LANGUAGES = ("en", "de", "fr", "es")
 
 
 class Spoken:
-    """A language, which has a translation of each sentence that it is asked for. Options are named as `numbered` says."""
+    """A language, which has a translation of each sentence that it is asked for. Options are named
+    as `numbered` says.
+    """
 
     def __init__(self, code, numbered="{number} {name}"):
         self.code, self.numbered = code, numbered

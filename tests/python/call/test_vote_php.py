@@ -1,6 +1,7 @@
 """The web box of a vote on a real server of PHP.
 
-It says what each request is answered, what the file has then, and that nothing that was acknowledged is lost, whatever fails.
+It says what each request is answered, what the file has then, and that nothing that was
+acknowledged is lost, whatever fails.
 """
 
 import concurrent.futures
@@ -93,11 +94,18 @@ BAD = [
 ]
 
 
-@NEEDS_PHP
-class Requests(BoxTest):
-    def host(self, *settings: str, **how: object) -> Host:
-        """In another time zone than that of the records."""
-        return super().host("-d", "date.timezone=Asia/Kolkata", *settings, **how)
+def click(host: Host, number: int, ranks: str = "1,2", name: str = "ada") -> Answer:
+    """The answer to a ballot."""
+    return host.send(ballot(name, ranks, number))
+
+
+class ClickTest(BoxTest):
+    def assert_answer(self, answer: Answer, status: int, word: str) -> None:
+        self.assertEqual((answer.status, answer.word), (status, word))
+
+    def assert_lost(self, *answers: Answer) -> None:
+        for answer in answers:
+            self.assert_answer(answer, 503, "lost:")
 
     def received(self, answer: Answer) -> str:
         """The time of an answer that says that the ballot arrived."""
@@ -105,15 +113,20 @@ class Requests(BoxTest):
         self.assertEqual((answer.status, found is not None), (200, True), answer)
         return found[1] if found else ""
 
+
+@NEEDS_PHP
+class Requests(ClickTest):
+    def host(self, *settings: str, **how: object) -> Host:
+        """In another time zone than that of the records."""
+        return super().host("-d", "date.timezone=Asia/Kolkata", *settings, **how)
+
     def test_the_script_is_short_and_the_same_for_each_vote(self) -> None:
         code = resources("debvote_tools.call", SCRIPT).encode()
         self.assertLessEqual(len(code), 4_700)
-        self.assertTrue(code.endswith(END_OF_CODE) and code.count(END_OF_CODE) == 1)
-        other = script_of(b"x" * 32, "0" * 16, {})
-        for script in (self.script, other):
-            self.assertEqual(script[: len(code)], code)
-        checked = subprocess.run(["php", "-n", "-l", self.folder / SCRIPT], capture_output=True)
-        self.assertEqual(checked.returncode, 0)
+        self.assertEqual(code.find(END_OF_CODE), len(code) - len(END_OF_CODE))
+        for script in (self.script, script_of(b"x" * 32, "0" * 16, {})):
+            self.assertTrue(script.startswith(code))
+        subprocess.run(["php", "-n", "-l", self.folder / SCRIPT], capture_output=True, check=True)
 
     def test_each_row_of_the_protocol(self) -> None:
         host = self.host()
@@ -127,8 +140,8 @@ class Requests(BoxTest):
         self.assertTrue(before <= said <= datetime.datetime.now(datetime.UTC))
         self.assertEqual((self.file.read_bytes(), self.file.stat().st_mode & 0o777), (FIRST, 0o600))
         # a ballot, of one question and of several
-        first = self.received(host.send(ballot("ada", "1,2,-,10", 1)))
-        second = self.received(host.send(ballot("ben-lee", "A 1,2 B 2,1,3", 2)))
+        first = self.received(click(host, 1, "1,2,-,10"))
+        second = self.received(click(host, 2, "A 1,2 B 2,1,3", "ben-lee"))
         wanted = record("ada", "ada 1,2,-,10", 1, first)
         wanted += record("ben-lee", "ben-lee A 1,2 B 2,1,3", 2, second)
         self.assertEqual(self.file.read_text(), FIRST.decode() + wanted)
@@ -156,17 +169,16 @@ class Requests(BoxTest):
             for body in bodies:
                 with self.subTest(body=body[:100]):
                     answer = host.send(body)
-                    self.assertEqual((answer.status, answer.word), (status, word))
+                    self.assert_answer(answer, status, word)
                     # nothing of a request is echoed
                     self.assertRegex(answer.text, r"\A[a-z]+: [a-z ]+\n\Z")
         for method in ("GET", "HEAD", "PUT", "DELETE", "OPTIONS", "PATCH"):
-            answer = host.send(ballot("ada", "1,2", 3), method, path="/vote.php?ada")
-            found = (answer.status, answer.word, answer.headers.get("allow"))
-            self.assertEqual(found, (405, "" if method == "HEAD" else "bad:", "POST"), method)
+            answer = host.send(GOOD, method, path="/vote.php?ada")
+            self.assert_answer(answer, 405, "" if method == "HEAD" else "bad:")
+            self.assertEqual(answer.headers.get("allow"), "POST")
         heads = {"x-content-type-options": "nosniff", "cache-control": "no-store"}
         heads["access-control-allow-origin"] = None
-        again = host.send(ballot("ada", "1,2,-,10", 1))
-        for answer in (answer, host.ask(), host.send(b"x"), again):
+        for answer in (answer, host.ask(), host.send(b"x"), click(host, 1, "1,2,-,10")):
             self.assertEqual({name: answer.headers.get(name) for name in heads}, heads)
             self.assertEqual(int(answer.headers["content-length"]), len(answer.text))
             self.assertTrue(answer.headers["content-type"].startswith("text/plain"))
@@ -178,101 +190,84 @@ class Requests(BoxTest):
         self.assertEqual(opened, ["", "bad: only POST\n"])
 
     def test_the_longest_ballot(self) -> None:
+        """And a request that is a field of a form."""
         host, longest = self.host(), 3_800
         for number, signs, status in ((1, longest, 200), (2, longest + 1, 400), (3, LIMIT, 413)):
             body = ballot("ada", "1,2", number)
             sent = body.replace(body.splitlines()[1], b"A" * signs)
-            for fields in (b"", b"box="):
-                self.assertEqual(host.send(fields + sent).status, status)
+            answers = [host.send(fields + sent) for fields in (b"", b"box=")]
+            self.assertEqual({answer.status for answer in answers}, {status})
+            self.assertEqual(*(answer.text for answer in answers))
         self.assertEqual(len(host.records()), 1)
-
-    def test_a_ballot_of_several_questions_is_one_record(self) -> None:
-        """Also the longest one, of each question with as many options as there can be."""
-        longest = " ".join(f"{label} {','.join(['32'] * 32)}" for label in LABELS)
-        host, ballots = self.host(), ["A 1,2", "A 1,2 C 2,1,3,-", longest]
-        for number, answers in enumerate(ballots, start=1):
-            self.assertEqual(host.send(ballot("ada", answers, number)).word, "received")
-        self.assertEqual(host.lines(), [f"ada {answers}" for answers in ballots])
+        self.assertEqual(host.send(b"box=" + ASK).text, host.send(ASK).text)
+        # of each question with as many options as there can be
+        answers = " ".join(f"{label} {','.join(['32'] * 32)}" for label in LABELS)
+        self.received(click(host, 4, answers, "ben-lee"))
+        self.assertIn(f"ben-lee {answers}", sealing.line_in(KEY, host.records()[1]))
 
     def test_other_kinds_of_content_and_a_request_that_names_a_file(self) -> None:
         host = self.host()
-        application = [
-            f"application/{kind}" for kind in ("x-www-form-urlencoded", "json", "octet-stream")
-        ]
-        kinds = [*application, "text/plain;charset=UTF-8"]
+        kinds = [f"application/{kind}" for kind in ("x-www-form-urlencoded", "json")]
+        kinds += ["application/octet-stream", "text/plain;charset=UTF-8"]
         for number, kind in enumerate(kinds):
             how = {"Content_Type": kind, "Origin": "https://else.example"}
-            self.assertEqual(host.send(ballot("ada", "1,2", number), **how).word, "received")
+            self.received(host.send(ballot("ada", "1,2", number), **how))
         parts = "multipart/form-data; boundary=x"
-        self.assertEqual(host.send(ballot("ada", "1,2", 9), Content_Type=parts).status, 400)
+        self.assertEqual(host.send(GOOD, Content_Type=parts).status, 400)
         # what stands in the address changes nothing
         for more in ("?file=/tmp/x&ask=1", "/box.php", "?/../../etc/passwd"):
-            answer = host.send(ballot("ben-lee", "1,2", 7), path=f"/vote.php{more}")
-            self.assertEqual(answer.word, "received", more)
+            self.received(host.send(GOOD, path=f"/vote.php{more}"))
         self.assertEqual(len(host.lines()), len(kinds) + 1)
         self.assertEqual({file.name for file in self.folder.iterdir()}, {SCRIPT, FILE})
 
     def test_what_is_sent_again_is_one_record(self) -> None:
         host = self.host()
-        first = self.received(host.send(ballot("ada", "1,2", 1)))
-        later = self.received(host.send(ballot("ada", "2,1", 2)))
+        first, later = (self.received(click(host, *one)) for one in ((1, "1,2"), (2, "2,1")))
         self.assertLess(first, later)
-        self.assertEqual(self.received(host.send(ballot("ada", "1,2", 1))), first)
-        self.assertEqual(self.received(host.send(ballot("ada", "2,1", 2))), later)
+        again = [self.received(click(host, *one)) for one in ((1, "1,2"), (2, "2,1"))]
+        self.assertEqual(again, [first, later])
         for name, ranks in (("ada", "2,1"), ("ada", "1,"), ("ben-lee", "1,2")):
-            answer = host.send(ballot(name, ranks, 1))
-            self.assertEqual((answer.status, answer.word), (400, "bad:"))
+            self.assert_answer(click(host, 1, ranks, name), 400, "bad:")
         self.assertEqual(host.lines(), ["ada 1,2", "ada 2,1"])
 
     def test_a_hundred_records_of_a_link(self) -> None:
         host = self.host()
-        sent = (ballot("ada", "1,2", number) for number in range(OF_A_LINK))
-        times = [self.received(host.send(body)) for body in sent]
+        times = [self.received(click(host, number)) for number in range(OF_A_LINK)]
         # each in a second of its own, in the order in which they came
         self.assertEqual(times, sorted(set(times)))
-        answer = host.send(ballot("ada", "1,2", 999))
-        self.assertEqual((answer.status, answer.word), (429, "many:"))
+        self.assert_answer(click(host, 999), 429, "many:")
         # what it has is told again, and others may send
-        self.assertEqual(self.received(host.send(ballot("ada", "1,2", 3))), times[3])
-        self.received(host.send(ballot("ben-lee", "1,2", 100)))
+        self.assertEqual(self.received(click(host, 3)), times[3])
+        self.received(click(host, 100, name="ben-lee"))
         self.assertEqual(len(host.lines()), OF_A_LINK + 1)
 
-    def test_a_request_may_be_a_field_of_a_form(self) -> None:
-        host, fields = self.host(), b"box="
-        sent = ballot("ada", "1,2", 1)
-        times = {self.received(host.send(body)) for body in (fields + sent, sent, fields + sent)}
-        self.assertEqual(len(times), 1)
-        self.assertEqual(host.send(fields + ASK).text, host.send(ASK).text)
-        self.assertEqual(host.lines(), ["ada 1,2"])
-
     def test_a_clock_that_is_put_back(self) -> None:
-        """Of one link what comes later has a later time, and is not kept if that would be far ahead;
-        others have the time of the clock.
+        """Of one link what comes later has a later time, and is not kept if that would be far
+        ahead; others have the time of the clock.
         """
         room = pathlib.Path(self.enterContext(tempfile.TemporaryDirectory(prefix="debvote-clock-")))
         host, times = self.host(*clock_of_php(room)), []
         for name, ahead in (("ada", 300), ("ada", 0), ("ben-lee", 0), ("ada", 150), ("ada", 600)):
             (room / HOST_OFF).write_text(str(ahead))
-            said = self.received(host.send(ballot(name, "1,2", len(times))))
+            said = self.received(click(host, len(times), name=name))
             times.append(datetime.datetime.fromisoformat(said))
         first, second, of_ben, third, last = ((one - times[0]).total_seconds() for one in times)
         self.assertEqual((first, second, third), (0, 1, 2))
         self.assertTrue(-300 <= of_ben < -150 and 300 <= last < 450, times)
         before = self.file.read_bytes()
         (room / HOST_OFF).write_text("-60")
-        answer = host.send(ballot("ada", "1,2", 9))
-        self.assertEqual((answer.status, answer.word), (503, "lost:"))
-        self.received(host.send(ballot("ada", "1,2", 4)))
+        self.assert_lost(click(host, 9))
+        self.received(click(host, 4))
         self.assertEqual(self.file.read_bytes(), before)
-        self.received(host.send(ballot("cleo.x", "1,2", 10)))
+        self.received(click(host, 10, name="cleo.x"))
 
     def test_each_request_has_the_file_alone(self) -> None:
         """Who only reads it holds a ballot up, too: two that write at once would lose one."""
         host = self.host()
-        self.received(host.send(ballot("ada", "1,2", 1)))
+        self.received(click(host, 1))
         with (self.folder / FILE).open() as file, concurrent.futures.ThreadPoolExecutor(1) as pool:
             fcntl.flock(file, fcntl.LOCK_SH)
-            sent = pool.submit(host.send, ballot("ada", "2,1", 2))
+            sent = pool.submit(click, host, 2, "2,1")
             with self.assertRaises(TimeoutError):
                 sent.result(timeout=1)
             fcntl.flock(file, fcntl.LOCK_UN)
@@ -290,23 +285,22 @@ class Requests(BoxTest):
                 sent = list(pool.map(host.send, bodies))
                 self.assertEqual([one.status for one in sent], [200] * 6)
                 self.assertEqual((sent[0].text, sent[4].word), (sent[3].text, "box"))
-        records = [record for record in host.records() if digest_of("ada") in record]
-        times = [re.findall(r"Received: by box; (.*) \+0000", record)[0] for record in records]
+        by_ada = rf"Received: by box; (.*) \+0000\nX-Proof: {digest_of('ada')}"
+        times = re.findall(by_ada, "".join(host.records()))
         read = [datetime.datetime.strptime(one, "%a, %d %b %Y %H:%M:%S") for one in times]
         self.assertEqual((len(read), read), (9, sorted(set(read))))
 
     def test_bad_requests_refuse_no_good_one(self) -> None:
-        host, many = self.host(), 2_000
+        host, many = self.host(), 800
         bad = [*BAD, b"x" * 5_000, ballot("ada", "1,2", 1, "2" * 16), request_of("ask " + "1" * 64)]
         for number in range(many):
             self.assertIn(host.send(bad[number % len(bad)]).status, (400, 403, 413))
             if number % 100 == 0:
-                name = list(OWNS)[number // 100 % 3]
-                self.received(host.send(ballot(name, "2,1", number)))
+                self.received(click(host, number, "2,1", list(OWNS)[number // 100 % 3]))
         self.assertEqual(len(host.lines()), many // 100)
 
     def test_a_click_takes_no_time_in_a_large_box(self) -> None:
-        """Of the processor, of which a web host gives little; in a vote of ten thousand electors."""
+        """Of the processor, of which a web host gives little; with ten thousand electors."""
         owns = OWNS | {f"e{number:04}": "56789abcde" for number in range(10_000)}
         (self.folder / SCRIPT).write_bytes(script_of(KEY, MARK, owns))
         host = self.host()
@@ -319,43 +313,47 @@ class Requests(BoxTest):
         )
         before = host.seconds()
         for number in range(OF_A_LINK):
-            self.received(host.send(ballot("ada", "1,2", number)))
+            self.received(click(host, number))
         self.assertLess((host.seconds() - before) / OF_A_LINK, 0.04)
 
 
 @NEEDS_PHP
-class Votes(BoxTest):
+class Votes(ClickTest):
     def test_another_script_over_it_is_asked_at_once(self) -> None:
         """A host keeps compiled code, and has to see at once what is new below it."""
+
+        def put(*call: object) -> bytes:
+            script = script_of(*call)
+            (self.folder / SCRIPT).write_bytes(script)
+            return script
+
         for settings in ([], CACHE):
             with self.subTest(settings=settings), Host(self.folder, *settings) as host:
-                (self.folder / SCRIPT).write_bytes(self.script)
-                self.assertEqual(host.send(ballot("ada", "1,2", 1)).word, "received")
+                put(KEY, MARK, OWNS)
+                self.received(click(host, 1))
                 if settings:
                     # new code is not seen: so the code has to be the same
                     changed = self.script.replace(b"bad: only POST", b"bad: only HEAD")
                     (self.folder / SCRIPT).write_bytes(changed)
                     self.assertEqual(host.send(b"", "GET").text, "bad: only POST\n")
                 # a new own mark: the old link is unknown, its record stays, and it can be asked for
-                other = script_of(KEY, MARK, OWNS | {"ada": "zzzzzzzzzz"})
-                (self.folder / SCRIPT).write_bytes(other)
-                self.assertEqual(host.send(ballot("ada", "1,2", 1)).status, 403)
-                link = third_part(KEY, "ada", "zzzzzzzzzz")
-                sent = ballot("ada", "2,1", 2, link, own="zzzzzzzzzz")
-                self.assertEqual(host.send(sent).word, "received")
+                own = "zzzzzzzzzz"
+                other = put(KEY, MARK, OWNS | {"ada": own})
+                self.assertEqual(click(host, 1).status, 403)
+                link = third_part(KEY, "ada", own)
+                self.received(host.send(ballot("ada", "2,1", 2, link, own=own)))
                 self.assertIn(f" {list_digest(other)} ", host.ask().text)
                 self.assertEqual(host.lines(), ["ada 1,2", "ada 2,1"])
                 # another call of the same book, whose own marks are new; and one of another book,
                 # which has a file of its own
-                owns = {name: own[::-1] for name, own in OWNS.items()}
-                (self.folder / SCRIPT).write_bytes(script_of(KEY, "f" * 16, owns))
-                self.assertEqual(host.send(ballot("ada", "1,2", 3)).status, 409)
+                put(KEY, "f" * 16, {name: own[::-1] for name, own in OWNS.items()})
+                self.assertEqual(click(host, 3).status, 409)
                 self.assertTrue(host.ask().text.startswith(f"box 2 {'f' * 16} "))
-                (self.folder / SCRIPT).write_bytes(script_of(b"x" * 32, MARK, OWNS))
+                put(b"x" * 32, MARK, OWNS)
                 self.assertEqual(host.ask().status, 403)
                 self.assertEqual(host.ask(asking_word(b"x" * 32)).text.count("\n"), 1)
                 # with this poll, too
-                self.assertEqual(host.send(ballot("ada", "1,2", 3)).status, 409)
+                self.assertEqual(click(host, 3).status, 409)
                 self.file.unlink()
 
     def test_a_script_without_its_list(self) -> None:
@@ -367,43 +365,43 @@ class Votes(BoxTest):
         self.assertFalse(self.file.exists())
 
     def test_the_key_is_in_no_request_and_in_no_file(self) -> None:
-        host = self.host()
-        host.send(ballot("ben-lee", "1,2", 1))
-        for text in (self.script, self.file.read_bytes(), WORD.encode()):
-            self.assertNotIn(KEY, text)
-            self.assertNotIn(KEY.hex().encode(), text)
-        # nor has either a name or a link, or what is kept a line
-        for secret in (WORD, *LINKS.values(), *OWNS.values(), "ben-lee", "cleo.x"):
-            self.assertNotIn(secret.encode(), self.script)
-            self.assertNotIn(secret.encode(), self.file.read_bytes())
+        """Nor has script or file a name or a link, or what is kept a line."""
+        click(self.host(), 1, name="ben-lee")
+        found = self.script + self.file.read_bytes()
+        secrets = [KEY.hex(), WORD, *LINKS.values(), *OWNS.values(), "ben-lee", "cleo.x"]
+        for secret in (KEY, *map(str.encode, secrets)):
+            self.assertNotIn(secret, found)
         self.assertNotIn(b"1,2", self.file.read_bytes())
+        for key in (KEY, KEY.hex().encode()):
+            self.assertNotIn(key, WORD.encode())
 
 
 @NEEDS_PHP
-class Broken(BoxTest):
+class Broken(ClickTest):
     """The file was cut off, the disk is full or broken."""
 
     def test_a_record_that_was_cut_off_is_written_over(self) -> None:
         host = self.host()
         for number in (1, 2):
-            host.send(ballot("ada", "1,12", number))
+            click(host, number, "1,12")
         whole = self.file.read_bytes()
         begin = len(whole) - len(whole.split(END)[1]) - len(END)
         kept = whole[:begin]
         self.assertTrue(kept.endswith(END))
-        for cut in (*range(len(FIRST)), *range(begin, len(whole) + 1)):
+        ends = range(len(whole) - len(END) - 2, len(whole) + 1)
+        for cut in (*range(len(FIRST)), *range(begin, ends[0], 9), *ends):
             with self.subTest(cut=cut):
                 self.file.write_bytes(whole[:cut])
                 known = whole if cut == len(whole) else kept if cut >= begin else FIRST
                 # an asking, a click, and again
                 count = known.count(END)
                 self.assertEqual(len(host.records()), count)
-                answer = host.send(ballot("ben-lee", "2,1", 3))
-                new = record("ben-lee", "ben-lee 2,1", 3, answer.text.split()[1]).encode()
-                self.assertEqual((answer.word, self.file.read_bytes()), ("received", known + new))
+                then = self.received(click(host, 3, "2,1", "ben-lee"))
+                new = record("ben-lee", "ben-lee 2,1", 3, then).encode()
+                self.assertEqual(self.file.read_bytes(), known + new)
                 # the one that was cut off is sent again
                 self.file.write_bytes(whole[:cut])
-                self.assertEqual(host.send(ballot("ada", "1,12", 2)).word, "received")
+                self.received(click(host, 2, "1,12"))
                 self.assertEqual(host.lines(), ["ada 1,12"] * max(count + (cut < len(whole)), 1))
 
     def test_what_is_no_file_of_a_box_is_left_as_it_is(self) -> None:
@@ -411,43 +409,40 @@ class Broken(BoxTest):
         head, marked = b"From box@page.invalid\n-- \n\n", b"\xef\xbb\xbf" + FIRST + b"From"
         for data in (b"<?php exit; ?>\r\nFrom x\r\n", b"x" * 100, head, marked):
             self.file.write_bytes(data)
-            for answer in (host.ask(), host.send(ballot("ada", "1,2", 1))):
-                self.assertEqual((answer.status, answer.word), (503, "lost:"))
+            self.assert_lost(host.ask(), click(host, 1))
             self.assertEqual(self.file.read_bytes(), data)
         self.file.unlink()
         self.file.mkdir()
-        self.assertEqual(host.ask().status, 503)
+        self.assert_lost(host.ask())
 
     def test_a_full_disk(self) -> None:
         """A write that fails at each byte is taken back, and the next one is whole."""
         with Host(self.folder) as host:
-            host.send(ballot("ada", "1,2", 1))
+            click(host, 1)
         whole = self.file.read_bytes()
         for missing in (1, 2, 3, 100, len(whole) - len(FIRST)):
             with self.subTest(missing=missing):
                 self.file.write_bytes(whole)
                 with Host(self.folder, most_bytes=2 * len(whole) - len(FIRST) - missing) as host:
-                    answer = host.send(ballot("ada", "2,1", 2))
-                    self.assertEqual((answer.status, answer.word), (503, "lost:"))
+                    self.assert_lost(click(host, 2, "2,1"))
                     self.assertEqual(self.file.read_bytes(), whole)
                     self.assertEqual(host.lines(), ["ada 1,2"])
-                    self.assertEqual(host.send(ballot("ada", "1,2", 1)).word, "received")
+                    self.received(click(host, 1))
         # not even the first line
         self.file.unlink()
         with Host(self.folder, most_bytes=len(FIRST) - 1) as host:
-            for body in (ASK, ballot("ada", "1,2", 1)):
-                self.assertEqual(host.send(body).word, "lost:")
+            self.assert_lost(host.ask(), click(host, 1))
             self.assertEqual(self.file.read_bytes(), b"")
         with Host(self.folder) as host:
-            self.assertEqual(host.send(ballot("ada", "1,2", 1)).word, "received")
+            self.received(click(host, 1))
             self.assertEqual(len(host.lines()), 1)
 
     def test_a_php_without_fsync(self) -> None:
-        """PHP 8.0 compiles all but that: it kept ballots, failed before the answer, and was asked well."""
+        """PHP 8.0 compiles all but that: it kept ballots, failed before the answer, and was asked
+        well.
+        """
         host = self.host("-d", "disable_functions=fsync")
-        for body in (ASK, ballot("ada", "1,2", 1)) * 2:
-            answer = host.send(body)
-            self.assertEqual((answer.status, answer.word), (503, "lost:"))
+        self.assert_lost(host.ask(), click(host, 1), host.ask())
         self.assertFalse(self.file.exists())
 
     def test_a_box_that_is_full(self) -> None:
@@ -461,7 +456,7 @@ class Broken(BoxTest):
             fill = b"1" * (FULL - left - len(FIRST) - many * len(one) - len(END))
             self.file.write_bytes(FIRST + one * many + fill + END)
             self.assertEqual(self.file.stat().st_size, FULL - left)
-            self.assertEqual(host.send(ballot("ada", "1,2", 1)).word, word)
+            self.assertEqual(click(host, 1).word, word)
             answer, size = host.ask(), self.file.stat().st_size - len(FIRST)
             self.assertEqual((answer.status, len(answer.text.partition("\n")[2])), (200, size))
         self.assertEqual(self.file.stat().st_size, FULL - length + 1)
@@ -469,7 +464,7 @@ class Broken(BoxTest):
 
 @NEEDS_PHP
 @unittest.skipUnless(STRACE, "strace is not installed")
-class Killed(BoxTest):
+class Killed(ClickTest):
     """Calls of the system fail, and PHP is killed before each of them."""
 
     def traced(self, *how: object) -> Host:
@@ -482,8 +477,7 @@ class Killed(BoxTest):
                 self.assertEqual(host.send(body).status, 200)
                 host.send(b"")
             lines = [line for line in trace.read().splitlines() if re.match(r"\d+ +\w+\(", line)]
-        counts: dict[str, int] = {}
-        calls = []
+        counts, calls = {}, []
         for line in lines:
             name = line.split()[1].partition("(")[0]
             counts[name] = counts.get(name, 0) + 1
@@ -516,7 +510,7 @@ class Killed(BoxTest):
         for is_new in (True, False):
             calls = self.calls_of(ballot("ada", "1,2", int(is_new)))
             self.assertGreater(len([call for call, _, line in calls if FILE in line]), 10)
-            there: list[int] = []
+            there = []
             for call, count, _ in calls:
                 if is_new or len(there) in (0, OF_A_LINK):
                     self.file.unlink(missing_ok=True)
@@ -534,7 +528,7 @@ class Killed(BoxTest):
                 data = self.file.read_text() if self.file.exists() else ""
                 for number in known:
                     self.assertEqual(data.count(f"<{number:032x}@page.invalid>"), 1, (call, count))
-                self.assertEqual(other.send(body).word, "received", (call, count))
+                self.received(other.send(body))
                 there.append(kills)
                 lines = [f"ada {number % 3 + 1},2" for number in there]
                 self.assertEqual(other.lines(), lines, (call, count))
@@ -549,20 +543,17 @@ class Killed(BoxTest):
         self.assertGreater(len(calls), 10)
         for number, (call, count) in enumerate(calls):
             self.file.unlink(missing_ok=True)
-            with self.traced(
-                "-o", "/dev/null", "-e", f"inject={call}:signal=KILL:when={count}"
-            ) as host:
+            killed = f"inject={call}:signal=KILL:when={count}"
+            with self.traced("-o", "/dev/null", "-e", killed) as host:
                 # the last ones are after the answer
                 self.assertIn(host.ask().status, (0, 200), (call, count))
                 host.process.wait(60)
-            self.assertEqual(
-                other.send(ballot("ada", "1,2", number)).word, "received", (call, count)
-            )
+            self.received(click(other, number))
             self.assertEqual(other.lines(), ["ada 1,2"], (call, count))
 
     def test_a_disk_that_breaks(self) -> None:
         with Host(self.folder) as host:
-            host.send(ballot("ada", "1,2", 1))
+            click(host, 1)
         others = record("ben-lee", "ben-lee 1,2", 7, "2026-11-28T12:00:00Z").encode() * 100
         whole = self.file.read_bytes().replace(FIRST, FIRST + others)
         only = ["-P", self.file, "-o", "/dev/null", "-e"]
@@ -579,10 +570,9 @@ class Killed(BoxTest):
         ):
             with self.subTest(fault), self.traced(*only, f"inject={fault}") as host:
                 self.file.write_bytes(whole)
-                answer = host.send(ballot("ada", "2,1", 2))
                 status = 503 if word == "lost:" else 500
-                self.assertEqual((answer.word, answer.status), (word, status))
+                self.assert_answer(click(host, 2, "2,1"), status, word)
                 self.assertEqual(self.file.read_bytes(), whole)
         with self.traced(*only, "inject=fsync:error=EIO") as host:
-            self.assertEqual(host.send(ballot("ada", "1,2", 1)).word, "unsure:")
+            self.assert_answer(click(host, 1), 500, "unsure:")
         self.assertEqual(self.file.read_bytes(), whole)

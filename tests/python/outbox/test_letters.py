@@ -1,4 +1,4 @@
-"""`letters`: what goes to the electors as files, to whom, and that nothing of it reads as a ballot."""
+"""`letters`: what goes to the electors as files, to whom, and that none of it is a ballot."""
 
 import contextlib
 import datetime
@@ -17,8 +17,8 @@ from debvote_tools.outbox.letter_folder import in_place
 
 from tests.support import elections
 from tests.support.called import LAKE
-from tests.support.letters import OTHER_RANKS, RANKS, TITLE, letter, mailbox, marked
-from tests.support.outgoing import AT, END, OutTest, one_line, parsed
+from tests.support.letters import OTHER_RANKS, RANKS, TEN, TITLE, letter, mailbox, marked
+from tests.support.outgoing import AT, OutTest, one_line, parsed
 
 FORM = f"The page of the vote, which writes the line of your ballot for you, and on which the result will be: {AT}"
 LINE = (
@@ -32,56 +32,35 @@ OPTIONS += "Option 4: Further discussion (the default option)"
 EARLIER = "Mon, 23 Nov 2026 09:59:00 +0000"
 NONE = "No ballot of yours that counts has come yet."
 ELSEWHERE = "A letter in your name came from another address, and waits until the secretary has looked at it."
+RIGHT = "You can send a right line now, and need not wait."
+OTHER_AT = "https://x.example/r/"
 
 
 class Call(OutTest):
     def test_it_has_title_end_form_the_own_line_and_the_mark(self) -> None:
         self.assertIn("Wrote 9 letters: letters/call/", self.done("letters", "call").output)
         found = self.written("call")
-        self.assertEqual(sorted(found), elections.NAMES)
+        owns = dict(self.book.rows("SELECT name, mark FROM elector_now WHERE mark <> ''"))
+        self.assertEqual((sorted(found), len({*owns.values()})), (elections.NAMES, 9))
         for name, message in found.items():
-            text = one_line(message)
-            [(mark, own)] = re.findall(MARKS, message["Subject"])
-            begin = f"Dear {name.title()}, {WHEN} {FORM}#{name}/{own} {LINE}{name} _,_,_,_ The options; the last one is the default "
+            text, mark = one_line(message), f"[{self.mark}-{owns[name]}]"
+            begin = f"Dear {name.title()}, {WHEN} {FORM}#{name}/{owns[name]} {LINE}{name} _,_,_,_ The options; the last one is the default "
             begin += "option, which stays where no other one is good enough: "
             self.assertTrue(
                 text.startswith(f"{begin}{OPTIONS} Answer this letter, or write to "), text
             )
-            self.assertIn(f"whose subject ends with [{mark}-{own}]", text)
-            self.assertIn(
-                f"until the result: {hashlib.sha256(self.read('call/poll.toml')).hexdigest()} Majority ratio 3: ",
-                text,
-            )
+            self.assertIn(f"whose subject ends with {mark}", text)
+            checksum = hashlib.sha256(self.read("call/poll.toml")).hexdigest()
+            self.assertIn(f"until the result: {checksum} Majority ratio 3: ", text)
             # the rules in full are on the page
             self.assertNotIn("Rank before it what you would accept", text)
             self.assertLess(message.get_content().index(AT), 300)
             self.assertEqual([other for other in elections.NAMES if f"{other} _" in text], [name])
             # one page
             self.assertLess(len(message.get_content().splitlines()), 50)
-        # the letter to all has gaps, and the mark of the poll
-        text = " ".join(self.read("call/call.txt").decode().split())
-        self.assertTrue(
-            text.startswith(
-                f"{WHEN} {FORM} {LINE}NAME _,_,_,_ Write your name on the roll in the place of NAME. The options"
-            ),
-            text,
-        )
-        self.assertIn(
-            "Open the link in your letter, or answer that letter: then the subject has your own mark, ",
-            text,
-        )
-        self.assertNotIn("nswer this letter", text)
-        # heads and modes
-        ids, own_marks = set(), dict(
-            self.book.rows(
-                "SELECT name, mark FROM elector JOIN elector_state USING (elector) WHERE mark <> ''"
-            )
-        )
-        self.assertEqual(len(set(own_marks.values())), 9)
-        for name, message in found.items():
-            self.assertEqual(message["To"], f"{name}@club.example")
-            self.assertEqual(message["Subject"], f"Vote: {TITLE} [{self.mark}-{own_marks[name]}]")
             heads = {
+                "To": f"{name}@club.example",
+                "Subject": f"Vote: {TITLE} {mark}",
                 "From": "vote@club.example",
                 "Auto-Submitted": "auto-generated",
                 "X-Unsent": "1",
@@ -89,12 +68,13 @@ class Call(OutTest):
             heads |= dict.fromkeys(("In-Reply-To", "Reply-To", "Cc", "Bcc"))
             self.assertEqual({name: message[name] for name in heads}, heads)
             self.assertRegex(message["Message-ID"], r"^<[0-9a-f]{32}@club\.example>$")
-            ids.add(message["Message-ID"])
-        self.assertEqual(len(ids), 9)
-        for path in [*self.files("call"), *self.files("call")[0].parents[:3]]:
-            self.assertEqual(
-                stat.S_IMODE(path.stat().st_mode), 0o700 if path.is_dir() else 0o600, path
-            )
+        self.assertEqual(len({message["Message-ID"] for message in found.values()}), 9)
+        # the letter to all has gaps, and the mark of the poll
+        text = self.text_in("call/call.txt")
+        begin = f"{WHEN} {FORM} {LINE}NAME _,_,_,_ Write your name on the roll in the place of NAME. The options"
+        self.assertTrue(text.startswith(begin), text)
+        self.assertIn("Open the link in your letter, or answer that letter: then the subject", text)
+        self.assertNotIn("nswer this letter", text)
         # how many are new
         self.assertIn("Wrote 9 letters, none of them new: ", self.done("letters", "call").output)
         self.change_roll("ada@club", "ada@new")
@@ -103,29 +83,27 @@ class Call(OutTest):
     def test_again_it_makes_the_same_files_and_no_act_and_an_answer_goes_in(self) -> None:
         found = self.written("call")
         before = {file: file.read_bytes() for file in self.files("call")}
-        last = self.book.last_number()
+        last = self.last_act()
         for file in before:
             file.unlink()
         self.set_clock("2026-11-24T11:00:00+00:00")
         self.written("call")
         self.assertEqual({file: file.read_bytes() for file in self.files("call")}, before)
-        self.assertEqual(self.book.last_number(), last)
-        # above the quotation of a letter to herself, which has her own mark; it is that of nobody else
+        self.assertEqual(self.last_act(), last)
+        # above the quotation of a letter to herself, which has her own mark; it is that of nobody
+        # else
         quoted = "\n".join(f"> {line}" for line in found["ada"].get_content().splitlines())
         for name in ("ada", "ben"):
             text = f"{name} {RANKS}\n\nOn Mon, 23 Nov 2026 at 09:00, Vote wrote:\n{quoted}\n"
             self.add(letter(name, text, subject=f"Re: {found['ada']['Subject']}", time=EARLIER))
         self.assertEqual(self.exported()[0], f"ada {RANKS}\n")
-        self.assertIn(
-            "its subject lacks the own mark of ben, so anybody may have sent it\n",
-            self.told("held"),
-        )
+        self.assertIn("its subject lacks the own mark of ben", self.told("held"))
 
     def test_after_an_extension_those_who_have_the_call_get_its_letter(self) -> None:
         self.written("call")
         # whose address was wrong has no call yet
         self.change_roll("ada@club", "ada@new")
-        self.done("call", "--until", "2026-12-06 12:00", "--zone", "UTC")
+        self.extend("2026-12-06 12:00")
         found = self.written("call")
         texts = {name: one_line(message) for name, message in found.items()}
         # also in a run after it
@@ -134,16 +112,13 @@ class Call(OutTest):
         self.assertRegex(found["ada"]["Subject"], rf"^Vote: {TITLE} ")
         self.assertNotIn("You have more time", texts.pop("ada"))
         for name, text in texts.items():
-            self.assertTrue(
-                text.startswith(f"Dear {name.title()}, You have more time to vote."), text
-            )
-            when = "Vote until: Sunday, 6 December 2026, 12:00 (UTC) The time was extended. The call said at first: Friday, 4 December"
-            self.assertIn(f"{TITLE} {when} 2026, 18:00 (UTC) {FORM}#{name}/", text)
-            self.assertIn(f"{LINE}{name} _,_,_,_", text)
-        self.done("call", "--until", "2026-12-08 12:00", "--zone", "UTC")
-        self.assertIn(
-            "Vote until: Tuesday, 8 December 2026, 12:00 (UTC)", self.texts("call")["ben"]
-        )
+            begin = f"Dear {name.title()}, You have more time to vote. "
+            self.assertTrue(text.startswith(begin), text)
+            self.assertRegex(text, rf"6 December 2026, 12:00 \(UTC\) .* {LINE}{name} _,_,_,_")
+        # one that went out after an extension is a call
+        self.extend("2026-12-08 12:00")
+        text = self.texts("call")["ada"]
+        self.assertRegex(text, r"You have more time .* Tuesday, 8 December 2026, 12:00 \(UTC\)")
         # in the second of the end it can still be written, and after it nobody is invited
         with mock.patch.object(
             due, "now", lambda: datetime.datetime(2026, 12, 8, 12, tzinfo=datetime.UTC)
@@ -157,59 +132,43 @@ class Call(OutTest):
                 self.assert_refused(("letters", kind), 9, "the vote is over")
         self.assertEqual((self.rows("call"), self.rows("reminders")), (before, []))
 
-    def test_who_has_the_call_that_holds(self) -> None:
-        """One that was taken back is none; one that went out after an extension is one."""
+    def test_a_call_that_was_taken_back_is_none(self) -> None:
         self.written("call")
         self.done("call", "--take-back")
         self.done("call", *self.call_words)
-        for day, is_whole in ((6, True), (8, False)):
-            self.done("call", "--until", f"2026-12-{day:02} 12:00", "--zone", "UTC")
-            for text in self.texts("call").values():
-                self.assertEqual(
-                    ("After the vote all" in text, "You have more time to vote." in text),
-                    (is_whole, not is_whole),
-                )
+        self.extend("2026-12-06 12:00")
+        self.assertRegex(self.texts("call")["ada"], "^(?!.*You have more time).*After the vote all")
 
 
 class Refused(OutTest):
     call_words = None
 
     def test_before_the_call_and_a_call_without_addresses(self) -> None:
-        for kind in ("call", "receipts", "reminders", "closed", "result"):
-            self.assertEqual(
-                self.election("letters", kind, "--from", "vote@club.example").status, 9, kind
-            )
+        sender = ("--from", "vote@other.example")
+        self.assertEqual(self.election("letters", "receipts", *sender).status, 9)
         self.done("call")
         self.assert_fault(self.election("letters", "call"), 2, "--from: the call names no address")
-        found = self.written("call", "--from", "vote@other.example")
-        text, begin = (
-            one_line(found["ada"]),
-            f"Dear Ada, {TITLE} You can vote until the time that the secretary announces. {LINE}ada _,_,_,_ ",
-        )
+        found = self.written("call", *sender)
+        text = one_line(found["ada"])
+        begin = f"Dear Ada, {TITLE} You can vote until the time that the secretary announces. {LINE}ada _,_,_,_ "
         self.assertTrue(text.startswith(begin), text)
-        self.assertIn("Option 3: Sell the house and meet there (majority ratio 3)", text)
         # there is no page that has the rest
         self.assertRegex(
             text,
             r"Send your ballot as the secretary announces\. .* WHAT DECIDES .* WHAT WILL BE PUBLIC ",
         )
-        self.assertEqual(found["ada"]["From"], "vote@other.example")
-        self.assertIn(f"{LINE}ada _,_,_,_", self.texts("reminders", "--from", "v@x.example")["ada"])
+        self.assertEqual(found["ada"]["From"], sender[1])
+        self.assertIn(f"{LINE}ada _,_,_,_", self.texts("reminders", *sender)["ada"])
         # the first end that is said may be less time
         for day in (4, 6):
             self.done("call", "--until", f"2026-12-0{day} 18:00", "--zone", "UTC")
-        message = self.written("call", "--from", "v@x.example")["ada"]
+        message = self.written("call", *sender)["ada"]
         self.assertRegex(message["Subject"], rf"^When the vote ends: {TITLE} {MARKS}$")
         self.assertIn("You can now vote until the time below.", one_line(message))
         self.done("close", "--early")
         self.done("publish", "--force", "--because", "nobody has voted")
-        first, second = (
-            "The end of the vote was announced: one could vote until Friday, 4",
-            "The time was extended: one could vote until Sunday, 6",
-        )
-        self.assertRegex(
-            " ".join(self.read("letters/result.txt").decode().split()), f"{first} .* {second} "
-        )
+        said = "The end of the vote was announced: one could vote until Friday, 4 .* The time was extended: one could vote until Sunday, 6 "
+        self.assertRegex(self.text_in("letters/result.txt"), said)
 
     def test_addresses_of_before_the_call_and_that_of_the_result(self) -> None:
         # of several addresses the first that each server takes
@@ -218,94 +177,60 @@ class Refused(OutTest):
         self.assertEqual(self.written("call")["ada"]["To"], "home@ada.example")
         # the one that she had before the call gets no receipt
         self.add_lines(f"ada {RANKS}")
-        self.assertEqual(
-            [message["To"] for message in self.written("receipts").values()], ["home@ada.example"]
-        )
+        self.assertEqual(self.receivers("receipts"), ["home@ada.example"])
         # where the result is published is an act, and none if no letter can say it
         self.done("close")
-        before = self.last_act()
-        self.assert_fault(
-            self.election("letters", "result", "--at", "https://x.example/r/"),
-            9,
-            "result: nothing is published",
-        )
-        self.assert_fault(
-            self.election("letters", "result", "--at", "https://x.example/r/", "--from", "x"),
-            2,
-            "--from",
-        )
-        self.assertEqual(self.last_act(), before)
+        result = ("letters", "result")
+        there = (*result, "--at", OTHER_AT)
+        self.assert_refused(there, 9, "result: nothing is published")
+        self.assert_refused((*there, "--from", "x"), 2, "--from")
         self.done("publish")
-        self.assert_fault(
-            self.election("letters", "result"),
-            2,
-            "--at: the letter must say where the result is published",
-        )
-        self.assert_fault(
-            self.election("letters", "result", "--at", "ftp://x"),
-            2,
-            "it must be the address of a page",
-        )
-        self.assertIn(
-            "https://x.example/r/#ada", self.texts("result", "--at", "https://x.example/r/")["ada"]
-        )
+        self.assert_refused(result, 2, "--at: the letter must say where the result is published")
+        for words in (("--at", OTHER_AT), ("--at", OTHER_AT), ()):
+            self.assertIn(f"{OTHER_AT}#ada", self.texts("result", *words)["ada"])
         acts = [(act.name, act.detail) for act in self.book.acts()]
-        self.assertEqual(acts.count(("announce", {"at": "https://x.example/r/"})), 1)
-        self.texts("result", "--at", "https://x.example/r/")
-        self.assertEqual(len(self.book.acts()), len(acts))
-        self.assertIn("https://x.example/r/#ada", self.texts("result")["ada"])
-        self.assertIn(
-            "https://x.example/s/#ada", self.texts("result", "--at", "https://x.example/s/")["ada"]
-        )
+        self.assertEqual(acts.count(("announce", {"at": OTHER_AT})), 1)
+        other = "https://x.example/s/"
+        self.assertIn(f"{other}#ada", self.texts("result", "--at", other)["ada"])
 
 
 class OwnWords(OutTest):
-    """What the secretary writes begins each letter that asks for a ballot, and a name of the society is in From."""
+    """What the secretary writes begins each letter that asks for a ballot, and a name of the
+    society is in From.
+    """
 
     call_words = None
     letter = "Dear friends,\n\npaper goes into the box in the hall.\n\n"
     # its lines stay as they are, also longer ones
     letter += f"{'a line of a letter ' * 5}.\nThe next one\n\nYours, Eve\n"
 
-    def setUp(self) -> None:
-        super().setUp()
+    def test_each_begins_so_and_an_answer_that_quotes_all_of_it_goes_in(self) -> None:
         self.write("letter.txt", self.letter)
         self.set_clock("2026-11-20T09:00:00+00:00")
         self.done("call", "--to", "Wahlleitung T\u00fcV <vote@club.example>", *Call.call_words[2:])
         self.set_clock(self.now)
-
-    def test_each_begins_so_and_an_answer_that_quotes_all_of_it_goes_in(self) -> None:
-        found = {kind: self.written(kind) for kind in ("call", "reminders")}
+        called = self.written("call")
+        found = [(self.letter, called), (self.letter, self.written("reminders"))]
         self.write("letter.txt", "It ends later.\n")
-        self.done("call", "--until", "2026-12-06 18:00", "--zone", "UTC")
-        found["extension"] = self.written("call")
+        self.extend("2026-12-06 18:00")
+        found.append(("Dear Ada,\n\nIt ends later.\n", self.written("call")))
         self.add_lines("ada 1,2")
-        found["receipts"] = self.written("receipts")
-        begins = {
-            "call": self.letter,
-            "reminders": self.letter,
-            "extension": "Dear Ada,\n\nIt ends later.\n",
-            "receipts": "Dear Ada,\n",
-        }
-        for kind, letters in found.items():
+        found.append(("Dear Ada,\n", self.written("receipts")))
+        for begin, letters in found:
             message = letters["ada"]
-            self.assertTrue(message.get_content().startswith(begins[kind]), message.get_content())
+            self.assertTrue(message.get_content().startswith(begin), message.get_content())
             self.assertEqual(message["From"], "Wahlleitung T\u00fcV <vote@club.example>")
             self.assertEqual((message["To"], message["Reply-To"]), ("ada@club.example", None))
         # no line of ours reads as a ballot, nor looks like an answer
-        self.add(letter("ada", f"Thank you.\n\n{found['call']['ada'].get_content()}", number=2))
+        self.add(letter("ada", f"Thank you.\n\n{called['ada'].get_content()}", number=2))
         self.assertIn("\n        no ballot found\n", self.told("held"))
-        for name, message in found["call"].items():
+        for name, message in called.items():
             quoted = "".join(f"> {line}\n" for line in message.get_content().splitlines())
+            head = "On Monday, 23 November 2026 at 08:00 the secretary <vote@club.example> wrote:\n"
+            whole = f"-----Original Message-----\n{message.get_content()}"
             answers = [
-                letter(name, f"{name} {RANKS}\n\n{head}{text}", number=3 + len(head), time=EARLIER)
-                for head, text in (
-                    (
-                        "On Monday, 23 November 2026 at 08:00 the secretary <vote@club.example> wrote:\n",
-                        quoted,
-                    ),
-                    ("-----Original Message-----\n", message.get_content()),
-                )
+                letter(name, f"{name} {RANKS}\n\n{text}", number=number, time=EARLIER)
+                for number, text in enumerate((f"{head}{quoted}", whole), start=3)
             ]
             self.assertIn("2 ballots of letters went in; 1 letter waits.", self.add(*answers))
         # without a head it is text of hers
@@ -319,158 +244,131 @@ class Paper(OutTest):
     members = 'who,mail\n"Ada <script>alert(1)</script> & Söhne",\nBen,ben@club.example\nEve,\n'
 
     def test_who_has_no_address_gets_a_page(self) -> None:
-        ended = self.done("letters", "call")
+        said = self.done("letters", "call").output
         name = re.search(
             r"Without an address: (\S+), eve\. Print (letters/call/\d+/to-print\.html)\.\nNote: (.*)\n",
-            ended.output,
+            said,
         )
-        assert name is not None, ended
+        assert name is not None, said
         self.assertIn("do not say where a ballot on paper goes. Say it in letter.txt", name[3])
-        self.assertIn("Wrote 1 letter: ", ended.output)
+        self.assertIn("Wrote 1 letter: ", said)
         page = self.read(name[2]).decode()
-        self.assertIn("<bdi>Ada &lt;script&gt;alert(1)&lt;/script&gt; &amp; Söhne</bdi>", page)
         self.assertNotIn("<script>alert", page)
         # only codes must not lie on somebody's back
         self.assertNotIn("Print on one side", page)
         # a ballot has what an option needs only where it is more than a plain majority
         ballot = re.findall(r'<span class="rank"></span>\s*([^<]*)</p>', page)[:4]
-        self.assertEqual(f"{' '.join(ballot)}", OPTIONS)
+        self.assertEqual(" ".join(ballot), OPTIONS)
         # each is for the person above it
-        letters = [
-            part.partition("</section>")[0] for part in page.split('<section class="letter">')[1:]
+        [first, second] = page.split("</section>")[:2]
+        found = [
+            re.findall(r"<bdi>(.*)</bdi>(?s:.*)Name: (\S+)</p>", one) for one in (first, second)
         ]
-        self.assertEqual(
-            [re.findall(r"Name: (\S+)</p>", part) for part in letters], [[name[1]], ["eve"]]
-        )
-        self.assertEqual(["&lt;script&gt;" in part for part in letters], [True, False])
-        self.assertIn("<bdi>Eve</bdi>", letters[1])
+        who = "Ada &lt;script&gt;alert(1)&lt;/script&gt; &amp; Söhne"
+        self.assertEqual(found, [[(who, name[1])], [("Eve", "eve")]])
+        self.assertNotIn("script", second)
         self.assertEqual([state for _, state in self.rows("call")], ["written"] * 3)
         # who asks for it once more gets the same
         self.assertIn("Wrote 1 letter, none of them new: ", self.done("letters", "call").output)
         self.assertEqual(self.read(name[2]).decode(), page)
         # with letter.txt it says where
-        self.assertIn("give it to whoever sent you this letter", " ".join(page.split()))
-        (self.folder / "letter.txt").write_text("Paper goes into the box.\n")
+        self.assertIn("give it to whoever sent you this letter", self.text_in(name[2]))
+        self.write("letter.txt", "Paper goes into the box.\n")
         self.done("call")
         self.assertNotIn("Note", self.done("letters", "call").output)
-        self.assertIn(
-            "The words at the head of this letter say where it goes.",
-            " ".join(self.read(name[2]).decode().split()),
-        )
+        said = "The words at the head of this letter say where it goes."
+        self.assertIn(said, self.text_in(name[2]))
         # with an address since, a letter that answers none is no answer to the one on paper
         self.write("members.csv", self.members.replace("Eve,", "Eve,eve@club.example"))
         self.told("roll", "--yes")
-        self.add(
-            letter(
-                "eve",
-                f"> Vote now\n\neve {RANKS}\n",
-                subject=f"Re: {self.written('call')['eve']['Subject']}",
-                time=EARLIER,
-            )
-        )
+        subject = f"Re: {self.written('call')['eve']['Subject']}"
+        self.add(letter("eve", f"> Vote now\n\neve {RANKS}\n", subject=subject, time=EARLIER))
         self.assertEqual((self.numbers()["waiting"], self.stands("eve")), (1, ""))
 
     def test_a_printed_letter_says_who_sends_it_and_where_to_answer(self) -> None:
         """Where the secretary's own words do not begin it."""
         self.done("call", "--take-back")
-        self.write(
-            "members.csv",
-            f"{re.sub('(?m)^(?=.)', ',', self.members).replace(',who', 'name,who')}gus,,\n",
-        )
+        members = "name,who,mail\na,A,\nben,Ben,ben@club.example\neve,Eve,\ngus,,\n"
+        self.write("members.csv", members)
         self.told("roll", "--yes")
         self.done("call", "--to", "T\u00fcV & S\u00f6hne <vote@club.example>", *self.call_words[2:])
         self.add_lines("eve 1,2", f"ben {RANKS}")
-        kinds = ["call", "reminders", "receipts"]
-        for kind in kinds:
-            self.done("letters", kind)
-        self.done("close", "--early")
-        self.done("publish", "--force", "--because", "few")
-        for kind in ("closed", "result"):
-            self.done("letters", kind, "--from", "eve@club.example")
+        pages = {}
+        for kinds in (("call", "reminders", "receipts"), ("closed", "result")):
+            for kind in kinds:
+                self.done("letters", kind, "--from", "eve@club.example")
+                pages[kind] = self.files(kind)[-1].read_text()
+            if kind == "receipts":
+                self.done("close", "--early")
+                self.done("publish", "--force", "--because", "few")
         begin = "<h2><bdi>Eve</bdi></h2>\n<p>Who sends this letter, and where to answer: T\u00fcV &amp; S\u00f6hne, vote@club.example</p>\n"
-        for kind in (*kinds, "closed", "result"):
-            [page] = [file for file in self.files(kind) if file.suffix == ".html"]
-            self.assertEqual(begin in page.read_text(), kind not in ("call", "reminders"), kind)
+        for kind, page in pages.items():
+            self.assertEqual(begin in page, kind not in ("call", "reminders"), kind)
             # who has no real name is named as on the roll
-            self.assertEqual(
-                "<h2><bdi>gus</bdi></h2>" in page.read_text(), kind != "receipts", kind
-            )
+            self.assertEqual("<h2><bdi>gus</bdi></h2>" in page, kind != "receipts", kind)
         # only what comes by e-mail has a subject
-        for file in self.files("result"):
-            text = page.read_text() if file == page else parsed(file.read_bytes()).get_content()
-            self.assertEqual(
-                "subject of each true letter" in " ".join(text.split()), file != page, file
-            )
+        said = "subject of each true letter"
+        self.assertIn(said, self.texts("result", "--from", "eve@club.example")["ben"])
+        self.assertNotIn(said, " ".join(page.split()))
 
 
 class Names(OutTest):
     names = ["ada-2", "ada"]
-    call_words = (
-        "--to",
-        "vote@club.example",
-        "--at",
-        AT,
-        "--until",
-        END,
-        "--zone",
-        "Europe/Berlin",
-    )
+    call_words = (*Call.call_words[:-1], "Europe/Berlin")
 
     def test_no_letter_takes_the_place_of_another(self) -> None:
-        """Two letters to ada, at her old address and her new one, beside one to ada-2. Their times are in the zone of the end."""
+        """Two letters to ada, at her old address and her new one, beside one to ada-2. Their times
+        are in the zone of the end.
+        """
         self.change_roll(",ada@club", ",ada@new")
         self.add_lines("ada 1", f"ada-2 {RANKS}")
-        wanted = ["ada-2@club.example", "ada@club.example", "ada@new.example"]
         found = self.written("receipts").values()
-        self.assertEqual(sorted(message["To"] for message in found), wanted)
-        # the old address does not learn the own mark, neither in the subject nor in the text, which has the right line
+        # the old address does not learn the own mark, neither in the subject nor in the text, which
+        # has the right line
         said = {
             message["To"]: (
                 bool(re.search(MARKS, message["Subject"])),
                 f"{AT}#ada/" in one_line(message),
+                "ada _,_,_,_" in one_line(message),
             )
             for message in found
         }
-        self.assertEqual(
-            said,
-            {
-                "ada-2@club.example": (True, False),
-                "ada@club.example": (False, False),
-                "ada@new.example": (True, True),
-            },
-        )
+        wanted = {
+            "ada-2@club.example": (True, False, False),
+            "ada@club.example": (False, False, True),
+            "ada@new.example": (True, True, True),
+        }
+        self.assertEqual((said, len(found)), (wanted, 3))
         for message in found:
-            self.assertEqual("ada _,_,_,_" in one_line(message), message["To"].startswith("ada@"))
             # on a busy machine some seconds later
             self.assertRegex(
                 one_line(message), r"\bMonday, 23 November 2026, 11:00(:\d\d)? \(UTC\+01:00\)"
             )
         shown = self.told("show", "ada")
-        for address in wanted[1:]:
+        both = [*wanted][1:]
+        for address in both:
             self.assertIn(
                 f"  receipt, 2026-11-23 11:00:00 UTC+01:00, to {address}: written\n", shown
             )
         self.add_lines(f"ada {OTHER_RANKS}")
-        self.assertEqual(
-            [message["To"] for message in self.written("receipts").values()], ["ada@new.example"]
-        )
+        self.assertEqual(self.receivers("receipts"), ["ada@new.example"])
         # whoever changes an address back, and once more, does not hide what came meanwhile
         for address in (",ada@club", ",ada@new", ",ada@club"):
             self.change_roll(",ada@club", address)
         self.add_lines("ada 1,1,1,1")
-        self.assertEqual(
-            sorted(message["To"] for message in self.written("receipts").values()), wanted[1:]
-        )
+        self.assertEqual(sorted(self.receivers("receipts")), both)
 
 
 class ReceiptsAndReminders(OutTest):
     def test_each_has_its_own_reply(self) -> None:
-        """A line that counts, one that is replaced, one that is refused, one that is struck, one that is taken back, and a late one."""
+        """A line that counts, one that is replaced, one that is refused, one that is struck, one
+        that is taken back, and a late one.
+        """
         self.add_lines(
             f"ada {RANKS}",
             f"ben {RANKS}",
             f"ben {OTHER_RANKS}",
-            "cleo 1,2",
+            "cleo 1,2 http://x.example",
             f"dan {RANKS}",
             "fay 1,2",
             f"fay {RANKS}",
@@ -482,46 +380,38 @@ class ReceiptsAndReminders(OutTest):
         self.done("undo")
         texts = self.texts("receipts")
         self.assertEqual(sorted(texts), ["ada", "ben", "cleo", "dan", "eve", "fay", "gus"])
-        self.assertRegex(
-            texts["ben"],
-            r"has arrived\. Another ballot of yours, which was entered after it, counts instead\. .* It counts unless you send a later one",
-        )
-        for name, said in (
-            ("ada", "has arrived. It counts unless you send a later one."),
-            ("ada", f"It was read as: {LAKE}. If you have not sent this"),
-            ("ben", "It was read as: In the town hall, then"),
+        refused = "It is not a valid ballot of this vote, so it does not count. It has 2 ranks, and the vote has 4 options."
+        # a receipt that refuses says why, then where the form is and how a right line looks;
+        # another has neither
+        form = f"If you have not sent this, or it is not what you meant, answer at once. You vote under the name gus. {RIGHT} {WHEN.removeprefix(f'{TITLE} ')} {FORM}#gus/"
+        for name, *parts in (
             (
-                "cleo",
-                "It is not a valid ballot of this vote, so it does not count. It has 2 ranks, and the vote has 4 options.",
+                "ada",
+                "has arrived. It counts unless you send a later one.",
+                f"It was read as: {LAKE}. If you have not sent this",
             ),
+            (
+                "ben",
+                "has arrived. Another ballot of yours, which was entered after it, counts instead.",
+                "It was read as: In the town hall, then",
+            ),
+            ("cleo", "so it does not count. It is not written"),
             ("dan", "was entered, and the secretary has struck it. It does not count."),
             (
                 "eve",
                 "was entered, and the secretary has taken it back. It does not count unless it is entered again.",
             ),
             # a receipt refuses if what came last was refused
-            ("fay", "It has 2 ranks"),
-            ("gus", "You can send a right line now"),
+            ("fay", refused),
+            ("gus", f"{refused} {form}", f"{LINE}gus _,_,_,_"),
         ):
-            self.assertIn(said, texts[name])
-        # a receipt that refuses says why, then where the form is and how a right line looks; another has neither
-        begin = "and the vote has 4 options. If you have not sent this, or it is not what you meant, answer at once. "
-        begin += f"You vote under the name cleo. You can send a right line now, and need not wait. {WHEN.removeprefix(f'{TITLE} ')} {FORM}#cleo/"
-        self.assertIn(begin, texts["cleo"])
-        self.assertEqual(texts["cleo"].count(TITLE), 1)
-        self.assertIn(f"{LINE}cleo _,_,_,_", texts["cleo"])
-        for name in ("ada", "ben", "dan", "eve", "fay"):
-            self.assertNotIn("_,_", texts[name])
+            for part in parts:
+                self.assertIn(part, texts[name])
+            self.assertEqual("_,_" in texts[name], name in ("cleo", "gus"))
+        self.assertEqual(texts["gus"].count(TITLE), 1)
         for name, text in texts.items():
-            self.assertNotRegex(text, r"(?i)envelope|number \d")
-            self.assertFalse(
-                [
-                    other
-                    for other in elections.NAMES
-                    if other != name and re.search(rf"\b{other}\b", text)
-                ],
-                text,
-            )
+            others = "|".join(other for other in elections.NAMES if other != name)
+            self.assertNotRegex(text, rf"(?i)envelope|number \d|x\.example|\b({others})\b")
         self.assertEqual(self.texts("receipts"), {})
         # undo names those whose receipts are no longer true
         self.add_lines(f"hal {OTHER_RANKS}")
@@ -532,7 +422,9 @@ class ReceiptsAndReminders(OutTest):
         )
 
     def test_a_folder_that_is_removed_is_made_again(self) -> None:
-        """With the same bytes, as long as what they say holds; a receipt of a ballot that is struck since says so."""
+        """With the same bytes, as long as what they say holds; a receipt of a ballot that is struck
+        since says so.
+        """
         place = self.folder / "letters" / "receipts"
 
         def there() -> dict[pathlib.Path, bytes]:
@@ -540,19 +432,12 @@ class ReceiptsAndReminders(OutTest):
 
         self.add_lines(f"ada {RANKS}", f"ben {RANKS}")
         self.done("letters", "receipts")
-        self.add_lines(f"cleo {RANKS}")
-        self.done("letters", "receipts")
         before, rows = there(), self.rows("receipts")
-        [ada, ben, cleo] = sorted(before, key=lambda file: file.name)
-        self.assertEqual([ada.stem, ben.stem, cleo.stem], ["ada", "ben", "cleo"])
+        [ada, ben] = sorted(before)
         shutil.rmtree(place)
-        output = self.told("letters", "receipts")
+        said = f"Wrote 2 earlier letters, since the folder was not there: letters/receipts/{ada.parent.name}\n"
+        self.assertIn(said, self.told("letters", "receipts"))
         self.assertEqual((there(), self.rows("receipts")), (before, rows))
-        for file, said in ((ada, "2 earlier letters"), (cleo, "1 earlier letter")):
-            self.assertIn(
-                f"Wrote {said}, since the folder was not there: letters/receipts/{file.parent.name}\n",
-                output,
-            )
         # a file that was taken out may have been sent
         ada.unlink()
         self.assertEqual(self.told("letters", "receipts"), "There is no letter to send.\n")
@@ -561,12 +446,14 @@ class ReceiptsAndReminders(OutTest):
         shutil.rmtree(place)
         self.done("letters", "receipts")
         self.assertIn("the secretary has struck it", one_line(parsed(there()[ben])))
-        self.assertEqual([there()[ada], there()[cleo]], [before[ada], before[cleo]])
+        self.assertEqual(there()[ada], before[ada])
 
     def test_a_ballot_that_counts_is_told_again_beside_what_does_not(self) -> None:
-        """A letter without a ballot, a line that is refused, a ballot that is taken back, and after the close one that is late."""
+        """A letter without a ballot, a line that is refused, a ballot that is taken back, and after
+        the close one that is late.
+        """
         self.add_lines(*(f"{name} {RANKS}" for name in ("ada", "ben", "cleo", "dan", "eve")))
-        first = self.texts("receipts")
+        self.done("letters", "receipts")
         self.add(letter("ada", "Thank you, all is right.\n"))
         self.add_lines("ben 1,2")
         self.add_lines(f"cleo {OTHER_RANKS}")
@@ -578,28 +465,22 @@ class ReceiptsAndReminders(OutTest):
         self.done("close", "--early")
         self.add_lines(f"dan {OTHER_RANKS}", f"fay {RANKS}", "gus 1,2")
         late = self.texts("receipts")
-        self.assertEqual(
-            sorted((*found, *late)), ["ada", "ben", "cleo", "dan", "eve", "fay", "gus", "hal"]
-        )
+        names = sorted(found), sorted(late)
+        self.assertEqual(names, (["ada", "ben", "cleo", "eve"], ["dan", "fay", "gus", "hal"]))
+        counts = rf"It counts unless you send a later one\. It was read as: {LAKE}\. .*"
+        is_late = "It was entered after the close, so it is late and does not count."
         for name, said in {
-            "ada": "No ballot from it is entered yet",
-            "ben": "has 2 ranks",
-            "cleo": "taken it back",
-            "dan": "it is late",
+            "ada": f"{counts}No ballot from it is entered yet",
+            "ben": f"{counts}has 2 ranks",
+            "cleo": f"{counts}taken it back",
+            # what is struck later is told, and what is late
+            "eve": "the secretary has struck it",
+            "dan": rf"has arrived, and it counts\. It was read as: {LAKE}\. .*{is_late}",
+            "fay": f"{is_late} It was read as: {LAKE}",
+            "gus": is_late,
+            "hal": r"has arrived, and it counts\. It was read as",
         }.items():
-            self.assertNotIn(said, first[name])
-            counts = "and it counts." if name == "dan" else "It counts unless you send a later one."
-            self.assertRegex(
-                (found | late)[name], rf"{re.escape(counts)} It was read as: {LAKE}\..* {said}"
-            )
-        # what is struck later is told, and what is late
-        self.assertIn("the secretary has struck it", found["eve"])
-        self.assertIn("has arrived, and it counts. It was read as", late["hal"])
-        self.assertIn(
-            f"It was entered after the close, so it is late and does not count. It was read as: {LAKE}",
-            late["fay"],
-        )
-        self.assertIn("so it is late and does not count.", late["gus"])
+            self.assertRegex((found | late)[name], said)
         for text in late.values():
             self.assertNotRegex(text, r"_,_|unless you|You can send")
         # what is entered again is told alone
@@ -610,50 +491,42 @@ class ReceiptsAndReminders(OutTest):
         self.assertIn(f"has arrived, and it counts. It was read as: {LAKE}", again["fay"])
 
     def test_a_letter_of_which_one_ballot_is_entered(self) -> None:
-        """Its elector is told once of that, and the other elector that none of theirs was: Ben, who has the same address, or Dan."""
+        """Its elector is told once of that, and the other elector that none of theirs was: Ben, who
+        has the same address, or Dan.
+        """
         self.change_roll("ben@club", "ada@club")
         self.add(
             letter("ada", f"ada {RANKS}\nben {OTHER_RANKS}\n"),
             letter("cleo", f"cleo {RANKS}\ndan {OTHER_RANKS}\n"),
         )
         self.add(letter("gus", f"hal {RANKS}\n"))
-        for number, how in (
-            (1, ["--as", f"ada {RANKS}"]),
-            (2, ["--as", f"cleo {RANKS}"]),
-            (3, ["--enter", "--force"]),
-        ):
-            self.done("held", number, *how)
+        self.done("held", 1, "--as", f"ada {RANKS}")
+        self.done("held", 2, "--as", f"cleo {RANKS}")
+        self.done("held", 3, "--enter", "--force")
         texts = self.texts("receipts")
-        # one goes to the address that Ben had; who sent one for somebody else alone is told nothing of it
+        # one goes to the address that Ben had; who sent one for somebody else alone is told nothing
+        # of it
         self.assertEqual(sorted(texts), ["ada", "ben", "ben_2", "cleo", "dan", "hal"])
-        for name in ("ada", "cleo"):
-            self.assertEqual(
-                (
-                    texts[name].count("has arrived"),
-                    "It counts unless you send a later one." in texts[name],
-                ),
-                (1, True),
-            )
-        of_others = "10:00 (UTC) has a ballot of somebody else, which was entered. No ballot of yours from it"
-        for name in ("ben", "dan"):
-            self.assertIn(f"{of_others} was entered.", texts[name])
-        shown = {
-            name: "letter 2, from " in self.told("show", name) for name in ("cleo", "dan", "eve")
-        }
-        self.assertEqual(shown, {"cleo": True, "dan": True, "eve": False})
+        of_others = "10:00 (UTC) has a ballot of somebody else, which was entered. No ballot of yours from it was entered."
+        for name in ("ada", "ben", "cleo", "dan"):
+            has_own = name in ("ada", "cleo")
+            self.assertEqual(texts[name].count("has arrived. It counts"), has_own)
+            self.assertEqual(texts[name].count("has arrived"), has_own)
+            self.assertEqual(of_others in texts[name], not has_own, name)
+        shown = ["letter 2, from " in self.told("show", name) for name in ("cleo", "dan", "eve")]
+        self.assertEqual(shown, [True, True, False])
 
     def test_letters_that_are_in_no_receipt_are_named(self) -> None:
-        """Letters of a couple and of a stranger. Not a ballot in an elector's name, who is told, whatever its head says; and not what a program
-        wrote.
+        """Letters of a couple and of a stranger. Not a ballot in an elector's name, who is told,
+        whatever its head says; and not what a program wrote.
         """
         self.change_roll("ben@club", "ada@club")
-        away = letter("x", "away\n", number=3, head="Auto-Submitted: auto-replied\n")
-        forged = letter("x", f"eve {RANKS}\n", number=2, head="Auto-Submitted: auto-replied\n")
+        automatic = "Auto-Submitted: auto-replied\n"
         self.add(
             letter("ada", f"Benjamin Lind {RANKS}\n"),
             letter("x", "Who are you?\n"),
-            forged,
-            away,
+            letter("x", f"eve {RANKS}\n", number=2, head=automatic),
+            letter("x", "away\n", number=3, head=automatic),
             letter("cleo", "Thank you.\n"),
         )
         said = "No receipt is about these letters that wait, since no elector alone has the sender's address: 1, 2\n"
@@ -667,10 +540,8 @@ class ReceiptsAndReminders(OutTest):
         self.assertIn(
             f"no ballot found\nwritten: Benjamin Lind {RANKS}\nsame address: ada, ben\n", held
         )
-        shown = {
-            name: "letter 1, from " in self.told("show", name) for name in ("ada", "ben", "cleo")
-        }
-        self.assertEqual(shown, {"ada": True, "ben": True, "cleo": False})
+        shown = ["letter 1, from " in self.told("show", name) for name in ("ada", "ben", "cleo")]
+        self.assertEqual(shown, [True, True, False])
         self.told("held", 1, 2, "--set-aside")
         self.assertEqual(self.told("letters", "receipts"), f"3{waits}")
 
@@ -701,7 +572,7 @@ class ReceiptsAndReminders(OutTest):
             ("dan", ELSEWHERE),
             ("eve", ELSEWHERE),
             ("gus", f"{none} If you have not sent this"),
-            ("gus", "You vote under the name gus. You can send a right line now"),
+            ("gus", f"You vote under the name gus. {RIGHT}"),
             (
                 "hal",
                 f"{waits}there is more in it than a ballot. Answer this letter, write your ballot on top, and nothing else.",
@@ -713,199 +584,131 @@ class ReceiptsAndReminders(OutTest):
         self.assertEqual(self.texts("receipts"), {})
         # one that waited and is entered now
         self.done("held", 3, "--enter", "--force")
-        # a ballot that the secretary typed is told as the letter, with its time, and how it was read
+        # a ballot that the secretary typed is told as the letter, with its time, and how it was
+        # read
         self.done("held", 6, "--as", f"gus {RANKS}")
         texts = self.texts("receipts")
         self.assertEqual(list(texts), ["dan", "gus"])
         said = "10:00 (UTC) has arrived. It counts unless you send a later one."
         self.assertIn(f"{said} It was read as: {LAKE}", texts["dan"])
-        self.assertIn(
-            f"{said} The secretary typed it, by a letter that came. It was read as: {LAKE}.",
-            texts["gus"],
-        )
+        typed = f"{said} The secretary typed it, by a letter that came. It was read as: {LAKE}."
+        self.assertIn(typed, texts["gus"])
         self.assertNotIn("No ballot from it", texts["gus"])
 
     def test_one_for_each_elector_and_run(self) -> None:
-        twice, aside = letter("ben", f"ben {RANKS}\n"), (
+        self.add(
             letter("dan", "hello\n"),
             letter("eve", f"eve {RANKS}\n", sender="x@x.example"),
         )
-        self.add(*aside)
         self.done("held", 1, 2, "--set-aside")
+        twice = letter("ben", f"ben {RANKS}\n")
         self.add(
-            letter("ada", f"ada {RANKS}\n", number=1, time="Mon, 23 Nov 2026 08:00:00 +0000"),
-            letter("ada", f"ada {OTHER_RANKS}\n", number=2, time="Mon, 23 Nov 2026 09:00:00 +0000"),
-            letter("ada", "thanks\n", number=3, time="Mon, 23 Nov 2026 09:30:00 +0000"),
-            *(
-                twice,
-                twice.replace(b"Received: from a", b"Received: from c"),
-                letter("cleo", "hi\n"),
-                b"X-Y: z\n" + letter("cleo", "hi\n"),
+            letter("ada", f"ada {RANKS}\n", number=1, time=TEN.replace("10:00", "08:00")),
+            letter("ada", f"ada {OTHER_RANKS}\n", number=2, time=TEN.replace("10:00", "09:00")),
+            letter("ada", "thanks\n", number=3, time=TEN.replace("10:00", "09:30")),
+            twice,
+            twice.replace(b"Received: from a", b"Received: from c"),
+            letter("cleo", "hi\n"),
+            b"X-Y: z\n" + letter("cleo", "hi\n"),
+            letter(
+                "fay",
+                f"fay {RANKS}\n",
+                number="1@x>\nX-Old: <1",
+                head="References: <a@b>\n Bcc: all@x.example\nReply-To: <\xff\xfe@b>\n",
+                sender="F\u00e1y <fay@club.example>",
             ),
-            letter("fay", f"fay {RANKS}\n", sender="F\u00e1y <fay@club.example>"),
         )
         why = "the name of its sender is not encoded"
         self.assertIn(
             f"\n        {why}, so programs may read it in different ways\n", self.told("held")
         )
-        texts = self.texts("receipts")
+        messages = self.written("receipts")
+        texts = {name: one_line(message) for name, message in messages.items()}
         self.assertEqual(
             {name: text.count("has arrived") for name, text in texts.items()},
             {"ada": 3, "ben": 1, "cleo": 1, "dan": 1, "eve": 0, "fay": 1},
         )
-        self.assertRegex(
-            texts["ada"],
-            r"08:00 \(UTC\) has arrived\. Another.*09:00 \(UTC\) has arrived\. It counts.*09:30 \(UTC\) has arrived\. No",
-        )
-        self.assertIn(
-            "No ballot from it was entered. The reason: the secretary has looked at it, and set it aside.",
-            texts["dan"],
-        )
-        self.assertIn(
-            "A letter in your name came from another address. The secretary has set it aside.",
-            texts["eve"],
-        )
-        self.assertIn(
-            f" look at it first. The reason: {why}. Send it with a name without accents",
-            texts["fay"],
-        )
-
-    def test_heads_that_came_add_no_line(self) -> None:
-        coded = "=?utf-8?q?=3Ca=40b=3E=0D=0ABcc=3A_all=40x.example?="
-        senders = ("ada@club.example", '"=?utf-8?q?Ada=0ABcc:_x=40y.example?=" <ada@club.example>')
-        for number, text in enumerate(
+        for name, said in (
             (
-                "<a@b>\n Bcc: everybody@x.example",
-                coded,
-                "<\xff\xfe@b>",
-                "<" + "a" * 5000 + "@b>",
-                "",
-            )
+                "ada",
+                r"08:00 \(UTC\) has arrived\. Another.*09:00 \(UTC\) has arrived\. It counts.*09:30 \(UTC\) has arrived\. No",
+            ),
+            (
+                "dan",
+                r"was entered\. The reason: the secretary has looked at it, and set it aside\.",
+            ),
+            ("eve", r"came from another address\. The secretary has set it aside\."),
+            ("fay", rf" first\. The reason: {why}\. Send it with a name without accents"),
         ):
-            head = f"References: {text}\nSubject: {text}\nReply-To: {text}\n"
-            self.add(
-                letter(
-                    "ada",
-                    "no ballot\n",
-                    number=f"{number}@x>\nX-Old: <{number}",
-                    head=head,
-                    sender=senders[number % 2],
-                )
-            )
-        [message] = self.written("receipts").values()
-        self.assertEqual(message["To"], "ada@club.example")
+            self.assertRegex(texts[name], said)
+        # heads that came add no line
         names = "From To Subject Date Message-ID X-Unsent Auto-Submitted MIME-Version Content-Type Content-Transfer-Encoding"
-        self.assertEqual([name for name, _ in message.raw_items()], names.split())
-
-    def test_no_line_that_was_refused_is_repeated(self) -> None:
-        self.add_lines(f"ada {RANKS},1", f"ben {RANKS} or http://x.example", words=("--force",))
-        for text in self.texts("receipts").values():
-            self.assertIn(". If you have not sent this", text)
-            self.assertNotIn("x.example", text.replace("club.example", ""))
+        self.assertEqual([name for name, _ in messages["fay"].raw_items()], names.split())
+        self.assertEqual(messages["fay"]["To"], "fay@club.example")
 
     def test_to_whom_reminders_go(self) -> None:
-        """A line that came and does not count is told with the reason, as in the receipt. A letter that was set aside is not told again."""
+        """A line that came and does not count is told with the reason, as in the receipt. A letter
+        that was set aside is not told again.
+        """
         self.add_lines(f"ada {RANKS}", "fay 1,2", f"gus {RANKS}")
         self.done("strike", 3, "--because", "not his")
         self.add(letter("hal", "hello\n"))
         self.done("held", 1, "--set-aside")
+        early, later = (TEN.replace("10:00", hour) for hour in ("08:00", "09:00"))
         self.add(
             letter("cleo", "I want the lake\n"),
             letter("dan", f"dan {RANKS}\n", sender="x@x.example"),
-        )
-        self.add(
-            letter(
-                "eve",
-                f"eve {RANKS}\n",
-                sender="x@x.example",
-                time="Mon, 23 Nov 2026 08:00:00 +0000",
-            ),
-            letter("eve", "I want the lake\n", number=2, time="Mon, 23 Nov 2026 09:00:00 +0000"),
+            letter("eve", f"eve {RANKS}\n", sender="x@x.example", time=early),
+            letter("eve", "I want the lake\n", number=2, time=later),
         )
         # nobody has agreed to this one yet
         self.write("inbox.mbox", mailbox(letter("ida", f"ida {RANKS}\n")))
         self.election("add", "inbox.mbox")
         messages = self.written("reminders")
         texts = {name: one_line(message) for name, message in messages.items()}
-        self.assertEqual(sorted(texts), [name for name in elections.NAMES if name != "ada"])
-        for name in ("ben", "hal"):
-            self.assertTrue(
-                texts[name].startswith(f"Dear {name.title()}, {NONE} {WHEN} {FORM}#{name}/"),
-                texts[name],
-            )
-        refused = "It is not a valid ballot of this vote, so it does not count. It has 2 ranks, and the vote has 4 options."
-        wanted = (
-            ("fay", "A line with your name", refused),
-            ("gus", "Your ballot", "and the secretary has struck it. It does not count."),
-        )
-        for name, begins, ends in wanted:
-            begin, told, rest = texts[name].partition(f"{ends} ")
-            self.assertTrue(begin.startswith(f"Dear {name.title()}, {NONE} {begins} "), texts[name])
-            self.assertIn(
-                f"You can send a right line now, and need not wait. {WHEN} {FORM}#{name}/", rest
-            )
-        self.assertIn(f"{LINE}ben _,_,_,_", texts["ben"])
-        # whose letter waits is told so, and what can be done meanwhile
-        self.assertIn(
-            "No ballot from it is entered yet: the secretary has to look at it first.",
-            texts["cleo"],
-        )
-        self.assertIn(
-            f" You can send a right line now, and need not wait. {WHEN} {FORM}#cleo/", texts["cleo"]
-        )
-        self.assertIn(f"{LINE}cleo _,_,_,_", texts["cleo"])
-        self.assertNotIn("need not wait", texts["ben"])
-        # a stranger's letter silences nobody, nor is it one for which somebody waits
-        self.assertIn(ELSEWHERE, texts["dan"])
-        self.assertNotIn("need not wait", texts["dan"])
-        self.assertIn("dan _,_,_,_", texts["dan"])
-        # nor hides it an own letter that waits
-        self.assertIn(
-            f"{ELSEWHERE} Your letter of Monday, 23 November 2026, 09:00 (UTC) has arrived.",
-            texts["eve"],
-        )
-        self.assertIn("You can send a right line now", texts["eve"])
+        self.assertEqual(sorted(texts), elections.NAMES[1:])
+        for name, said in {
+            "ben": "",
+            "hal": "",
+            "fay": rf" A line with your name .* It has 2 ranks, and the vote has 4 options\. {RIGHT}",
+            "gus": rf" Your ballot .* has struck it\. It does not count\. .*{RIGHT}",
+            # whose letter waits is told so, and what can be done meanwhile
+            "cleo": rf" Your letter .* No ballot from it is entered yet: .* {RIGHT}",
+            # a stranger's letter silences nobody, nor is it one for which somebody waits
+            "dan": f" {ELSEWHERE}",
+            # nor hides it an own letter that waits
+            "eve": rf" {ELSEWHERE} Your letter of Monday, 23 November 2026, 09:00 \(UTC\) .* {RIGHT}",
+        }.items():
+            form = re.escape(f"{WHEN} {FORM}#{name}/")
+            self.assertRegex(texts[name], f"^Dear {name.title()}, {NONE}{said} {form}")
+            self.assertIn(f"{LINE}{name} _,_,_,_", texts[name])
         # who has voted reads that the ballot has come, and is not entered yet
         for name, begins in (("ida", "Receipt: "), ("hal", "Not yet voted: ")):
             self.assertTrue(messages[name]["Subject"].startswith(begins), name)
-        self.assertIn(
-            "Your letter of Monday, 23 November 2026, 10:00 (UTC) has arrived. No ballot from it is entered yet: ",
-            texts["ida"],
-        )
-        for words in (NONE, "You can send a right line now", "ida _,_,_,_"):
-            self.assertNotIn(words, texts["ida"])
+        said = rf"10:00 \(UTC\) has arrived\. No ballot from it is entered yet: (?!.*({RIGHT}|_,_))"
+        self.assertRegex(texts["ida"], f"^(?!.*{NONE}).*{said}")
         # and the secretary, how many letters wait
         waits = r"(?m)^5 letters wait until you have looked at them: debvote-election held$"
         self.assertRegex(self.told("letters", "reminders", "--yes"), waits)
 
-    def test_the_end_after_two_extensions_in_reminders_and_receipts(self) -> None:
-        ids = set()
-        for day, words in ((6, "Sunday, 6 December"), (8, "Tuesday, 8 December")):
-            self.done("call", "--until", f"2026-12-{day:02} 18:00", "--zone", "UTC")
-            reminder = self.written("reminders", "--yes")["ada"]
-            self.assertIn(f"Vote until: {words} 2026, 18:00 (UTC)", one_line(reminder))
-            ids.add(reminder["Message-ID"])
-            self.set_clock(f"2026-12-{day - 1:02}T10:00:00+00:00")
-            self.add(
-                letter("ben", "hi\n", number=day, time=f"Fri, {day - 1:02} Dec 2026 09:00:00 +0000")
-            )
-            self.assertNotIn("after the end", self.texts("receipts")["ben"])
-            self.set_clock("2026-11-23T10:00:00+00:00")
+    def test_the_end_after_an_extension_in_reminders_and_receipts(self) -> None:
+        self.extend("2026-12-06 18:00")
+        found = [self.written("reminders", "--yes")["ada"] for _ in range(2)]
+        for message in found:
+            self.assertIn("Vote until: Sunday, 6 December 2026, 18:00 (UTC)", one_line(message))
         # each run that writes files is a new one
-        self.assertEqual(len(ids), 2)
+        self.assertNotEqual(*(message["Message-ID"] for message in found))
+        self.set_clock("2026-12-05T10:00:00+00:00")
+        self.add(letter("ben", "hi\n", time="Sat, 05 Dec 2026 09:00:00 +0000"))
+        self.assertNotIn("after the end", self.texts("receipts")["ben"])
 
 
 class FullDisk(OutTest):
-    """A disk that is full at any write: receipts are noted if their files are there, and the next run writes the others."""
+    """A disk that is full at any write: receipts are noted if their files are there, and the next
+    run writes the others.
+    """
 
     names = ["ada", "ben", "cleo"]
-
-    def receipts(self) -> dict[pathlib.Path, bytes]:
-        return {
-            file: file.read_bytes()
-            for file in (self.folder / "letters").rglob("*.eml")
-            if ".debvote" not in str(file)
-        }
 
     def test_what_could_not_be_noted_leaves_the_folder_as_it_was(self) -> None:
         place = self.folder / "letters" / "call" / "4"
@@ -922,27 +725,23 @@ class FullDisk(OutTest):
             self.assertEqual([file.name for file in place.parent.iterdir()], ["4"])
 
     def test_the_fault_names_the_place(self) -> None:
-        """And not the folder beside it in which a file that has no room is, under a name that nobody knows."""
+        """And not the folder beside it in which a file that has no room is, under a name that
+        nobody knows.
+        """
         # in bytes: no letter and no page is as short
         full = functools.partial(resource.setrlimit, resource.RLIMIT_FSIZE, (500, 500))
 
         def demand_named(place: object, *words: str) -> None:
             before = self.contents()
             ended = self.election(*words, preexec_fn=full)
-            self.assert_fault(
-                ended,
-                7,
-                f"{place}: File too large; it was not changed; put this right, then run the command again",
-            )
-            self.assertEqual(
-                {name: data for name, data in self.contents().items() if name != "letters/.lock"},
-                before,
-            )
+            said = f"{place}: File too large; it was not changed; put this right, then run the command again"
+            self.assert_fault(ended, 7, said)
+            after = self.contents()
+            after.pop("letters/.lock", None)
+            self.assertEqual(after, before)
 
         self.add_lines(f"ada {RANKS}")
-        demand_named(
-            pathlib.Path("letters/receipts") / str(self.last_act() + 1), "letters", "receipts"
-        )
+        demand_named(f"letters/receipts/{self.last_act() + 1}", "letters", "receipts")
         self.done("close", "--early")
         shutil.rmtree(self.folder / "letters")
         demand_named(self.folder.resolve(), "publish")
@@ -952,7 +751,18 @@ class FullDisk(OutTest):
         self.assertEqual(raised.exception.filename, str(self.folder / "gone" / "closed.txt"))
 
     def test_it_loses_no_receipt(self) -> None:
-        """The calls are those that write into the folder and the book; some come in each run, and the disk is full at each of them."""
+        """The calls are those that write into the folder and the book; some come in each run, and
+        the disk is full at each of them.
+        """
+        place = self.folder / "letters" / "receipts"
+
+        def receipts() -> dict[pathlib.Path, bytes]:
+            return {
+                file: file.read_bytes()
+                for file in place.rglob("*.eml")
+                if ".debvote" not in str(file)
+            }
+
         failures = set()
         for call, counts in (
             ("write", range(1, 7)),
@@ -966,13 +776,9 @@ class FullDisk(OutTest):
                     self.add_lines(
                         *(f"{name} {1 + number % 90},{1 + number // 90},-,1" for name in self.names)
                     )
-                    before, files = len(self.rows("receipts")), self.receipts()
-                    ended = self.traced(
-                        "-f",
-                        "-e",
-                        f"inject={call}:error=ENOSPC:when={count}",
-                        words=("letters", "receipts"),
-                    )
+                    before, files = len(self.rows("receipts")), receipts()
+                    full = f"inject={call}:error=ENOSPC:when={count}"
+                    ended = self.traced("-f", "-e", full, words=("letters", "receipts"))
                     failures |= {call} if ended.status else set()
                     noted = [name for name, _ in self.rows("receipts")[before:]]
                     self.assertIn(noted, ([], self.names))
@@ -980,13 +786,9 @@ class FullDisk(OutTest):
                         self.assertEqual([file.stem for file in self.files("receipts")], self.names)
                     else:
                         self.assertNotEqual(ended.status, 0)
-                        self.assertEqual(self.receipts(), files)
+                        self.assertEqual(receipts(), files)
                         self.assertEqual(sorted(self.texts("receipts")), self.names)
-                    left = [
-                        file.name
-                        for file in (self.folder / "letters" / "receipts").iterdir()
-                        if not file.name.isdigit()
-                    ]
+                    left = [file.name for file in place.iterdir() if not file.name.isdigit()]
                     self.assertLessEqual(len(left), 2)
         self.assertEqual(failures, {"write", "pwrite64", "mkdir", "rename"})
 
@@ -999,52 +801,34 @@ class CloseAndResult(OutTest):
         self.done("publish")
         texts = self.texts("result")
         self.assertEqual(sorted(texts), elections.NAMES)
-        begin = (
-            f"{TITLE} Winner: Option 1: At the lake. It beats each option that was not dropped: "
-        )
-        numbers = "Option 2: In the town hall by 2 to 0 and Option 4: Further discussion by 2 to 0."
-        facts = "2 of 9 voted, quorum 2 reached. The result is published at: "
+        begin = f"{TITLE} Winner: Option 1: At the lake. It beats each option that was not dropped: Option 2: In the town hall by 2 to 0 and Option 4: "
+        begin += "Further discussion by 2 to 0. 2 of 9 voted, quorum 2 reached. The result is published at: "
         own = f"Your own ballot in words: {LAKE}. The page shows it at: {AT}#ada "
-        self.assertIn(f"Dear Ada, {begin}{numbers} {facts}{AT} {own}What is doubtful", texts["ada"])
-        self.assertEqual(
-            f"Dear Ada, {' '.join(self.read('letters/result.txt').decode().split())}",
-            texts["ada"].replace(own, ""),
-        )
+        text = texts["ada"]
+        self.assertIn(f"Dear Ada, {begin}{AT} {own}What is doubtful", text)
+        self.assertEqual(f"Dear Ada, {self.text_in('letters/result.txt')}", text.replace(own, ""))
         self.assertIn(f"{AT}#ben", texts["ben"])
         self.assertIn(f"{AT} The result has no ballot of yours that counts.", texts["cleo"])
         self.assertNotIn("#", texts["cleo"])
         for name in ("SHA256SUMS", "index.html"):
             checksum = hashlib.sha256(self.read(f"result/{name}")).hexdigest()
-            for text in texts.values():
-                self.assertIn(f"{checksum} {name}", text)
-        self.assertIn(
+            self.assertIn(f"{checksum} {name}", texts["cleo"])
+        for said in (
             "sha256sum SHA256SUMS index.html && sha256sum -c --ignore-missing SHA256SUMS",
-            texts["ada"],
-        )
-        # the page does not compare itself
-        self.assertNotIn("Count again here", texts["ada"])
-        telephone = "A page can't vouch for itself. So on a telephone, which has no such command, ask somebody with a computer to compare it."
-        self.assertIn(
-            f"{telephone} The subject of each true letter to you ends with your own mark",
-            texts["ada"],
-        )
-        self.assertIn(
-            "open the index.html that you downloaded and compared, and read that file", texts["ada"]
-        )
-        self.assertIn(
+            "A page can't vouch for itself. So on a telephone, which has no such command, ask somebody with a computer to compare it. "
+            "The subject of each true letter to you ends with your own mark",
+            "open the index.html that you downloaded and compared, and read that file",
             "The program recount.py, which counts anew, is that of the web site until its checksum is compared: run it only if",
-            texts["ada"],
-        )
-        # each act that the page tells
-        self.assertIn("That was before the time until which one could vote.", texts["ada"])
+            # each act that the page tells
+            "That was before the time until which one could vote.",
+        ):
+            self.assertIn(said, text)
+        # the page does not compare itself
+        self.assertNotIn("Count again here", text)
         # none of a vote that is open again; each publication has its letters
         self.done("reopen", "--because", "a bag was forgotten")
-        self.assert_fault(
-            self.election("letters", "result"),
-            9,
-            "the vote is not closed",
-            "run debvote-election close first",
-        )
+        ended = self.election("letters", "result")
+        self.assert_fault(ended, 9, "the vote is not closed", "run debvote-election close first")
         self.done("desk", "--came-before-close", "yes", given="ada 1,3,4,2\n")
         self.done("close", "--early")
         self.done("publish", "result-2")
@@ -1071,52 +855,43 @@ class CloseAndResult(OutTest):
         ):
             self.assertIn(said, texts["ada"])
         for name, why in (
-            (
-                "ben",
-                "It is not a valid ballot of this vote, so it does not count. It has 2 ranks, and the vote has 4 options.",
-            ),
+            ("ben", "It has 2 ranks, and the vote has 4 options."),
             ("cleo", "and the secretary has struck it. It does not count."),
-            ("dan", "It was entered after the close, so it is late and does not count."),
-            (
-                "eve",
-                "No ballot from it is entered yet: the secretary has to look at it first. The reason: no line of it is a ballot of this vote.",
-            ),
+            ("dan", "so it is late and does not count."),
+            ("eve", "The reason: no line of it is a ballot of this vote."),
             ("fay", "No ballot has come under your name."),
             # no ballot is entered again after the close
             ("gus", "and the secretary has taken it back. It does not count. It was read as:"),
         ):
-            self.assertRegex(
-                texts[name],
-                rf"{AT} The result has no ballot of yours that counts\. .*{re.escape(why)} .*What is doubtful",
+            told = (
+                rf"{AT} The result has no ballot of yours that counts\. .*{why} .*What is doubtful"
             )
+            self.assertRegex(texts[name], told)
 
     def test_of_a_close_has_the_checksum_and_of_a_second_one_all_get_it(self) -> None:
         self.add_lines(f"ada {RANKS}")
         self.assert_fault(self.election("letters", "closed"), 9, "the vote is not closed")
-        checksum = "none"
-        for count, said in (("1 line", ("closed", "the vote is not closed")), ("2 lines", None)):
+        # the second one names what it takes the place of
+        before = r"The vote was closed before, on Monday, 23 November 2026, 10:0\S+ \(UTC\), and opened again\. The reason, in the secretary's words: "
+        before += r"\(a bag was forgotten\) This letter takes the place of the one about that close, which had this checksum of the ballots: "
+        checksum = ""
+        for count in ("1 line", "2 lines"):
             self.done("close", "--early")
             text, found = self.read("letters/closed.txt").decode(), self.written("closed")
             self.assertEqual(sorted(found), elections.NAMES)
             for message in found.values():
                 self.assertIn(text, message.get_content())
-                self.assertIn(f"{count} came in time.", one_line(message))
-                self.assertRegex(
-                    message["Subject"], rf"^Vote closed: Where we meet in spring {MARKS}$"
-                )
-                # the second one names what it takes the place of
-                before = "Monday, 23 November 2026, 10:0\\S+ \\(UTC\\), and opened again\\. The reason, in the secretary's words: \\(a bag was forgotten\\)"
-                place = "This letter takes the place of the one about that close, which had this checksum of the ballots"
-                told = re.search(
-                    rf"The vote was closed before, on {before} {place}: {checksum} Keep this letter",
-                    one_line(message),
-                )
-                self.assertEqual(told is None, said is not None, one_line(message))
+                subject = rf"^Vote closed: Where we meet in spring {MARKS}$"
+                self.assertRegex(message["Subject"], subject)
+            text = self.text_in("letters/closed.txt")
+            self.assertIn(f"{count} came in time.", text)
+            told = re.search(f"{before}{checksum} Keep this letter", text)
+            self.assertEqual(bool(told), bool(checksum), text)
             checksum = hashlib.sha256(self.exported()[0].encode()).hexdigest()
-            if said:
+            if not told:
                 self.done("reopen", "--because", "a bag was forgotten")
                 for kind, fault in (
-                    said,
+                    ("closed", "the vote is not closed"),
                     ("call", "nobody is asked to vote"),
                     ("reminders", "nobody is asked to vote"),
                 ):
@@ -1128,11 +903,7 @@ class Secret(OutTest):
     poll = elections.POLL + "secret = true\n"
 
     def codes(self) -> dict[str, str]:
-        return dict(
-            self.book.rows(
-                "SELECT name, code FROM elector JOIN elector_state USING (elector) WHERE code <> ''"
-            )
-        )
+        return dict(self.book.rows("SELECT name, code FROM elector_now WHERE code <> ''"))
 
     def test_the_call_has_the_code_of_its_own_elector_and_an_answer_to_it_goes_in(self) -> None:
         codes = self.codes()
@@ -1140,77 +911,62 @@ class Secret(OutTest):
         for name, message in letters.items():
             text = message.get_content()
             self.assertEqual([other for other, code in codes.items() if code in text], [name])
-        found = letters["ada"]
         # folders that others may read are closed again
         folders = self.files("call")[0].parents[:3]
         for folder in folders:
             folder.chmod(0o755)
         self.written("call")
-        self.assertEqual({stat.S_IMODE(folder.stat().st_mode) for folder in folders}, {0o700})
-        self.assertEqual(
-            {stat.S_IMODE(file.stat().st_mode) for file in self.files("call")}, {0o600}
-        )
+        for path in (*folders, *self.files("call")):
+            mode = 0o700 if path.is_dir() else 0o600
+            self.assertEqual(stat.S_IMODE(path.stat().st_mode), mode, path)
         # that there is more time is told without the code
-        self.done("call", "--until", "2026-12-06 12:00", "--zone", "UTC")
+        self.extend("2026-12-06 12:00")
         for message in self.written("call").values():
             self.assertFalse([code for code in codes.values() if code in message.get_content()])
-        # the mark in its subject is that of the poll that everybody sees, with the own one; the link has no name
+        # the mark in its subject is that of the poll that everybody sees, with the own one; the
+        # link has no name
+        found = letters["ada"]
         self.assertEqual([self.mark], [mark for mark, _ in re.findall(MARKS, found["Subject"])])
         self.assertRegex(one_line(found), rf"the result will be: {AT} {LINE}ada _,_,_,_ ")
-        self.add(
-            letter(
-                "ada",
-                f"ada {RANKS}\n",
-                head=f"In-Reply-To: {found['Message-ID']}\nSubject: Re: {found['Subject']}\n",
-                time=EARLIER,
-            )
-        )
+        head = f"In-Reply-To: {found['Message-ID']}\nSubject: Re: {found['Subject']}\n"
+        self.add(letter("ada", f"ada {RANKS}\n", head=head, time=EARLIER))
         self.assertEqual(self.numbers()["valid"], 1)
 
     def test_a_code_that_went_to_an_address_that_goes(self) -> None:
-        """`roll` says who will see that vote, and the letter to the new address; not of an address that goes before the code went there."""
+        """`roll` says who will see that vote, and the letter to the new address; not of an address
+        that goes before the code went there.
+        """
         self.written("call")
-        for address, said in (
-            ("wrong@x.example", "ada@club.example"),
-            ("ada@new.example", "ada@club.example, wrong@x.example"),
+        earlier = []
+        for before, address in (
+            ("ada@club.example", "wrong@x.example"),
+            ("wrong@x.example", "ada@new.example"),
         ):
-            self.write(
-                "members.csv", elections.members_of(self.names).replace("ada@club.example", address)
-            )
-            before = "ada@club.example" if address.startswith("wrong") else "wrong@x.example"
-            seen = f"ada: address {before} becomes {address}; the secret code went to {before}, and whoever reads it there will see this vote"
+            earlier.append(before)
+            members = elections.members_of(self.names).replace("ada@club.example", address)
+            self.write("members.csv", members)
+            seen = f"address {before} becomes {address}; the secret code went to {before}, and whoever reads it there will see this vote"
             take_back = "(as long as nothing has come, call --take-back makes new codes)"
-            self.assert_refused(
-                ["roll"], 9, seen.replace("ada:", "ada (Ada):"), f"{take_back}. Is that right?"
-            )
-            self.assertIn(f"{seen} {take_back}\n", self.told("roll", "--yes"))
+            said = f"ada (Ada): {seen}", f"{take_back}. Is that right?"
+            self.assert_refused(["roll"], 9, *said)
+            self.assertIn(f"ada: {seen} {take_back}\n", self.told("roll", "--yes"))
             texts = self.texts("call")
-            told = [
-                f"It went to another address before: {one}. Whoever reads letters there will see how you vote."
-                for one in said.split(", ")
-            ]
-            self.assertEqual(
-                [one in texts["ada"] for one in told], [True] * len(told), texts["ada"]
-            )
+            for one in earlier:
+                told = f"It went to another address before: {one}. Whoever reads letters there will see how you vote."
+                self.assertIn(told, texts["ada"])
             self.assertNotIn("It went to another address", texts["ben"])
-        # a key alone, an address that is added, and an open vote
-        self.write(
-            "members.csv",
-            elections.members_of(self.names).replace(
-                "ada@club.example", "ada@new.example home@x.example"
-            ),
-        )
-        self.assertNotIn("secret code", self.told("roll", "--yes"))
-        # on paper, by a letter that has no code, and to an address that is put back it went to none
+        # an address that is added; on paper, by a letter that has no code, and to one that is put
+        # back it went to none
         for address, kind in (
+            ("ada@new.example home@x.example", "receipts"),
             ("", "call"),
             ("third@x.example", "reminders"),
             ("ada@club.example", "call"),
         ):
-            self.write(
-                "members.csv", elections.members_of(self.names).replace("ada@club.example", address)
-            )
-            self.told("roll", "--yes")
+            members = elections.members_of(self.names).replace("ada@club.example", address)
+            self.write("members.csv", members)
+            said = self.told("roll", "--yes")
+            self.assertEqual("secret code" in said, not address, said)
             texts = self.texts(kind)
         told = re.findall(r"It went to another address before: (\S*)\. ", texts["ada"])
         self.assertEqual(told, ["ada@new.example", "wrong@x.example"])
@@ -1223,33 +979,26 @@ class Secret(OutTest):
             letter("dan", f"dan {RANKS}\n{codes['dan']}\n"),
         )
         found = [*self.written("receipts").values(), *self.written("reminders").values()]
-        self.done("call", "--until", "2026-12-06 12:00", "--zone", "UTC")
         self.done("close", "--early", "--force", "--because", "x")
         found += self.written("closed").values()
-        aliases = [
-            alias for alias, in self.book.rows("SELECT alias FROM elector_state WHERE alias <> ''")
-        ]
+        rows = self.book.rows("SELECT alias FROM elector_state WHERE alias <> ''")
         self.done("publish", "--yes", "--force", "--because", "they were asked")
-        private = (
-            self.run_program("sh", "-c", "cd out && sha256sum *").output
-            if self.done("export", "out")
-            else ""
-        )
+        self.done("export", "out")
+        private = self.run_program("sh", "-c", "cd out && sha256sum *").output
         results = self.texts("result")
-        self.assertIn("find it with your name, ada, and your code, under", results["ada"])
-        self.assertNotIn("#", results["ada"])
-        self.assertIn("cat seal.txt ballots.txt | sha256sum", results["ada"])
-        self.assertIn(
+        for said in (
+            "find it with your name, ada, and your code, under",
+            "cat seal.txt ballots.txt | sha256sum",
             "learns what you type into it, with or without a network",
-            " ".join(results["ada"].split()),
-        )
+        ):
+            self.assertIn(said, results["ada"])
+        self.assertNotIn("#", results["ada"])
         for text in results.values():
             self.assertRegex(
                 text, r"- More than half of the lines that came are refused\. - (?!.*2 of 3)"
             )
-        for text in [one_line(message) for message in found] + list(results.values()):
-            self.assertFalse([code for code in [*codes.values(), *aliases] if code in text])
-            self.assertNotRegex(text, r"[a-z]+ \d,\d,\d,\d")
-            self.assertNotIn("in words", text)
-            for checksum in re.findall(r"(?m)^([0-9a-f]{64})", private):
-                self.assertNotIn(checksum, text)
+        secrets = [*codes.values(), *(alias for alias, in rows)]
+        secrets += re.findall(r"(?m)^([0-9a-f]{64})", private)
+        for text in [*map(one_line, found), *results.values()]:
+            self.assertFalse([secret for secret in secrets if secret in text])
+            self.assertNotRegex(text, r"[a-z]+ \d,\d,\d,\d|in words")

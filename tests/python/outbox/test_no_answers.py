@@ -1,6 +1,7 @@
 """No line of what is sent looks like an answer, so an answer that quotes it goes in.
 
-That holds however a mail program breaks a line; what the secretary has written is named, or refused, if it looks like one.
+That holds however a mail program breaks a line; what the secretary has written is named, or
+refused, if it looks like one.
 """
 
 import dataclasses
@@ -35,7 +36,9 @@ VOTES = [(alone(PLACES), "1,2,3"), (alone(MOTION), "1,2"), (SEVERAL, "A 1,2 B 1,
 
 
 def like_answers(letters: Iterable[str], questions: Questions, code: str) -> list[str]:
-    """The lines that look like answers: as they are, each joined to the next, or quoted in narrow columns."""
+    """The lines that look like answers: as they are, each joined to the next, or quoted in narrow
+    columns.
+    """
     parted = [text.splitlines() for text in letters]
     lines = {one for its in parted for one in (*its, *map(" ".join, itertools.pairwise(its)))}
     lines |= {
@@ -51,22 +54,22 @@ class Letters(unittest.TestCase):
     def test_each_kind_in_each_language(self) -> None:
         for code, (questions, answers) in itertools.product(LANGUAGES, VOTES):
             letters = set[str]()
-            for of_kind, is_over in itertools.product(KINDS.values(), (False, True)):
-                how = {
-                    "language": language_of(code),
-                    "questions": questions,
-                    "quorum_votes": dict.fromkeys(questions, 2),
-                }
-                call = dataclasses.replace(of_kind, **how)
+            for kind in KINDS.values():
+                call = dataclasses.replace(
+                    kind,
+                    language=language_of(code),
+                    questions=questions,
+                    quorum_votes=dict.fromkeys(questions, 2),
+                )
                 of_box = dataclasses.replace(call, box_key=b"x", real_names={})
                 later = dataclasses.replace(
                     call, at=None, until=UNTIL.replace(month=1), letter_text="Dear all,\n"
                 )
+                letters |= {*texts(Composer(call, is_over=True), answers)}
                 for one in (call, of_box, later):
+                    letters |= {*texts(Composer(one, is_over=False), answers)}
                     letters |= {
-                        call_letter(one),
-                        call_letter(one, is_extension=True),
-                        *texts(Composer(one, is_over), answers),
+                        call_letter(one, is_extension=is_later) for is_later in (False, True)
                     }
             self.assertGreater(len(letters), 100)
             self.assertEqual(like_answers(letters, questions, code), [], code)
@@ -87,12 +90,8 @@ class Several(QuestionsTest):
     def test_letters_of_close_and_result(self) -> None:
         """They have numbers and checksums of each question."""
         for code in LANGUAGES:
-            self.folder, self.new_words = self.scratch / code, (
-                "--questions",
-                "3",
-                "--language",
-                code,
-            )
+            self.folder = self.scratch / code
+            self.new_words = ("--questions", "3", "--language", code)
             self.begin()
             self.add_lines(
                 "ada A 1,2 B 1,2,3 C 1,2,3,4",
@@ -103,20 +102,19 @@ class Several(QuestionsTest):
                 words=("--force",),
             )
             self.told("strike", "2", "--because", "a mistake")
-            for because in ("one was forgotten", ""):
-                self.told("close", "--early")
-                self.told(*(("reopen", "--because", because) if because else ("log",)))
+            self.told("close", "--early")
+            self.told("reopen", "--because", "one was forgotten")
+            self.told("close", "--early")
             self.election("publish", "--yes")
             letters = [self.read(f"letters/{name}.txt").decode() for name in ("closed", "result")]
-            self.assertEqual(
-                like_answers(letters, Election(self.folder, PROGRAM.parent).questions, code),
-                [],
-                code,
-            )
+            questions = Election(self.folder, PROGRAM.parent).questions
+            self.assertEqual(like_answers(letters, questions, code), [], code)
 
 
 class OfSecretary(OutTest):
-    """What the secretary writes: `check` names what looks like an answer, and nothing goes on with what reads as a ballot."""
+    """What the secretary writes: `check` names what looks like an answer, and nothing goes on with
+    what reads as a ballot.
+    """
 
     call_words = None
     texts = {

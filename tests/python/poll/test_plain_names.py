@@ -1,4 +1,4 @@
-"""Plain names, made from names in any language, and the names that people can't read or tell apart."""
+"""Plain names, made from names in any language, and names that nobody can tell apart."""
 
 import re
 import unittest
