@@ -26,7 +26,7 @@ FORCED = "--force --because 'The host is down.'"
 REOPEN = "reopen --because 'A letter was found.'"
 
 
-class AskingTest(boxes.BoxElectionTest):
+class AskedTest(boxes.BoxElectionTest):
     def acts(self) -> list[str]:
         return [str(name) for name, in self.rows("SELECT name FROM act ORDER BY act")]
 
@@ -45,7 +45,7 @@ class AskingTest(boxes.BoxElectionTest):
 
 
 @NEEDS_PHP
-class Letters(AskingTest):
+class Letters(AskedTest):
     def test_what_was_not_seen(self) -> None:
         self.done("call", "--to", "vote@club.example", "--at", self.host.at, "--box")
         fault = "call: the call has a web box, and says no end of the vote"
@@ -142,7 +142,7 @@ class Letters(AskingTest):
 
 
 @NEEDS_PHP
-class Closes(AskingTest):
+class Closes(AskedTest):
     def test_an_early_one_and_after_it(self) -> None:
         self.begun(ada=RANKS)
         self.add_box()
@@ -330,7 +330,7 @@ class Closes(AskingTest):
 
 
 @NEEDS_PHP
-class Pages(AskingTest):
+class Pages(AskedTest):
     """An asking fetches the page, too: of a forgotten upload, and of a host that changes it."""
 
     other = "Note: the page there is not that of the folder call: a script in it would see what is chosen, and could vote in the name of who opens it."
@@ -416,7 +416,7 @@ class Pages(AskingTest):
 
 
 @NEEDS_PHP
-class Moved(AskingTest):
+class Moved(AskedTest):
     """`call --at` another web host, after letters went out with links to the page of before."""
 
     def test_what_the_page_of_before_goes_on_taking(self) -> None:

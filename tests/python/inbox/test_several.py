@@ -71,7 +71,7 @@ def entered(*letters: LetterCase) -> dict[str, object]:
     return {"ballots": ballots, "decisions": {one.read.digest: queries.ENTERED for one in going}}
 
 
-class Several(unittest.TestCase):
+class BesideEachOther(unittest.TestCase):
     def become(self, letters: Sequence[bytes | ParsedLetter], *wanted: str, **how: object) -> None:
         """What becomes of letters, in the order of their times."""
         self.assertEqual(outcomes(*letters, **how), [*wanted], how)
