@@ -250,8 +250,11 @@ class SendTest(OutTest):
         words = (*words, "--yes") if kind == "reminders" else words
         return self.election("letters", kind, "--send", "--server", self.server.name, *words)
 
-    def assert_sent(self, kind: str, said: str = "", status: int = 0) -> elections.Ended:
-        """Letters of a kind are sent; the run says this, and ends so."""
+    def assert_sent(
+        self, kind: str, said: str = "", status: int = 0, refused: Mapping[str, str] = {}
+    ) -> elections.Ended:
+        """Letters of a kind are sent, and these addresses refused; the run says this, and ends so."""
+        self.server.rcpt_answers = refused
         ended = self.send(kind)
         self.assertEqual(ended.status, status, ended)
         self.assertIn(said, ended.output)

@@ -61,12 +61,9 @@ class Sending(SendTest):
         letter is taken.
         """
         self.assert_unreached()
-        self.server.rcpt_answers = {
-            ALL[0]: "550 5.1.1 no such\x1b user",
-            ALL[1]: "451 4.7.1 greylisted",
-        }
+        refused = {ALL[0]: "550 5.1.1 no such\x1b user", ALL[1]: "451 4.7.1 greylisted"}
         self.server.data_answers = {ALL[2]: "554 spam", ALL[3]: "452 full"}
-        ended = self.assert_sent("call", "Sent 5 of 9 letters.\n", 9)
+        ended = self.assert_sent("call", "Sent 5 of 9 letters.\n", 9, refused)
         for said in (
             "Refused: ada, ada@club.example: 550 5.1.1 no such",
             "Refused: cleo, cleo@club.example: 554 spam\n",
@@ -79,9 +76,9 @@ class Sending(SendTest):
         self.assertIn(said, self.told("show", "ben"))
         self.assertEqual(self.server.addresses(), ALL[4:])
         # each run tries them again
-        self.server.rcpt_answers = {ALL[0]: "550 5.1.1 no such user"}
         self.server.data_answers = {}
-        self.assert_sent("call", "Sent 3 of 4 letters.\n", 9)
+        refused = {ALL[0]: "550 5.1.1 no such user"}
+        self.assert_sent("call", "Sent 3 of 4 letters.\n", 9, refused)
         self.assertEqual(self.server.addresses(), [*ALL[4:], *ALL[1:4]])
         named = "Not reached by the call: ada (refused: 550 5.1.1 no such user)\n"
         self.add_lines(f"ben {RANKS}")
@@ -104,10 +101,8 @@ class Sending(SendTest):
         self.assert_sent("call")
         self.add_lines(f"cleo {RANKS}")
         for kind, name in (("reminders", "ben"), ("receipts", "cleo")):
-            self.server.rcpt_answers = {f"{name}@club.example": "552 full"}
-            self.send(kind)
+            self.assert_sent(kind, status=9, refused={f"{name}@club.example": "552 full"})
             self.assert_unreached(**{name: "refused"})
-            self.server.rcpt_answers = {}
             self.assert_sent("call", "Sent 1 of 1 letter.\n")
             self.assert_unreached()
             self.assertEqual(self.server.addresses()[-1], f"{name}@club.example")
@@ -142,9 +137,8 @@ class Sending(SendTest):
         self.send("call")
         self.assert_unreached()
         # who got the call printed is told that there is more time
-        self.server.rcpt_answers = {ALL[2]: "550 none"}
         self.extend("2026-12-09 12:00")
-        self.assert_sent("call", status=9)
+        self.assert_sent("call", status=9, refused={ALL[2]: "550 none"})
         self.assert_unreached(cleo="refused")
         self.assertIn("You have more time to vote.", self.files("call")[0].read_text())
         # what a server refused of a call that was taken back is no news of the next one, nor who
@@ -303,16 +297,13 @@ class Sending(SendTest):
         self.assert_unreached(**both)
 
     def test_what_came_last_is_the_reason(self) -> None:
-        refuses = {ALL[0]: "550 no"}
-        self.server.rcpt_answers = refuses
-        self.assert_sent("call", status=9)
-        self.server.rcpt_answers = {}
+        refused = {ALL[0]: "550 no"}
+        self.assert_sent("call", "", 9, refused)
         self.assert_sent("call")
         self.came_back("ada", "whole")
         self.assert_unreached(ada="came back")
-        self.server.rcpt_answers = refuses
         said = "Not reached by the call: ada (refused: 550 no)\n"
-        self.assertIn(said, self.assert_sent("call", status=9).output)
+        self.assert_sent("call", said, 9, refused)
         self.assert_unreached(ada="refused")
         # nor does it reach her if a letter to her is only written, also one with a new own mark
         self.add_lines(f"ada {RANKS}")
@@ -327,9 +318,7 @@ class Sending(SendTest):
         """Nor to those whose letter came back before."""
         self.assert_sent("call")
         self.came_back("ada", "whole")
-        self.server.rcpt_answers = {ALL[1]: "451 later"}
-        self.assert_sent("reminders", "Sent 8 of 9 letters.\n", 9)
-        self.server.rcpt_answers = {}
+        self.assert_sent("reminders", "Sent 8 of 9 letters.\n", 9, {ALL[1]: "451 later"})
         self.assert_sent("reminders", "Sent 1 of 1 letter.\n")
 
     def test_each_own_mark_is_told_by_a_letter(self) -> None:
@@ -399,25 +388,20 @@ class Sending(SendTest):
         to the old address, too.
         """
         self.add_lines(f"ada {RANKS}", f"ben {RANKS}", f"cleo {RANKS}")
-        self.server.rcpt_answers = {
-            ALL[0]: "450 4.1.2 domain not found",
-            ALL[1]: "550 no such user",
-        }
+        refused = {ALL[0]: "450 4.1.2 domain not found", ALL[1]: "550 no such user"}
         for sent in ("1 of 3", "0 of 2"):
-            self.assert_sent("receipts", f"Sent {sent} letters.", 9)
+            self.assert_sent("receipts", f"Sent {sent} letters.", 9, refused)
         self.change_roll("ada@club", "ada@new", "ben@club", "ben@new")
-        self.assert_sent("receipts", "Sent 2 of 3 letters.")
+        self.assert_sent("receipts", "Sent 2 of 3 letters.", refused=refused)
         now = ["ada@new.example", "ben@new.example", *ALL[2:]]
         self.assertEqual(self.server.addresses(), [ALL[2], *now[:2]])
         self.assertIn(f"It was read as: {LAKE}", self.server.texts()["ben"])
-        self.server.rcpt_answers = {}
         self.assert_sent("receipts", "Sent 1 of 1 letter.")
         self.assertEqual(self.server.addresses()[3:], [ALL[0]])
         # those that go out again do so in the order in which they were written
         self.add_lines(*(f"{name} {OTHER_RANKS}" for name in self.names))
-        self.server.rcpt_answers = dict.fromkeys(now, "451 later")
-        self.assert_sent("receipts", "Sent 0 of 9 letters.", 9)
-        self.server.rcpt_answers = {}
+        refused = dict.fromkeys(now, "451 later")
+        self.assert_sent("receipts", "Sent 0 of 9 letters.", 9, refused)
         self.assert_sent("receipts", "Sent 9 of 9 letters.")
         self.assertEqual(self.server.addresses()[4:], now)
 
@@ -511,9 +495,8 @@ class Sending(SendTest):
                 self.assertEqual(found, whole)
             if day == 6:
                 self.came_back("ada", "whole")
-                self.server.rcpt_answers = {ALL[1]: "451 later", ALL[2]: "550 no"}
-                self.assert_sent("reminders", status=9)
-                self.server.rcpt_answers = {}
+                refused = {ALL[1]: "451 later", ALL[2]: "550 no"}
+                self.assert_sent("reminders", "", 9, refused)
                 self.assert_unreached(ada="came back", ben="refused", cleo="refused")
 
     def test_a_refused_sender_and_a_lost_connection_cost_nobody_their_letter(self) -> None:
@@ -588,10 +571,8 @@ class Sending(SendTest):
     def test_a_receipt_that_is_outdated_before_it_is_taken(self) -> None:
         """It would tell of nothing: the letter that it is about is a ballot now."""
         self.add(letter("cleo", f"dan {RANKS}\n"))
-        self.server.rcpt_answers = {ALL[3]: "451 later"}
-        self.assert_sent("receipts", status=9)
+        self.assert_sent("receipts", status=9, refused={ALL[3]: "451 later"})
         self.done("held", 1, "--enter", "--force")
-        self.server.rcpt_answers = {}
         self.assert_sent("receipts")
         self.assertEqual(self.server.addresses().count(ALL[3]), 1)
         self.assertIn(f"It was read as: {LAKE}", self.server.texts()["dan"])
@@ -738,10 +719,8 @@ class Killed(SendTest):
 
 class SeveralRuns(SendTest):
     def test_reminders_that_were_cut_off_go_on_and_else_each_run_is_a_new_one(self) -> None:
-        self.server.rcpt_answers = dict.fromkeys(ALL[1:4], "451 later")
-        self.assert_sent("reminders", status=9)
+        self.assert_sent("reminders", status=9, refused=dict.fromkeys(ALL[1:4], "451 later"))
         self.assertEqual(len(self.server.taken), 6)
-        self.server.rcpt_answers = {}
         # who has voted meanwhile is not reminded, who has a new address is, and the old one holds
         # up no new run
         self.add_lines("dan 1,2,4,3")
@@ -757,17 +736,17 @@ class SeveralRuns(SendTest):
         """
         self.change_roll(ALL[6], "")
         self.assert_sent("reminders", "Sent 8 of 8 letters.")
-        self.server.rcpt_answers = {ALL[1]: "450 4.1.2 domain not found"}
-        self.assert_sent("reminders", "Sent 7 of 8 letters.", 9)
-        self.assert_sent("reminders", "Sent 0 of 1 letter.", 9)
+        refused = {ALL[1]: "450 4.1.2 domain not found"}
+        self.assert_sent("reminders", "Sent 7 of 8 letters.", 9, refused)
+        self.assert_sent("reminders", "Sent 0 of 1 letter.", 9, refused)
         self.set_clock("2026-11-24T11:00:00+00:00")
-        self.assert_sent("reminders", "Sent 7 of 8 letters.", 9)
+        self.assert_sent("reminders", "Sent 7 of 8 letters.", 9, refused)
         self.change_roll(ALL[6], "", "ben@club", "ben@new")
-        self.assert_sent("reminders", "Sent 8 of 8 letters.")
+        self.assert_sent("reminders", "Sent 8 of 8 letters.", refused=refused)
         # one that a server refused for good
-        self.server.rcpt_answers = {"ben@new.example": "550 5.1.1 no such user"}
+        refused = {"ben@new.example": "550 5.1.1 no such user"}
         for _ in range(2):
-            self.assert_sent("reminders", "Sent 7 of 8 letters.", 9)
+            self.assert_sent("reminders", "Sent 7 of 8 letters.", 9, refused)
 
     def test_two_runs_at_once_send_each_letter_once(self) -> None:
         """Processes of their own, at the same time."""
@@ -828,8 +807,7 @@ class Secret(SendTest):
     def test_a_code_that_a_server_took_at_last_went_to_that_address(self) -> None:
         """It is told as such to the next one; not one that was refused and never taken."""
         for refused in ({ALL[0]: "451 later", ALL[1]: "550 none"}, {ALL[1]: "550 none"}):
-            self.server.rcpt_answers = refused
-            self.assert_sent("call", status=9)
+            self.assert_sent("call", "", 9, refused)
         self.change_roll("@club", "@new")
         self.assert_sent("call")
         texts = self.server.texts()
