@@ -1,7 +1,8 @@
 """No module of the system takes the place of a module of the tests, whatever its name.
 
-Distributions install modules with plain names, as python3-debian installs `debian`. Each program of the tests, and pytest, imports
-what it needs while modules of all these names lie elsewhere on Python's way.
+Distributions install modules with plain names, as python3-debian installs `debian`. Each program of
+the tests, and pytest, imports what it needs while modules of all these names lie elsewhere on
+Python's way.
 """
 
 import os
@@ -39,7 +40,9 @@ def programs() -> list[pathlib.Path]:
 
 
 def names() -> set[str]:
-    """The names by which modules of the tests could be imported. Python itself imports a `sitecustomize`."""
+    """The names by which modules of the tests could be imported. Python itself imports a
+    `sitecustomize`.
+    """
     return {file.stem for file in ROOT.glob("tests/**/*.py")} - {"__init__", "sitecustomize"} | {
         "tests",
         "debvote_tools",

@@ -1,4 +1,6 @@
-"""A page in chromium that a test uses as a reader does, by real keys in a window of a given size, through chromium's own protocol on a pipe."""
+"""A page in chromium that a test uses as a reader does, by real keys in a window of a given size,
+through chromium's own protocol on a pipe.
+"""
 
 import atexit
 import base64
@@ -105,7 +107,8 @@ LONE_LINES = r"""(() => {
   });
 })()"""
 
-# of each question what the page of a result says by the name in its address: each paragraph, and each step of a list
+# of each question what the page of a result says by the name in its address: each paragraph, and
+# each step of a list
 MINE = "[...document.querySelectorAll('.mine')].map((node) => [...node.querySelectorAll('p, li')].map((part) => part.textContent))"
 
 
@@ -114,7 +117,9 @@ class Gone(RuntimeError):
 
 
 class Browser:
-    """Chromium, which the windows of this process share: to start it takes longer than most pages."""
+    """Chromium, which the windows of this process share: to start it takes longer than most
+    pages.
+    """
 
     def __init__(self) -> None:
         self.numbers = itertools.count(1)
@@ -151,7 +156,9 @@ class Browser:
         shutil.rmtree(self.room, ignore_errors=True)
 
     def tell(self, session: str | None, method: str, **given: object) -> dict[str, Any]:
-        """Makes a call of chromium's protocol for a window, or for the browser, and returns the answer."""
+        """Makes a call of chromium's protocol for a window, or for the browser, and returns the
+        answer.
+        """
         number = next(self.numbers)
         call = {"id": number, "method": method, "params": given} | (
             {"sessionId": session} if session else {}
@@ -298,7 +305,9 @@ class Window:
         return list(self.ask(f"{BROKEN_WORDS}({nodes})"))
 
     def ballot(self, name: str | None, ranks: str | list[str]) -> dict[str, Any]:
-        """What the page of a call shows once a name is typed and ranks are chosen, with the parts of the letter that it makes."""
+        """What the page of a call shows once a name is typed and ranks are chosen, with the parts
+        of the letter that it makes.
+        """
         found = dict(self.ask(f"{CHOOSE}({json.dumps(name)}, {json.dumps(list(ranks))})"))
         address, _, query = (found["letter"] or "").partition("?")
         parts = {key: text for key, [text] in urllib.parse.parse_qs(query).items()}
@@ -324,7 +333,9 @@ class Window:
         )
 
     def count_again(self, files: dict[str, bytes] | None = None) -> list[str]:
-        """What the page of a result says after a press of the button, or of that for files from the disk."""
+        """What the page of a result says after a press of the button, or of that for files from the
+        disk.
+        """
         chosen = {name: base64.b64encode(data).decode() for name, data in (files or {}).items()}
         self.ask(
             f"""(() => {{

@@ -1,4 +1,6 @@
-"""What the tests of languages share: elections in a language, and a language in which each of our words is marked."""
+"""What the tests of languages share: elections in a language, and a language in which each of our
+words is marked.
+"""
 
 import contextlib
 import email.utils
@@ -67,7 +69,9 @@ def marked(text: str) -> str:
 
 @contextlib.contextmanager
 def marked_german() -> Iterator[None]:
-    """In this process, and in the runs that are forks of it, German is a language with all words marked."""
+    """In this process, and in the runs that are forks of it, German is a language with all words
+    marked.
+    """
     if os.environ.get("DEBVOTE_FORKS") == "0":
         raise unittest.SkipTest("the language with marked words is in forks of the test alone")
     forks.read_ahead()
@@ -81,7 +85,9 @@ def marked_german() -> Iterator[None]:
 
 
 def forget_german() -> None:
-    """Forgets what this process has said in German: languages and templates keep some of it. No template is read again, which takes a while."""
+    """Forgets what this process has said in German: languages and templates keep some of it. No
+    template is read again, which takes a while.
+    """
     for package, is_page in itertools.product(("call", "result", "outbox"), (True, False)):
         templates = templates_of(f"debvote_tools.{package}", language_of("de"), is_page=is_page)
         vars(templates.globals["say"].__self__).pop("and_last", None)
@@ -135,7 +141,9 @@ class LanguageTest(elections.ElectionTest):
     def held(
         self, folder: str, language: str, *, is_secret: bool = False, has_letters: bool = True
     ) -> pathlib.Path:
-        """An election in a language, from its beginning to its publication, with everything that pages and letters can say."""
+        """An election in a language, from its beginning to its publication, with everything that
+        pages and letters can say.
+        """
         place = self.called(folder, language, codes=() if is_secret else None)
         because = ("--because", REASON)
 

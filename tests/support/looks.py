@@ -1,4 +1,6 @@
-"""Looks at published pages in chromium, and by tidy: what a reader sees at several widths, in a light and in a dark scheme."""
+"""Looks at published pages in chromium, and by tidy: what a reader sees at several widths, in a
+light and in a dark scheme.
+"""
 
 import functools
 import re
@@ -16,9 +18,11 @@ NEEDS_PICTURES = unittest.skipUnless(
 WIDTHS = (320, 360, 390, 1280)
 DOUBT_WIDTHS = (360, 1280)
 
-# what a page shows: its own width and colours; whether the marked doubts stand in the first window, with nothing above them, and their
-# colours; the width of its picture, of the region that it lies in and of what was drawn, and the ink of its words; and of each bar its
-# number, the whole, the thousandths of the width that it takes, whether it is of the winner, for or against the option, and its colours
+# what a page shows: its own width and colours; whether the marked doubts stand in the first window,
+# with nothing above them, and their colours; the width of its picture, of the region that it lies
+# in and of what was drawn, and the ink of its words; and of each bar its number, the whole, the
+# thousandths of the width that it takes, whether it is of the winner, for or against the option,
+# and its colours
 LOOK = """(() => {
   const style = (node, ...keys) => keys.map((key) => getComputedStyle(node)[key].replaceAll(" ", ""));
   const [paper] = style(document.body, "backgroundColor"), own = style(document.body, "backgroundColor", "color");
@@ -45,7 +49,9 @@ SUMMARY = re.compile(r"<summary>(<h3 [^>]*>.*?</h3>)(.*?)</summary>")
 
 @functools.cache
 def looks_of(folders, widths):
-    """What each page shows at each width, in a light and in a dark scheme; pages are opened once for all tests."""
+    """What each page shows at each width, in a light and in a dark scheme; pages are opened once
+    for all tests.
+    """
     found = []
     with Window(1280, 900) as window:
         for folder in folders:
@@ -62,7 +68,9 @@ def looks_of(folders, widths):
 
 
 class LooksTest(publishing.PublishTest):
-    """Folders that are published once for a class: what was noted when they were made, and how their pages look."""
+    """Folders that are published once for a class: what was noted when they were made, and how
+    their pages look.
+    """
 
     widths = WIDTHS
 
@@ -96,7 +104,9 @@ class LooksTest(publishing.PublishTest):
 
     @NEEDS_BROWSER
     def test_widths_and_colours(self):
-        """All pages are as wide as the window, and have one pair of colours in light and another one in dark."""
+        """All pages are as wide as the window, and have one pair of colours in light and another
+        one in dark.
+        """
         self.expect(
             "widths",
             [

@@ -1,7 +1,9 @@
-"""Reads a page: its tags, places and links, and each part beside what tests/reference.py counts: numbers, sentences, lists and ballots.
+"""Reads a page: its tags, places and links, and each part beside what tests/reference.py counts:
+numbers, sentences, lists and ballots.
 
-The page is read as a browser reads it: a text that was not escaped is no text here. What a part must say is written down anew, by
-the count of the reference, in English, and said in the language of the page; nothing of debvote_tools is used but its translations.
+The page is read as a browser reads it: a text that was not escaped is no text here. What a part
+must say is written down anew, by the count of the reference, in English, and said in the language
+of the page; nothing of debvote_tools is used but its translations.
 """
 
 import collections
@@ -33,7 +35,8 @@ UNWANTED_TAGS = {
 UNWANTED_ATTRIBUTES = {"src", "style", "xlink:href"}
 
 
-# what is said of an option, of a motion, and in the letter and on the page of all questions of what decides it, by its kind
+# what is said of an option, of a motion, and in the letter and on the page of all questions of what
+# decides it, by its kind
 SENTENCES = {
     "missed the quorum": "It needs {needed} to reach the quorum.",
     "missed its majority": "It needs more for it than against it: {needed}.",
@@ -196,8 +199,10 @@ def doubts_of(page):
 
 
 def try_page(expect, name, folder):
-    """All tags are closed; nothing is loaded, and nothing runs but the script of the page; each link leads to a file of the folder or a
-    place of the page; each ballot has its place, and no elector has the place of another thing."""
+    """All tags are closed; nothing is loaded, and nothing runs but the script of the page; each
+    link leads to a file of the folder or a place of the page; each ballot has its place, and no
+    elector has the place of another thing.
+    """
     read = built((folder / "index.html").read_text())
     nodes = list(read.root.within())
     is_active = {
@@ -253,7 +258,9 @@ class Reasons:
         )
 
     def chain(self, option):
-        """The shortest chain of defeats that were there when an option left the set: to the winner if one is, or else to the least number."""
+        """The shortest chain of defeats that were there when an option left the set: to the winner
+        if one is, or else to the least number.
+        """
         gone = [removed for kept, removed in self.count.rounds if option in kept]
         defeats = sorted(self.count.defeats.difference(*gone))
         within = {*self.count.rounds[len(gone)][0]}
@@ -277,10 +284,14 @@ class Reasons:
 
 
 class Parts(Reasons):
-    """The parts of a page beside the count of the reference, in a language. A page of several questions has a label."""
+    """The parts of a page beside the count of the reference, in a language. A page of several
+    questions has a label.
+    """
 
     def __init__(self, page, letter, count, names, spoken=ENGLISH, *, label="", is_motion=False):
-        """`names` are those that people read of title (0) and options, where they differ from the plain ones."""
+        """`names` are those that people read of title (0) and options, where they differ from the
+        plain ones.
+        """
         super().__init__(count)
         self.page, self.letter, self.names = tree_of(page), f" {in_one_line(letter)} ", names
         self.spoken, self.label, self.is_motion = spoken, label, is_motion
@@ -308,7 +319,9 @@ class Parts(Reasons):
         return [entry for found in self.sections[heading].all(kind) for entry in found.all("li")]
 
     def check(self):
-        """Meets all parts with the count. Raises Wrong, or returns the kinds of sentences that the page has."""
+        """Meets all parts with the count. Raises Wrong, or returns the kinds of sentences that the
+        page has.
+        """
         parts = "headings named facts panel lines rule others options table defeats rounds ballots who_voted"
         for part in parts.split():
             getattr(self, part)()
@@ -317,7 +330,9 @@ class Parts(Reasons):
         return self.met
 
     def told(self, kind, pair=None, **places):
-        """A sentence of a kind, in which a pair of options may have its names, numbers and round."""
+        """A sentence of a kind, in which a pair of options may have its names, numbers and
+        round.
+        """
         self.met[kind] += 1
         if pair is not None:
             removed = [
@@ -334,7 +349,9 @@ class Parts(Reasons):
         return names | {"over": self.votes[a, b], "under": self.votes[b, a]}
 
     def headings(self):
-        """Each part has a heading with its place, and a part of a group is one deeper than the group."""
+        """Each part has a heading with its place, and a part of a group is one deeper than the
+        group.
+        """
         for place, section in self.sections.items():
             heads = [head.attributes.get("id") for tag in ("h2", "h3") for head in section.all(tag)]
             demand_equal(f"the heading of {place}", heads, [place])
@@ -408,8 +425,9 @@ class Parts(Reasons):
         demand_equal("the quorum", quorum in said, poll.quorum > 0)
 
     def others(self):
-        """Below the panel, each whose fate the panel does not say, as the rounds leave them, and last those that were dropped: of each
-        the name, the chip, and what became of it; of one that was dropped a bar with its numbers, too.
+        """Below the panel, each whose fate the panel does not say, as the rounds leave them, and
+        last those that were dropped: of each the name, the chip, and what became of it; of one that
+        was dropped a bar with its numbers, too.
         """
         count, options = self.count, self.poll.options
         told = {self.winner}
@@ -454,7 +472,9 @@ class Parts(Reasons):
         return self.votes[a, b] > self.votes[b, a]
 
     def bar(self, a, b, needed=0):
-        """A bar, all of which have one scale: it ends at the voters, and what is needed beyond them is dashed, up to as much again."""
+        """A bar, all of which have one scale: it ends at the voters, and what is needed beyond them
+        is dashed, up to as much again.
+        """
         voters, over, under = self.voters, self.votes[a, b], self.votes[b, a]
         most = max((needed_by(self.count, o) for o in self.count.dropped), default=0)
         whole = max(voters, min(most, 2 * voters), 1)
@@ -518,8 +538,9 @@ class Parts(Reasons):
         return self.say(ENDED[kind])
 
     def panel(self):
-        """How it ended, the name of the winner, and the winner against each rival: no bar but that of a defeat that was set aside has
-        fewer for the winner than against it."""
+        """How it ended, the name of the winner, and the winner against each rival: no bar but that
+        of a defeat that was set aside has fewer for the winner than against it.
+        """
         section = self.sections["Result"]
         head, texts = section.one("h2"), [part.text() for part in section.all("p")]
         demand_equal("how it ended", texts.pop(0), self.how_it_ended())
@@ -580,7 +601,9 @@ class Parts(Reasons):
         yield ["", self.for_and_against(1)], self.bar(1, 2, needed_by(self.count, 1)), "won"
 
     def rivals(self):
-        """Those whom the winner beats, the nearest first; defeats that were set aside; and those whom it beats by chains."""
+        """Those whom the winner beats, the nearest first; defeats that were set aside; and those
+        whom it beats by chains.
+        """
         winner, beaten = self.winner, self.beaten()
         aside = [a if b == winner else b for a, b in self.removed if winner in (a, b)]
 
@@ -612,7 +635,9 @@ class Parts(Reasons):
             yield [self.say("and {number} other options", number=len(rows) - 2)], None
 
     def in_letter(self):
-        """In the letter, below the head of a question of several: how it ended, what decides it, and the numbers of the result."""
+        """In the letter, below the head of a question of several: how it ended, what decides it,
+        and the numbers of the result.
+        """
         if self.winner is None:
             wanted = f"{self.told('a tie', options=self.all_names(self.final))} {self.tied()}"
         else:
@@ -675,7 +700,9 @@ class Parts(Reasons):
         yield self.told(kind, options=said, option=by[0])
 
     def above(self, front):
-        """On the page of all questions: label, title, how it ended, the name, and the numbers by which; a tie is framed."""
+        """On the page of all questions: label, title, how it ended, the name, and the numbers by
+        which; a tie is framed.
+        """
         # it has no list of options, so none has a number there
         self.spoken = Spoken(self.spoken.code, "{name}")
         section = sections_of(front)[f"Question-{self.label}"]
@@ -718,7 +745,9 @@ class Parts(Reasons):
         demand_equal("Options", [entry.text() for entry in self.entries("Options")], wanted)
 
     def table(self):
-        """The table: its numbers, which cells are marked as those of a defeat, and how each row is marked."""
+        """The table: its numbers, which cells are marked as those of a defeat, and how each row is
+        marked.
+        """
         rows = self.sections["Votes"].one("tbody").all("tr")
         chips = {"won": ("won", "won"), "left": ("tied", "left"), "lost": ("", None)}
         for a, row in zip(self.poll.options, rows, strict=True):
@@ -790,7 +819,9 @@ class Parts(Reasons):
         return self.say(behind, ranked=ranked, unranked=self.all_names(unranked))
 
     def answer(self, ranks):
-        """What a ballot says to a motion: a word, and the name of what it is for, unless that begins with the word."""
+        """What a ballot says to a motion: a word, and the name of what it is for, unless that
+        begins with the word.
+        """
         one, other = (100 if rank is None else rank for rank in ranks)
         yes, no, abstain = ANSWERS[self.spoken.code]
         if one == other:
@@ -800,7 +831,9 @@ class Parts(Reasons):
         return word if first.lower() == word.lower() else self.spoken.with_colon(word, name)
 
     def who_voted(self):
-        """The electors in the order of the roll: who has a ballot that counts, and who has none and so a place here."""
+        """The electors in the order of the roll: who has a ballot that counts, and who has none and
+        so a place here.
+        """
         count, section, lists = self.count, self.sections["Who-voted"], ([], [])
         for voter, name in enumerate(self.poll.roll):
             is_absent = voter not in count.last
@@ -823,8 +856,9 @@ class Parts(Reasons):
 
 
 def bar_of(svg):
-    """The whole width and that of the bar, the width of those for, from where those against begin and their width, the same of what is
-    lacking, and the marks."""
+    """The whole width and that of the bar, the width of those for, from where those against begin
+    and their width, the same of what is lacking, and the marks.
+    """
     ground, over, under = next(svg.all("rect")), svg.one("rect", "for"), svg.one("rect", "against")
     widths = int(svg.attributes["viewbox"].split()[2]), int(ground.attributes["width"])
     demand_equal("a reader has the numbers of a bar as text", svg.attributes["aria-hidden"], "true")
@@ -856,7 +890,9 @@ def least_of(count):
 
 
 def few(rows):
-    """Those that have a row of their own in the panel: two, or all three, so that never one alone is not named."""
+    """Those that have a row of their own in the panel: two, or all three, so that never one alone
+    is not named.
+    """
     return rows if len(rows) == 3 else rows[:2]
 
 

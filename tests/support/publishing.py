@@ -1,4 +1,6 @@
-"""What the tests of debvote-publish share: a folder for each test, and the programs, which run as a user runs them."""
+"""What the tests of debvote-publish share: a folder for each test, and the programs, which run as a
+user runs them.
+"""
 
 import contextlib
 import io
@@ -51,7 +53,9 @@ def run(words, path=PATH, **how):
 
 
 def publish(room, *words, **how):
-    """The output of debvote-publish in a folder, without that about a picture that can't be drawn here, and its status."""
+    """The output of debvote-publish in a folder, without that about a picture that can't be drawn
+    here, and its status.
+    """
     output, faults, status = run([sys.executable, PUBLISH, *words], cwd=room, **how)
     return output, faults if HAS_PICTURES else faults.replace(NO_PICTURE, ""), status
 
@@ -85,7 +89,9 @@ def plain(values):
 
 
 def publish_questions(target, polls, ballots, language, *, motions, castings):
-    """Publishes several questions, whose polls are in plain form, without pictures, and returns the letter of the result."""
+    """Publishes several questions, whose polls are in plain form, without pictures, and returns the
+    letter of the result.
+    """
     questions = Questions(
         {label: read_plain(poll, motion=label in motions) for label, poll in polls.items()},
         "Several questions",
@@ -132,7 +138,9 @@ class ResultPageTest(PublishTest):
         return self.window
 
     def published(self, room, name, **changes):
-        """A room with the result of the files of another one, with what an election adds to them."""
+        """A room with the result of the files of another one, with what an election adds to
+        them.
+        """
         programs = PROGRAM.parent
         files = {"poll": str(room / "poll.toml"), "ballots": str(room / "ballots")}
         facts = command_line.facts_of(

@@ -1,7 +1,8 @@
-"""Compares what debvote-publish makes with tests/reference.py on random polls: the data, the parts of the page, the refused lines.
+"""Compares what debvote-publish makes with tests/reference.py on random polls: the data, the parts
+of the page, the refused lines.
 
-Each poll is also one of two questions, beside a motion. Their languages take turns. DEBVOTE_PUBLISHED_POLLS is the number of random
-polls to publish, by default 200.
+Each poll is also one of two questions, beside a motion. Their languages take turns.
+DEBVOTE_PUBLISHED_POLLS is the number of random polls to publish, by default 200.
 """
 
 import collections
@@ -26,7 +27,8 @@ from tests.support.polls import random_polls
 from tests.support.publishing import PROGRAM
 from tests.support.spoken import LANGUAGES, Spoken
 
-# how many random polls without a fault are published; from ENOUGH on all kinds of sentences have to occur
+# how many random polls without a fault are published; from ENOUGH on all kinds of sentences have to
+# occur
 POLLS, ENOUGH = int(os.environ.get("DEBVOTE_PUBLISHED_POLLS", "200")), 200
 
 
@@ -59,7 +61,9 @@ class Count:
         return self.casting if self.casting in self.final else None
 
     def ended(self, option):
-        """How it ended for an option, in a word: what it was dropped for, `won`, `left` in a tie or `lost`."""
+        """How it ended for an option, in a word: what it was dropped for, `won`, `left` in a tie or
+        `lost`.
+        """
         is_left = self.winner is None and option in self.final
         ended = "won" if option == self.winner else "left" if is_left else "lost"
         return self.dropped.get(option, ended)
@@ -174,7 +178,9 @@ def line_shown(line, spoken):
 
 
 def names_of(seed, count):
-    """Names that people read for title (0) and options, in every second poll; those that differ from the plain ones."""
+    """Names that people read for title (0) and options, in every second poll; those that differ
+    from the plain ones.
+    """
     if seed % 2:
         return {}
     return {
@@ -197,7 +203,9 @@ def with_names(poll, count, names):
 
 
 def of_few_opinions(seed):
-    """The poll and the ballots of a random election whose options often beat each other in circles."""
+    """The poll and the ballots of a random election whose options often beat each other in
+    circles.
+    """
     rng = random.Random(seed)
     number, voters = rng.randint(2, 7), range(rng.randint(3, 30))
     opinions = [
@@ -217,8 +225,9 @@ def of_few_opinions(seed):
 
 
 def meet(seed):
-    """Publishes the poll of a seed, in the language of the seed. Returns the kinds of sentences, or none if the poll is refused, and what
-    is wrong."""
+    """Publishes the poll of a seed, in the language of the seed. Returns the kinds of sentences, or
+    none if the poll is refused, and what is wrong.
+    """
     election = random_polls().election_of(seed)
     if seed % 4 == 3:
         election = election._replace(**of_few_opinions(seed))
@@ -277,8 +286,9 @@ def try_folder(room, seed, election, count, casting, spoken):
 
 
 def try_beside_a_motion(room, seed, count, names, spoken):
-    """The page of all questions, and the letter, where the poll of a folder is one of them, and the other one is a motion; and the page
-    of that motion. Returns the kinds of sentences found."""
+    """The page of all questions, and the letter, where the poll of a folder is one of them, and the
+    other one is a motion; and the page of that motion. Returns the kinds of sentences found.
+    """
     rng, one = random.Random(seed), room / "one"
     roll = tomllib.loads((one / "poll.toml").read_text())["roll"]
     keys = {"title": "The fee", "options": ["Raise it"], "ratios": [rng.choice([1, 1, 2, 4])]}
@@ -315,7 +325,9 @@ def is_toml_1_0(file):
 
 
 def try_made(folder, count, names, spoken):
-    """Compares data, names, refused lines and sentences of a folder. Returns the kinds of sentences found."""
+    """Compares data, names, refused lines and sentences of a folder. Returns the kinds of sentences
+    found.
+    """
     data, table, page, letter = (
         (folder / name).read_text()
         for name in ("result.json", "votes.csv", "index.html", "letter.txt")
@@ -331,7 +343,8 @@ def try_made(folder, count, names, spoken):
             else f'h1 dir="auto">{pages.escaped(text)}</h1>'
         )
         demand(f"<{shown}" in page, f"name of {number}")
-    # on paper a table is never larger than the text around it, and smaller only if it has many columns
+    # on paper a table is never larger than the text around it, and smaller only if it has many
+    # columns
     [size] = re.findall(r"@media print \{ table \{ font-size: ([\d.]+)rem; \} \}", page)
     is_right = float(size) <= 1 and (float(size) == 1 or len(count.poll.names) >= 10)
     demand(is_right, f"the table on paper: {size}")
@@ -355,7 +368,9 @@ def try_published(expect, name, folder, casting):
 
 
 def try_random_polls(expect, met):
-    """Compares this many random polls without a fault, on all processors. Other polls have had these kinds of sentences."""
+    """Compares this many random polls without a fault, on all processors. Other polls have had
+    these kinds of sentences.
+    """
     wrong, passed, seed = [], 0, 1
     with concurrent.futures.ProcessPoolExecutor() as pool:
         while passed < POLLS:

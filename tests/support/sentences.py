@@ -1,7 +1,10 @@
 #!/usr/bin/python3
-"""The sentences of debvote_tools that electors read, from its code, and their translations, from `locale`.
+"""The sentences of debvote_tools that electors read, from its code, and their translations, from
+`locale`.
 
-    tests/support/sentences.py de    prints the entries that de.po lacks, and those that nothing in the code uses
+    tests/support/sentences.py de
+
+prints the entries that de.po lacks, and those that nothing in the code uses.
 """
 
 import ast
@@ -17,7 +20,8 @@ ROOT = pathlib.Path(__file__).resolve().parents[2]
 PACKAGE = ROOT / "python" / "debvote_tools"
 LOCALE = PACKAGE / "locale"
 
-# the functions whose first argument is a sentence, or has some, and those whose first two are its singular and its plural
+# the functions whose first argument is a sentence, or has some, and those whose first two are its
+# singular and its plural
 WITH_ONE = {"say", "say_each", "marked", "between"}
 WITH_TWO = {"say_number"}
 # how a sentence begins that is marked by nothing else
@@ -78,7 +82,9 @@ def texts_of(node: ast.AST) -> list[tuple[str, ...]]:
 
 
 def literals(node: ast.expr | None) -> list[str]:
-    """The string literals that an argument may be, or that are in it, as far as the call shows them."""
+    """The string literals that an argument may be, or that are in it, as far as the call shows
+    them.
+    """
     if isinstance(node, ast.Constant) and isinstance(node.value, str):
         return [node.value]
     within: list[ast.expr | None] = []

@@ -49,7 +49,9 @@ class Terminal:
                 os.waitpid(self.process, 0)
 
     def read(self, end: float, waits: str) -> bool:
-        """Reads what is shown next; whether the program goes on. The test fails if nothing comes in time."""
+        """Reads what is shown next; whether the program goes on. The test fails if nothing comes in
+        time.
+        """
         ready, _, _ = select.select([self.keys], [], [], max(0, end - time.monotonic()))
         self.test.assertTrue(ready, f"{waits}, has {self.text!r}")
         try:

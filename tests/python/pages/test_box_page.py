@@ -145,7 +145,9 @@ class RealBoxTest(BoxPageTest):
         return data.removeprefix(FIRST.decode()).split(END_OF_RECORD.decode())[:-1]
 
     def lines(self) -> list[str]:
-        """What the box has, opened: of each record the line, which came by the link of its elector."""
+        """What the box has, opened: of each record the line, which came by the link of its
+        elector.
+        """
         lines = []
         for record in self.records():
             lines.append(line := sealing.line_in(KEY, record))
@@ -188,7 +190,8 @@ class Clicks(RealBoxTest):
         self.assertIn(f"sent {spoken}. ", said)
         # pressed again, nothing is sent
         self.press()
-        # another line is not sent, as the page says, and can be; and the one that was sent is told again
+        # another line is not sent, as the page says, and can be; and the one that was sent is told
+        # again
         changed = self.choose("21-3")
         self.assertEqual((changed["said"], changed["button"]), (WORDS["changed"], True))
         self.assertEqual(self.choose("----")["said"], WORDS["changed"])
@@ -262,7 +265,9 @@ class Clicks(RealBoxTest):
         self.assert_state(line="ada 1,2,3,4", worked=True)
 
     def test_what_was_not_taken_is_sealed_anew_with_the_time_of_now(self) -> None:
-        """What may have arrived is not, and its line can't be changed: it is sent again as it was, and counts once."""
+        """What may have arrived is not, and its line can't be changed: it is sent again as it was,
+        and counts once.
+        """
         lost = answered(b"lost: disk full or broken\n", 503)
         answers = iter([lost, lost, b"", b"", None])
 
@@ -340,8 +345,8 @@ class Members(RealBoxTest):
             self.ask(f'document.querySelector("{button}").click()')
 
     def test_back_and_forth(self) -> None:
-        """A browser that kept the page shows what arrived; one that loads it again fills in the ranks, and
-        who presses again sends the same ballot once more.
+        """A browser that kept the page shows what arrived; one that loads it again fills in the
+        ranks, and who presses again sends the same ballot once more.
         """
         (self.folder / "else.html").write_text("<!doctype html><p>Elsewhere")
         self.tap("1234")
@@ -513,8 +518,9 @@ class Answers(BoxPageTest):
             self.assertNotIn(secret.encode(), request)
 
     def test_the_button_and_when_a_ballot_arrived_in_each_language(self) -> None:
-        """The button has a row of its own at each width. The time is by the clock of whoever sent it; whether it came after the end that
-        the page knows is by the clock of the host, in whole seconds: a page may be left open, and the vote be extended.
+        """The button has a row of its own at each width. The time is by the clock of whoever sent
+        it; whether it came after the end that the page knows is by the clock of the host, in whole
+        seconds: a page may be left open, and the vote be extended.
         """
         zone = "Asia/Kolkata"
         self.window.tell("Emulation.setTimezoneOverride", timezoneId=zone)

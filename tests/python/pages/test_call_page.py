@@ -1,4 +1,6 @@
-"""The page of a call for votes in a browser: each line that it makes is one that debvote reads as what was chosen."""
+"""The page of a call for votes in a browser: each line that it makes is one that debvote reads as
+what was chosen.
+"""
 
 import datetime
 import itertools
@@ -56,7 +58,8 @@ COLOURS = """(() => {
     [...node.childNodes].some((part) => part.nodeType === 3 && part.data.trim())).map((node) => [getComputedStyle(node).color, behind(node)]);
 })()"""
 
-# what has the focus: its kind and its name, whether it lies in the window, and how the focus is shown
+# what has the focus: its kind and its name, whether it lies in the window, and how the focus is
+# shown
 FOCUS = """(() => {
   const node = document.activeElement, place = node.getBoundingClientRect();
   // a button of a rank lies unseen over its number; what lies below the line that is always seen is not seen
@@ -96,7 +99,9 @@ def poll_of(size: int, electors: int, *more: str) -> SealedPoll:
 
 
 def choices_of(size: int, many: int, chance: random.Random) -> list[tuple[str, list[str]]]:
-    """Names as electors type them, and ranks: many equal, many different, few or all of them given."""
+    """Names as electors type them, and ranks: many equal, many different, few or all of them
+    given.
+    """
     chosen = []
     for number in range(many):
         ranks, share = range(1, chance.randint(1, size) + 1), chance.choice((0.1, 0.5, 0.9, 1))
@@ -259,7 +264,9 @@ class Lines(PageTest):
             self.sees("document.getElementById('Over')?.checkVisibility()", is_over)
 
     def test_no_name_is_typed_into_the_page_of_a_secret_vote(self) -> None:
-        """Whoever can change the page would learn it. The line has a gap in its place, to be filled in the letter."""
+        """Whoever can change the page would learn it. The line has a gap in its place, to be filled
+        in the letter.
+        """
         for gap, data in {"NAME": SECRET, "CODE": WITH_CODES}.items():
             page = (self.open(data) / "index.html").read_text()
             self.ballot(None, "1234", line=f"{gap} 1,2,3,4", missing="")
@@ -532,7 +539,9 @@ class Names(PageTest):
         self.ballot(None, "21-3", line="NAME 2,1,-,3")
 
     def check_letter(self, typed: str | None, name: str, own: str) -> None:
-        """The line with this name, in a letter with this own mark; without one there is no letter, and without a name no line."""
+        """The line with this name, in a letter with this own mark; without one there is no letter,
+        and without a name no line.
+        """
         subject = f"Ballot: Where we meet [{CALL.questions.mark}-{own}]" if own else None
         self.ballot(typed, "21-3", line=f"{name} 2,1,-,3" if name else "", subject=subject)
 
@@ -601,7 +610,8 @@ class Looks(PageTest):
 
     def test_long_texts_are_cut_and_read_at_a_touch(self) -> None:
         """And leave room for the ranks on a telephone, in each language."""
-        # the ranks end above the line and the buttons, which are in the window, and a finger finds each
+        # the ranks end above the line and the buttons, which are in the window, and a finger finds
+        # each
         room = """((place) => { const bar = place(document.getElementById("Bottom"));
           const ranks = [...document.querySelectorAll("div.rank label")].map(place);
           const ends = ["Copy", "Letter"].map((id) => place(document.getElementById(id)).bottom);

@@ -1,6 +1,8 @@
-"""The styles of the pages, by their files: each colour has a name, and what is written can be read on each ground that there is.
+"""The styles of the pages, by their files: each colour has a name, and what is written can be read
+on each ground that there is.
 
-4.5 is the contrast that a text needs, 3 what a line, a ring or a bar needs; the guidelines of the W3C for all web pages have both numbers.
+4.5 is the contrast that a text needs, 3 what a line, a ring or a bar needs; the guidelines of the
+W3C for all web pages have both numbers.
 """
 
 import re
@@ -52,7 +54,9 @@ def rules_of(style):
 
 
 def colours():
-    """The colours of the names: in light, as on paper, in dark and of slips on paper; and the styles without what gives a colour a name."""
+    """The colours of the names: in light, as on paper, in dark and of slips on paper; and the
+    styles without what gives a colour a name.
+    """
     light, dark, paper, others = {}, {}, {}, ""
     for file in STYLES:
         for medium, rule in rules_of(file.read_text()):

@@ -1,4 +1,6 @@
-"""The pages of each language in a browser: what their scripts say and do, and that none is wider than its window."""
+"""The pages of each language in a browser: what their scripts say and do, and that none is wider
+than its window.
+"""
 
 import json
 import pathlib
@@ -56,7 +58,9 @@ class InBrowser(languages.LanguageTest):
         self.assertEqual(found, self.language.say(sentences[key], **places))
 
     def check_widths(self, file: pathlib.Path) -> None:
-        """No page is wider than the window, with all that is folded opened; what may be wider scrolls by itself."""
+        """No page is wider than the window, with all that is folded opened; what may be wider
+        scrolls by itself.
+        """
         self.window.open(file)
         self.window.ask(
             "document.querySelectorAll('details').forEach((node) => { node.open = true; })"
@@ -69,14 +73,18 @@ class InBrowser(languages.LanguageTest):
             self.assertEqual(found, [size[0], self.language.code], file)
 
     def check_first_screen(self, name: str) -> None:
-        """On a small telephone the winner, the facts and the first other option are there, and no line is without a word."""
+        """On a small telephone the winner, the facts and the first other option are there, and no
+        line is without a word.
+        """
         self.window.resize(*SMALL)
         self.assertLessEqual(self.window.ask(FIRST), SMALL[1], name)
         lone, broken = self.window.ask(at_browser.LONE_LINES), self.window.broken_words(NAMES)
         self.assertEqual((lone, broken), ([], []), name)
 
     def check_telephone(self, name: str) -> None:
-        """Also with doubts. Who has won, one's own ballot, the bars and the reasons are on three screens."""
+        """Also with doubts. Who has won, one's own ballot, the bars and the reasons are on three
+        screens.
+        """
         self.check_first_screen(name)
         # what is folded says each doubt, and what a doubt is; it links no file
         folded = self.window.ask(
@@ -92,8 +100,9 @@ class InBrowser(languages.LanguageTest):
         self.assertLessEqual(self.window.ask(end), 3 * TELEPHONE[1], name)
 
     def check_outcomes(self, code: str) -> None:
-        """In a tie, by a casting vote, where a defeat was set aside and where the default option has won the first screen is as full, and
-        the count in the browser finds the page right."""
+        """In a tie, by a casting vote, where a defeat was set aside and where the default option
+        has won the first screen is as full, and the count in the browser finds the page right.
+        """
         roll = f"roll = {json.dumps(languages.ELECTORS)}\n"
         poll = languages.POLL.replace("[1, 1, 3]", "[1, 1, 1]") + roll
         (self.scratch / "poll.toml").write_text(poll)

@@ -1,4 +1,6 @@
-"""The pages of a motion in a browser: three buttons that make ranks, and the answers in words on the page of the result."""
+"""The pages of a motion in a browser: three buttons that make ranks, and the answers in words on
+the page of the result.
+"""
 
 import json
 import pathlib
@@ -100,7 +102,9 @@ class Result(ResultPageTest):
         return self.published(room, f"{language}-made", **how)
 
     def test_answers_in_words(self) -> None:
-        """As the script finds them, which counts again in each language; where a name begins with the answer, it stands for it."""
+        """As the script finds them, which counts again in each language; where a name begins with
+        the answer, it stands for it.
+        """
         for language, said in {
             "en": ["Yes: Raise <b>it</b>", "No: Nein, wie bisher", "Abstain"],
             "de": ["Ja: Raise <b>it</b>", "Nein", "Enthaltung"],

@@ -1,4 +1,5 @@
-"""What the script of the page seals, byte for byte, and what it does where sealing or the host fails.
+"""What the script of the page seals, byte for byte, and what it does where sealing or the host
+fails.
 
 Each time it says what became of the ballot, and sends nothing that it does not say.
 """
@@ -53,7 +54,8 @@ crypto.getRandomValues = (bytes) => bytes.map((byte, place) => (bytes[place] = N
 Date.prototype.toISOString = () => "%s";
 """
 
-# what the script finds of a page and a browser under node, which has no page; it prints what is sent
+# what the script finds of a page and a browser under node, which has no page; it prints what is
+# sent
 AROUND = """
 const nodes = new Map(), pressed = [];
 const node = (id) => nodes.get(id) ?? nodes.set(id, { id, textContent: "", addEventListener: (_, call) => pressed.push(call) }).get(id);
@@ -79,7 +81,9 @@ def fixed() -> str:
 
 
 def sent_under_node(line: str, place: str, options: int) -> bytes:
-    """What the script sends of a line by a personal link; `options` are those of the form, and its questions if they are several."""
+    """What the script sends of a line by a personal link; `options` are those of the form, and its
+    questions if they are several.
+    """
     data = {"box": "vote.php", "until": "", "words": json.dumps(WORDS), **OF_VECTOR}
     given = {"place": json.dumps(place), "line": json.dumps(line), "data": json.dumps(data)}
     around = AROUND % (given | {"options": options})
@@ -167,7 +171,9 @@ class Elsewhere(RealBoxTest):
     """A page that is not where it belongs."""
 
     def test_under_a_worker_at_the_root_of_its_host(self) -> None:
-        """The page is in a folder of a web site that has a worker, which sees each page below it."""
+        """The page is in a folder of a web site that has a worker, which sees each page below
+        it.
+        """
         vote = self.folder / "vote"
         vote.mkdir()
         for name in ("index.html", "vote.php"):
@@ -180,7 +186,8 @@ class Elsewhere(RealBoxTest):
         )
         self.visit(f"{self.host.at}vote/", PLACES["ada"])
         self.assertTrue(self.choose("1234")["button"])
-        # the page itself may not, but another page of the web site registers it while this one is open
+        # the page itself may not, but another page of the web site registers it while this one is
+        # open
         self.in_another_tab(self.host.at, "navigator.serviceWorker.register('worker.js')")
         self.window.until("navigator.serviceWorker.controller !== null")
         self.press()
@@ -202,7 +209,9 @@ class Elsewhere(RealBoxTest):
         window.session = own
 
     def test_a_page_of_another_book_with_this_poll(self) -> None:
-        """A rehearsal, whose page a browser kept, or that was uploaded: its ballots could never be opened."""
+        """A rehearsal, whose page a browser kept, or that was uploaded: its ballots could never be
+        opened.
+        """
         other = bytes(range(1, 33))
         link = f"#{personal_link(other, 'ada', OWNS['ada'])}"
         for page_key, script_key, place in ((KEY, other, PLACES["ada"]), (other, KEY, link)):

@@ -1,4 +1,6 @@
-"""The scripts of a page in a browser: finding one's own ballot, and counting again; also on pages that somebody has changed."""
+"""The scripts of a page in a browser: finding one's own ballot, and counting again; also on pages
+that somebody has changed.
+"""
 
 import hashlib
 import json
@@ -96,7 +98,9 @@ class ScriptsTest(publishing.ResultPageTest):
             )
 
     def test_a_ballot_by_the_address(self):
-        """A page that is opened at a name has its ballot in a line below the panel; nothing scrolls, no list opens, and nothing is typed."""
+        """A page that is opened at a name has its ballot in a line below the panel; nothing
+        scrolls, no list opens, and nothing is typed.
+        """
         window, page = self.page_of(), self.room / "result" / "index.html"
         ballots = {
             "ben": ["ben: counted", '<i>B</i> & "C" and N equally', "Not ranked: 72 Euro"],
@@ -126,7 +130,9 @@ class ScriptsTest(publishing.ResultPageTest):
                 window.ask(f"location.hash = '#{address}'")
 
     def test_a_family_name_alone(self):
-        """Whoever may be meant is named, with the real name where the page has it, and nobody is told that the name is wrong."""
+        """Whoever may be meant is named, with the real name where the page has it, and nobody is
+        told that the name is wrong.
+        """
         poll = poll_for(["anna-meier", "ben-lee", "eve-lee", "dan"])
         ballots = "anna-meier 10,9,3\ndan 1,2\ndan-x 1,2,3\nEVE-LEE: 1;2\n"
         room = plain_room(self.scratch / "family", poll, ballots)
@@ -183,7 +189,9 @@ class ScriptsTest(publishing.ResultPageTest):
             self.assertEqual((wide, 8 < size < around), ([717, True], is_smaller))
 
     def test_wide_and_narrow_windows_and_long_names(self):
-        """From 70rem finding and checking stand at the right; a long name is smaller, and no number stands alone on a line."""
+        """From 70rem finding and checking stand at the right; a long name is smaller, and no number
+        stands alone on a line.
+        """
         sizes = []
         for length in (60, 61):
             name = ("Ein Name aus vielen Worten und noch mehr " * 2)[:length]
@@ -200,8 +208,8 @@ class ScriptsTest(publishing.ResultPageTest):
             beside = """document.getElementById('Find').getBoundingClientRect().left
               > document.querySelector('.outcome').getBoundingClientRect().right"""
             self.sees(f"[{at_browser.LONE_NUMBERS}, {beside}]", [[], is_beside], width)
-        # a ballot with names that are too long has their numbers alone on paper; a page with something wider is printed smaller:
-        # a picture is drawn as small as the paper is
+        # a ballot with names that are too long has their numbers alone on paper; a page with
+        # something wider is printed smaller: a picture is drawn as small as the paper is
         window.show(on_paper=True)
         window.resize(700, 900)
         self.sees(
@@ -232,7 +240,8 @@ class ScriptsTest(publishing.ResultPageTest):
         found = window.find(f"{cut.replace('-', ' ').title()} von Sigmaringen")
         self.assertEqual(found[0], f"{cut}: counted")
         self.assertTrue(window.count_again()[0].startswith(SAME))
-        # a name in capitals in the address is the one in small letters, unless it is that of a part of the page
+        # a name in capitals in the address is the one in small letters, unless it is that of a part
+        # of the page
         window.ask("location.hash = '#Anna-Meier/23456789AB/23456789abcdefgh'")
         window.until(
             "document.querySelector('.mine').textContent.startsWith('anna-meier: counted')"
@@ -313,7 +322,9 @@ class ScriptsTest(publishing.ResultPageTest):
         self.assertIn(f"{said} This page names it too.", window.count_again())
 
     def test_what_is_typed(self):
-        """Enter shows the ballot, and an answer goes when another name is typed; of two with one real name both are shown."""
+        """Enter shows the ballot, and an answer goes when another name is typed; of two with one
+        real name both are shown.
+        """
         real_names = {"ada": "Zoë", "ben": "Zoë", "dan": "Dan"}
         window = self.page_of(self.published(self.room, "real names", real_names=real_names))
         counts = [said for said in window.find("zoe") if said.endswith(": counted")]
@@ -327,7 +338,9 @@ class ScriptsTest(publishing.ResultPageTest):
         self.assertEqual(window.found(), [UNKNOWN.format("zoe1")])
 
     def test_folded_parts(self):
-        """A link, or the address of the page, opens the folded part that it leads to; on paper all are open, without a script too."""
+        """A link, or the address of the page, opens the folded part that it leads to; on paper all
+        are open, without a script too.
+        """
         window = self.page_of()
         unfolded = "[...document.querySelectorAll('.folded[open] h3')].map((node) => node.id)"
         self.sees(unfolded, [])
@@ -364,7 +377,8 @@ class ScriptsTest(publishing.ResultPageTest):
         same = f"{SAME}: this count comes to the published sheet, in all its {lines} lines."
         self.assertEqual(rows[0], same)
         self.assertTrue(rows[2].startswith("This page shows what its files come to: "))
-        # a changed page would call its own checksum right: it takes none, and neither itself nor SHA256SUMS
+        # a changed page would call its own checksum right: it takes none, and neither itself nor
+        # SHA256SUMS
         inputs = "[...document.querySelectorAll('[aria-labelledby=Check-it] input')]"
         self.sees(f"{inputs}.map((node) => node.type)", ["file"])
         named = "[...document.querySelectorAll('#Again-answer p code')].map((node) => node.textContent).slice(1)"
@@ -412,7 +426,9 @@ class ScriptsTest(publishing.ResultPageTest):
         lines = sheet.count(b"\n")
 
         def counted(**changes):
-            """What is said of these files, with changes by their first names; what is None is left out."""
+            """What is said of these files, with changes by their first names; what is None is left
+            out.
+            """
             given = files | {
                 f"{name}.{'toml' if name[:4] == 'poll' else 'txt'}": data
                 for name, data in changes.items()

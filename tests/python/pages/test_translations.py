@@ -1,4 +1,6 @@
-"""The files of translations: each sentence of the code is in each of them, whole, with its places, and nothing else is."""
+"""The files of translations: each sentence of the code is in each of them, whole, with its places,
+and nothing else is.
+"""
 
 import gettext
 import io
@@ -16,7 +18,8 @@ from tests.support import languages, sentences
 MSGFMT = shutil.which("msgfmt")
 TAG = re.compile(r"<[^>]*>")
 
-# words that have stood for a thing which another word of the glossary stands for: what is entered, and the rank
+# words that have stood for a thing which another word of the glossary stands for: what is entered,
+# and the rank
 NOT_IN_THE_GLOSSARY = {"de": "eingetragen", "fr": "enregistr", "es": r"\brangos?\b"}
 
 
@@ -75,7 +78,9 @@ class Translations(languages.LanguageTest):
             self.assertRegex(language_of(code).catalog.gettext(text), f"^{first}.*{second}$", code)
 
     def test_one_word_stands_for_one_thing(self) -> None:
-        """A letter told electors to write `rangos`, and two lines below words in place of the `puestos`."""
+        """A letter told electors to write `rangos`, and two lines below words in place of the
+        `puestos`.
+        """
         for code, word in NOT_IN_THE_GLOSSARY.items():
             forms = [form for entry in self.entries[code] for form in entry.forms]
             self.assertEqual([form for form in forms if re.search(word, form)], [])

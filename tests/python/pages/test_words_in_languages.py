@@ -1,7 +1,8 @@
 """Pages and letters in a language hold no word of ours in another one.
 
-In a language whose words are all marked, nothing is unmarked but what is no word of ours, as the names of options and electors, the
-commands, and what debvote itself says."""
+In a language whose words are all marked, nothing is unmarked but what is no word of ours, as the
+names of options and electors, the commands, and what debvote itself says.
+"""
 
 import datetime
 import email
@@ -14,12 +15,14 @@ import re
 from tests.support import languages
 from tests.support.languages import BALLOTS, BEGIN, END_MARK, MARKED, POLL
 
-# what of a page is in no language: its style and script, what is typed and what it answers, what others say, and pictures
+# what of a page is in no language: its style and script, what is typed and what it answers, what
+# others say, and pictures
 UNSAID = re.compile(r"<(style|script|svg|pre|code|bdi)\b[^>]*>.*?</\1>", re.DOTALL)
 # the attributes that are read to somebody, or that a script says
 SAID = re.compile(r'\s(?:aria-label|title|alt|placeholder|data-words)="([^"]*)"')
 
-# what no sentence of ours has: the words of the elections of these tests, names of files, and what debvote says of a line
+# what no sentence of ours has: the words of the elections of these tests, names of files, and what
+# debvote says of a line
 NAMES = sorted(
     [*re.findall('"([A-Z][^"]*)"', POLL), "Wohin?", languages.REASON], key=len, reverse=True
 )

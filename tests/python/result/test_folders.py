@@ -1,4 +1,5 @@
-"""The folders and the pages of examples, of cases, of slips of the hand, of large elections, and of names that are made to hurt a page.
+"""The folders and the pages of examples, of cases, of slips of the hand, of large elections, and of
+names that are made to hurt a page.
 
 DEBVOTE_LARGEST_ELECTORS says how many electors the largest election has; 10000 if it is not given.
 """
@@ -66,7 +67,9 @@ HOSTILE = "</b><script>alert(1)</script> & \"'<img src=x onerror=alert(1)>"
 
 
 def try_names(expect, scratch):
-    """The names that people read stand where names stand, and the plain ones in the list of the options alone. Returns the folder."""
+    """The names that people read stand where names stand, and the plain ones in the list of the
+    options alone. Returns the folder.
+    """
     room = publishing.room_with(scratch / "names", "supermajority_and_recasts")
     keys = {
         "shown_title": "Ob die Satzung geändert wird",
@@ -176,7 +179,8 @@ def publish_large(expect, scratch, options, electors):
 class FoldersTest(looks.LooksTest):
     @classmethod
     def made(cls):
-        # an option whose name has the words of a casting vote outside of a tie, and which wins, is told as the winner alone
+        # an option whose name has the words of a casting vote outside of a tie, and which wins, is
+        # told as the winner alone
         words = '"A, casting option 2 is not among them"'
         poll = publishing.PLAIN_POLL.replace('"A"', words)
         room = publishing.plain_room(cls.scratch / "of-words", poll)
@@ -202,7 +206,9 @@ class FoldersTest(looks.LooksTest):
     @looks.NEEDS_BROWSER
     @looks.NEEDS_PICTURES
     def test_pictures(self):
-        """A picture fits its page, or scrolls by itself and is no smaller than three quarters of what was drawn; dark ones are light."""
+        """A picture fits its page, or scrolls by itself and is no smaller than three quarters of
+        what was drawn; dark ones are light.
+        """
         inks, kinds, large = set(), set(), set()
         for look in self.looks():
             if look["picture"]:
@@ -218,7 +224,9 @@ class FoldersTest(looks.LooksTest):
 
     @looks.NEEDS_BROWSER
     def test_bars(self):
-        """Each bar is as long as its number says, and is seen on the ground of the page by its edge."""
+        """Each bar is as long as its number says, and is seen on the ground of the page by its
+        edge.
+        """
         fills = set()
         for look in self.looks():
             for bar in look["bars"]:
@@ -236,7 +244,9 @@ class FoldersTest(looks.LooksTest):
 
     @looks.NEEDS_BROWSER
     def test_doubts(self):
-        """The doubts of each page are seen in the first window, and can be read on their own ground, light and dark."""
+        """The doubts of each page are seen in the first window, and can be read on their own
+        ground, light and dark.
+        """
         grounds, doubtful = set(), set()
         for look in self.looks():
             if look["doubts"] and look["width"] in looks.DOUBT_WIDTHS:

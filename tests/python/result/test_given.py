@@ -1,4 +1,6 @@
-"""What stands on a page beside the count: whose words they are, and the refused lines; and each command of a page, as it is typed in its folder."""
+"""What stands on a page beside the count: whose words they are, and the refused lines; and each
+command of a page, as it is typed in its folder.
+"""
 
 import html
 import json
@@ -124,7 +126,9 @@ class GivenTest(publishing.PublishTest):
         self.assertLess(len(page), publishing.LARGEST_PAGE)
 
     def test_why_a_line_is_refused_in_another_language(self):
-        """The page says it as a receipt does, and in brackets as debvote does. That a line is late is said above them all."""
+        """The page says it as a receipt does, and in brackets as debvote does. That a line is late
+        is said above them all.
+        """
         poll = PLAIN_POLL + "last_envelope = 4\n"
         ballots = "ada 1,2\nzoe 1,2,3\nada;1\nada 1,2,3\nada 3,2,1\n"
         page = self.page_of(
@@ -142,7 +146,9 @@ class GivenTest(publishing.PublishTest):
 
     @unittest.skipUnless(HAS_PICTURES, "dot is not installed, so there are no pictures")
     def test_names_in_the_picture(self):
-        """What Graphviz would take for the name of a character is drawn as it is, by the command of the page, too."""
+        """What Graphviz would take for the name of a character is drawn as it is, by the command of
+        the page, too.
+        """
         names = ["R&D; more", "&lt;b&gt; &amp; &#65;", "None"]
         poll = PLAIN_POLL.replace('"N"', '"None"').replace("Plain", "Q&A;")
         poll = poll.replace('["A", "B"]', json.dumps(names[:-1]))
@@ -164,7 +170,9 @@ class GivenTest(publishing.PublishTest):
         return ended.stdout
 
     def test_commands(self):
-        """Each command of the page is typed in the folder; what it answers is what the page says."""
+        """Each command of the page is typed in the folder; what it answers is what the page
+        says.
+        """
         room = room_with(self.scratch / "commands", "cycle_and_casting_vote")
         for name, more in {
             "poll.toml": "last_envelope = 7\n",
@@ -177,7 +185,8 @@ class GivenTest(publishing.PublishTest):
         self.assertIn(said, page)
         folder = room / "result"
         before = {file.name: file.read_bytes() for file in folder.iterdir()}
-        # files that somebody has laid there change nothing of what the commands answer, but that they are named
+        # files that somebody has laid there change nothing of what the commands answer, but that
+        # they are named
         others = {"package.json": '{"type": "module"}', "hmac.py": "boom", "a\nb": "", 'c"d': ""}
         for name, text in others.items():
             (folder / name).write_text(text)

@@ -1,4 +1,6 @@
-"""`publish`: the files, what was done, doubts, casting votes, secret votes, and the same bytes again."""
+"""`publish`: the files, what was done, doubts, casting votes, secret votes, and the same bytes
+again.
+"""
 
 import email
 import email.policy
@@ -100,7 +102,9 @@ class OfElections(CalledTest):
         self.say("close")
 
     def other_debvote(self, text):
-        """A folder with a program debvote that does this first; what it does not end is done by the program itself."""
+        """A folder with a program debvote that does this first; what it does not end is done by the
+        program itself.
+        """
         (self.folder / "bin").mkdir(exist_ok=True)
         text = f'#!/bin/sh\n{text}\nexec {elections.PROGRAM} "$@"\n'
         self.write("bin/debvote", text).chmod(0o755)
@@ -224,7 +228,9 @@ class OfOpenVotes(OfElections):
             self.assertEqual(self.is_shown(name), name is not None, name)
 
     def is_shown(self, name):
-        """Whether the command of the letter shows that somebody has changed a file; with None nobody has."""
+        """Whether the command of the letter shows that somebody has changed a file; with None
+        nobody has.
+        """
         letter, place = self.text("letters/result.txt"), self.folder / "downloaded"
         [command] = re.findall(r"(?m)^  (sha256sum .*)$", letter)
         wanted = re.findall(r"(?m)^  ([0-9a-f]{64}  \S+)$", letter)
@@ -265,7 +271,8 @@ class OfOpenVotes(OfElections):
         self.assertEqual([*self.folder.glob(".*")], [])
         # real names are not published
         self.assertNotIn(b"Lovelace", files["index.html"])
-        # a first close before the end is a doubt, and each letter tells until when one should have been able to vote
+        # a first close before the end is a doubt, and each letter tells until when one should have
+        # been able to vote
         self.set_clock("2099-12-05T09:00:00+01:00")
         self.reopened_with("zoe-muller 1,2,3\n")
         self.publish("--language", "en")
@@ -280,7 +287,9 @@ class OfOpenVotes(OfElections):
         self.assertEqual([until in in_one_line(text) for text in letters], [True] * 4)
 
     def test_no_other_result_is_replaced(self):
-        """Neither that of another election, nor an earlier one of this, nor one that somebody has changed. An empty folder is taken."""
+        """Neither that of another election, nor an earlier one of this, nor one that somebody has
+        changed. An empty folder is taken.
+        """
         last = "it exists already, and is not what this election has published last"
         self.closed()
         (self.folder / "result").mkdir()
@@ -326,7 +335,8 @@ class OfOpenVotes(OfElections):
             inside = f"{name}: it would be in the folder {name.partition('/')[0]}, whose files go to others; nothing was published"
             self.stops("publish", name, said=[inside], status=2, folder=name)
         self.assertEqual(self.files("result-2"), files)
-        # it takes the place of the last one, and that of no other: as it was before, with another file, and with one more
+        # it takes the place of the last one, and that of no other: as it was before, with another
+        # file, and with one more
         self.say(*french, "result-2")
         self.assertNotEqual(self.files("result-2"), files)
         for change in (files, {"index.html": b"mine"}, {"mine": b"mine"}):
@@ -338,7 +348,9 @@ class OfOpenVotes(OfElections):
         self.assertEqual(self.read("result-2/mine"), b"mine")
 
     def test_a_result_that_takes_the_place_of_another(self):
-        """Page and letter name each earlier one, with its checksum, and how it ended; the subject says whether a sheet differs."""
+        """Page and letter name each earlier one, with its checksum, and how it ended; the subject
+        says whether a sheet differs.
+        """
         self.closed(TIE, "--at", "https://x.example/")
         self.publish(status=1)
         title = "Wo wir uns treffen: Größe"
@@ -371,7 +383,9 @@ class OfOpenVotes(OfElections):
         return digest(self.read("result/SHA256SUMS"))
 
     def earlier(self):
-        """The earlier results, as the page tells them above the result, and the letter in its list."""
+        """The earlier results, as the page tells them above the result, and the letter in its
+        list.
+        """
         place = "<p>This result takes the place of an earlier one. (.*?)</p>"
         shown = re.findall(place, self.page(), re.S)
         told = [in_one_line(re.sub("<[^>]*>", "", text.partition("): ")[2])) for text in shown]
@@ -384,7 +398,9 @@ class OfOpenVotes(OfElections):
         return self.messages()[-1]["Subject"].rpartition(" [")[0]
 
     def test_made_again_otherwise(self):
-        """What was published is not made otherwise in silence; it can be published once more, with its letter. After another close it is new."""
+        """What was published is not made otherwise in silence; it can be published once more, with
+        its letter. After another close it is new.
+        """
         self.closed(TIE, "--at", "https://x.example/")
         self.publish("--casting", "72 Euro", "--cast-by", "Anna", "--cast-on", TODAY)
         files, letter, acts = self.files(), self.letter(), len(self.acts())
@@ -514,7 +530,9 @@ class OfOpenVotes(OfElections):
         self.assertEqual(self.in_part("What-was-done").count("(UTC+01:00): "), len(told))
 
     def test_what_comes_after_the_end(self):
-        """Lines, ballots of a desk and letters that the secretary entered are told that came after the end; not those that were struck."""
+        """Lines, ballots of a desk and letters that the secretary entered are told that came after
+        the end; not those that were struck.
+        """
         letter = (
             "Received: by mx; Mon, 1 Mar 2027 12:{}:00 +0000\nFrom: cleo@x.example\n\n{} 3,2,1\n"
         )
@@ -659,7 +677,9 @@ class OfOpenVotes(OfElections):
 
     @mock.patch.dict(os.environ, {"DEBVOTE_FORKS": "1"})
     def test_a_publication_that_is_killed_after_its_act(self):
-        """Made again it comes back in its place, whatever a kill has left there, and nothing else is left. One that fails has left the old one."""
+        """Made again it comes back in its place, whatever a kill has left there, and nothing else
+        is left. One that fails has left the old one.
+        """
         self.closed()
 
         def kill(*_):
@@ -757,7 +777,8 @@ class OfSecretVotes(OfElections):
         for words in (("count",), ("publish",), ("publish", "--force", "--because", "x", "--yes")):
             self.stops(*words, said=["the vote is secret, and can be counted only after the close"])
         self.say("strike", "1", "--because", "private reason")
-        # neither its words nor log and letters have the seal, or a checksum without it; the poll that is exported is that of the ballots
+        # neither its words nor log and letters have the seal, or a checksum without it; the poll
+        # that is exported is that of the ballots
         told = self.say("close") + self.say("log")
         told += "".join(file.read_text() for file in self.folder.glob("letters/*.txt"))
         self.say("export", "exported")

@@ -64,7 +64,8 @@ class RefusedTest(publishing.PublishTest):
             ("not verified", 'verify) echo "differs at line 1"; exit 9 ;;', 9, "differs"),
             ("killed", 'count) echo "Poll: half"; kill -KILL $$ ;;', 128 + signal.SIGKILL, ""),
             ("another format", f'count) echo "Result: 1" ;; {verified}', 10, ""),
-            # what debvote says, and says again when it is asked to verify it, the second count does not
+            # what debvote says, and says again when it is asked to verify it, the second count does
+            # not
             (
                 "count",
                 f'count) {PROGRAM} "$@" | /bin/sed "s/by 4 to 3/by 5 to 2/" ;; {verified}',
@@ -84,7 +85,9 @@ class RefusedTest(publishing.PublishTest):
             self.assertEqual(os.listdir(room), ["full"], name)
 
     def test_a_folder_that_is_there(self):
-        """An empty one is taken, by any name, and none that was published; an input may come from /dev/stdin."""
+        """An empty one is taken, by any name, and none that was published; an input may come from
+        /dev/stdin.
+        """
         place, link = self.scratch / "empty", self.scratch / "link"
         place.mkdir()
         link.symlink_to("empty")
@@ -136,7 +139,9 @@ class RefusedTest(publishing.PublishTest):
                 self.assertEqual(publishing.run([*program, *words])[1:], wanted, number)
 
     def test_refused_polls(self):
-        """Where the poll is refused, the fault says what tells more (also that two files are exchanged), and nothing is made."""
+        """Where the poll is refused, the fault says what tells more (also that two files are
+        exchanged), and nothing is made.
+        """
         room = plain_room(self.scratch / "refused")
         (room / "bad.toml").write_text("title = 1\n")
         (room / "new.toml").write_text(PLAIN_POLL + 'note = "\\e"\n')

@@ -1,4 +1,6 @@
-"""The words for a ballot and for a share, which are written down here one by one; the kinds of acts; and why options have lost."""
+"""The words for a ballot and for a share, which are written down here one by one; the kinds of
+acts; and why options have lost.
+"""
 
 import datetime
 import unittest
@@ -103,7 +105,9 @@ class WordsTest(unittest.TestCase):
             self.assertEqual(days_in_words(days, ENGLISH), wanted)
 
     def test_shares(self):
-        """How many have voted, in per cent: none alone is 0, all alone are 100, and it is rounded."""
+        """How many have voted, in per cent: none alone is 0, all alone are 100, and it is
+        rounded.
+        """
         for voters, electors, wanted in [
             (0, 10_000, "0 %"),
             (1, 10_000, "0.1 %"),
