@@ -109,6 +109,59 @@ def test_alone(why, tried):
     assert edits.changed_by(tried, {"src/lib.rt": SOURCE}) is None, why
 
 
+HALVES = """\
+impl Few {
+    pub fn half(number: u8) -> u8 {
+        number / 2
+    }
+}
+
+impl FewMore {
+    pub fn half(number: u8) -> u8 {
+        let each = |some: u8| -> u8 { some / 5 };
+        each(number / 3)
+    }
+}
+
+impl From<AllocFailed<T>> for Few {
+    fn from(number: u8) -> Few {
+        Few { number }
+    }
+}
+"""
+
+
+def test_names_are_matched_whole():
+    """Else a harmless edit of one type passes by a goal that another type's edit leaves open."""
+    named = [body.name for body in edits.bodies_of("src/lib.rt", HALVES)]
+    for function in ("Few::half", "few::FewMore::half", "FewFromAllocFailedT::from"):
+        assert sum(name.fullmatch(function) is not None for name in named) == 1
+    right = edit("right", "number / 2", "number / 4", "FewMore::half", "returns")
+    wrong = edit("wrong", "number / 3", "255", "FewMore::half::each", "returns")
+    assert edits.batches_of([right, wrong], {"src/lib.rt": HALVES}) == ([], [right, wrong])
+
+
+@pytest.mark.parametrize("is_first", [True, False])
+def test_no_edit_names_a_function_that_another_changes(is_first):
+    """A function of a file may have the name of the folder beside it."""
+    paths = ["src/part.rt", "src/part/at_most_ten.rt"]
+    right = edit("right", "10\n}", "9 + 1\n}", "part::at_most_ten::one_more", "a", path=paths[0])
+    wrong = edit("wrong", "few + 1", "9", "part::at_most_ten::one_more::each", "a", path=paths[1])
+    tried = [right, wrong] if is_first else [wrong, right]
+    texts = dict.fromkeys(paths, SOURCE)
+    assert all(edits.changed_by(each, texts) for each in tried)
+    batches, alone = edits.batches_of(tried, texts)
+    assert (batches, names(alone)) == ([], ["apart/right", "apart/wrong"])
+
+
+def test_what_an_impl_in_a_body_says_is_in_no_body():
+    """Others read it, as its ghost items."""
+    inner = "    impl Few for Three {\n        ghost most = { 3 };\n    }\n    10\n}"
+    source = {"src/lib.rt": SOURCE.replace("    10\n}", inner)}
+    tried = edit("wrong", "{ 3 }", "{ 4 }", "at_most_ten", "returns")
+    assert edits.changed_by(tried, source) is None
+
+
 def test_functions_that_call_themselves_are_alone():
     tried = edit("caller", *WRONG_CALLER)
     source = SOURCE.replace("pub fn one_more", "#[cycle(more)]\n#[inline]\npub fn one_more")
