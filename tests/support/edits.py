@@ -297,9 +297,15 @@ def faults_of_answers(lines: list[str]) -> dict[str, set[str]]:
         if folder != "proofs" or not error[2] and not is_unchecked:
             raise Void(line)
         goals = faults["::".join(function)]
-        if not is_unchecked and not ONLY_A_NAME.search(error[3]):
+        if is_of_goal(error):
             goals.add(error[2])
     return faults
+
+
+def is_of_goal(error: re.Match[str]) -> bool:
+    """Whether the error is in a proof, for more than a name that is gone or another error."""
+    is_by_another = UNCHECKED.fullmatch(error[3]) or ONLY_A_NAME.search(error[3])
+    return bool(error[2]) and not is_by_another
 
 
 def goals_of_reasons(reasons: str) -> set[str]:
