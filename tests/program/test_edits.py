@@ -368,19 +368,23 @@ CRATES = {
     "below/src/lib.rt": function("low", 3, "1", "// some"),
     "above/src/lib.rt": function("first", 5, "3", "2")
     + function("second", 9, "6 + low()", "0")
-    + function("third", 7, "7", "-1"),
+    + function("third", "most", "7", "-1"),
+    "above/specs/Most.antt": "most = 7\n",
     "above/must-fail/body.edit": "old:     3\nnew:     4\n# refused at returns of first\n",
-    "above/must-fail/call.edit": "old: 6 +\nnew: 7 +\n# refused at returns of second\n",
+    "above/must-fail/call.edit": "old: + low\nnew: + 1 + low\n# refused at returns of second\n",
     "above/must-fail/alone.edit": "old:     7\nnew:     9\n",
-    "above/must-fail/clause.edit": "old: ≤ 7\nnew: ≤ 4\n",
+    "above/must-fail/clause.edit": "old: ≤ most\nnew: ≤ 4\n",
+    "above/must-fail/meaning.edit": "file: specs/Most.antt\nold: = 7\nnew: = 4\n",
 }
+EDITS = {"alone", "body", "call", "clause", "meaning"}
 
 
 def check_of(crate, texts, *_):
     """Stands for the prover: each function returns the sum of the numbers in its body."""
+    texts = {**kept_edits.files_of(pathlib.Path(crate.folder)), **texts}
     below = pathlib.Path(crate.deps[0].folder, "src/lib.rt").read_text()
-    text = texts.get("src/lib.rt") or pathlib.Path(crate.folder, "src/lib.rt").read_text()
-    text = text.replace("low()", re.search(r"≤ (\d+)", below)[1])
+    text = texts["src/lib.rt"].replace("low()", re.search(r"≤ (\d+)", below)[1])
+    text = text.replace("most", re.search(r"\d+", texts["specs/Most.antt"])[0])
     said = []
     for name, most, body in re.findall(r"fn (\w+).*\n.*≤ (\d+).*\n\{([^}]*)", text):
         is_proved = sum(map(int, re.findall(r"-?\d+", body))) <= int(most)
@@ -426,7 +430,7 @@ class Toy:
         trial = self.trial(*given)
         trial.run()
         lines = {edit.file.stem: line for edit, line in trial.lines.items()}
-        assert sorted(lines) == ["alone", "body", "call", "clause"]
+        assert lines.keys() == EDITS
         failed = {name for name, line in lines.items() if line.startswith("FAILED ")}
         return failed, {name for name, line in lines.items() if ": kept: " in line}
 
@@ -435,7 +439,7 @@ class Toy:
 def toy(tmp_path, monkeypatch):
     made = Toy(tmp_path, monkeypatch)
     assert made.run() == (set(), set())
-    assert made.run() == (set(), {"alone", "body", "call", "clause"})
+    assert made.run() == (set(), EDITS)
     assert made.run(True) == (set(), set())
     return made
 
@@ -447,15 +451,16 @@ ABOVE, BELOW, EDIT = "above/src/lib.rt", "below/src/lib.rt", "above/must-fail/al
 @pytest.mark.parametrize(
     "change, failed, kept",
     [
-        ((ABOVE, "    2\n", "    1\n"), "body", "call alone"),
+        ((ABOVE, "    2\n", "    1\n"), "body", "alone call meaning"),
         ((ABOVE, "≤ 5", "≤ 6"), "body", ""),
         ((BELOW, "≤ 3", "≤ 2"), "call", ""),
-        ((BELOW, "    1\n", "    2\n"), "", "alone body call clause"),
-        ((BELOW, "    // some\n", ""), "", "alone body call clause"),
+        ((BELOW, "    1\n", "    2\n"), "", "alone body call clause meaning"),
+        ((BELOW, "    // some\n", ""), "", "alone body call clause meaning"),
         ((ABOVE, "    -1\n", "    0\n"), "", "body call"),
-        ((ABOVE, "    -1\n", "    -2\n"), "alone", "body call"),
+        ((ABOVE, "    -1\n", "    -3\n"), "alone clause meaning", "body call"),
         ((ABOVE, "    7\n", "    5 + 2\n"), "alone", "body call"),
-        ((EDIT, "9", "8"), "alone", "body call clause"),
+        ((ABOVE, "    2\n", "    2 // + low\n"), "call", "alone body meaning"),
+        ((EDIT, "9", "8"), "alone", "body call clause meaning"),
     ],
 )
 def test_an_edit_that_is_harmless_by_now_fails_beside_what_is_kept(toy, change, failed, kept):
@@ -474,7 +479,7 @@ def test_what_is_kept_of_another_edit_counts_for_nothing(toy, monkeypatch):
     trial.kept.known(trial.crate, alone)
     for name in asked:
         shutil.copy(entry, toy.store / "edits" / name)
-    assert toy.run() == ({"alone"}, {"body", "call", "clause"})
+    assert toy.run() == ({"alone"}, EDITS - {"alone"})
 
 
 @NEEDS_KIT
@@ -497,10 +502,10 @@ def test_an_edit_that_is_changed_meanwhile_is_kept_as_it_was_read(tmp_path, monk
         keep = store.keep_tried
         monkeypatch.setattr(store, "keep_tried", lambda *given: keep(*change(*given)))
     trial.run()
-    assert toy.run() == ({"alone"}, {"body", "call", "clause"})
+    assert toy.run() == ({"alone"}, EDITS - {"alone"})
     edit.write_text(was)
     toy.prover.checked = check_of
-    assert toy.run() == (set(), {"alone", "body", "call", "clause"})
+    assert toy.run() == (set(), EDITS)
 
 
 @pytest.mark.parametrize(

@@ -19,8 +19,6 @@ REFUSED_AT = "# refused at "
 HEAD = re.compile(r"( *)(?:pub(?:\([^)]*\))? )?(?:unsafe )?fn (\w+)")
 TRAIT = re.compile(r"(?:pub(?:\([^)]*\))? )?(?:unsafe )?trait ")
 IMPL = re.compile(r"impl(<.*?>)? (?:(?:\w+::)*(\w+(?:<.*>)?) for )?&?(\w+)")
-# an impl in the body of a function, of which others may read what is in no body
-INNER_IMPL = re.compile(r" +(?:unsafe )?impl\b")
 # what the prover says of a function, of one that is proved or of a closure that requires something,
 # and what it may say of one that is not proved
 FUNCTION = re.compile(r"fn \w+?::(\S+): (.*)")
@@ -137,8 +135,7 @@ def bodies_of(path: str, text: str) -> Iterator[Body]:
             # what is in a function is named after it
             name = re.compile(rf"{owner}{head[2]}(?:::.*)?")
             call = rf"{'' if owner == module else '(?:self[.]|Self::)'}{head[2]}"
-            inside = lines[first + 1 : last] if last else []
-            if last and not does_call(inside, call) and not any(map(INNER_IMPL.match, inside)):
+            if last and not do_others_read(lines[first + 1 : last], call):
                 yield Body(first, last, name)
         is_in_cycle = False
 
@@ -151,9 +148,10 @@ def owner_of(impl: re.Match[str]) -> str:
     return rf"(?:\w+::)*{impl[3]}{''.join(words)}::"
 
 
-def does_call(body: list[str], name: str) -> bool:
-    call = re.compile(rf"(?<![\w.:]){name}\(")
-    return any(call.search(line) for line in body)
+def do_others_read(body: list[str], call: str) -> bool:
+    """Whether the body calls its own function, or has an impl, of which others read what it says."""
+    found = re.compile(rf"(?<![\w.:]){call}\(|^ +(?:unsafe )?impl\b")
+    return any(found.search(line) for line in body)
 
 
 def opening_brace(lines: list[str], number: int, indent: str) -> int | None:

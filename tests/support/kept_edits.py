@@ -65,6 +65,10 @@ def without_comments(text: str) -> str:
     return WORDS.sub(lambda found: "" if found[0].lstrip().startswith("//") else found[0], text)
 
 
+def is_source(path: str) -> bool:
+    return path.startswith("src/") and path.endswith(".rt")
+
+
 def function_of_proof(path: str) -> list[str]:
     """The words of a function's name, if the file is written of its proof."""
     folder, *function, name = pathlib.PurePath(path).parts
@@ -82,7 +86,7 @@ def citing(crates: dict[str, Files], kit: Iterable[str]) -> Iterator[str]:
                 named = crate if word == "crate" else word
                 words = re.split(r"\.|::", place)[1:]
                 # Rust cites what is in a module by its name
-                module = words[:-1] if path.endswith(".rt") else words
+                module = words[:-1] if is_source(path) else words
                 lemmas = "/".join(["proofs", *module]) + ".antt"
                 is_own = own and named == crate and words[: len(own)] == own
                 is_lemma = lemmas in crates.get(named, {}) and not function_of_proof(lemmas)
@@ -104,26 +108,22 @@ class Outline:
 
     def __init__(self, files: Files, is_any_cited: bool) -> None:
         self.functions: dict[str, set[Function]] = collections.defaultdict(set)
-        sources = {path: text for path, text in files.items() if path.endswith(".rt")}
-        bodies = [] if is_any_cited else [*bodies_in(sources)]
-        proofs: dict[str, list[edits.Body]] = {}
-        for path in files:
-            name = "::".join(function_of_proof(path))
-            proofs[path] = [body for *_, body in bodies if body.name.fullmatch(name)]
-        lines = {path: text.split("\n") for path, text in sources.items()}
+        bodies = [] if is_any_cited else [*bodies_in(files)]
+        written = proofs_of([body for *_, body in bodies], files)
+        lines = {path: text.split("\n") for path, text in files.items()}
         for number, (path, name, body) in reversed([*enumerate(bodies)]):
-            written = [(proof, files[proof]) for proof, of in proofs.items() if of == [body]]
             inside = slice(body.first + 1, body.last)
             text = without_comments("\n".join(lines[path][inside]))
             # its number tells it from others, whose heads are in the outline
-            own = sum_of(number, text, written)
+            own = sum_of(number, text, written[number])
             self.functions[name].add(Function(name, path, text, own))
             del lines[path][inside]
-        rest = {path: text for path, text in files.items() if len(proofs[path]) != 1}
-        rest |= {path: without_comments("\n".join(left)) for path, left in lines.items()}
-        of_proofs = [path for path in rest if path.startswith("proofs/")]
-        self.lemmas = {path for path in of_proofs if not function_of_proof(path)}
-        self.sum = sum_of(sorted(rest.items()))
+        apart = {path for of in written for path, _ in of}
+        rest = {path: "\n".join(left) for path, left in lines.items() if path not in apart}
+        code = {path: without_comments(text) for path, text in rest.items() if is_source(path)}
+        proofs = {path for path in rest if path.startswith("proofs/")}
+        self.lemmas = {path for path in proofs if not function_of_proof(path)}
+        self.sum = sum_of(sorted({**rest, **code}.items()))
 
     def changed_by(self, edit: edits.Edit) -> set[Function] | None:
         """The functions that the edit changes; None if it changes in `src/` what is in none."""
@@ -153,9 +153,21 @@ class Outline:
         return None
 
 
-def bodies_in(sources: Files) -> Iterator[tuple[str, str, edits.Body]]:
+def proofs_of(bodies: list[edits.Body], files: Files) -> list[list[tuple[str, str]]]:
+    """The files, with their texts, that are written of the proof of each function alone."""
+    found: list[list[tuple[str, str]]] = [[] for _ in bodies]
+    for path, text in files.items():
+        name = "::".join(function_of_proof(path))
+        of = [number for number, body in enumerate(bodies) if body.name.fullmatch(name)]
+        if len(of) == 1:
+            found[of[0]].append((path, text))
+    return found
+
+
+def bodies_in(files: Files) -> Iterator[tuple[str, str, edits.Body]]:
     """The bodies that are in no other and that others can't read, in their order."""
-    for path, text in sources.items():
+    for path in filter(is_source, files):
+        text = files[path]
         lines = text.split("\n")
         after = -1
         for body in sorted(edits.bodies_of(path, text), key=lambda body: (body.first, -body.last)):
