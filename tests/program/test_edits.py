@@ -469,6 +469,12 @@ def test_an_edit_that_is_harmless_by_now_fails_beside_what_is_kept(toy, change, 
 
 
 @NEEDS_KIT
+def test_what_passes_from_nothing_is_kept_no_longer(toy):
+    toy.prover.checked = lambda crate, *_: check_of(crate, {})
+    assert toy.run(True) == toy.run() == (EDITS, set())
+
+
+@NEEDS_KIT
 def test_what_is_kept_of_another_edit_counts_for_nothing(toy, monkeypatch):
     toy.change(EDIT, "9", "8")
     entry = next((toy.store / "edits").iterdir())

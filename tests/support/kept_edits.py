@@ -206,14 +206,23 @@ class Kept:
         if self.rt.read_edit(str(edit.file), crate.folder)[1]:
             # its old text is gone, or there twice
             return None
+        found = (self.store.tried(name) for name in self.names_of(crate, edit))
+        return next((said for kind, said in filter(None, found) if kind == self.rt.REFUSED), None)
+
+    def forget(self, crate: typing.Any, edit: edits.Edit) -> None:
+        """Drops what was kept of an edit that is not refused by now."""
+        for name in self.names_of(crate, edit):
+            self.store.drop(f"{self.store.at}/edits/{name}")
+
+    def names_of(self, crate: typing.Any, edit: edits.Edit) -> list[str]:
+        """All names under which a refusal of the edit may be kept."""
         base, outline = self.base(crate, edit), self.outlines[crate.name]
         names = [sum_of(base, self.all_bytes[crate.name])]
         changed = outline.changed_by(edit)
         if changed is not None:
             more = [set(), *outline.functions.values()]
             names = [name_of(base, changed | other) for other in more] + names
-        found = (self.store.tried(name) for name in names)
-        return next((said for kind, said in filter(None, found) if kind == self.rt.REFUSED), None)
+        return names
 
     def keep(self, crate: typing.Any, edit: edits.Edit, said: str, output: str | None) -> None:
         """Keeps what was said of an edit that is refused, and that check, if it was of it alone."""
