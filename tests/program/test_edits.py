@@ -352,9 +352,9 @@ NEEDS_KIT = pytest.mark.skipif(shutil.which("rt") is None, reason="rt is not ins
 
 
 @functools.cache
-def tool():
-    loader = importlib.machinery.SourceFileLoader("tests_edits", str(ROOT / "tests" / "edits"))
-    made = importlib.util.module_from_spec(importlib.util.spec_from_loader("tests_edits", loader))
+def tool(name="edits"):
+    loader = importlib.machinery.SourceFileLoader(f"tests_{name}", str(ROOT / "tests" / name))
+    made = importlib.util.module_from_spec(importlib.util.spec_from_loader(loader.name, loader))
     loader.exec_module(made)
     return made
 
@@ -536,6 +536,16 @@ def test_no_two_functions_have_one_sum():
     texts = [function("first", 9, one) + function("second", 9, two) for one, two in ("12", "21")]
     found = [kept_edits.Outline({"src/lib.rt": text}, False).functions for text in texts]
     assert len({it.own for functions in found for of in functions.values() for it in of}) == 4
+
+
+def test_the_full_check_hands_on_that_nothing_counts(monkeypatch):
+    begun = []
+    monkeypatch.setattr(tool("all").parts, "Part", lambda words, *_, **__: begun.append(words))
+    tool("all").begin_proving(["--from-nothing"], None)
+    monkeypatch.setattr(subprocess, "Popen", lambda words, **_: begun.append(words))
+    monkeypatch.setattr(tool().signal, "signal", lambda *_: None)
+    tool().begin_proving(None, None, True)
+    assert begun == [["tests/edits", "--from-nothing"], ["rt", "ci", "--anew"]]
 
 
 def test_no_file_cites_the_proof_of_a_function_of_another():
