@@ -1,14 +1,17 @@
 """tests/edits: which edits are tried in one check, and that none changes what is said of others."""
 
 import dataclasses
+import functools
 import importlib.machinery
 import importlib.util
 import pathlib
+import re
 import shutil
+import subprocess
 
 import pytest
 
-from tests.support import edits
+from tests.support import edits, kept_edits
 from tests.support.program import ROOT
 
 SOURCE = """\
@@ -107,6 +110,59 @@ def test_edits_that_name_no_goal_are_alone():
 )
 def test_alone(why, tried):
     assert edits.changed_by(tried, {"src/lib.rt": SOURCE}) is None, why
+
+
+HALVES = """\
+impl Few {
+    pub fn half(number: u8) -> u8 {
+        number / 2
+    }
+}
+
+impl FewMore {
+    pub fn half(number: u8) -> u8 {
+        let each = |some: u8| -> u8 { some / 5 };
+        each(number / 3)
+    }
+}
+
+impl From<AllocFailed<T>> for Few {
+    fn from(number: u8) -> Few {
+        Few { number }
+    }
+}
+"""
+
+
+def test_names_are_matched_whole():
+    """Else a harmless edit of one type passes by a goal that another type's edit leaves open."""
+    named = [body.name for body in edits.bodies_of("src/lib.rt", HALVES)]
+    for function in ("Few::half", "few::FewMore::half", "FewFromAllocFailedT::from"):
+        assert sum(name.fullmatch(function) is not None for name in named) == 1
+    right = edit("right", "number / 2", "number / 4", "FewMore::half", "returns")
+    wrong = edit("wrong", "number / 3", "255", "FewMore::half::each", "returns")
+    assert edits.batches_of([right, wrong], {"src/lib.rt": HALVES}) == ([], [right, wrong])
+
+
+@pytest.mark.parametrize("is_first", [True, False])
+def test_no_edit_names_a_function_that_another_changes(is_first):
+    """A function of a file may have the name of the folder beside it."""
+    paths = ["src/part.rt", "src/part/at_most_ten.rt"]
+    right = edit("right", "10\n}", "9 + 1\n}", "part::at_most_ten::one_more", "a", path=paths[0])
+    wrong = edit("wrong", "few + 1", "9", "part::at_most_ten::one_more::each", "a", path=paths[1])
+    tried = [right, wrong] if is_first else [wrong, right]
+    texts = dict.fromkeys(paths, SOURCE)
+    assert all(edits.changed_by(each, texts) for each in tried)
+    batches, alone = edits.batches_of(tried, texts)
+    assert (batches, names(alone)) == ([], ["apart/right", "apart/wrong"])
+
+
+def test_what_an_impl_in_a_body_says_is_in_no_body():
+    """Others read it, as its ghost items."""
+    inner = "    impl Few for Three {\n        ghost most = { 3 };\n    }\n    10\n}"
+    source = {"src/lib.rt": SOURCE.replace("    10\n}", inner)}
+    tried = edit("wrong", "{ 3 }", "{ 4 }", "at_most_ten", "returns")
+    assert edits.changed_by(tried, source) is None
 
 
 def test_functions_that_call_themselves_are_alone():
@@ -291,13 +347,235 @@ def test_void(why, lines, end):
         refused(*lines, **end)
 
 
+# ---------------------------------------------------------------- what is kept of earlier runs
+NEEDS_KIT = pytest.mark.skipif(shutil.which("rt") is None, reason="rt is not installed")
+
+
+@functools.cache
+def tool(name="edits"):
+    loader = importlib.machinery.SourceFileLoader(f"tests_{name}", str(ROOT / "tests" / name))
+    made = importlib.util.module_from_spec(importlib.util.spec_from_loader(loader.name, loader))
+    loader.exec_module(made)
+    return made
+
+
+def function(name, most, *lines):
+    body = "".join(f"    {line}\n" for line in lines)
+    return f"pub fn {name}() -> u8\n    ensures {{ result ≤ {most} }}\n{{\n{body}}}\n\n"
+
+
+CRATES = {
+    "below/src/lib.rt": function("low", 3, "1", "// some"),
+    "above/src/lib.rt": function("first", 5, "3", "2")
+    + function("second", 9, "6 + low()", "0")
+    + function("third", "most", "7", "-1"),
+    "above/specs/Most.antt": "most = 7\n",
+    "above/must-fail/body.edit": "old:     3\nnew:     4\n# refused at returns of first\n",
+    "above/must-fail/call.edit": "old: + low\nnew: + 1 + low\n# refused at returns of second\n",
+    "above/must-fail/alone.edit": "old:     7\nnew:     9\n",
+    "above/must-fail/clause.edit": "old: ≤ most\nnew: ≤ 4\n",
+    "above/must-fail/meaning.edit": "file: specs/Most.antt\nold: = 7\nnew: = 4\n",
+}
+EDITS = {"alone", "body", "call", "clause", "meaning"}
+
+
+def check_of(crate, texts, *_):
+    """Stands for the prover: each function returns the sum of the numbers in its body."""
+    texts = {**kept_edits.files_of(pathlib.Path(crate.folder)), **texts}
+    below = pathlib.Path(crate.deps[0].folder, "src/lib.rt").read_text()
+    text = texts["src/lib.rt"].replace("low()", re.search(r"≤ (\d+)", below)[1])
+    text = text.replace("most", re.search(r"\d+", texts["specs/Most.antt"])[0])
+    said = []
+    for name, most, body in re.findall(r"fn (\w+).*\n.*≤ (\d+).*\n\{([^}]*)", text):
+        is_proved = sum(map(int, re.findall(r"-?\d+", body))) <= int(most)
+        why = "proved" if is_proved else "no proof: `search` did not prove `returns`"
+        said.append(f"fn above::{name}: {why}\n")
+    is_any_open = any("no proof" in line for line in said)
+    said.append(f"logic={'not-' * is_any_open}proved\n")
+    return subprocess.CompletedProcess([], int(is_any_open), "".join(said))
+
+
+class Toy:
+    """A repository of two crates whose edits are tried by `check_of`, with a store of its own."""
+
+    def __init__(self, folder, monkeypatch):
+        self.root = folder / "root"
+        self.store = folder / "store"
+        self.rooms = (folder / str(number) for number in range(9))
+        for path, text in CRATES.items():
+            file = self.root / "crates" / path
+            file.parent.mkdir(parents=True, exist_ok=True)
+            file.write_text(f"file: src/lib.rt\n{text}" if "must-fail" in path else text)
+        (self.root / "crates.txt").write_text("below:\nabove: below\n")
+        (self.root / "HANDLES").write_text("Handles allowed: none.\n")
+        prover = tool().Prover()
+        prover.checked = check_of
+        monkeypatch.setattr(prover.rt, "STORE", str(self.store))
+        monkeypatch.setattr(tool(), "ROOT", self.root)
+        monkeypatch.setattr(tool(), "Prover", lambda: prover)
+        self.prover = prover
+
+    def change(self, path, old, new):
+        file = self.root / "crates" / path
+        assert file.read_text().count(old) == 1
+        file.write_text(file.read_text().replace(old, new))
+
+    def trial(self, from_nothing=False):
+        room = next(self.rooms)
+        tool().copy_to(room / "repository", [])
+        return tool().trials_of([], room, room / "repository", from_nothing)[0]["above"]
+
+    def run(self, *given):
+        """The names of the edits that fail, and of those that are kept."""
+        trial = self.trial(*given)
+        trial.run()
+        lines = {edit.file.stem: line for edit, line in trial.lines.items()}
+        assert lines.keys() == EDITS
+        failed = {name for name, line in lines.items() if line.startswith("FAILED ")}
+        return failed, {name for name, line in lines.items() if ": kept: " in line}
+
+
+@pytest.fixture
+def toy(tmp_path, monkeypatch):
+    made = Toy(tmp_path, monkeypatch)
+    assert made.run() == (set(), set())
+    assert made.run() == (set(), EDITS)
+    assert made.run(True) == (set(), set())
+    return made
+
+
+ABOVE, BELOW, EDIT = "above/src/lib.rt", "below/src/lib.rt", "above/must-fail/alone.edit"
+
+
+@NEEDS_KIT
+@pytest.mark.parametrize(
+    "change, failed, kept",
+    [
+        ((ABOVE, "    2\n", "    1\n"), "body", "alone call meaning"),
+        ((ABOVE, "≤ 5", "≤ 6"), "body", ""),
+        ((BELOW, "≤ 3", "≤ 2"), "call", ""),
+        ((BELOW, "    1\n", "    2\n"), "", "alone body call clause meaning"),
+        ((BELOW, "    // some\n", ""), "", "alone body call clause meaning"),
+        ((ABOVE, "    -1\n", "    0\n"), "", "body call"),
+        ((ABOVE, "    -1\n", "    -3\n"), "alone clause meaning", "body call"),
+        ((ABOVE, "    7\n", "    5 + 2\n"), "alone", "body call"),
+        ((ABOVE, "    2\n", "    2 // + low\n"), "call", "alone body meaning"),
+        ((EDIT, "9", "8"), "alone", "body call clause meaning"),
+    ],
+)
+def test_an_edit_that_is_harmless_by_now_fails_beside_what_is_kept(toy, change, failed, kept):
+    toy.change(*change)
+    assert toy.run() == (set(failed.split()), set(kept.split()))
+
+
+@NEEDS_KIT
+def test_what_passes_from_nothing_is_kept_no_longer(toy):
+    toy.prover.checked = lambda crate, *_: check_of(crate, {})
+    assert toy.run(True) == toy.run() == (EDITS, set())
+
+
+@NEEDS_KIT
+def test_what_is_kept_of_another_edit_counts_for_nothing(toy, monkeypatch):
+    toy.change(EDIT, "9", "8")
+    entry = next((toy.store / "edits").iterdir())
+    trial = toy.trial()
+    asked = []
+    monkeypatch.setattr(trial.kept.store, "tried", asked.append)
+    (alone,) = [edit for edit in trial.edits if edit.file.stem == "alone"]
+    trial.kept.known(trial.crate, alone)
+    for name in asked:
+        shutil.copy(entry, toy.store / "edits" / name)
+    assert toy.run() == ({"alone"}, EDITS - {"alone"})
+
+
+@NEEDS_KIT
+@pytest.mark.parametrize("moment", ["before", "during", "after"])
+def test_an_edit_that_is_changed_meanwhile_is_kept_as_it_was_read(tmp_path, monkeypatch, moment):
+    toy = Toy(tmp_path, monkeypatch)
+    trial = toy.trial()
+    store, edit = trial.kept.store, toy.root / "crates" / EDIT
+    was = edit.read_text()
+
+    def change(*given):
+        edit.write_text(was.replace("9", "8"))
+        return given
+
+    if moment == "before":
+        change()
+    elif moment == "during":
+        toy.prover.checked = lambda *given: check_of(*change(*given))
+    else:
+        keep = store.keep_tried
+        monkeypatch.setattr(store, "keep_tried", lambda *given: keep(*change(*given)))
+    trial.run()
+    assert toy.run() == ({"alone"}, EDITS - {"alone"})
+    edit.write_text(was)
+    toy.prover.checked = check_of
+    assert toy.run() == (set(), EDITS)
+
+
+@pytest.mark.parametrize(
+    "old, new, is_same",
+    [
+        ("/// One more", "// Two more", True),
+        ("return number;", "return 0 + number; // more", True),
+        ("let few", 'let few = "// more"; let few', True),
+        ("fn one_more", "const fn one_more", False),
+        ("u8) -> u8\n    ensures {", "u8) -> impl Fn()\n    ensures {", False),
+        ("number + 1 }", "number + 2 }", False),
+        ("let few", "impl Few for u8 {\n    }\n    let few", False),
+    ],
+)
+def test_the_outline_has_all_but_bodies_and_comments(old, new, is_same):
+    found = {kept_edits.Outline({"src/lib.rt": SOURCE.replace(old, new)}, False).sum}
+    assert (found == {kept_edits.Outline({"src/lib.rt": SOURCE}, False).sum}) == is_same
+
+
+def test_no_two_functions_have_one_sum():
+    """Else what refused an edit holds for another function that has its body by now."""
+    texts = [function("first", 9, one) + function("second", 9, two) for one, two in ("12", "21")]
+    found = [kept_edits.Outline({"src/lib.rt": text}, False).functions for text in texts]
+    assert len({it.own for functions in found for of in functions.values() for it in of}) == 4
+
+
+def test_the_full_check_hands_on_that_nothing_counts(monkeypatch):
+    begun = []
+    monkeypatch.setattr(tool("all").parts, "Part", lambda words, *_, **__: begun.append(words))
+    tool("all").begin_proving(["--from-nothing"], None)
+    monkeypatch.setattr(subprocess, "Popen", lambda words, **_: begun.append(words))
+    monkeypatch.setattr(tool().signal, "signal", lambda *_: None)
+    tool().begin_proving(None, None, True)
+    assert begun == [["tests/edits", "--from-nothing"], ["rt", "ci", "--anew"]]
+
+
+def test_no_file_cites_the_proof_of_a_function_of_another():
+    """Else the bodies of functions are no longer apart from what others read of them."""
+    files = {it.parent.name: kept_edits.files_of(it.parent) for it in ROOT.glob("crates/*/src")}
+    kit = {"std", *(ROOT / "crates.txt").read_text().split()} - set(files)
+    assert [*kept_edits.citing(files, kit)] == []
+
+
+@pytest.mark.parametrize(
+    "path, text",
+    [
+        ("proofs/Lemmas.antt", "use Rattle.toy.proofs.add.Goals as goal"),
+        ("proofs/other/Answers.antt", "use Rattle.toy.proofs.{add, other}"),
+        ("specs/Lib.antt", "use Rattle.toy.{proofs}"),
+        ("src/lib.rt", "#[tactic(auto, using(crate::proofs::add::Answers::returns))]"),
+    ],
+)
+def test_a_file_that_cites_the_proof_of_another_function(path, text):
+    files = {"proofs/Lemmas.antt": "", "proofs/add/Answers.antt": "use Rattle.toy.proofs.add.Goals"}
+    assert [*kept_edits.citing({"toy": files}, [])] == []
+    assert [*kept_edits.citing({"toy": {**files, path: text}}, [])] == [f"toy/{path}"]
+    body = {"src/lib.rt": function("add", 1, "1")}
+    assert not kept_edits.Outline(body, True).functions
+
+
 # ---------------------------------------------------------------- the prover itself
-@pytest.mark.skipif(shutil.which("rt") is None, reason="rt is not installed")
+@NEEDS_KIT
 def test_a_wrong_and_a_right_body_change_nothing_of_each_other(tmp_path):
     """Of the two edits of each check just the wrong ones are refused, at their own goals."""
-    loader = importlib.machinery.SourceFileLoader("tests_edits", str(ROOT / "tests" / "edits"))
-    tool = importlib.util.module_from_spec(importlib.util.spec_from_loader("tests_edits", loader))
-    loader.exec_module(tool)
     crate = tmp_path / "crates" / "apart"
     (crate / "src").mkdir(parents=True)
     (crate / "src" / "lib.rt").write_text(SOURCE)
@@ -310,8 +588,8 @@ def test_a_wrong_and_a_right_body_change_nothing_of_each_other(tmp_path):
         edit("3-wrong-called", *WRONG_CALLED),
         edit("3-wrong-caller", *WRONG_CALLER),
     ]
-    prover = tool.Prover()
-    trial = tool.Trial(prover, prover.crates(tmp_path)[0], tried, tmp_path)
+    prover = tool().Prover()
+    trial = tool().Trial(prover, prover.crates(tmp_path)[0], tried, tmp_path, None)
     proved = prover.check(trial.crate, {}, trial.seed)
     assert proved.returncode == 0, proved.stdout
     batches, alone = edits.batches_of(tried, {"src/lib.rt": SOURCE})

@@ -18,7 +18,7 @@ REFUSED_AT = "# refused at "
 # trait, and of an impl, with its type
 HEAD = re.compile(r"( *)(?:pub(?:\([^)]*\))? )?(?:unsafe )?fn (\w+)")
 TRAIT = re.compile(r"(?:pub(?:\([^)]*\))? )?(?:unsafe )?trait ")
-IMPL = re.compile(r"impl(?:<.*?>)? (?:.* for )?&?(\w+)")
+IMPL = re.compile(r"impl(<.*?>)? (?:(?:\w+::)*(\w+(?:<.*>)?) for )?&?(\w+)")
 # what the prover says of a function, of one that is proved or of a closure that requires something,
 # and what it may say of one that is not proved
 FUNCTION = re.compile(r"fn \w+?::(\S+): (.*)")
@@ -108,7 +108,8 @@ class Body(typing.NamedTuple):
 def bodies_of(path: str, text: str) -> Iterator[Body]:
     """The bodies in a file as `rt fmt` lays it out, of which each has a proof of its own.
 
-    So none of a trait, which types may take over, and none of functions that call themselves.
+    So none of a trait, which types may take over, and none of functions that call themselves or
+    have an impl in them.
     """
     parts = pathlib.PurePath(path).with_suffix("").parts[1:]
     module = "".join(f"{part}::" for part in parts if part not in ("lib", "main", "mod"))
@@ -119,8 +120,7 @@ def bodies_of(path: str, text: str) -> Iterator[Body]:
     is_in_cycle = False
     for number, line in enumerate(lines):
         if found := IMPL.match(line):
-            # the prover names the module of the type, which may be another
-            owner = rf"(?:\w+::)*{found[1]}\w*::"
+            owner = owner_of(found)
         elif TRAIT.match(line):
             owner = None
         elif line == "}":
@@ -135,14 +135,23 @@ def bodies_of(path: str, text: str) -> Iterator[Body]:
             # what is in a function is named after it
             name = re.compile(rf"{owner}{head[2]}(?:::.*)?")
             call = rf"{'' if owner == module else '(?:self[.]|Self::)'}{head[2]}"
-            if last and not does_call(lines[first + 1 : last], call):
+            if last and not do_others_read(lines[first + 1 : last], call):
                 yield Body(first, last, name)
         is_in_cycle = False
 
 
-def does_call(body: list[str], name: str) -> bool:
-    call = re.compile(rf"(?<![\w.:]){name}\(")
-    return any(call.search(line) for line in body)
+def owner_of(impl: re.Match[str]) -> str:
+    """How the names begin that the prover gives to the methods of an impl."""
+    parameters = re.findall(r"\w+", impl[1] or "")
+    words = [word for word in re.findall(r"\w+", impl[2] or "") if word not in parameters]
+    # it names the module of the type, which may be another
+    return rf"(?:\w+::)*{impl[3]}{''.join(words)}::"
+
+
+def do_others_read(body: list[str], call: str) -> bool:
+    """Whether the body calls its own function, or has an impl, of which others read what it says."""
+    found = re.compile(rf"(?<![\w.:]){call}\(|^ +(?:unsafe )?impl\b")
+    return any(found.search(line) for line in body)
 
 
 def opening_brace(lines: list[str], number: int, indent: str) -> int | None:
@@ -196,16 +205,17 @@ class Batch:
     def take(self, edit: Edit) -> bool:
         """Takes the edit if it fits beside those that are there."""
         changed = changed_by(edit, self.texts)
-        if changed is None or any(changed[1] & names for names in self.functions.values()):
+        if changed is None:
             return False
+        for other, names in self.functions.items():
+            if changed[1] & names or does_name(edit, names) or does_name(other, changed[1]):
+                return False
         self.texts, self.functions[edit] = changed
         return True
 
     def owner(self, function: str) -> Edit:
         """The edit that changes this function."""
         owners = [edit for edit, names in self.functions.items() if does_match(names, function)]
-        if len(owners) > 1:
-            owners = [edit for edit in owners if function in map(function_of, edit.goals)]
         if len(owners) != 1:
             raise Void(f"{function} is not proved, which {len(owners)} edits change")
         return owners[0]
@@ -213,6 +223,11 @@ class Batch:
 
 def does_match(names: Iterable[re.Pattern[str]], function: str) -> bool:
     return any(name.fullmatch(function) for name in names)
+
+
+def does_name(edit: Edit, names: Iterable[re.Pattern[str]]) -> bool:
+    """Whether the edit names a goal of one of these functions."""
+    return any(does_match(names, function_of(goal)) for goal in edit.goals)
 
 
 def batches_of(edits: Iterable[Edit], texts: dict[str, str]) -> tuple[list[Batch], list[Edit]]:
@@ -280,9 +295,15 @@ def faults_of_answers(lines: list[str]) -> dict[str, set[str]]:
         if folder != "proofs" or not error[2] and not is_unchecked:
             raise Void(line)
         goals = faults["::".join(function)]
-        if not is_unchecked and not ONLY_A_NAME.search(error[3]):
+        if is_of_goal(error):
             goals.add(error[2])
     return faults
+
+
+def is_of_goal(error: re.Match[str]) -> bool:
+    """Whether the error is in a proof, for more than a name that is gone or another error."""
+    is_by_another = UNCHECKED.fullmatch(error[3]) or ONLY_A_NAME.search(error[3])
+    return bool(error[2]) and not is_by_another
 
 
 def goals_of_reasons(reasons: str) -> set[str]:
