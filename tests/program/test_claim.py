@@ -9,7 +9,7 @@ LIBRARIES = set("atomic_table clap indexmap itoa memchr strsim thiserror toml".s
 
 # what is said of std::os, and which types have the number of a descriptor
 OF_DESCRIPTORS = {
-    "debvote/src/main.rt": ["os::fd::AsRawFd;"],
+    "debvote/src/lent.rt": ["os::fd::AsRawFd;"],
     "vote_files/src/standard.rt": ["os::fd::{AsRawFd, RawFd};", "AsRawFd for WriterSink<W> {"],
 }
 
