@@ -18,12 +18,14 @@ pub(crate) struct VoteThreads<R> {
     system: R,
 }
 
-impl<R: AllocGlobal + Threads + Wait + Sync> VoteThreads<R> {
+impl<R> VoteThreads<R> {
     /// Lends the threads of the system to take votes.
     pub(crate) fn of(system: R) -> Self {
         VoteThreads { system }
     }
+}
 
+impl<R: AllocGlobal + Threads + Wait + Sync> VoteThreads<R> {
     /// Takes the votes of all lines at desks 1 to `desks`, each in a thread. No gate stops a desk.
     pub(crate) fn take(
         &self,

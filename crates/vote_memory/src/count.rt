@@ -68,7 +68,8 @@ fn count_by_words<'a, V: FnOnce(&Poll, &Lines<'_>, u8) -> Result<Audited, VoteFa
 }
 
 /// Counts the ballots of a file by a poll file, as `debvote count --poll poll --ballots ballots` does, with these bytes as the two files.
-/// If a casting vote is given, it is for the option `B`. The sheet is written after what stands on the output.
+/// If a casting vote is given, it is for the option `B`. The sheet is written after what stands on the output. If the exit status is
+/// neither 0 nor 1, the contract does not say what was written and read.
 pub fn count_in_memory<'a, V: FnOnce(&Poll, &Lines<'_>, u8) -> Result<Audited, VoteFault> + Drop>(
     alloc: Global,
     poll: &'a [u8],

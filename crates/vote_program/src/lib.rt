@@ -14,7 +14,8 @@
 //! names it and the fault of its reading. Standard input is read once if there are no words, and otherwise never. An input has no more
 //! bytes than its limit, which [`laws`] has in numbers. The exit status is that of the tables of `vote_commands` and of
 //! [`args_status`], and it is that of a failed output exactly when the sink failed. Standard error gets the line of the fault, if there
-//! is one, and nothing else, and is flushed; where words are refused, the text of `clap`.
+//! is one, or where words are refused the text of `clap`, at a terminal the hint, and nothing else, and is flushed; if it fails, it has
+//! got a prefix.
 #![tactic(auto)]
 
 mod answers;
