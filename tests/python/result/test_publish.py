@@ -36,9 +36,12 @@ MEMBERS = "who,mail,name\nAda <Lovelace>,ada@x.example,\nZoë Müller,zoe@x.exam
 TIE = "ada-lovelace 1,2,3\nzoe-muller 2,1,3\n"
 # what is told of an earlier result
 SINCE = "A result was published, whose SHA256SUMS has the checksum"
-# the first day on which a casting vote can be given in an election that a test calls
-TODAY = str(times.now().astimezone().date())
 TEXT = "Who certifies this: <b>Anna</b>.\n"
+
+
+def today():
+    """A day on which a casting vote can be given in an election that a test has called."""
+    return str(times.now().astimezone().date())
 
 
 def digest(data):
@@ -356,7 +359,7 @@ class OfOpenVotes(OfElections):
         title = "Wo wir uns treffen: Größe"
         self.assertEqual((self.earlier(), self.subject()), ([], f"Result: {title}"))
         wanted = [f"{SINCE} {self.checksum()}. A tie: 72 Euro, Größe."]
-        cast = ("--casting", "Größe", "--cast-by", "Anna", "--cast-on", TODAY)
+        cast = ("--casting", "Größe", "--cast-by", "Anna", "--cast-on", today())
         self.publish(*cast)
         self.assertEqual((self.earlier(), self.subject()), (wanted, f"Corrected result: {title}"))
         # again, also with the same words, it is the same
@@ -402,7 +405,7 @@ class OfOpenVotes(OfElections):
         its letter. After another close it is new.
         """
         self.closed(TIE, "--at", "https://x.example/")
-        self.publish("--casting", "72 Euro", "--cast-by", "Anna", "--cast-on", TODAY)
+        self.publish("--casting", "72 Euro", "--cast-by", "Anna", "--cast-on", today())
         files, letter, acts = self.files(), self.letter(), len(self.acts())
         self.write("members.csv", MEMBERS.replace("zoe@x", "zoe@y"))
         self.say("roll", "--yes")
@@ -621,7 +624,7 @@ class OfOpenVotes(OfElections):
     def test_casting_votes(self):
         self.closed(TIE)
         self.assertEqual(self.publish(status=1).splitlines()[0], "Tie: 1 2")
-        by, on = ("--cast-by", "Anna <b>"), ("--cast-on", TODAY)
+        by, on = ("--cast-by", "Anna <b>"), ("--cast-on", today())
         euro, cast = ("--casting", "72 Euro"), (*by, *on)
         none_left = "no casting vote can choose Nichts davon, which is not left; left are 1 72 Euro"
         for words, said, status in [
@@ -745,7 +748,7 @@ class OfOpenVotes(OfElections):
         self.say("close")
         self.write("about", f"about {hostile}")
         plain = tomllib.loads(self.text("call/poll.toml"))["options"][0]
-        cast = ("--casting", plain, "--cast-by", f"by {hostile}", "--cast-on", TODAY)
+        cast = ("--casting", plain, "--cast-by", f"by {hostile}", "--cast-on", today())
         self.force(*cast, "--about", "about", because=f"force {hostile}")
         pages.try_page(self.assert_equal, "hostile", self.folder / "result")
         # the text about the vote stands above what is folded
