@@ -304,7 +304,7 @@ class Clicks(boxes.BoxElectionTest):
             text.replace(own + "/", f"{own}/\n> "),
             text.replace(own + "/", f"{own}/ "),
             text.replace("/", "%2F"),
-            f"{link} is my code\nada 1,2",
+            f"{link.upper()} is my code\nada 1,2",
             f"{place[1:]} 1,1,2,3\n{link} 1,1,2,3",
         ]
         letters = [self.letter("ada", one, number=number) for number, one in enumerate(texts)]

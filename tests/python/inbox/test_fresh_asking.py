@@ -208,7 +208,7 @@ class Closes(AskedTest):
         self.assertIn("vote.php: it does not answer: ", ended.output)
         said = self.told(f"close {FORCED}")
         self.assertEqual(self.acts()[before], "close")
-        self.assertNotIn("still takes ballots", said)
+        self.assertNotRegex(said, "still takes ballots|The web box was asked")
         # the last asking brought nothing
         self.assertRegex(said, "Added last: (?!2099|never)")
         self.done("count")

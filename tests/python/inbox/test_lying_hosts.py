@@ -76,7 +76,7 @@ class Lies(boxes.BoxElectionTest):
         first, second, of_ben, later = self.records()
         (one, *_), (other, *_) = (data.partition(b"X-Proof") for data in (first, second))
         # of ben the second comes first
-        self.keep(second.replace(other, one), first.replace(one, other), later)
+        self.keep(first.replace(one, other), second.replace(other, one), later)
         why = "by the clocks of their devices it is not later than a ballot of its elector that came before it"
         self.assertIn(why, self.add_box())
         self.later()
