@@ -1,5 +1,6 @@
-"""A page in chromium that a test uses as a reader does, by real keys in a window of a given size,
-through chromium's own protocol on a pipe.
+"""A page in chromium that a test uses as a reader does, through chromium's own protocol on a pipe.
+
+Keys are real ones, in a window of a given size.
 """
 
 import atexit

@@ -1,6 +1,4 @@
-"""What the tests of languages share: elections in a language, and a language in which each of our
-words is marked.
-"""
+"""What the tests of languages share: elections, and a language in which each word is marked."""
 
 import contextlib
 import email.utils

@@ -1,6 +1,4 @@
-"""What the tests of letters that come share: letters, the circumstances in which they are judged,
-and debvote, which is asked about lines.
-"""
+"""What the tests of letters that come share: letters, circumstances, and debvote."""
 
 import collections
 import dataclasses

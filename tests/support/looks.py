@@ -1,5 +1,6 @@
-"""Looks at published pages in chromium, and by tidy: what a reader sees at several widths, in a
-light and in a dark scheme.
+"""Looks at published pages in chromium, and by tidy: what a reader sees.
+
+It looks at several widths, in a light and in a dark scheme.
 """
 
 import functools

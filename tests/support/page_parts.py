@@ -1,5 +1,4 @@
-"""Reads a page: its tags, places and links, and each part beside what tests/reference.py counts:
-numbers, sentences, lists and ballots.
+"""Reads a page, and each part of it beside what tests/reference.py counts.
 
 The page is read as a browser reads it: a text that was not escaped is no text here. What a part
 must say is written down anew, by the count of the reference, in English, and said in the language

@@ -1,6 +1,4 @@
-"""Keys and signatures of OpenPGP, made by gpg for the tests of signed letters, once for all tests
-of a run.
-"""
+"""Keys and signatures of OpenPGP, made by gpg once for all tests of signed letters."""
 
 import functools
 import multiprocessing.util

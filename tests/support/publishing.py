@@ -1,6 +1,4 @@
-"""What the tests of debvote-publish share: a folder for each test, and the programs, which run as a
-user runs them.
-"""
+"""What the tests of debvote-publish share: a folder for each test, and the programs."""
 
 import contextlib
 import io

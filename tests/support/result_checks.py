@@ -1,8 +1,8 @@
-"""Compares what debvote-publish makes with tests/reference.py on random polls: the data, the parts
-of the page, the refused lines.
+"""Compares what debvote-publish makes with tests/reference.py on random polls.
 
-Each poll is also one of two questions, beside a motion. Their languages take turns.
-DEBVOTE_PUBLISHED_POLLS is the number of random polls to publish, by default 200.
+It compares the data, the parts of the page and the refused lines. Each poll is also one of two
+questions, beside a motion. Their languages take turns. DEBVOTE_PUBLISHED_POLLS is the number of
+random polls to publish, by default 200.
 """
 
 import collections

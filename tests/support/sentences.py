@@ -1,6 +1,5 @@
 #!/usr/bin/python3
-"""The sentences of debvote_tools that electors read, from its code, and their translations, from
-`locale`.
+"""The sentences of debvote_tools that electors read, from its code, and their translations.
 
     tests/support/sentences.py de
 

@@ -1,6 +1,4 @@
-"""`add`: what others do meanwhile, what it asks at a terminal, what comes from a pipe, and what
-`--look` says of what would be done.
-"""
+"""`add`: what others do meanwhile, what it asks, what comes from a pipe, and what `--look` says."""
 
 import itertools
 import os

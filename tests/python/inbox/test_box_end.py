@@ -1,6 +1,4 @@
-"""The end of a vote passes while its electors click: which clicks count, and what electors are told
-of them.
-"""
+"""The end of a vote passes while its electors click: which count, and what electors are told."""
 
 import contextlib
 import re

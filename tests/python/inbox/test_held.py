@@ -1,6 +1,4 @@
-"""`held`: letters that wait are listed, shown, entered, set aside and put back, at a terminal and
-without one.
-"""
+"""`held`: letters that wait are listed, shown, entered, set aside and put back."""
 
 import re
 

@@ -1,6 +1,4 @@
-"""Letters in an election: `add`, `undo`, `strike`, `close`, `status` as a secretary meets them;
-`held` is in test_held.py.
-"""
+"""Letters in an election: `add`, `undo`, `strike`, `close`, `status` as a secretary meets them."""
 
 import hashlib
 from unittest import mock

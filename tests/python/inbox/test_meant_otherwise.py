@@ -1,5 +1,7 @@
-"""Letters that mean something else than the ballot in them: some by somebody who had not seen how
-letters are read, others by an adversary who had. None goes in.
+"""Letters that mean something else than the ballot in them.
+
+Some are by somebody who had not seen how letters are read, others by an adversary who had. None
+goes in.
 """
 
 import re

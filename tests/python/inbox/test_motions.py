@@ -1,5 +1,6 @@
-"""A motion that is answered in words: by lines, at a desk and by `held --as`; and in letters, in
-which a word is no ballot, and none that has one beside its ballot goes in.
+"""A motion that is answered in words: by lines, at a desk, by `held --as`, and in letters.
+
+In letters a word is no ballot, and none that has one beside its ballot goes in.
 """
 
 import collections

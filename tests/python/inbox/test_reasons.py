@@ -1,5 +1,6 @@
-"""The sentences of the reasons: each reason has one for the secretary and one for electors, and
-becomes of some letter.
+"""The sentences of the reasons: each has one for the secretary and one for electors.
+
+Each reason becomes of some letter.
 """
 
 import dataclasses

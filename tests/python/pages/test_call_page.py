@@ -1,6 +1,4 @@
-"""The page of a call for votes in a browser: each line that it makes is one that debvote reads as
-what was chosen.
-"""
+"""The page of a call in a browser: debvote reads each line that it makes as what was chosen."""
 
 import datetime
 import itertools

@@ -1,5 +1,4 @@
-"""The styles of the pages, by their files: each colour has a name, and what is written can be read
-on each ground that there is.
+"""The styles of the pages: each colour has a name, and what is written can be read on its ground.
 
 4.5 is the contrast that a text needs, 3 what a line, a ring or a bar needs; the guidelines of the
 W3C for all web pages have both numbers.

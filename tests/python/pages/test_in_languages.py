@@ -1,6 +1,4 @@
-"""The pages of each language in a browser: what their scripts say and do, and that none is wider
-than its window.
-"""
+"""The pages of each language in a browser: what their scripts say and do, and how wide they are."""
 
 import json
 import pathlib

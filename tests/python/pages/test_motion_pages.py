@@ -1,6 +1,4 @@
-"""The pages of a motion in a browser: three buttons that make ranks, and the answers in words on
-the page of the result.
-"""
+"""The pages of a motion in a browser: three buttons that make ranks, and the answers in words."""
 
 import json
 import pathlib

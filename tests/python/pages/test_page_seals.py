@@ -1,5 +1,4 @@
-"""What the script of the page seals, byte for byte, and what it does where sealing or the host
-fails.
+"""What the script of the page seals, byte for byte, and what it does if sealing or the host fails.
 
 Each time it says what became of the ballot, and sends nothing that it does not say.
 """

@@ -1,6 +1,4 @@
-"""The scripts of a page in a browser: finding one's own ballot, and counting again; also on pages
-that somebody has changed.
-"""
+"""The scripts of a page in a browser: finding a ballot, counting again, also on changed pages."""
 
 import hashlib
 import json

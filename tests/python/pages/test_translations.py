@@ -1,6 +1,4 @@
-"""The files of translations: each sentence of the code is in each of them, whole, with its places,
-and nothing else is.
-"""
+"""The files of translations: each has each sentence of the code, whole, and nothing else."""
 
 import gettext
 import io

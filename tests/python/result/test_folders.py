@@ -1,5 +1,4 @@
-"""The folders and the pages of examples, of cases, of slips of the hand, of large elections, and of
-names that are made to hurt a page.
+"""The folders and pages of examples, cases, large elections, and names made to hurt a page.
 
 DEBVOTE_LARGEST_ELECTORS says how many electors the largest election has; 10000 if it is not given.
 """

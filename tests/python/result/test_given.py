@@ -1,6 +1,4 @@
-"""What stands on a page beside the count: whose words they are, and the refused lines; and each
-command of a page, as it is typed in its folder.
-"""
+"""What stands on a page beside the count: whose words they are, refused lines, and commands."""
 
 import html
 import json

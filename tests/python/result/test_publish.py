@@ -1,6 +1,4 @@
-"""`publish`: the files, what was done, doubts, casting votes, secret votes, and the same bytes
-again.
-"""
+"""`publish`: the files, what was done, doubts, casting and secret votes, the same bytes again."""
 
 import email
 import email.policy

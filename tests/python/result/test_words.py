@@ -1,6 +1,4 @@
-"""The words for a ballot and for a share, which are written down here one by one; the kinds of
-acts; and why options have lost.
-"""
+"""The words for a ballot and for a share, the kinds of acts, and why options have lost."""
 
 import datetime
 import unittest
