@@ -6,6 +6,7 @@ import pathlib
 import re
 import shutil
 from collections.abc import Callable
+from unittest import mock
 
 from tests.support.elections import any_own
 from tests.support.letters import MARK, TEN, letter
@@ -123,13 +124,11 @@ class Lines(LabelsTest):
     def test_what_status_says_of_a_refused_answer(self) -> None:
         """Cleo has a ballot, but none to B; Ben has one to B, too."""
         self.done("desk", given="cleo A 1,2 B 1\nben B 1,2,3\nben B 1,2,3,4\nzoe C 1\na B 1\n")
-        said = self.done("status").output
-        [(count, its)] = re.findall(
-            r"(?m)^Refused lines of electors without a ballot to the question, or of nobody known \((.*)\):\n((?:  .*\n)+)",
-            said,
-        )
+        its = self.done("status").output.partition("Refused lines of electors without a ballot ")[2]
+        found = re.findall(r"envelope \d+: (.*)", its)
         self.assertEqual(
-            (count, re.findall(r"envelope \d+: (.*)", its)), ("3", ["cleo B 1", "zoe C 1", "a B 1"])
+            (its[:47], found),
+            ("to the question, or of nobody known (3):\n  enve", ["cleo B 1", "zoe C 1", "a B 1"]),
         )
 
     def test_at_a_terminal(self) -> None:
@@ -161,36 +160,12 @@ class Lines(LabelsTest):
         self.done("desk", "--question", "B", given="Ben 1,2,3\nben 3,2,1\nben-b 1,2,3\n")
         self.demand_entered("ben B 1,2,3", "ben B 3,2,1", "ben-b B 1,2,3")
 
-    def test_a_refused_answer_is_an_envelope_of_its_own(self) -> None:
-        """The ranks of A are too many: B counts, and `undo` takes back both."""
-        said = self.done("desk", given="cleo A 1,2,3 B 1,2,3\n").output
-        self.assertRegex(said, r"(?m)^\d counted  cleo:\n  B ")
-        self.assertRegex(said, r"(?m)^\d bad rank count  cleo A 1,2,3")
-        self.assertEqual(sorted(self.lines()), ["cleo A 1,2,3", "cleo B 1,2,3"])
-        sheets = self.sheets()
-        for label, numbers in (
-            ("A", ("1", "0", "1")),
-            ("B", ("1", "1", "0")),
-            ("C", ("0", "0", "0")),
-        ):
-            self.assertEqual(
-                tuple(re.findall(r"(?m)^(?:Lines|Valid|Refused): (\d)$", sheets[label])), numbers
-            )
-        self.done("undo", "--yes")
-        self.assertEqual(self.lines(), [])
-
     def test_a_line_with_a_refused_answer_is_one_that_came_before(self) -> None:
         self.write("first", "cleo A 1,2,3 B 1,2,3\n")
         self.done("add", "first")
-        self.assertIn(
-            "first: 1 line is ignored, since it came before; 0 are new\n",
-            self.done("add", "first").output,
-        )
         self.write("more", "cleo A 1,2,3 B 1,2,3\ndan A 1,2,3 B 1,2,3\n")
-        self.assertIn(
-            "more: 1 line is ignored, since it came before; 1 is new\n",
-            self.done("add", "more").output,
-        )
+        said = "more: 1 line is ignored, since it came before; 1 is new\n"
+        self.assertIn(said, self.done("add", "more").output)
         detail = {"files": ["more"], "lines": 2, "passed_over": 1}
         self.assertEqual(self.acts()[-1], ("add", detail))
 
@@ -282,27 +257,6 @@ class Letters(LabelsTest):
         self.assertIn(f"{len(right)} ballots of letters went in", self.add(*right))
         self.demand_entered(*RIGHT.values())
 
-    def test_a_name_that_is_part_of_another(self) -> None:
-        """Ben answers B although there is a Ben B: by the form, the letter or with a colon."""
-        texts = [
-            "ben\nA 1,2\nB 2,1,3",
-            "ben B 1,2,3",
-            "Ben\nB 3,2,1",
-            "Ben: B 1,2,3",
-            "Ben C 1,2,3,4\nB 3,2,1",
-        ]
-        self.assertIn(
-            "5 ballots of letters went in; 0 letters wait",
-            self.add(*(of("ben", text, number) for number, text in enumerate(texts, start=1))),
-        )
-        self.demand_entered(
-            "ben A 1,2 B 2,1,3",
-            "ben B 1,2,3",
-            "ben B 3,2,1",
-            "ben B 1,2,3",
-            "ben B 3,2,1 C 1,2,3,4",
-        )
-
     def test_as(self) -> None:
         self.add(letter("cleo", "I am for the slate.\n"))
         for text in WRONG[::6]:
@@ -388,39 +342,17 @@ class Exchanged(QuestionsTest):
                 change(copy)
                 self.assertFalse(self.is_whole(copy, name, letter), copy)
 
-    def test_a_question_more_and_a_folder_of_another_assembly(self) -> None:
-        """Each is seen in the list of all files, and by the page, which names the checksum of its poll and of the list."""
-        result = self.folder / "result"
-        listed = {
-            line.split("  ", 1)[1] for line in (result / "SHA256SUMS").read_text().splitlines()
-        }
-        self.assertEqual(
-            {str(file.relative_to(result)) for file in result.rglob("*") if file.is_file()}
-            - listed,
-            {"SHA256SUMS"},
-        )
-        pages = {label: (result / label / "index.html").read_text() for label in self.polls}
-        digests = dict(
-            line.split("  ")[::-1] for line in self.read("call/polls.sha256").decode().splitlines()
-        )
-        checksum = hashlib.sha256(self.read("call/polls.sha256")).hexdigest()
-        for label, page in pages.items():
-            self.assertIn(checksum, page)
-            self.assertEqual(
-                [
-                    other
-                    for other in self.polls
-                    if digests[f"{other}/poll.toml"] in page.partition("<script")[0]
-                ],
-                [label],
-            )
+    def test_pages_and_the_folder_of_another_assembly(self) -> None:
+        """Each page names the checksum of the list, and of no other poll than its own; the list binds the title."""
+        result, sums = self.folder / "result", self.read("call/polls.sha256")
+        digests = {line[66:67]: line[:64] for line in sums.decode().splitlines()[: len(self.polls)]}
+        for label in self.polls:
+            page = (result / label / "index.html").read_text().partition("<script")[0]
+            named = [other for other in self.polls if digests[other] in page]
+            self.assertEqual((named, hashlib.sha256(sums).hexdigest() in page), ([label], True))
         # another assembly with the same polls, but for its title
         self.folder = self.scratch / "other"
-        type(self).title, before = "Another assembly", type(self).title
-        try:
+        with mock.patch.object(type(self), "title", "Another assembly"):
             shutil.copytree(self.made(), self.folder)
-        finally:
-            type(self).title = before
-        self.assertNotEqual(self.read("call/polls.sha256"), (result / "polls.sha256").read_bytes())
+        self.assertNotEqual(self.read("call/polls.sha256"), sums)
         self.assertEqual(self.read("call/A/poll.toml"), (result / "A/poll.toml").read_bytes())
-        self.assertNotEqual(hashlib.sha256(self.read("call/polls.sha256")).hexdigest(), checksum)
