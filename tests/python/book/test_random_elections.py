@@ -57,8 +57,6 @@ BECAUSE = "The reason, in the secretary's words:"
 
 # ranks by the label of a question, which is empty if there is one alone
 Answers = dict[str, str]
-# the name of an elector, a ballot of theirs, and the number of the letter that it is of, or 0
-Ballot = tuple[str, Answers, int]
 
 
 def is_right(label: str, ranks: str) -> bool:
@@ -76,7 +74,7 @@ def sentence(number: int, one: str, many: str) -> str:
     return f" {number} {one if number == 1 else many}" if number else ""
 
 
-@dataclasses.dataclass
+@dataclasses.dataclass(eq=False)
 class Letter:
     """A letter or a click, which may have no ballot. One that is not plain never goes in by itself."""
 
@@ -85,6 +83,7 @@ class Letter:
     time: datetime.datetime
     is_plain: bool = True
     is_click: bool = False
+    number: int = 0
     # what the last act decided of it
     state: str = ""
 
@@ -94,13 +93,18 @@ class Letter:
         return COUPLE if self.name in COUPLE and not self.is_click else [self.name]
 
 
+# the name of an elector, a ballot of theirs, and the letter that it is of
+Ballot = tuple[str, Answers, Letter | None]
+
+
 @dataclasses.dataclass(eq=False)
 class Envelope:
     """A line that an act entered, and how many closes were before it; its time is that of its letter, if it is of one."""
 
     name: str
     answers: Answers
-    letter: int
+    letter: Letter | None
+    number: int
     act: int
     closes: int
     time: datetime.datetime
@@ -141,7 +145,7 @@ class Model:
     left: set[int] = dataclasses.field(default_factory=set)
     receipts: set[tuple[str, str, int, bool]] = dataclasses.field(default_factory=set)
     # what a page tells, of an undo its envelopes; and the earlier results
-    told: list[str | list[int]] = dataclasses.field(default_factory=list)
+    told: list[str | list[Envelope]] = dataclasses.field(default_factory=list)
     earlier: list[str] = dataclasses.field(default_factory=list)
 
     # ---- what is in the book
@@ -197,31 +201,32 @@ class Model:
             return "is passed over" if later == letter.answers.keys() else "waits"
         return "waits" if self.is_closed else "goes in"
 
-    def numbers_of(self, is_meant: Callable[[Letter], object]) -> list[int]:
-        """The letters that are meant, in the order of their times."""
-        found = [number for number, one in enumerate(self.letters, start=1) if is_meant(one)]
-        return sorted(found, key=lambda number: self.letters[number - 1].time)
+    def of_letters(self, is_meant: Callable[[Letter], object]) -> list[Letter]:
+        """Those that are meant, in the order of their times."""
+        return sorted(filter(is_meant, self.letters), key=lambda one: one.time)
 
-    def waiting(self, *, in_time: bool = False) -> set[int]:
+    def waiting(self, *, in_time: bool = False) -> list[Letter]:
         """The letters that wait, also for the next `add`; or those of them that came in time."""
-
-        def is_waiting(one: Letter) -> bool:
-            return self.becomes(one) in ("waits", "goes in") and (self.is_early(one) or not in_time)
-
-        return {*self.numbers_of(is_waiting)}
+        waiting = self.of_letters(lambda one: self.becomes(one) in ("waits", "goes in"))
+        return [one for one in waiting if self.is_early(one) or not in_time]
 
     def stopping(self) -> list[int]:
-        return sorted(self.waiting(in_time=True) - self.left)
+        return sorted({one.number for one in self.waiting(in_time=True)} - self.left)
 
-    def having(self, number: int) -> set[str]:
-        """Whose ballots of a letter were entered, and are not taken out."""
-        return {one.name for one in self.envelopes if one.letter == number and not one.out}
+    def leave(self) -> None:
+        """What waits, and arrived in time, stops nothing again."""
+        self.left |= {one.number for one in self.waiting(in_time=True)}
+
+    def lacking(self, letter: Letter) -> list[str]:
+        """Who may have sent a letter, and has no ballot of it that is not taken out."""
+        having = [one.name for one in self.envelopes if one.letter is letter and not one.out]
+        return [name for name in letter.electors if name not in having]
 
     def is_lost(self, one: Envelope) -> bool:
         """Whether an undo took answers in time out that its elector has not given again since."""
         again = {
             label
-            for other in self.envelopes[self.envelopes.index(one) :]
+            for other in self.envelopes[one.number :]
             if other.name == one.name and not (other.out or other.is_late)
             for label, ranks in other.answers.items()
             if one.answers.get(label) == ranks
@@ -231,7 +236,7 @@ class Model:
 
     def replaces_as_late(self, one: Envelope) -> bool:
         """Whether a line in time was late before, and replaced another answer."""
-        before = self.envelopes[: self.envelopes.index(one)]
+        before = self.envelopes[: one.number - 1]
         if one.letter or one.out or one.is_late or not one.is_ballot:
             return False
         of_elector = [other for other in before if other.name == one.name and not other.out]
@@ -267,18 +272,16 @@ class Model:
 
     def to_tell(self) -> set[tuple[str, str, int, bool]]:
         """What a receipt tells each elector of: a letter until there is a ballot of theirs from it."""
-        envelopes = [
-            (one.name, "envelope", number, bool(one.out))
-            for number, one in enumerate(self.envelopes, start=1)
-            if one.name in elections.NAMES
-        ]
         having = {(one.name, one.letter) for one in self.envelopes}
-        found = [
-            (one.name, "letter", number, False)
-            for number, one in enumerate(self.letters, start=1)
-            if (one.answers or len(one.electors) == 1) and (one.name, number) not in having
-        ]
-        return {*envelopes, *found}
+        return {
+            (one.name, "envelope", one.number, bool(one.out))
+            for one in self.envelopes
+            if one.name in VOTERS
+        } | {
+            (one.name, "letter", one.number, False)
+            for one in self.letters
+            if (one.answers or len(one.electors) == 1) and (one.name, one) not in having
+        }
 
     # ---- what acts do
     def parts(self, name: str, answers: Answers) -> list[Answers]:
@@ -304,53 +307,47 @@ class Model:
             if texts[: place + 1].count(texts[place]) > self.came(texts[place], is_late=is_late)
         ]
 
-    def enter(self, ballots: Iterable[Ballot], **how: bool) -> None:
+    def enter(self, ballots: list[Ballot], **how: bool) -> None:
         """One act that enters them, if there are any; their letters are done."""
-        made = [
-            Envelope(*ballot, self.acts + 1, len(self.closes), self.now, **how)
-            for ballot in ballots
-        ]
-        for one in made:
-            if one.letter:
-                letter = self.letters[one.letter - 1]
-                one.time, letter.state = letter.time, "entered"
-        self.envelopes += made
-        self.acts += bool(made)
+        self.acts += bool(ballots)
+        for name, answers, letter in ballots:
+            number, closes, time = len(self.envelopes) + 1, len(self.closes), self.now
+            if letter:
+                time, letter.state = letter.time, "entered"
+            one = Envelope(name, answers, letter, number, self.acts, closes, time, **how)
+            self.envelopes.append(one)
+
+    def receive(self, new: list[Letter]) -> None:
+        for one in new:
+            self.letters.append(one)
+            one.number = len(self.letters)
 
     def offer(self, *, clicks_alone: bool = False) -> None:
         """What goes in by itself."""
-        going = self.numbers_of(
-            lambda one: self.becomes(one) == "goes in" and (one.is_click or not clicks_alone)
-        )
-        own = [(self.letters[number - 1], number) for number in going]
-        self.enter((one.name, one.answers, number) for one, number in own)
+        going = self.of_letters(lambda one: self.becomes(one) == "goes in")
+        going = [one for one in going if one.is_click or not clicks_alone]
+        self.enter([(one.name, one.answers, one) for one in going])
 
     def is_refused(self, ballots: list[Ballot], *, is_typed: bool, is_forced: bool) -> bool:
         """Whether `held` stops before these ballots of letters."""
-        for name, answers, number in ballots:
-            letter, later = self.letters[number - 1], self.later(
-                name, self.letters[number - 1], answers
-            )
-            own = [one for one in self.envelopes if (one.name, one.letter) == (name, number)]
-            entered = any(one.answers.keys() & answers.keys() for one in own if not one.out)
-            was_typed = not is_typed and own and own[-1].is_typed
-            if (
-                entered
-                or (self.is_closed and self.is_early(letter))
-                or later not in (set(), answers.keys())
-            ):
+        for name, answers, letter in ballots:
+            later = self.later(name, letter, answers)
+            own = [one for one in self.envelopes if one.name == name and one.letter is letter]
+            if any(one.answers.keys() & answers.keys() for one in own if not one.out):
                 return True
+            if self.is_closed and self.is_early(letter) or later not in (set(), answers.keys()):
+                return True
+            was_typed = not is_typed and own and own[-1].is_typed
             if not is_forced and (later or was_typed or name != letter.name):
                 return True
-        return len({self.is_late(self.letters[number - 1]) for *_, number in ballots}) > 1
+        return len({self.is_late(letter) for *_, letter in ballots}) > 1
 
     def take_out(self, taken: Iterable[Envelope], how: str) -> None:
         self.acts += 1
         for one in taken:
             one.out, one.closes_at_out = how, len(self.closes)
-            letter = self.letters[one.letter - 1] if one.letter else None
-            if letter and (how == "undo" or letter.state == "entered"):
-                letter.state = how
+            if one.letter and (how == "undo" or one.letter.state == "entered"):
+                one.letter.state = how
 
     def close(self) -> None:
         waiting, number = self.waiting(in_time=True), len(self.closes)
@@ -383,23 +380,23 @@ class Model:
                 again.format("lines were", "ones", "other ballots of their electors"),
             )
         self.told.append(text + f" {BECAUSE} it is time" * is_stopped)
-        self.left |= waiting
+        self.leave()
         self.closes.append(self.now)
-        self.is_closed, self.acts = True, self.acts + 1
+        self.is_closed = True
+        self.acts += 1
 
     def all_told(self) -> list[str]:
         """The acts that a page tells: of an undo what is lost by it; and how many lines came after the end, and count."""
         found = [f"The call was made; one could vote until {time_in_words(END)}."]
         back = "The secretary took back ballots that had been entered. Not entered again as they were: envelopes"
         for one in self.told:
-            lost = (
-                []
-                if isinstance(one, str)
-                else [n for n in one if self.is_lost(self.envelopes[n - 1])]
-            )
-            found += [one] if isinstance(one, str) else [f"{back} {in_runs(lost)}."] * bool(lost)
+            if isinstance(one, str):
+                found.append(one)
+            elif lost := [gone.number for gone in one if self.is_lost(gone)]:
+                found.append(f"{back} {in_runs(lost)}.")
         after = sum(
-            one.time > self.end and (one.letter > 0 or not one.closes) for one in self.kept()
+            one.time > self.end and (one.letter is not None or not one.closes)
+            for one in self.kept()
         )
         words = [
             f"{lines} in time, since the vote was not closed yet."
@@ -475,7 +472,7 @@ class Played:
         ]
         for _, answers in given:
             answers[min(answers)] += ",9" if self.chance.random() < 0.1 else ""
-        ballots = [(name, part, 0) for name, whole in given for part in model.parts(name, whole)]
+        ballots = [(name, part, None) for name, whole in given for part in model.parts(name, whole)]
         new = model.new_of(ballots, is_late=is_late) if is_of_file else ballots
         model.enter(new, is_late=is_late, is_of_file=is_of_file)
         command = ["add", "--yes", "-"] if is_of_file else ["desk"]
@@ -484,36 +481,32 @@ class Played:
 
     def mailing(self, model: Model) -> Step | None:
         """The whole mailbox, with some new letters, each with a second of its own."""
-        new = [self.new_letter(model) for _ in range(self.chance.randint(0, 3))]
-        if all(one.is_click for one in [*model.letters, *new]):
+        for _ in range(self.chance.randint(0, 3)):
+            model.receive([self.new_letter(model)])
+        data = [self.letter_of(one) for one in model.letters if not one.is_click]
+        if not data:
             return None
-        model.letters += new
-        data = [
-            self.letter_of(number, one)
-            for number, one in enumerate(model.letters, start=1)
-            if not one.is_click
-        ]
         self.write("mail", letters.mailbox(*data))
         model.offer()
         return Step(["add", "--yes", "mail"])
 
     def new_letter(self, model: Model) -> Letter:
-        seconds = 5 + 10 * self.chance.randint(0, 720) + self.chance.random() / 10
-        time = (model.now - datetime.timedelta(seconds=seconds)).replace(microsecond=0)
+        times = {model.now - datetime.timedelta(seconds=5 + 10 * slot) for slot in range(720)}
+        time = self.chance.choice(sorted(times - {one.time for one in model.letters}))
         name, is_plain = self.chance.choice(VOTERS), self.chance.random() < 0.7
         return Letter(name, self.ballot() if self.chance.random() < 0.8 else {}, time, is_plain)
 
-    def letter_of(self, number: int, one: Letter) -> bytes:
+    def letter_of(self, one: Letter) -> bytes:
         lines = [f"{label} {ranks}" for label, ranks in one.answers.items()]
         text = one_line(one.name, one.answers) if one.answers else "I am for the lake."
         if "A" in self.labels and one.answers and one.is_plain:
             broken = ["\n".join([one.name, *lines]), "\n\n".join([one.name.title(), *lines])]
-            text = [text, *broken][number % 3]
+            text = [text, *broken][one.number % 3]
         return letters.marked(
             one.name,
             f"{'' if one.is_plain else 'This is my choice:'}\n{text}\n",
             sender=f"{one.electors[0]}@club.example",
-            number=number,
+            number=one.number,
             time=f"{one.time:%a, %d %b %Y %H:%M:%S} +0000",
         )
 
@@ -521,59 +514,44 @@ class Played:
         time = model.now - datetime.timedelta(seconds=3)
         one = Letter(self.chance.choice(VOTERS), self.ballot(), time, is_click=True)
         model.clicks.append(one)
-        link, mark, number = (
-            self.links[one.name],
-            self.begun.split()[0],
-            self.records.count("Message-ID"),
-        )
-        inside = sealing.inside(
-            one_line(one.name, one.answers), link, f"{time:%Y-%m-%dT%H:%M:%S}.000Z"
-        )
+        link, mark = self.links[one.name], self.begun.split()[0]
+        number, sent = self.records.count("Message-ID"), f"{time:%Y-%m-%dT%H:%M:%S}.000Z"
+        inside = sealing.inside(one_line(one.name, one.answers), link, sent)
         text = sealing.sealed(self.seal, mark, f"{number:032x}", inside)
         type(self).records += sealing.record(mark, link, number, time.isoformat(), text)
 
     def asking(self, model: Model) -> Step:
         # the page that an extension made is uploaded
         type(self).page = self.read("call/index.html")
-        model.letters += model.clicks
+        model.receive(model.clicks)
         model.asked, model.clicks = model.now, []
         model.offer(clicks_alone=True)
         return Step(["add", "--box", "--yes"])
 
     def holding(self, model: Model) -> Step | None:
         """Ballots of letters are entered, or what was read in one is typed, of one or both who may have sent it."""
-        is_typed = self.chance.random() < 0.5
-        numbers = [
-            number
-            for number, one in enumerate(model.letters, start=1)
-            if (
-                {*one.electors} - model.having(number)
-                if is_typed
-                else one.answers and model.becomes(one) != "is done"
-            )
-        ]
-        if not numbers:
+        is_typed, how = self.chance.random() < 0.5, ["--enter"]
+        found = model.of_letters(lambda one: one.answers and model.becomes(one) != "is done")
+        found = model.of_letters(model.lacking) if is_typed else found
+        if not found:
             return None
         chosen = self.chance.sample(
-            numbers, 1 if is_typed else self.chance.randint(1, min(3, len(numbers)))
+            found, 1 if is_typed else min(len(found), self.chance.randint(1, 3))
         )
-        ballots, how = list[Ballot](), ["--enter"]
-        for number in sorted(chosen, key=lambda number: model.letters[number - 1].time):
-            one = model.letters[number - 1]
-            ballots.append((one.name, one.answers, number))
+        chosen.sort(key=lambda one: one.time)
+        ballots = [(one.name, one.answers, one) for one in chosen]
         if is_typed:
-            names = sorted({*one.electors} - model.having(number))
+            names = model.lacking(chosen[0])
             names = self.chance.sample(names, self.chance.randint(1, len(names)))
-            ballots = [(name, self.typed(model, one, name), number) for name in names]
-            how = [
-                word for name, answers, _ in ballots for word in ("--as", one_line(name, answers))
-            ]
+            ballots = [(name, self.typed(model, chosen[0], name), chosen[0]) for name in names]
+            lines = [one_line(name, answers) for name, answers, _ in ballots]
+            how = [word for line in lines for word in ("--as", line)]
         is_forced = len(chosen) == 1 and self.chance.random() < 0.6
-        words = ["held", *map(str, chosen), *how, "--yes", *["--force"] * is_forced]
+        numbers = [str(one.number) for one in chosen]
+        words = ["held", *numbers, *how, "--yes", *["--force"] * is_forced]
         if model.is_refused(ballots, is_typed=is_typed, is_forced=is_forced):
             return Step(words, statuses=(9,))
-        is_late = model.is_late(model.letters[chosen[0] - 1])
-        model.enter(ballots, is_late=is_late, is_typed=is_typed)
+        model.enter(ballots, is_late=model.is_late(chosen[0]), is_typed=is_typed)
         return Step(words)
 
     def typed(self, model: Model, letter: Letter, name: str) -> Answers:
@@ -585,15 +563,15 @@ class Played:
 
     def deciding(self, model: Model) -> Step | None:
         """Letters are set aside, or wait again; none of which a ballot is entered."""
-        numbers = model.numbers_of(lambda one: one.state != "entered")
-        if not numbers:
+        found = model.of_letters(lambda one: one.state != "entered")
+        if not found:
             return None
-        chosen = self.chance.sample(numbers, min(2, len(numbers)))
+        chosen = self.chance.sample(found, min(2, len(found)))
         state = self.chance.choice(["--set-aside", "--wait"])
-        for number in chosen:
-            model.letters[number - 1].state = state
+        for one in chosen:
+            one.state = state
         model.acts += 1
-        return Step(["held", *map(str, chosen), state])
+        return Step(["held", *(str(one.number) for one in chosen), state])
 
     def undoing(self, model: Model) -> Step | None:
         """The last act of which a line stands: what was struck before stays struck."""
@@ -602,32 +580,31 @@ class Played:
             return None
         taken = [one for one in left if one.act == left[-1].act]
         model.take_out(taken, "undo")
-        model.told.append([n for n, one in enumerate(model.envelopes, start=1) if one in taken])
+        model.told.append(taken)
         return Step(["undo", "--yes"])
 
     def striking(self, model: Model) -> Step | None:
-        left = [number for number, one in enumerate(model.envelopes, start=1) if not one.out]
+        left = [one for one in model.envelopes if not one.out]
         if model.is_closed or not left:
             return None
-        number = self.chance.choice(left)
-        model.take_out([model.envelopes[number - 1]], "strike")
-        said = f"The secretary struck envelope {number}: its line does not count."
+        one = self.chance.choice(left)
+        model.take_out([one], "strike")
+        said = f"The secretary struck envelope {one.number}: its line does not count."
         model.told.append(f"{said} {BECAUSE} it was torn")
-        return Step(["strike", str(number), "--because", "it was torn"])
+        return Step(["strike", str(one.number), "--because", "it was torn"])
 
     def timing(self, model: Model) -> Step:
         """A close, or its end; or an extension before the first close."""
         if model.is_closed:
-            model.is_closed, model.acts = False, model.acts + 1
+            model.is_closed = False
+            model.acts += 1
             said = "The vote was opened again, for what had come before the first close."
             model.told.append(f"{said} {BECAUSE} a bag")
             return Step(["reopen", "--because", "a bag"])
         if not model.closes and self.chance.random() < 0.4:
             later = datetime.timedelta(minutes=self.chance.randint(1, 120))
-            model.end, model.acts = (
-                max(model.now, model.end).replace(second=0) + later,
-                model.acts + 1,
-            )
+            model.end = max(model.now, model.end).replace(second=0) + later
+            model.acts += 1
             said = f"The time was extended: one could vote until {time_in_words(model.end)}."
             model.told.append(said)
             return Step(["call", "--until", f"{model.end:%Y-%m-%d %H:%M}", "--zone", "UTC"])
@@ -782,7 +759,8 @@ class Played:
             f"A result was published, whose SHA256SUMS has the checksum {checksum}. {how}"
         )
         model.told.append(model.earlier[-1])
-        model.left |= model.waiting(in_time=True) if model.is_closed else set()
+        if model.is_closed:
+            model.leave()
         model.acts += 1
 
     def demand_published(self, model: Model, label: str, folder) -> str:
