@@ -32,7 +32,7 @@ from tests.support.called import LettersTest
 from tests.support.questions import QuestionsTest, in_words, one_line
 from tests.support.web_host import Liar, answered
 
-# how many elections are held, of each kind a third, and of how many commands each
+# how many elections are held, half of them of one question, and of how many commands each
 ELECTIONS = int(os.environ.get("DEBVOTE_ELECTIONS", "24"))
 LENGTH = 20
 
@@ -466,12 +466,17 @@ class Played:
         if model.closes and not is_late:
             is_late = self.chance.random() < 0.5
             words = ["--came-before-close", "no" if is_late else "yes"]
-        given = [
-            (self.chance.choice([*VOTERS * 2, "nobody"]), self.ballot())
-            for _ in range(self.chance.randint(2, 6))
-        ]
+        names = self.chance.choices([*VOTERS * 2, "nobody"], k=self.chance.randint(2, 6))
+        given = [(name, self.ballot()) for name in names]
+        for name, answers in given:
+            if name == "nobody":
+                # ranks that are none of the head of a table
+                answers |= {label: RANKS[label][2] for label in answers}
         for _, answers in given:
             answers[min(answers)] += ",9" if self.chance.random() < 0.1 else ""
+        if model.closes and self.chance.random() < 0.5:
+            # what was late comes again
+            given[1:] = [(one.name, dict(one.answers)) for one in model.kept(late=True)[-3:]]
         ballots = [(name, part, None) for name, whole in given for part in model.parts(name, whole)]
         new = model.new_of(ballots, is_late=is_late) if is_of_file else ballots
         model.enter(new, is_late=is_late, is_of_file=is_of_file)
@@ -674,6 +679,9 @@ class Played:
             [self.entering] * 4 + [self.mailing, self.holding] * 3 + [self.asking, self.timing] * 2
         )
         kinds += [self.undoing] * 2 + [self.deciding, self.striking, self.telling, self.counting]
+        if before.envelopes and before.envelopes[-1].out:
+            # and once more
+            kinds += [self.undoing] * 4
         step = None
         while step is None:
             after = copy.deepcopy(before)
@@ -840,12 +848,12 @@ class SecretVote(ThreeQuestions):
     poll = "".join(polls.values())
 
 
-KINDS = [OneQuestion, ThreeQuestions, SecretVote]
+KINDS = [OneQuestion, ThreeQuestions, OneQuestion, SecretVote]
 
 # a class for each few elections, so that they run side by side
 for seed in range(ELECTIONS):
-    kind = KINDS[seed % 3]
-    name = f"{kind.__name__}{seed // 9}"
+    kind = KINDS[seed % 4]
+    name = f"{kind.__name__}{seed // 8}"
     setattr(
         globals().setdefault(name, type(name, (kind,), {})),
         f"test_{seed}",
