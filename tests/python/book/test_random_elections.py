@@ -43,7 +43,7 @@ WRITES = "pwrite64,ftruncate"
 CUT_OFF = (-signal.SIGKILL, 128 + signal.SIGKILL, 7)
 
 CALLED = datetime.datetime(2026, 11, 20, 9, tzinfo=datetime.UTC)
-END = CALLED + datetime.timedelta(hours=3)
+END = CALLED + datetime.timedelta(hours=5)
 # few who vote, and few ranks, so that a ballot often comes again
 VOTERS, COUPLE = elections.NAMES[:6], elections.NAMES[4:6]
 RANKS = {
@@ -496,7 +496,7 @@ class Played:
         return Step(["add", "--yes", "mail"])
 
     def new_letter(self, model: Model) -> Letter:
-        times = {model.now - datetime.timedelta(seconds=5 + 10 * slot) for slot in range(720)}
+        times = {model.now - datetime.timedelta(seconds=5 + 10 * slot) for slot in range(360)}
         time = self.chance.choice(sorted(times - {one.time for one in model.letters}))
         name, is_plain = self.chance.choice(VOTERS), self.chance.random() < 0.7
         return Letter(name, self.ballot() if self.chance.random() < 0.8 else {}, time, is_plain)
@@ -659,7 +659,7 @@ class Played:
         self.chance, model = random.Random(seed), Model(self.acts())
         type(self).records, type(self).page = "", self.read("call/index.html")
         for place in range(LENGTH):
-            model.now += datetime.timedelta(seconds=10 * self.chance.randint(1, 450))
+            model.now += datetime.timedelta(seconds=10 * self.chance.randint(1, 200))
             self.set_time(model.now)
             if self.chance.random() < 0.4:
                 self.click(model)
@@ -675,10 +675,10 @@ class Played:
 
     def run_step(self, before: Model) -> Model:
         """Runs a command, perhaps not to its end, and returns the model that holds."""
-        kinds = (
-            [self.entering] * 4 + [self.mailing, self.holding] * 3 + [self.asking, self.timing] * 2
-        )
-        kinds += [self.undoing] * 2 + [self.deciding, self.striking, self.telling, self.counting]
+        kinds = [self.entering] * 4 + [self.mailing, self.holding] * 3 + [self.asking] * 2
+        kinds += [self.deciding, self.striking, self.telling, self.counting, self.undoing]
+        # few closes before the first, and many after it
+        kinds += [self.timing] * (3 if before.closes else 1)
         if before.envelopes and before.envelopes[-1].out:
             # and once more
             kinds += [self.undoing] * 4
