@@ -1,4 +1,4 @@
-"""Elections of several questions, and a count of one question that shares nothing with the programs."""
+"""Elections of several questions."""
 
 import itertools
 import pathlib
@@ -6,7 +6,6 @@ import re
 import sys
 import tomllib
 from collections.abc import Iterable, Mapping, Sequence
-from typing import NamedTuple
 
 from debvote_tools.election import Election
 from debvote_tools.text.language import language_of
@@ -87,22 +86,14 @@ class QuestionsTest(LettersTest):
 
 
 def one_line(name: str, answers: Answers) -> str:
-    """A ballot as it is entered, exported and shown."""
-    return " ".join([name, *itertools.chain.from_iterable(sorted(answers.items()))])
+    """A ballot as it is entered, exported and shown; the label of one question alone is empty."""
+    return " ".join(filter(None, [name, *itertools.chain.from_iterable(sorted(answers.items()))]))
 
 
-def in_a_letter(folder: pathlib.Path, answers: Answers, code: str = "en") -> str:
-    """The same in words, as the letter of the result has it in a language, but for its line ends."""
-    language = language_of(code)
-    said = Election(folder, PROGRAM.parent).questions.in_words(language)(
-        one_line("", answers).strip()
-    )
-    lines = [
-        language.say("Your own ballot in words:"),
-        *said.split("\n"),
-        language.say("The page shows it at:"),
-    ]
-    return " ".join(lines)
+def in_words(folder: pathlib.Path, answers: Answers, code: str = "en") -> str:
+    """A ballot in words, as letters have it in a language, on one line."""
+    said = Election(folder, PROGRAM.parent).questions.in_words(language_of(code))
+    return " ".join(said(one_line("", answers)).split())
 
 
 def taken_apart(line: str) -> tuple[str, dict[str, str]]:
@@ -115,57 +106,3 @@ def answering(label: str, ballots: Iterable[str]) -> list[str]:
     """The lines that an election of one question alone would have got of these ballots."""
     parted = map(taken_apart, ballots)
     return [f"{name} {answers[label]}" for name, answers in parted if label in answers]
-
-
-class Tally(NamedTuple):
-    """What a count comes to: how many prefer each option to each other one, and the options that are left, numbered from 1."""
-
-    votes: dict[tuple[int, int], int]
-    left: set[int]
-
-
-def tally(poll: Mapping[str, object], electors: int, ballots: Iterable[str]) -> Tally:
-    """The count of one question, by the Constitution's sections 4.2.1, 4.2.2 and A.5; `ballots` are the ranks of each voter."""
-    ratios = dict(enumerate(poll["ratios"], start=1))  # type: ignore[arg-type]
-    default, quorum = len(ratios) + 1, poll["quorum"]
-    ranks = [[100 if rank == "-" else int(rank) for rank in one.split(",")] for one in ballots]
-    pairs = list(itertools.permutations(range(1, default + 1), 2))
-    votes = {(a, b): sum(one[a - 1] < one[b - 1] for one in ranks) for a, b in pairs}
-
-    def is_kept(option: int) -> bool:
-        most, least = votes[option, default], votes[default, option]
-        has_quorum = 4 * most**2 >= quorum**2 * electors  # type: ignore[operator]
-        return has_quorum and most > least and most >= ratios[option] * least
-
-    left = {*filter(is_kept, ratios), default}
-    defeats = {(a, b) for a, b in pairs if {a, b} <= left and votes[a, b] > votes[b, a]}
-    while True:
-        reach = set(defeats)
-        for between, a, b in itertools.product(left, left, left):
-            if {(a, between), (between, b)} <= reach:
-                reach.add((a, b))
-        left = {b for b in left if all((b, a) in reach for a in left if (a, b) in reach)}
-        defeats = {pair for pair in defeats if left.issuperset(pair)}
-        if not defeats:
-            return Tally(votes, left)
-        weakest = min((votes[a, b], -votes[b, a]) for a, b in defeats)
-        defeats = {(a, b) for a, b in defeats if (votes[a, b], -votes[b, a]) != weakest}
-
-
-def tally_in(sheet: str) -> Tally:
-    """What a sheet says of the same."""
-    table = re.search(r"(?m)^Votes:\n.*\n((?: .*\n)+)", sheet)
-    assert table is not None, sheet
-    rows = [
-        [int(word) if word != "-" else 0 for word in line.split()[1:]]
-        for line in table[1].splitlines()
-    ]
-    numbers = range(1, len(rows) + 1)
-    last = sheet.splitlines()[-1]
-    left = re.findall(r"\d+", last) if last.startswith("Tie") else [last.split()[1]]
-    votes = {(a, b): rows[a - 1][b - 1] for a, b in itertools.permutations(numbers, 2)}
-    return Tally(votes, set(map(int, left)))
-
-
-def poll_in(data: bytes) -> dict[str, object]:
-    return tomllib.loads(data.decode())

@@ -10,13 +10,10 @@ import time
 import unittest
 from collections.abc import Iterable, Mapping, Sequence
 from typing import NamedTuple
-from unittest import mock
 
-from debvote_tools.inbox import letter_text
 from debvote_tools.inbox.letter import ParsedLetter
 from debvote_tools.inbox.judging import Ballot, judge_all
 from debvote_tools.inbox.letter_lines import ReadLetter, from_json, to_json, with_texts
-from debvote_tools.inbox.letter_text import LetterText
 from debvote_tools.inbox.rules import LetterCase, LetterOutcome
 from debvote_tools.inbox.signature import Signature
 from debvote_tools.text.motions import Words, words_of
@@ -24,10 +21,9 @@ from debvote_tools.text.motions import Words, words_of
 from tests.python.inbox import test_forgeries
 from tests.support import letters
 from tests.support.letters import (
+    BALLOT,
     NAMES,
-    OTHER_RANKS,
-    RANKS,
-    TEN,
+    OTHER,
     answer,
     at,
     circumstances,
@@ -160,20 +156,14 @@ class Written(unittest.TestCase):
                 "Hello\nA 1,2\nB 2,1,3,-": none,
                 "A 1,2\nand for the board\nB 2,1,3,-": none,
                 "ada 1,2": none,
-                "ada 1,2,3,4": none,
                 "ada D 1,2": none,
-                "A ada 1,2": none,
                 "ada A 1,2 B 2,1": none,
                 "ada\nA 1,2\nB 2,1": none,
                 "ada A 1,2 A 2,1": none,
                 "ada A 1,3": none,
                 "ada A 50,40": none,
-                "ada C 1,2,3 B 1,2,5,3": none,
                 # the name is not written as names are
                 "ada? A 1,2": none,
-                "ada, A 1,2": none,
-                "ada + A 1,2": none,
-                "ada/ben A 1,2": none,
                 "zoe A 1,2": none,
                 f"a{'a' * 100} A 1,2": none,
                 # an answer that belongs to no ballot
@@ -201,18 +191,11 @@ class Written(unittest.TestCase):
                 "ada A 1,2\n\nada A 1,2\nada B 2,1,3,4": "waits: several",
                 # other words above, between and below, and of another elector
                 "I vote:\nada A 1,2": taken,
-                "ada A 1,2\nThis is NOT my vote": taken,
-                "ada A 1,2\n???": taken,
                 "ada A 1,2\n\u2026 with doubts": taken,
                 "Ada\nHello,\nada A 1,2": taken,
                 "ada\nHello\nA 1,2": none,
-                "ada A 1,2\nHello": taken,
-                "ada A 1,2\nBest wishes?": taken,
                 "ada A 1,2\nBest wishes, Ben": taken,
-                "ada A 1,2\nBen": taken,
                 "Hello Ben,\nada A 1,2": taken,
-                "ada A 1,2\nsee you on the 5th": taken,
-                "Thanks\nada A 1,2": taken,
                 "ada A 1,2\ndan B 2,1,3,-": "waits: several",
                 "ada A 1,2\n\nada A 1,2\nI said": taken,
             }
@@ -301,22 +284,16 @@ class Written(unittest.TestCase):
                 {1: "ada A 1,2", 3: "fay A 2,1", 5: "gus B 1,2,3,4"},
                 (),
             ),
-            ("ada A 1,2\nfay A 2,1", "waits: several", {1: "ada A 1,2", 2: "fay A 2,1"}, ("gus",)),
             ("ada A 1,2", "in: ada A 1,2", {1: "ada A 1,2"}, ("fay", "gus")),
             ("fay A 1,2", "waits: no own mark", {1: "fay A 1,2"}, ("ada", "gus")),
             ("ada A 1,2\nFay and I", "waits: not alone", {1: "ada A 1,2"}, ("fay", "gus")),
         ):
-            [case] = judged(
-                letter("ada", text, sender="us@club.example", subject=subject), **couple
-            )
+            how = {"sender": "us@club.example", "subject": subject}
+            [case] = judged(letter("ada", text, **how), **couple)
+            shown = {line.number: line.as_entered for line in case.ballots}
             with self.subTest(text):
                 self.assertEqual(
-                    (
-                        outcome(case),
-                        {line.number: line.as_entered for line in case.ballots},
-                        case.shared_with,
-                    ),
-                    (wanted, ballots, shared),
+                    (outcome(case), shown, case.shared_with), (wanted, ballots, shared)
                 )
 
     def test_other_parts_of_a_letter(self) -> None:
@@ -331,55 +308,25 @@ class Written(unittest.TestCase):
         )
 
 
-class Around(unittest.TestCase):
-    """What is asked of the head of a letter, its time and its signature."""
+class Signed(unittest.TestCase):
+    """Where letters have to be signed, the line with the mark is none of the text."""
 
-    def test_who_sent_it_and_when(self) -> None:
-        mark, own, old, key = letters.MARK, letters.OWN["ada"], "23456789ab", "A" * 40
-        text = "ada\nA 1,2\nB 2,1,3,-\n"
-
-        def signed(text: str) -> ParsedLetter:
-            return dataclasses.replace(
-                parsed(letter("ada", text, subject=f"[{mark}]")), signature=Signature(key, at(10))
-            )
-
-        keys = {"keys": {"ada": key}}
-        for given, known, wanted in (
-            (letter("ada", text, subject=f"Re: [{mark.upper()} -{own}]"), {}, ALL),
-            (letter("ada", text, subject=f"[{mark}]"), {}, "waits: no own mark"),
-            (
-                letter("ada", text, subject=f"[{mark}-{letters.OWN['ben']}]"),
-                {},
-                "waits: no own mark",
-            ),
-            (
-                letter("ada", text, sender="x@y.example", subject=f"[{mark}-{own}]"),
-                {},
-                "waits: own mark elsewhere",
-            ),
-            (letter("ada", text, subject=f"[{'0' * 16}]"), {}, "of another vote: other mark"),
-            # the own mark until a change of address
-            (
-                letter("ada", text, subject=f"[{mark}-{old}]"),
-                {"old_marks": {old: "ada"}},
-                "waits: old own mark",
-            ),
-            # closed, reopened, and after the end
-            (letter("ada", text), {"is_closed": True, "first_close": at(11)}, "waits: closed"),
-            (letter("ada", text), {"first_close": at(11)}, ALL),
-            (letter("ada", text), {"first_close": at(9)}, "waits: after the close"),
-            (letter("ada", text), {"end": at(9)}, "waits: after the end"),
-            # where letters have to be signed, the line with the mark is none of the text
-            (signed(f"[{mark}]\n{text}"), keys, ALL),
-            (signed(f"ada\nA 1,2\n[{mark}]\nB 2,1,3,-\n"), keys, ALL),
-            (signed(text), keys, "waits: no mark"),
-            (signed(f"[{mark}]\n{text}C: against\n"), keys, "waits: not alone"),
-            (letter("ada", text), keys, "waits: not signed"),
-            (letter("ada", f"[{mark}]\n{text}"), {}, "waits: not alone"),
-        ):
-            [case] = judged(given, **known)  # type: ignore[arg-type]
-            with self.subTest(given, known=known):
-                self.assertEqual(outcome(case), wanted)
+    def test_the_line_with_the_mark(self) -> None:
+        mark, key = f"[{letters.MARK}]", "A" * 40
+        signature = Signature(key, at(10))
+        for text, wanted in {
+            f"{mark}\nada\nA 1,2\nB 2,1,3,-\n": ALL,
+            f"ada\nA 1,2\n{mark}\nB 2,1,3,-\n": ALL,
+            "ada\nA 1,2\nB 2,1,3,-\n": "waits: no mark",
+            f"{mark}\nada A 1,2\nC: against\n": "waits: not alone",
+        }.items():
+            given = parsed(letter("ada", text, subject=mark))
+            signed = dataclasses.replace(given, signature=signature)
+            found = judged(signed, keys={"ada": key}) + judged(letter("ada", text))
+            with self.subTest(text):
+                self.assertEqual(outcome(found[0]), wanted)
+                # else it is one
+                self.assertEqual(outcome(found[1]), "waits: not alone" if mark in text else ALL)
 
 
 class InWords(unittest.TestCase):
@@ -436,6 +383,11 @@ class Long(unittest.TestCase):
         )
 
 
+def minute(number: int) -> str:
+    """A time on the day of the letters."""
+    return f"Mon, 23 Nov 2026 1{number // 60}:{number % 60:02}:00 +0000"
+
+
 class Later(unittest.TestCase):
     """A ballot is later than others by question."""
 
@@ -463,14 +415,8 @@ class Later(unittest.TestCase):
             ("when?", [(12, "ada B 1,2,3,4", True)], ("waits: no ballot", True)),
         ):
             with self.subTest(text, there=there):
-                [case] = judged(
-                    letter("ada", text),
-                    ballots={
-                        "ada": [
-                            Ballot(at(hour), line, by_letter) for hour, line, by_letter in there
-                        ]
-                    },
-                )
+                ballots = [Ballot(at(hour), line, by_letter) for hour, line, by_letter in there]
+                [case] = judged(letter("ada", text), ballots={"ada": ballots})
                 self.assertEqual((outcome(case), bool(case.voted_since)), wanted)
 
     def test_several_letters(self) -> None:
@@ -479,71 +425,38 @@ class Later(unittest.TestCase):
             ("ada A 1,2", "ada B 1,2,3,4"): ["in: ada A 1,2", "in: ada B 1,2,3,4"],
             ("ada A 1,2", "ada A 2,1 B 1,2,3,4"): ["waits: same time"] * 2,
         }.items():
-            self.assertEqual(
-                [
-                    outcome(one)
-                    for one in judged(
-                        *(letter("ada", text, number=number) for number, text in enumerate(texts))
-                    )
-                ],
-                wanted,
-            )
+            found = judged(*(letter("ada", text, number=n) for n, text in enumerate(texts)))
+            self.assertEqual([*map(outcome, found)], wanted)
         for between, becomes_copy in {
             "ada B 1,2,3,4": "copy",
             "ada A 2,1": "waits: came before",
         }.items():
-            copies = [
-                letter("ada", "ada A 1,2", time=TEN.replace("10:", f"{hour}:")) for hour in (10, 12)
-            ]
-            self.assertEqual(
-                outcome(
-                    judged(
-                        *copies, letter("ada", between, number=7, time=TEN.replace("10:", "11:"))
-                    )[-1]
-                ),
-                becomes_copy,
-            )
+            copies = [letter("ada", "ada A 1,2", time=minute(number)) for number in (0, 120)]
+            found = judged(*copies, letter("ada", between, number=7, time=minute(60)))
+            self.assertEqual(outcome(found[-1]), becomes_copy)
 
     def test_of_many_letters_of_an_elector_each_is_compared_with_few(self) -> None:
         """Twice as many take about twice as long, also after one by another clock, which may turn others; and so do many that are alike, and copies."""
         texts = {
-            "one": (f"ada {RANKS}", f"ada {OTHER_RANKS}"),
+            "one": (BALLOT, OTHER),
             "three": ("ada A 1,2", "ada A 2,1 B 1,2,3,4", "ada B 4,3,2,1 C 1,2,3", "ada C 3,2,1"),
         }
-        for questions, read_of in (("one", letters.read), ("three", read)):
-            for behind in (0, -7_200, 7_200):
-                calls = []
-                for number in (200, 400):
-                    times = [
-                        f"Mon, 23 Nov 2026 1{minute // 60}:{minute % 60:02}:00 +0000"
-                        for minute in range(number)
-                    ]
-                    given = [
-                        letter(
-                            "ada",
-                            texts[questions][one % len(texts[questions])],
-                            number=one,
-                            time=time,
-                        )
-                        for one, time in enumerate(times)
-                    ]
-                    first, *others = read_of(*given)
-                    calls.append(
-                        letters.calls_while_judged(
-                            [dataclasses.replace(first, behind=behind), *others]
-                        )
-                    )
-                with self.subTest(questions, behind=behind):
-                    self.assertLess(calls[1], 2.4 * calls[0])
+        for questions, behind in (("one", -7_200), ("three", 0), ("three", 7_200)):
+            calls, its = [], texts[questions]
+            for number in (100, 200):
+                given = [
+                    letter("ada", its[one % len(its)], number=one, time=minute(one))
+                    for one in range(number)
+                ]
+                first, *others = (letters.read if questions == "one" else read)(*given)
+                moved = dataclasses.replace(first, behind=behind)
+                calls.append(letters.calls_while_judged([moved, *others]))
+            with self.subTest(questions, behind=behind):
+                self.assertLess(calls[1], 2.4 * calls[0])
         calls = []
-        for number in (200, 400):
-            alike = [letter("ada", f"ada {RANKS}", number=one, time=TEN) for one in range(number)]
-            copies = [
-                letter(
-                    "ada", f"ada {RANKS}", number=0, time=TEN.replace("10:00", f"11:{one % 60:02}")
-                )
-                for one in range(number)
-            ]
+        for number in (100, 200):
+            alike = [letter("ada", BALLOT, number=one) for one in range(number)]
+            copies = [letter("ada", BALLOT, number=0, time=minute(one)) for one in range(number)]
             calls.append(letters.calls_while_judged(letters.read(*alike, *copies)))
         self.assertLess(calls[1], 2.4 * calls[0])
 
@@ -735,27 +648,6 @@ class Random(unittest.TestCase):
         went_in, wrong = self.tried(self.COUNT)
         self.assertEqual(wrong, [])
         self.assertTrue(self.COUNT / 3 < went_in < self.COUNT * 2 / 3, went_in)
-
-    def test_it_fails_without_the_rule(self) -> None:
-        """Without one of its checks, of lines outside of the ballot among them, some are lost."""
-        made = LetterText.__init__
-
-        def without(**missing: object) -> object:
-            def init(self: LetterText, *given: object, **how: object) -> None:
-                made(self, *given, **how)  # type: ignore[arg-type]
-                vars(self).update(missing)
-
-            return mock.patch.object(LetterText, "__init__", init)
-
-        count = min(4_000, self.COUNT)
-        any_words = mock.patch.object(letter_text, "is_farewell", lambda *_: True)
-        for what, change in {
-            "outside": without(has_answers_outside=False),
-            "below": without(below=[]),
-            "farewells": any_words,
-        }.items():
-            with self.subTest(what), change:  # type: ignore[attr-defined]
-                self.assertGreater(len(self.tried(count)[1]), 10)
 
 
 # ---------------------------------------------------------------- forged ones
