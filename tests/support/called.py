@@ -19,6 +19,7 @@ from debvote_tools.commands import command_line
 
 from tests.support import elections
 from tests.support.letters import letter, mailbox
+from tests.support.terminal import Terminal
 
 LAKE = "At the lake, then In the town hall, then Further discussion, then Sell the house and meet there"
 HALL = "In the town hall, then At the lake, then Further discussion, then Sell the house and meet there"
@@ -155,6 +156,18 @@ class LettersTest(CalledTest):
         return super().write(
             name, self.of_this_vote(content.encode() if isinstance(content, str) else content)
         )
+
+    def agrees(self, typed: str, *parts: str, times: int = 1) -> str:
+        """What `held` tells at a terminal, where its questions are answered with yes."""
+        desk, text = Terminal(self, "held", *shlex.split(typed)), ""
+        for _ in range(times):
+            text += desk.until("[y/n] ")
+            desk.type("y\n")
+        rest, status = desk.end()
+        self.assertEqual(status, 0, text + rest)
+        for part in parts:
+            self.assertIn(part, text + rest)
+        return text + rest
 
     def add(
         self,

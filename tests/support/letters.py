@@ -371,10 +371,10 @@ def outcome(one: LetterCase) -> str:
 
 
 def how_entered(one: LetterCase) -> str:
-    """By itself, by the command that `add` prints, by a later one, or by a line that is typed."""
+    """By itself, by somebody who looks at it, or by a line that is typed."""
     if one.outcome is LetterOutcome.GOES_IN:
         return "in"
-    return "offered" if one.is_offered else "entered" if one.can_be_entered else "typed"
+    return "entered" if one.to_enter else "typed"
 
 
 def outcomes(*letters: bytes | ParsedLetter, **other: object) -> list[str]:

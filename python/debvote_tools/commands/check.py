@@ -193,7 +193,8 @@ def faults_of_ballots(
     names = names_of(questions, queries.electors(election.book), election.language)
     for text, file in {**texts_of(questions), letter_text: LETTER_TEXT}.items():
         lines = text.splitlines()
-        for ballot in reading_of(lines, names).ballots:
+        reading = reading_of(lines, names)
+        for ballot in () if reading.is_proposed else reading.ballots:
             yield bad_words(
                 f"{file}:{ballot.number}",
                 f"`{shown_text(lines[ballot.number - 1])}` reads as a ballot",

@@ -1,14 +1,17 @@
 """The command `held`, which shows the letters that wait, and decides what becomes of them."""
 
 import collections
+import contextlib
+import functools
 import itertools
-from collections.abc import Iterator, Sequence
+from collections.abc import Callable, Iterator, Sequence, Set
 from typing import NamedTuple
 
 from debvote_tools.book import queries
 from debvote_tools.book.book import ActName
 from debvote_tools.book.change import Change, carried_out, terminal_question
 from debvote_tools.book.queries import Ballot, EnteredBallot
+from debvote_tools.call.call import current_call
 from debvote_tools.cli.arguments import Acting, flag, given, option, positional
 from debvote_tools.cli.console import count_of, is_terminal, private, shown_line, tell
 from debvote_tools.cli.faults import Fault, bad_words, kept_in, stop_at
@@ -23,24 +26,23 @@ from debvote_tools.inbox.judging import (
     judged,
 )
 from debvote_tools.inbox.letter_lines import BallotLine
-from debvote_tools.inbox.letter_words import (
-    attachment_words,
-    name_of,
-    other_words,
-    subject_of,
-    who_and_when,
-    why,
-)
+from debvote_tools.inbox.letter_words import name_of, quoted_words, who_and_when, why
 from debvote_tools.inbox.lines import Line, lines_in
 from debvote_tools.inbox.reasons import for_secretary
 from debvote_tools.inbox.rules import LetterCase, LetterOutcome, why_other_mark
 from debvote_tools.inbox.stopping import other_votes_words
 from debvote_tools.inbox.taking import LetterEntry, envelope_of
 from debvote_tools.inbox.vote import Vote
+from debvote_tools.outbox.words import Composer
 from debvote_tools.text.ballots import differ, without
 from debvote_tools.text.language import ENGLISH
 
-FORCE = "if this ballot must count, repeat it with --force"
+# what --force is for
+NOT_TIED, VOTED_SINCE = ("not-tied", "voted-since")
+FORCE = "if this ballot must count, repeat it with --force {}"
+
+# in characters: a shorter line within a letter of ours may be written by its sender
+SHORTEST_OF_OURS = 20
 
 
 def number(text: str) -> range:
@@ -65,11 +67,14 @@ class Arguments(Acting):
     )
     set_aside: bool = flag("Set the letters aside: they are dealt with, and wait no longer")
     wait: bool = flag("Have the letters wait again")
-    force: bool = flag(
-        "Enter the ballot of one letter although nothing ties it to its elector, the elector has or may have voted since, it has the mark of "
-        "another vote or call, or its ballot was typed"
+    force: list[str] | None = option(
+        "WHY",
+        "Enter the ballot of one letter: not-tied if nothing ties it to its elector, or it has the mark of another vote or call; voted-since if "
+        "the elector has or may have voted since",
+        action="append",
+        choices=(NOT_TIED, VOTED_SINCE),
     )
-    yes: bool = flag("Enter the ballots without asking")
+    yes: bool = flag("Enter the ballots of letters that say nothing else, without asking")
 
 
 def held(election: Election, arguments: Arguments) -> None:
@@ -82,13 +87,18 @@ def held(election: Election, arguments: Arguments) -> None:
     if arguments.set_aside or arguments.wait:
         carried_out(vote.book, lambda: what_is_decided(vote, arguments))
     elif arguments.enter or arguments.typed:
-        typed = [BallotLine(0, ballot) for ballot in typed_ballots(vote, arguments.typed or ())]
-        carried_out(vote.book, lambda: what_is_entered(vote, all_letters(vote), arguments, typed))
+        enter(vote, arguments)
     letters = all_letters(vote)
     pending = [letter for letter in letters if letter.is_pending]
     named = chosen_letters(letters, arguments.numbers)
     for letter in named:
-        tell(*(left_words(vote, letter) if is_act else letter_words.whole(letter)))
+        tell(
+            *(
+                left_words(vote, letter)
+                if is_act
+                else letter_words.whole(letter, ours(vote, letter))
+            )
+        )
     if not named:
         tell(*letter_words.table(pending))
         tell(*aside_words(letters))
@@ -140,12 +150,12 @@ def left_words(vote: Vote, letter: LetterCase) -> Iterator[str]:
     """Which electors have no ballot of a letter that was entered, if it may have those of
     several.
     """
-    electors = {*letter.sharing, *(line.elector for line in letter.ballots)}
+    electors = {*letter.sharing, *(line.elector for line in letter.proposals)}
     entered = {elector for elector, _ in letter.entered_answers}
     if len(electors) > 1 and letter.outcome is LetterOutcome.ENTERED:
         for elector in sorted(electors - entered):
             command = vote.election.command("held", str(letter.number), "--as")
-            yield f"{elector} has no ballot of {name_of(letter)}; {command} LINE{'' if letter.is_tied(elector) else ' --force'} enters one"
+            yield f"{elector} has no ballot of {name_of(letter)}; {command} LINE{'' if letter.is_tied(elector) else f' --force {NOT_TIED}'} enters one"
 
 
 def all_letters(vote: Vote) -> list[LetterCase]:
@@ -204,6 +214,10 @@ def what_is_decided(vote: Vote, arguments: Arguments) -> Change:
 
 
 # ---- entering
+# what is asked first of a letter that says more
+MORE = "There is more in it than a ballot. "
+
+
 class Chosen(NamedTuple):
     """Ballots of a letter that are entered. The line of one is 0 if it was typed."""
 
@@ -218,31 +232,44 @@ class Chosen(NamedTuple):
         return [*dict.fromkeys(entered[answer] for answer in answers if answer in entered)]
 
 
-def what_is_entered(
-    vote: Vote,
-    letters: Sequence[LetterCase],
-    arguments: Arguments,
-    typed: Sequence[BallotLine] = (),
-) -> LetterEntry:
-    """The act that enters ballots of letters. Stops at all that stands against it; `undo` asks
-    that, too.
+def enter(vote: Vote, arguments: Arguments) -> None:
+    """Enters ballots of letters by one act; where a person is asked by one for each, unless none of
+    them says anything else.
     """
-    history = vote.election.history()
+    letters = all_letters(vote)
     named = chosen_letters(letters, arguments.numbers)
     if arguments.force and len(named) > 1 and not vote.has_codes:
         raise bad_words("--force", "it is for one letter", "name one number")
+    typed = typed_ballots(vote, arguments.typed or (), named[0].marked_elector)
+    is_asked = is_terminal() and not arguments.yes
+    is_each = is_asked and not all(letter.is_nothing_else for letter in named)
+    faults = list[Fault]()
+    for rows in [[row] for row in arguments.numbers] if is_each else [arguments.numbers]:
+        with kept_in(faults):
+            plan = functools.partial(what_is_entered, vote, rows, arguments, typed)
+            carried_out(vote.book, plan)
+    stop_at(faults)
+
+
+def what_is_entered(
+    vote: Vote, numbers: Sequence[range], arguments: Arguments, typed: Sequence[BallotLine]
+) -> LetterEntry:
+    """The act that enters ballots of letters. Stops at all that stands against it."""
+    history = vote.election.history()
+    letters = all_letters(vote)
+    named = chosen_letters(letters, numbers)
+    forced = frozenset(arguments.force or ())
     faults = list[Fault]()
     chosen = chosen_ballots(named, typed, faults)
     beside = ballots_in(vote, {line.elector for one in chosen for line in one.lines})
     faults += why_not_now(vote, history, chosen)
     # of what was entered nothing more is said: no --force enters it again
     not_entered = [one for one in chosen if not one.again]
-    if not arguments.force:
-        faults += why_not_unforced(not_entered)
-        faults += why_typed_again(vote, not_entered, letters)
-    faults += why_not_beside(vote, not_entered, beside, is_forced=arguments.force)
-    if not (typed or arguments.yes or is_terminal()):
-        faults += why_not_unseen(chosen)
+    faults += why_not_unforced(not_entered, forced)
+    faults += why_typed_again(vote, not_entered, letters)
+    faults += why_not_beside(vote, not_entered, beside, forced)
+    if not typed and (arguments.yes or not is_terminal()):
+        faults += why_not_unseen(not_entered)
     stop_at(faults)
     return entry_of(vote, history, chosen, is_agreed=arguments.yes)
 
@@ -254,7 +281,7 @@ def chosen_ballots(
     chosen = list[Chosen]()
     for letter in sorted(letters, key=lambda one: (one.time is None, one.time or one.number)):
         with kept_in(faults):
-            lines = typed or [the_ballot(letter)]
+            lines = typed or the_ballots(letter)
             demand_one_answer(letter, lines)
             chosen.append(Chosen(letter, lines))
     return chosen
@@ -263,9 +290,7 @@ def chosen_ballots(
 def entry_of(
     vote: Vote, history: History, chosen: Sequence[Chosen], *, is_agreed: bool
 ) -> LetterEntry:
-    """The act that enters these ballots. Those of letters in which their senders wrote more are
-    shown last.
-    """
+    """The act that enters these ballots, each shown below its letter."""
     is_late, *others = {would_be_late(history, one.letter) for one in chosen}
     if others:
         raise Fault(
@@ -275,15 +300,12 @@ def entry_of(
         )
     numbers = [one.letter.number for one in chosen]
     ballots = [(one.letter, line) for one in chosen for line in one.lines]
-    plain, worded = (
-        [shown(vote, *ballot) for ballot in ballots if bool(ballot[0].read.text.words) is has_words]
-        for has_words in (False, True)
-    )
+    more = "" if all(one.letter.is_nothing_else for one in chosen) else MORE
     return LetterEntry(
         "enter",
         {"letters": numbers, "lines": [line.number for _, line in ballots if line.number]},
-        shown=[*plain, *(["Read these:"] if worded else []), *worded],
-        question=terminal_question(f"Enter {count_of(len(ballots), 'ballot')}?", is_agreed),
+        shown=[row for one in chosen for row in shown(vote, one)],
+        question=terminal_question(f"{more}Enter {count_of(len(ballots), 'ballot')}?", is_agreed),
         letters=dict.fromkeys(numbers, queries.ENTERED),
         vote=vote,
         envelopes=[envelope_of(letter, line.as_entered) for letter, line in ballots],
@@ -291,16 +313,35 @@ def entry_of(
     )
 
 
-def shown(vote: Vote, letter: LetterCase, line: BallotLine) -> str:
-    """A ballot of a letter, and all that one has to know of the letter to decide of it."""
+def shown(vote: Vote, one: Chosen) -> Iterator[str]:
+    """Ballots of a letter, below all that it says, if that is more."""
+    letter = one.letter
+    if not letter.is_nothing_else:
+        yield from letter_words.whole(letter, ours(vote, letter))
+    for line in one.lines:
+        said = f"{vote.ballot_in_words(line.as_entered)}{quoted_words(letter, line)}"
+        yield f"{who_and_when(letter)}: {said}\n  {why(letter, line.elector)}"
+
+
+def ours(vote: Vote, letter: LetterCase) -> Callable[[str], bool]:
+    """Whether a line of a letter is one of our letters to who sent it, which are made anew."""
+    electors = letter.circumstances.electors
+    names = [letter.marked_elector, *letter.sharing, *letter.electors]
+    elector = next((electors[name] for name in names if name in electors), None)
+    composer = Composer(current_call(vote.election), is_over=False)
     texts = (
-        f"{who_and_when(letter)}: {vote.ballot_in_words(line.as_entered)}",
-        why(letter, line.elector),
-        f"subject: {subject_of(letter)}",
-        *other_words(letter),
-        *attachment_words(letter),
+        [composer.call_letter(elector, is_extension=False), composer.reminder(elector, ())]
+        if elector
+        else []
     )
-    return "\n  ".join(texts)
+    lines = {" ".join(line.split()) for text in texts for line in text.text.splitlines()}
+    whole = " ".join(word for text in texts for word in text.text.split())
+
+    def is_ours(line: str) -> bool:
+        bare = " ".join(line.strip("> ").split())
+        return bare in lines or (len(bare) >= SHORTEST_OF_OURS and bare in whole)
+
+    return is_ours
 
 
 def would_be_late(history: History, letter: LetterCase) -> bool:
@@ -311,16 +352,32 @@ def would_be_late(history: History, letter: LetterCase) -> bool:
 
 
 # ---- which lines
-def typed_ballots(vote: Vote, texts: Sequence[str]) -> list[str]:
-    """The ballots that were typed. debvote is asked about all of them together."""
-    given = (text.encode("utf-8", "surrogateescape") for text in texts)
-    lists = [lines_in(data, "--as", vote.questions.longest_line) for data in given]
-    vote.checked_lines([line for lines in lists for line in lines if not line.is_empty])
-    return [ballot_of(vote, text, lines) for text, lines in zip(texts, lists)]
+def typed_ballots(vote: Vote, texts: Sequence[str], sender: str) -> list[BallotLine]:
+    """The ballots that were typed; what has no name is of whose own mark the letter has. debvote is
+    asked about all of them together.
+    """
+    lines = [line for text in texts for line in lines_of(vote, text) if not line.is_empty]
+    vote.checked_lines(lines)
+    return [BallotLine(0, typed_ballot(vote, text, sender)) for text in texts]
 
 
-def ballot_of(vote: Vote, text: str, lines: Sequence[Line]) -> str:
-    """The ballot in what was typed, by its lines."""
+def typed_ballot(vote: Vote, text: str, sender: str) -> str:
+    try:
+        return ballot_of(vote, text)
+    except Fault:
+        with contextlib.suppress(Fault):
+            if sender:
+                return ballot_of(vote, f"{sender} {vote.names.loose(text)}")
+        raise
+
+
+def lines_of(vote: Vote, text: str) -> list[Line]:
+    return lines_in(text.encode("utf-8", "surrogateescape"), "--as", vote.questions.longest_line)
+
+
+def ballot_of(vote: Vote, text: str) -> str:
+    """The ballot in what was typed."""
+    lines = lines_of(vote, text)
     answer = "it is not one line"
     if len(lines) == 1 and not lines[0].is_empty:
         # of several answers the last line is one that is refused
@@ -335,13 +392,13 @@ def ballot_of(vote: Vote, text: str, lines: Sequence[Line]) -> str:
     )
 
 
-def the_ballot(letter: LetterCase) -> BallotLine:
-    if letter.ballot is not None and letter.can_be_entered:
-        return letter.ballot
+def the_ballots(letter: LetterCase) -> Sequence[BallotLine]:
+    if lines := letter.to_enter:
+        return lines
     more = ", and other lines that look like answers" if letter.has_more_answers else ""
     raise Fault(
         name_of(letter),
-        f"it has {count_of(len(letter.ballots), 'ballot')}{more}",
+        f"it has {count_of(len(letter.proposals), 'ballot')}{more}",
         "type the ballot that is meant with --as LINE",
     )
 
@@ -400,25 +457,25 @@ def what_then(
     return "there is nothing to do"
 
 
-def why_not_unforced(chosen: Sequence[Chosen]) -> Iterator[Fault]:
+def why_not_unforced(chosen: Sequence[Chosen], forced: Set[str]) -> Iterator[Fault]:
     """The letter has the mark of another vote or call, or nothing ties it to the elector of a
     ballot.
     """
-    for letter, lines in chosen:
+    for letter, lines in chosen if NOT_TIED not in forced else ():
         if why_other := why_other_mark(letter):
             words, _, advice = for_secretary(why_other).partition("; ")
-            yield Fault(name_of(letter), words, f"{advice}; {FORCE}")
+            yield Fault(name_of(letter), words, f"{advice}; {FORCE.format(NOT_TIED)}")
         for line in lines:
-            if not letter.is_tied(line.elector):
+            if not (letter.is_tied(line.elector) or (line.number and letter.is_of_couple)):
                 yield Fault(
                     name_of(letter),
                     f"its sender and its subject do not show that it is of {line.elector}",
-                    f"check who sent it; {FORCE}",
+                    f"check who sent it; {FORCE.format(NOT_TIED)}",
                 )
 
 
 def why_not_beside(
-    vote: Vote, chosen: Sequence[Chosen], by_elector: BallotsByElector, *, is_forced: bool
+    vote: Vote, chosen: Sequence[Chosen], by_elector: BallotsByElector, forced: Set[str]
 ) -> Iterator[Fault]:
     """The elector has a later ballot, or may have, or another one of its time, also by a letter
     that is entered before it; to some of its answers alone, no --force enters it.
@@ -432,8 +489,8 @@ def why_not_beside(
                 words = f"its elector has later answers to {ENGLISH.joined(sorted(later))}"
                 cure = vote.election.command("held", str(letter.number), "--as", private(others))
                 yield Fault(name_of(letter), words, f"enter the others: {cure}")
-            elif not is_forced and (words := why_unsure(letter, beside, ballot)):
-                yield Fault(name_of(letter), words, FORCE)
+            elif VOTED_SINCE not in forced and (words := why_unsure(letter, beside, ballot)):
+                yield Fault(name_of(letter), words, FORCE.format(VOTED_SINCE))
         for line in lines:
             by_elector[line.elector].add(ballot_in(letter, line.as_entered))
 
@@ -452,13 +509,13 @@ def why_unsure(letter: LetterCase, beside: ElectorBallots, ballot: Ballot) -> st
 
 
 def why_not_unseen(chosen: Sequence[Chosen]) -> Iterator[Fault]:
-    """Their senders wrote more, which nobody is shown."""
+    """There is more in them, which somebody has to see."""
     for letter, _ in chosen:
-        for words in other_words(letter):
+        if not letter.is_nothing_else:
             yield Fault(
                 name_of(letter),
-                f"its sender wrote more, {words}",
-                "look at it, then run it at a terminal, or agree with --yes",
+                "there is more in it than a ballot",
+                "run it at a terminal without --yes, or type the ballot with --as LINE",
             )
 
 
@@ -481,5 +538,5 @@ def why_typed_again(
             yield Fault(
                 name_of(letter),
                 words,
-                f"type it again with {vote.election.command('held', str(letter.number), '--as')} LINE; if this line is meant, repeat it with --force",
+                f"type it again with {vote.election.command('held', str(letter.number), '--as')} LINE",
             )

@@ -1,8 +1,7 @@
 """The command `undo`, which takes back the last act that entered lines."""
 
-import contextlib
 import dataclasses
-from collections.abc import Iterator, Mapping, Sequence
+from collections.abc import Iterator, Sequence
 
 from debvote_tools.book import outgoing, queries
 from debvote_tools.book.book import Book, DoneAct
@@ -10,12 +9,9 @@ from debvote_tools.book.change import Change, carried_out, terminal_question
 from debvote_tools.cli.arguments import Acting, flag
 from debvote_tools.cli.console import act_time, count_of, tell
 from debvote_tools.cli.faults import Fault
-from debvote_tools.commands import held
 from debvote_tools.election import Election, History
 from debvote_tools.inbox import letter_words
 from debvote_tools.inbox.judging import letters_now
-from debvote_tools.inbox.rules import LetterCase
-from debvote_tools.inbox.taking import MOST_NAMED
 from debvote_tools.inbox.vote import Vote, envelope_words, standing_words
 
 
@@ -28,8 +24,6 @@ class TakenBack(Change):
     """What an `undo` takes back, or would."""
 
     undone: DoneAct
-    # whether it was typed for a letter: --enter does not enter it again
-    is_typed: bool
     # what it changes, in words: current ballots, told once; and letters and receipts
     ballots: Sequence[str]
     others: Sequence[str]
@@ -49,10 +43,8 @@ def undo(election: Election, arguments: Arguments) -> None:
     following = election.command("status")
     if queries.last_entering_act(book):
         following += f"; another {election.command('undo')} takes back the act before"
-    if change.letters and not change.is_typed:
-        enter = words_to_enter(vote, judged_after, change)
-        does = "enters these letters again" if enter else "lists these letters"
-        following += f"; {election.command('held', *enter)} {does}"
+    if change.letters:
+        following += f"; {election.command('held')} lists these letters"
     tell(f"Next: {following}")
 
 
@@ -85,7 +77,6 @@ def what_is_taken_back(vote: Vote, arguments: Arguments) -> TakenBack:
         struck=struck,
         letters=dict.fromkeys(letters, queries.TAKEN_BACK),
         undone=act,
-        is_typed=bool(queries.lines(book, "act = ? AND envelope IN typed", act.number)),
         ballots=ballots,
         others=others,
     )
@@ -117,20 +108,6 @@ def what_else_changes(book: Book, struck: Sequence[int], letters: Sequence[int])
     having = {letter.elector for letter in written if about.intersection(letter.about)}
     if names := [elector.name for elector in queries.electors(book) if elector.number in having]:
         yield f"These electors have receipts that are no longer true: {', '.join(names)}"
-
-
-def words_to_enter(vote: Vote, letters: Mapping[int, LetterCase], change: TakenBack) -> list[str]:
-    """What is typed after `held` to enter again what was taken back; empty if no one command does
-    it.
-    """
-    numbers = [*change.letters]
-    if len(numbers) <= MOST_NAMED:
-        ranges = [range(number, number + 1) for number in numbers]
-        arguments = held.Arguments(numbers=ranges, enter=True, force=False, yes=True)
-        with contextlib.suppress(Fault):
-            held.what_is_entered(vote, [*letters.values()], arguments)
-            return [*map(str, numbers), "--enter"]
-    return []
 
 
 def demand_open(election: Election, history: History) -> None:

@@ -28,9 +28,11 @@ HYPHEN = "-"
 STANDARD_INPUT = "standard input"
 
 AS_TEXT = "save it as plain text in UTF-8"
+DAMAGED = "a mailbox whose line ends are damaged"
 # what is done with a file that may have letters in it
 CURES = {
     PACKED: f"{AS_TEXT}; if letters are packed in it, unpack it, and add the folder",
+    DAMAGED: "save its letters again with the mail program",
     PDF: f"{AS_TEXT}; if it shows letters, save the letters themselves (.eml, or a folder of them)",
 }
 
@@ -128,6 +130,8 @@ def demand_lines(file: GivenFile) -> None:
     what = kind_of(file.data)
     if file.data.startswith((codecs.BOM_UTF16_LE, codecs.BOM_UTF16_BE)):
         what = "a text in UTF-16"
+    if are_letters(file.data.replace(b"\r\r\n", b"\n").replace(b"\r", b"\n")):
+        what = DAMAGED
     if what is not None:
         raise bad_ballots(file.name, f"it is {what}", CURES.get(what, AS_TEXT))
     if len({key[1] for key in POLL_KEY.finditer(file.data)}) > 1:

@@ -85,6 +85,8 @@ OWN = re.compile(
 )
 # the name of a file in the head of a part, perhaps with its character set before it
 FILE_NAME = re.compile(r"name\*?\d*\*?=(?:[\w-]+'[\w-]*')?(\"[^\"]*\"|[^\s;]+)", re.IGNORECASE)
+# the cards that programs put beside the text
+CARDS = ("text/vcard", "text/x-vcard", "text/directory")
 # how many bytes and parts of it are looked through; and how many own marks are kept
 MAX_RETURNED = 131_072
 RETURNED_PARTS = 20
@@ -134,8 +136,9 @@ class ParsedLetter(OfBox):
     # if letters have to be signed: the good signature, or why there is none
     signature: Signature | None = None
     why_unsigned: ReasonWithValues | None = None
-    # the names of the files that came with it
+    # the names of the files that came with it; and whether it has one text, which is plain
     attachments: tuple[str, ...] = ()
+    is_plain: bool = False
 
     @property
     def needs_signature(self) -> bool:
@@ -181,6 +184,7 @@ def parse(raw: RawLetter) -> ParsedLetter:
         returned=returned_in(raw.data[:MAX_RETURNED], sender) if may_come_back else (),
         body=body,
         attachments=attachments_of(parts),
+        is_plain=[part.kind for part in parts if is_text(part)] == ["text/plain"],
         **{field.name: getattr(raw, field.name) for field in dataclasses.fields(OfBox)},
     )
 
@@ -310,15 +314,15 @@ def body_of(parts: Sequence[Part]) -> Body:
         return Body(trouble=first.trouble)
     text = text_in(first)
     if first.kind == "text/html":
-        text, is_odd = html.read_page(text)
-        if is_odd:
-            first.note_ambiguous("what may be crossed out or hidden in its HTML")
+        text = html.text_of_page(text)
     lines = text.rstrip("\r\n").splitlines()
     first.note_too_long(len(lines), "lines", MAX_LINES)
     trouble = next(filter(None, (part.trouble for part in parts)), None)
-    # that it is HTML is the last trouble, since such a letter can be entered
+    # these are the last troubles, since such a letter can be entered
     if trouble is None and first.kind == "text/html":
         trouble = Reason.HTML_ALONE()
+    if trouble is None and any(part.kind in CARDS for part in parts):
+        trouble = Reason.CARD()
     return Body(tuple(lines[:MAX_LINES]), trouble)
 
 
@@ -326,7 +330,7 @@ def the_text(parts: Sequence[Part]) -> Part:
     """The part whose text is shown: the plain one, alone or beside its own HTML, or HTML alone. Of
     others the first has that there is no such one as its trouble.
     """
-    texts = [part for part in parts if part.kind.startswith(("text/", "message/"))]
+    texts = [part for part in parts if is_text(part)]
     plain = [part for part in texts if part.kind == "text/plain" and part.is_shown]
     kinds = [part.kind if part.is_shown else "" for part in texts]
     first = next(iter(plain or texts), parts[0])
@@ -334,6 +338,10 @@ def the_text(parts: Sequence[Part]) -> Part:
     if not (are_both or kinds in (["text/plain"], ["text/html"])):
         first.note_trouble(Reason.NO_PLAIN_TEXT())
     return first
+
+
+def is_text(part: Part) -> bool:
+    return part.kind.startswith(("text/", "message/")) and part.kind not in CARDS
 
 
 def are_alternatives(parts: Sequence[Part], texts: Sequence[Part]) -> bool:
@@ -372,7 +380,7 @@ def attachments_of(parts: Sequence[Part]) -> tuple[str, ...]:
     names = []
     for part in parts:
         if not part.kind.startswith("multipart/") and not (
-            part.kind.startswith("text/") and part.is_shown
+            part.kind.startswith("text/") and part.is_shown and part.kind not in CARDS
         ):
             head = f"{part.value('content-disposition')}; {part.value('content-type')}"
             name = FILE_NAME.search(head[:MAX_FIELD])

@@ -17,20 +17,38 @@ from typing import NamedTuple
 # the line above a signature (RFC 3676, 4.3)
 END = "-- "
 
-# the head of a quotation: at its start a date with a time, perhaps behind a word; and at its end,
-# on the same line or on the next one, a word for "wrote" with a colon, in Germanic languages before
-# the name
+# the head of a quotation: at its start a date with a time, perhaps behind a word, a day of the week
+# and a month; and then, on the same line or on the next one, at most four words or an address, and
+# before or behind them a word for "wrote". It has no word of its sender's choice: what stands in it
+# nobody is shown
 DATE = r"\d{1,4}[./-]\d{1,2}[./-]\d{2,4}|\b20\d\d\b"
 CLOCK = r"\d{1,2} ?[:h] ?\d\d"
+DAYS_AND_MONTHS = (
+    "mon tue wed thu fri sat sun jan feb mar apr may jun jul aug sep oct nov dec mo di mi do so mär mai okt dez "
+    "lun mer jeu ven sam dim fév avr juin juil août déc mié jue vie sáb dom ene abr ago dic "
+    "gen mag giu lug set ott gio ma wo za zo mrt mei seg ter qua qui sex mån tis ons tor fre lör sön maj"
+)
+DAY = rf"(?:(?:{'|'.join(DAYS_AND_MONTHS.split())})[^\W\d_]{{0,8}}|\d{{1,2}}(?:st|nd|rd|th)?|de|dem|den|giorno)[.,]* *"
 BEGIN = re.compile(
-    rf"(?:(?:on|am|den|le|el|il|op|em|på|dne) .{{0,40}}?)?(?:{DATE})\D{{0,25}}{CLOCK}",
+    rf"(?:(?:on|am|den|le|el|il|op|em|på|dne) (?:{DAY}){{0,6}})?(?:{DATE}),? *"
+    rf"(?:(?:at|um|à|a las|alle(?: ore)?|om|kl\.?|às) *)?{CLOCK}(?::\d\d)?",
     re.IGNORECASE,
 )
+ZONE = (
+    r"(?:\s|[ap]\.?m\.?\b|uhr\b|\(?(?:[a-z]{2,5})?[+-]\d{1,2}:?\d{0,2}\)?|(?-i:[A-Z]{2,5})\b)*,? *"
+)
+ADDRESS = r"[(<\[]{0,2}\s?[^\s<>@(),;?!]+@[^\s<>@(),;?!]+[)>\]]{0,2}"
+WRITER = rf"(?:(?:[\w.'\u2019-]+ ?){{1,4}},? ?|(?:[^\s,;?!@<>]+ ?){{0,5}},? ?{ADDRESS},? ?)"
+WRITES = "wrote|writes|écrit|escribió|geschrieben|scritto|escreveu"
+GERMANIC = "schrieb|schreef|skrev"
 WROTE = re.compile(
-    r"[^,;?!]*(?:,[^,;?!]*)?\b"
-    r"(?:(?:wrote|writes|écrit|escribió|geschrieben|scritto|escreveu) ?|(?:schrieb|schreef|skrev)\b[^,;?!]*):",
+    rf"{ZONE}(?:{WRITER}?(?:(?:a|ha) )?(?:{WRITES}|{GERMANIC})|(?:{GERMANIC}) (?!.*,){WRITER})[ \u00a0\u202f]?:",
     re.IGNORECASE,
 )
+# in it
+MOST_COMMAS = 1
+# what other heads have
+LIKE_HEAD = re.compile(rf"@|{CLOCK}|\b(?:{WRITES}|{GERMANIC})\b", re.IGNORECASE)
 # in characters: a longer line is no head
 LONGEST_LINE = 300
 
@@ -92,25 +110,22 @@ class Parts(NamedTuple):
     own: list[int]
     signature: list[int]
     below: list[int]
-    heads: list[int]
     quoted: list[int]
 
 
 def parted(lines: Sequence[str]) -> Parts:
-    parts = Parts([], [], [], [], [])
+    parts = Parts([], [], [], [])
     # of these the next line is one, if no quotation begins
     current = parts.own
     head: Sequence[int] = ()
     for index, line in enumerate(lines):
         if not head and is_first_marked(lines, index):
             head = head_of_marked(lines, index)
-            parts.heads.extend(head)
             while head and current and current[-1] >= head[0]:
                 current.pop()
         if not head and (fields := end_of_outlook(lines, index)):
             while current and not lines[current[-1]].strip(" _"):
                 current.pop()
-            parts.heads.extend(range(index, fields))
             parts.quoted.extend(range(fields, len(lines)))
             break
         if index in head:
@@ -128,6 +143,11 @@ def is_marked(line: str) -> bool:
     return line.startswith(">")
 
 
+def may_begin_quotation(line: str) -> bool:
+    """Whether a line is quoted, or may be a head that is not in these lists."""
+    return is_marked(line) or LIKE_HEAD.search(line) is not None or bool(ORIGINAL.search(line))
+
+
 def is_first_marked(lines: Sequence[str], index: int) -> bool:
     return is_marked(lines[index]) and not (index and is_marked(lines[index - 1]))
 
@@ -142,9 +162,11 @@ def head_of_marked(lines: Sequence[str], marked: int) -> Sequence[int]:
         above -= 1
     for places in ((above,), (above - 1, above), (marked,), (marked, marked + 1)):
         if 0 <= places[0] and places[-1] < len(lines):
-            head = [lines[place].strip("> \t\u00a0\u202f")[:LONGEST_LINE] for place in places]
-            begin = BEGIN.match(head[0])
-            if begin and WROTE.fullmatch(" ".join(head)[begin.end() :]):
+            line, *others = (lines[place].strip("> \t\u00a0\u202f") for place in places)
+            head = " ".join((line, *others))
+            begin = BEGIN.match(line) if len(head) <= LONGEST_LINE else None
+            rest = head[begin.end() :] if begin else ""
+            if rest.count(",") <= MOST_COMMAS and WROTE.fullmatch(rest):
                 return places
     first = [line.strip("> ") for line in lines[marked : marked + MOST_FIELDS + 1]]
     return range(marked, marked + end_of_outlook(first, 0))

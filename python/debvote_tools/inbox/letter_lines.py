@@ -87,11 +87,13 @@ def with_texts(letters: Sequence[ParsedLetter], names: Names, ask: Ask) -> list[
             )
             for ballot in text.ballots
         )
+        # nobody is told of what only perhaps is one
+        ballots = (ballot for ballot in answered if not (text.is_proposed and ballot.answer))
         numbered = enumerate(letter.body.lines, start=1)
         read.append(
             ReadLetter(
                 **vars(letter),
-                text=dataclasses.replace(text, ballots=tuple(answered)),
+                text=dataclasses.replace(text, ballots=tuple(ballots)),
                 code_lines=tuple(number for number, line in numbered if has_code(line)),
             )
         )

@@ -19,15 +19,22 @@ from debvote_tools.inbox.letter_grammar import (
     is_marked,
     parted,
 )
-from debvote_tools.inbox.lines import LABEL, WRITTEN_NAME, Names, bare_text, repaired_but_for_name
+from debvote_tools.inbox.lines import (
+    LABEL,
+    RANKS,
+    WRITTEN_NAME,
+    Names,
+    bare_text,
+    repaired_but_for_name,
+)
 from debvote_tools.poll.sealed import MARKS
 from debvote_tools.text.answers import DASHES, answer_pattern
 from debvote_tools.text.ballots import ranks_by_label
 from debvote_tools.text.motions import WORDS
 
-# in characters: how much is shown of what else its sender wrote, and of a line that is looked at
+# in characters: how much is listed of what else its sender wrote, and of a line that is looked at
 # closely
-MAX_WORDS = 300
+MAX_WORDS = 60
 MAX_COMPOSED = 2_000
 # of more lines that may be ballots none is read; how many usual lines are passed over below a
 # ballot
@@ -59,26 +66,30 @@ class ReadLine:
 @dataclasses.dataclass(frozen=True)
 class Reading:
     """The ballots in a text, or how many lines may be ballots if they are more than are read;
-    whether one is all of it; whether more of it looks like an answer; and whether a quotation is
-    above a ballot. What its sender wrote besides ballots and usual lines, a little more of it than
-    is shown; and which lines are quoted, by their indices.
+    whether one is all of it; whether they are only proposed, since a person looks; and whether more
+    of it looks like an answer. What its sender wrote besides ballots and usual lines, a little more
+    of it than is listed; and what looks like an answer where no ballot may be, by its number.
     """
 
     ballots: tuple[ReadLine, ...] = ()
     crowd: int = 0
     is_alone: bool = False
     has_more_answers: bool = False
-    is_below_quotation: bool = False
+    is_proposed: bool = False
     words: str = ""
-    quoted: tuple[int, ...] = ()
+    outside: tuple[int, ...] = ()
 
 
 def reading_of(lines: Sequence[str], names: Names, *, is_signed: bool = False) -> Reading:
     text = LetterText(lines, names, is_signed)
     if (crowd := len(text.answers)) > MAX_BALLOTS:
-        return Reading(crowd=crowd, quoted=text.quoted)
+        return Reading(crowd=crowd)
     whole = text.whole_ballot()
     ballots = {whole: text.own} if whole else dict(text.ballots())
+    if is_proposed := not ballots:
+        ballots = dict(
+            LetterText([*map(names.loose, lines)], names, is_signed).ballots(is_loose=True)
+        )
     in_ballots = {*itertools.chain(*ballots.values())}
     rest = [place for place in text.written if place not in in_ballots]
     own_names = {name for ballot in ballots for name in names_of(ballot, names)}
@@ -86,10 +97,14 @@ def reading_of(lines: Sequence[str], names: Names, *, is_signed: bool = False) -
     return Reading(
         ballots=tuple(ballots),
         is_alone=whole is not None,
-        has_more_answers=text.has_answers_outside or any(map(text.may_answer, rest)),
-        is_below_quotation=any(map(is_marked, lines[: max(in_ballots, default=-1) + 1])),
+        is_proposed=is_proposed,
+        has_more_answers=not text.outside <= in_ballots or any(map(text.may_answer, rest)),
         words=" ".join(others)[: MAX_WORDS + 1],
-        quoted=text.quoted,
+        outside=tuple(
+            place + 1
+            for place in sorted({*text.outside, *filter(text.may_answer, text.signature)})
+            if place not in in_ballots
+        ),
     )
 
 
@@ -114,12 +129,14 @@ class LetterText:
         )
         # what its sender wrote, in the order in which it is shown
         self.written = [*self.own, *self.below, *self.signature]
-        self.quoted = (*parts.heads, *parts.quoted)
         # what looks like an answer, where a ballot may be and where none may be
         self.answers = {*filter(self.is_answer, (*self.own, *self.below))}
-        outside = (*self.signature, *parts.quoted)
-        are_like_ranks = (LIKE_RANKS.search(lines[place]) for place in self.signature)
-        self.has_answers_outside = any(map(self.is_answer, outside)) or any(are_like_ranks)
+        # what looks like an answer where no ballot may be
+        like_ranks = (place for place in self.signature if LIKE_RANKS.search(lines[place]))
+        outside = filter(self.is_answer, (*self.signature, *parts.quoted))
+        self.outside = {*like_ranks, *outside}
+        # of lines below a head of Outlook nobody sees whose they are
+        self.unmarked = [place for place in parts.quoted if not is_marked(self.lines[place])]
 
     def is_said(self, place: int) -> bool:
         line = self.lines[place].strip()
@@ -156,7 +173,7 @@ class LetterText:
         """The ballot, if what its sender wrote is nothing but greetings, it, farewells and a
         signature, and nothing else in the text looks like an answer.
         """
-        if self.below or self.has_answers_outside:
+        if self.below or self.outside:
             return None
         own = [self.lines[place] for place in self.own]
         greetings = [*itertools.takewhile(self.greets, own)]
@@ -171,19 +188,21 @@ class LetterText:
                 return ballot if are_usual else None
         return None
 
-    def ballots(self) -> Iterator[tuple[ReadLine, list[int]]]:
+    def ballots(self, *, is_loose: bool = False) -> Iterator[tuple[ReadLine, list[int]]]:
         """The ballots within the text and their lines, each the longest run of lines with answers
-        that is one, perhaps below a line with the name.
+        that is one, perhaps below a line with the name; loosely read, also without a name.
         """
         last = -1
-        for place in sorted({*self.own, *self.below}):
-            if place <= last or self.answers.isdisjoint((place, place + 1)):
+        places = {*self.own, *self.below, *(self.unmarked if is_loose else ())}
+        answered = {*filter(self.is_answer, places)} if is_loose else self.answers
+        for place in sorted(places):
+            if place <= last or answered.isdisjoint((place, place + 1)):
                 continue
             longest = None
-            answers = itertools.takewhile(self.answers.__contains__, itertools.count(place + 1))
+            answers = itertools.takewhile(answered.__contains__, itertools.count(place + 1))
             for end in (place, *answers):
                 run = [*range(place, end + 1)]
-                ballot = self.ballot_at(run)
+                ballot = self.ballot_at(run, is_loose=is_loose)
                 if ballot is None and (longest or end > place):
                     break
                 longest = (ballot, run) if ballot else None
@@ -191,7 +210,7 @@ class LetterText:
                 last = longest[1][-1]
                 yield longest
 
-    def ballot_at(self, places: Sequence[int]) -> ReadLine | None:
+    def ballot_at(self, places: Sequence[int], *, is_loose: bool = False) -> ReadLine | None:
         """The ballot that these lines are together, if they have no other words."""
         names = self.names
         lines = [self.lines[place] for place in places]
@@ -202,6 +221,10 @@ class LetterText:
         if not names.labels:
             text = repaired_but_for_name(text.encode(errors="replace"), names.longest_line).decode()
         name, ranks = names.taken_apart(text) or ("", "")
+        if is_loose and not name:
+            # of one question nothing stands before the ranks
+            ranks = ranks or (text if re.fullmatch(RANKS, text) else "")
+            return ReadLine(places[0] + 1, text, (), ranks) if ranks else None
         # a longer name without a label is none, unless the name is on a line of its own
         is_apart = len(lines) > 1 and names.meant_by(bare_text(lines[0])) != []
         meant = [] if not is_apart and names.longer_than(name, text) else names.meant_by(name)

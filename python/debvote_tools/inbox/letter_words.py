@@ -1,7 +1,7 @@
 """What the secretary reads about letters: what goes in, what waits and why, and a whole letter."""
 
 import itertools
-from collections.abc import Collection, Iterator, Mapping, Sequence
+from collections.abc import Callable, Collection, Iterator, Mapping, Sequence
 
 from debvote_tools.cli.console import (
     act_time,
@@ -13,17 +13,15 @@ from debvote_tools.cli.console import (
     shown_line,
     shown_text,
 )
+from debvote_tools.inbox.letter_lines import BallotLine
 from debvote_tools.inbox.letter_text import MAX_WORDS
 from debvote_tools.inbox.rules import LetterCase, LetterOutcome
 from debvote_tools.inbox.reasons import for_secretary
 from debvote_tools.inbox.vote import IS_CODE, Vote
 from debvote_tools.text.language import ENGLISH
 
-# how many attachments are named, and how many lines of a quotation are shown
+# how many attachments are named
 MAX_ATTACHMENTS = 5
-MAX_QUOTED = 100
-# in characters: what is listed of what else a sender wrote
-MAX_LISTED = 60
 
 
 def who_and_when(letter: LetterCase) -> str:
@@ -76,7 +74,9 @@ def ballot_words(letter: LetterCase, vote: Vote, *, is_short: bool) -> str:
 def more_words(letter: LetterCase) -> list[str]:
     """What else there is to look at in a letter."""
     shared = [f"same address: {', '.join(letter.shared_with)}"] if letter.shared_with else []
-    return [*shared, *(f"line {number}{IS_CODE}" for number in letter.code_lines)]
+    codes = (f"line {number}{IS_CODE}" for number in letter.code_lines)
+    names = listed(list(map(shown_text, letter.read.attachments)), MAX_ATTACHMENTS)
+    return [*shared, *([f"attachments: {private(names)}"] if names else []), *codes]
 
 
 # ---- what waits
@@ -116,19 +116,9 @@ def judged_anew(
 
 def why_words(letter: LetterCase) -> list[str]:
     """Why a letter waits, its ballots, and what else there is to look at."""
-    others = other_words(letter, MAX_LISTED), more_words(letter), attachment_words(letter)
-    return [why(letter), *near_words(letter), *itertools.chain.from_iterable(others)]
-
-
-def other_words(letter: LetterCase, most: int = MAX_WORDS) -> Iterator[str]:
-    """What its sender wrote besides greetings and ballots, as far as it is shown."""
-    if words := cut(letter.read.text.words, most):
-        yield f"written: {private(''.join(map(seen, words)))}"
-
-
-def attachment_words(letter: LetterCase) -> Iterator[str]:
-    if names := letter.read.attachments:
-        yield f"attachments: {private(listed(list(map(shown_text, names)), MAX_ATTACHMENTS))}"
+    words = cut(letter.read.text.words, MAX_WORDS)
+    written = [f"written: {private(''.join(map(seen, words)))}"] if words else []
+    return [why(letter), *near_words(letter), *written, *more_words(letter)]
 
 
 def why(letter: LetterCase, elector: str = "") -> str:
@@ -149,9 +139,19 @@ def why(letter: LetterCase, elector: str = "") -> str:
 
 
 def near_words(letter: LetterCase) -> Iterator[str]:
-    yield from (f"line {line.number}: {private(line.as_entered)}" for line in letter.ballots)
-    for line in letter.refused:
-        yield f"line {line.number}, {private(f'ranks {shown_text(line.ranks)}: {line.answer}')}"
+    """Where the text has ballots, or what may be meant as one."""
+    for line in letter.proposals:
+        secret = letter.circumstances.tells_codes
+        yield f"line {line.number}: {f'a ballot of {line.elector}' if secret else line.as_entered}{quoted_words(letter, line)}"
+    for near in letter.refused:
+        yield f"line {near.number}, {private(f'ranks {shown_text(near.ranks)}: {near.answer}')}"
+    for number in letter.read.text.outside:
+        yield f"line {number} in a quotation or a signature looks like an answer"
+
+
+def quoted_words(letter: LetterCase, ballot: BallotLine) -> str:
+    """What is said of a ballot that somebody else may have written."""
+    return "; a quotation may begin above it" if letter.may_be_quoted(ballot) else ""
 
 
 def went_in_words(letters: Sequence[LetterCase], entered: int) -> str:
@@ -166,27 +166,27 @@ def wait_words(number: int) -> str:
 
 
 # ---- a letter line by line
-def whole(letter: LetterCase) -> Iterator[str]:
-    """What its sender wrote, line by line, and below it what the letter quotes."""
+def whole(letter: LetterCase, is_ours: Callable[[str], bool]) -> Iterator[str]:
+    """All that a letter says, but for what it repeats of a letter of ours. In a secret vote only
+    while it waits.
+    """
     yield who_and_when(letter)
     yield f"  subject: {subject_of(letter)}"
-    lines = letter.read.body.lines
-    quoted = sorted(letter.read.text.quoted)
-    yield from numbered(lines, sorted({*range(len(lines))}.difference(quoted)))
-    if quoted:
-        yield "Quoted:"
-        yield from numbered(lines, quoted[:MAX_QUOTED])
-    if len(quoted) > MAX_QUOTED:
-        yield f"      and {count_of(len(quoted) - MAX_QUOTED, 'more line')}"
+    if letter.is_pending or not letter.circumstances.tells_codes:
+        yield from text_of(letter, is_ours)
     if letter.outcome is LetterOutcome.ENTERED:
         yield "It was entered."
     elif letter.reason is not None:
         waits = "waits" if letter.is_pending else "does not wait"
         yield f"It {waits}: {for_secretary(letter.reason)}"
-    yield from (*near_words(letter), *attachment_words(letter))
-    yield from (f"  line {number}{IS_CODE}" for number in letter.code_lines)
+    yield from (*near_words(letter), *more_words(letter))
 
 
-def numbered(lines: Sequence[str], places: Sequence[int]) -> Iterator[str]:
-    for place in places:
-        yield f"{place + 1:4}  {shown_line(lines[place].encode())}"
+def text_of(letter: LetterCase, is_ours: Callable[[str], bool]) -> Iterator[str]:
+    """Its lines with their numbers, but for empty ones; those of a letter of ours as one."""
+    lines = ((place, line) for place, line in enumerate(letter.read.body.lines, 1) if line.strip())
+    for ours, run in itertools.groupby(lines, lambda one: is_ours(one[1])):
+        if ours:
+            yield f"      ({count_of(sum(1 for _ in run), 'line')} of our letter)"
+        else:
+            yield from (f"{place:4}  {private(''.join(map(seen, line)))}" for place, line in run)

@@ -71,6 +71,14 @@ LABEL = re.compile(
     rf"(?:^|(?<=[\s:]))([A-Za-z])(?:(?:\s*[:).]\s*|\s+)(?=[\d{DASHES}-])|(?=(?:\d{{1,2}}|[{DASHES}-])\s*[,;]))"
 )
 
+# ranks with other signs between than commas, as people write them: of a line that is to be looked at;
+# hyphens between numbers alone are such signs, with blanks around them only if there are three
+ANY_RANK = rf"(?:\d{{1,2}}|[{DASHES}-])"
+BY_HYPHENS = rf"\d{{1,2}}(?:(?:[{DASHES}-]\d{{1,2}})+|(?:\s*[{DASHES}-]\s*\d{{1,2}}){{3,}})"
+LOOSE = re.compile(rf"(?<![^\s:])(?:({BY_HYPHENS})|{ANY_RANK}(?:[\s,;/.|]+{ANY_RANK})+)(?!\w)")
+# what people put around them
+AROUND = re.compile(r"^\s*(?:[*=•·→]+>? )|\s[/|](?=\s)|(?<=\d)[;.,/|](?= [A-Za-z]|\s*$)|\s\*+$")
+
 # a word behind a label, which is a capital letter or has a sign behind it; one letter is no word,
 # but may be the label behind a name that ends in a letter, as in `Ben B A yes`
 WORD = re.compile(
@@ -166,6 +174,8 @@ class Names:
         """Whether a line has ranks, or a label with a rank or a word of a motion behind it; or of
         one question is such a word, alone or behind a name.
         """
+        # where strokes were printed ranks may have been filled in
+        line = line.replace("_", " ")
         if self.answers.search(line) is not None:
             return True
         answer = bare_text(line.strip("> \t")) if self.words and not self.labels else ""
@@ -235,6 +245,14 @@ class Names:
         bare = bare_text(line) if self.labels else line
         ranked = WORD.sub(self.with_rank, bare) if self.labels else with_ranks(line, self.words)
         return line if ranked == bare or self.meant_by(bare.rstrip(" .!")) else ranked
+
+    def loose(self, line: str) -> str:
+        """A line with commas between its ranks, and ranks in place of the words of motions."""
+        ranked = LOOSE.sub(
+            lambda run: ",".join(re.findall(r"\d+" if run[1] else ANY_RANK, run[0])),
+            AROUND.sub("", line.replace("_", " ")),
+        )
+        return self.with_ranks(ranked)
 
     def with_rank(self, answer: re.Match[str]) -> str:
         """A word behind a label, with ranks in its place if that is of a motion."""

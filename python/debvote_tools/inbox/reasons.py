@@ -61,6 +61,7 @@ class Reason(enum.Enum):
     ENCRYPTED = "it is encrypted", UNCERTAIN
     NO_PLAIN_TEXT = "it has not exactly one plain text, alone or beside its own HTML", UNCERTAIN
     HTML_ALONE = "it has its text as HTML alone", UNCERTAIN
+    CARD = "it has an electronic card beside its text", UNCERTAIN
     CHARSET = "its text is not plain text in the character set that it names: {charset}", UNCERTAIN
     CUT = "its text ends in the middle of a line, so it may have been cut off", UNCERTAIN
     CONTROL = "it has a character that mail programs show in different ways: {character}", UNCERTAIN

@@ -22,7 +22,8 @@ from debvote_tools.cli.console import private
 from debvote_tools.grouping import grouped
 from debvote_tools.inbox.letter import is_server
 from debvote_tools.inbox.letter_lines import BallotLine, ReadLetter
-from debvote_tools.inbox.letter_text import MAX_BALLOTS, MAX_WORDS, ReadLine
+from debvote_tools.inbox.letter_grammar import may_begin_quotation
+from debvote_tools.inbox.letter_text import MAX_BALLOTS, ReadLine
 from debvote_tools.inbox.reasons import Reason, ReasonWithValues
 from debvote_tools.poll.sealed import MARKS, marks_in
 from debvote_tools.text.addresses import address_key
@@ -151,8 +152,10 @@ class LetterCase:
         # that of its ballot: if letters have to be signed, that of the signature
         signature = letter.signature if circumstances.is_signed else None
         self.time = letter.arrived if signature is None else signature.time
-        self.ballots = self.valid_ballots()
-        # the one that may go in, or be entered
+        # what a person may enter, and those that are written as ballots are
+        self.proposals = self.valid_ballots()
+        self.ballots = () if letter.text.is_proposed else self.proposals
+        # the one that may go in
         self.ballot = self.ballots[0] if len(self.ballots) == 1 else None
         self.elector = "" if self.ballot is None else self.ballot.elector
 
@@ -193,8 +196,10 @@ class LetterCase:
 
     def elector_of(self, line: ReadLine) -> str | None:
         """Whose ballot a line is: if several have its name, the only one of them with the sender's
-        address.
+        address; if it has no name, who sent it.
         """
+        if not line.meant:
+            return next((name for name in self.sharing if self.is_tied(name)), None)
         if len(line.meant) == 1:
             return line.meant[0]
         return self.sending_elector if self.sending_elector in line.meant else None
@@ -272,31 +277,38 @@ class LetterCase:
         return self.outcome in (LetterOutcome.GOES_IN, LetterOutcome.WAITS)
 
     @property
-    def is_offered(self) -> bool:
-        """Whether `add` names it to be entered: nothing else keeps it from going in than that its
-        sender wrote more, which is shown then, or that it is HTML alone.
+    def to_enter(self) -> Sequence[BallotLine]:
+        """What a person may enter at once: the one ballot in it, or those of a couple, if it has no
+        other line that looks like an answer, and no text that is not shown.
         """
-        text = self.read.text
-        is_shown = len(text.words) <= MAX_WORDS and not text.is_below_quotation
-        return (
-            self.outcome is LetterOutcome.WAITS
-            and not self.is_decided
-            and not self.circumstances.is_closed
-            and not self.voted_since
-            and self.can_be_entered
-            and is_shown
-            and {why.reason for rule in RULES if (why := rule(self))}
-            <= {Reason.NOT_ALONE, Reason.HTML_ALONE}
-        )
+        is_shown = self.read.body.trouble in (None, Reason.HTML_ALONE(), Reason.CARD())
+        is_clear = len(self.proposals) == 1 or self.is_of_couple
+        return self.proposals if is_clear and is_shown and not self.has_more_answers else ()
 
     @property
-    def can_be_entered(self) -> bool:
-        """Whether it has one ballot, no other line that looks like an answer, and no text that is
-        not shown.
+    def is_of_couple(self) -> bool:
+        """Whether two electors have a ballot each, who have the sender's address, and one of whom
+        sent it.
         """
-        trouble = self.read.body.trouble
-        is_shown = trouble is None or trouble == Reason.HTML_ALONE()
-        return self.ballot is not None and not self.has_more_answers and is_shown
+        names = {ballot.elector for ballot in self.proposals}
+        is_theirs = names.issubset(self.sharing) and any(map(self.is_tied, names))
+        return is_theirs and len(names) == len(self.proposals) == 2
+
+    @property
+    def is_nothing_else(self) -> bool:
+        """Whether a ballot as lines have it is all that it says: in one plain text that no program
+        may show otherwise, by a subject of ours, with no file.
+        """
+        read = self.read
+        has_more = read.text.words or read.text.is_proposed or read.attachments
+        is_plain = read.is_plain and read.body.trouble is None and len(self.to_enter) == 1
+        if has_more or not is_plain or why_not_of_this_vote(self) is not None:
+            return False
+        return not self.may_be_quoted(self.to_enter[0])
+
+    def may_be_quoted(self, ballot: BallotLine) -> bool:
+        """Whether a quotation may begin above a ballot: somebody else may have written it."""
+        return any(map(may_begin_quotation, self.read.body.lines[: max(0, ballot.number - 1)]))
 
     @property
     def arrived_before_call(self) -> bool:

@@ -209,9 +209,6 @@ def tell_next(change: GoingIn) -> None:
     following = next_step(election, history)
     if with_outcome(change.cases, LetterOutcome.WAITS):
         following = f"{election.command('held')}, which lists the letters that wait"
-    if offered := [str(letter.number) for letter in change.cases if letter.is_offered]:
-        enter = election.command("held", *offered, "--enter")
-        following = f"{enter}, which shows these ballots and asks; {following}"
     if not history.is_closed and queries.last_entering_act(election.book):
         following += f"; {election.command('undo')} takes back what was entered last"
     tell(f"Next: {following}")

@@ -32,6 +32,8 @@ from tests.support.called import LettersTest
 from tests.support.questions import QuestionsTest, in_words, one_line
 from tests.support.web_host import Liar, answered
 
+FORCED = ("--force", "not-tied", "--force", "voted-since")
+
 # how many elections are held, half of them of one question, and of how many commands each
 ELECTIONS = int(os.environ.get("DEBVOTE_ELECTIONS", "24"))
 LENGTH = 20
@@ -337,8 +339,10 @@ class Model:
                 return True
             if self.is_closed and self.is_early(letter) or later not in (set(), answers.keys()):
                 return True
-            was_typed = not is_typed and own and own[-1].is_typed
-            if not is_forced and (later or was_typed or name != letter.name):
+            # somebody has to look at what was typed, and at more than a ballot
+            if not is_typed and (not letter.is_plain or (own and own[-1].is_typed)):
+                return True
+            if not is_forced and (later or name != letter.name):
                 return True
         return len({self.is_late(letter) for *_, letter in ballots}) > 1
 
@@ -553,7 +557,7 @@ class Played:
             how = [word for line in lines for word in ("--as", line)]
         is_forced = len(chosen) == 1 and self.chance.random() < 0.6
         numbers = [str(one.number) for one in chosen]
-        words = ["held", *numbers, *how, "--yes", *["--force"] * is_forced]
+        words = ["held", *numbers, *how, "--yes", *FORCED[: 4 * is_forced]]
         if model.is_refused(ballots, is_typed=is_typed, is_forced=is_forced):
             return Step(words, statuses=(9,))
         model.enter(ballots, is_late=model.is_late(chosen[0]), is_typed=is_typed)

@@ -7,6 +7,8 @@ from debvote_tools.commands.command_line import COMMANDS
 from tests.support import elections
 from tests.support.letters import letter, mailbox
 
+FORCED = ("--force", "not-tied", "--force", "voted-since")
+
 COUNTED = elections.ROOT / "tests" / "support" / "counted"
 CALLED, TEN, ELEVEN = (f"2026-11-{time}:00:00+00:00" for time in ("20T09", "23T10", "24T11"))
 
@@ -122,8 +124,15 @@ class Starts(elections.ElectionTest):
             )
         self.started("add", "odd0", "odd1", "odd2", most=2)
         self.each(["add --look mail", *["add --yes mail"] * 2])
-        self.each(["held", "held 2", "held 1 --enter --force", "held 3 4 --set-aside"])
-        self.started("held", "7", "--as", "fay 1,2,3,4", "--as", "gus 1,2,4,3", "--force", most=1)
+        self.each(
+            [
+                "held",
+                "held 2",
+                "held 1 --enter --force not-tied --force voted-since",
+                "held 3 4 --set-aside",
+            ]
+        )
+        self.started("held", "7", "--as", "fay 1,2,3,4", "--as", "gus 1,2,4,3", *FORCED, most=1)
         self.started("desk", given="ada 1,2,3,4\n")
         self.each(
             [
@@ -218,7 +227,7 @@ class Several(Starts):
                 "add lines",
                 "add --yes mail",
                 "held",
-                "held 1 --enter --force",
+                "held 1 --enter --force not-tied --force voted-since",
                 "held 3 4 --set-aside",
             ]
         )

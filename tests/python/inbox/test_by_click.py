@@ -24,6 +24,7 @@ from tests.support.elections import NAMES
 from tests.support.program import PROGRAM
 from tests.support.web_host import NEEDS_PHP, Liar, passed_on, request_of
 
+
 HTTPS = "--at https://club.example/vote/"
 
 
@@ -141,7 +142,7 @@ class Clicks(boxes.BoxElectionTest):
         self.assertEqual(self.standing(), {})
         # two of one elector may be of one second, so each is named apart
         for number in (2, 3, 4):
-            self.done(f"held {number} --enter --force")
+            self.done(f"held {number} --enter --force not-tied --force voted-since")
         self.assertEqual(self.standing(), standing)
 
     def test_a_link_that_a_new_one_has_replaced_waits_and_both_addresses_are_told(self) -> None:
@@ -189,8 +190,8 @@ class Clicks(boxes.BoxElectionTest):
         self.assertEqual(self.standing(), {"ben": RANKS})
         # the link ties nobody to it any more
         fault = "letter 2: its sender and its subject do not show that it is of ada"
-        self.refused("held 2 --enter", fault, "--force")
-        self.done("held 2 --enter --force")
+        self.refused("held 2 --enter", fault, "--force not-tied")
+        self.done("held 2 --enter --force not-tied --force voted-since")
         self.assertEqual(self.standing(), both)
 
     def test_a_call_that_was_taken_back(self) -> None:
@@ -234,7 +235,7 @@ class Clicks(boxes.BoxElectionTest):
         why = "it is in the file of the web box, which others may have changed"
         self.assertEqual(said.count(why), 2)
         self.assertEqual(self.standing(), {})
-        self.done("held 1 --enter --force")
+        self.done("held 1 --enter --force not-tied --force voted-since")
         self.done("held 2 --set-aside")
         self.assertNotIn("it has no more", self.add_box())
         self.assertEqual(self.standing(), {"ada": RANKS, "ben": RANKS})

@@ -26,6 +26,9 @@ AGAIN = "nothing was changed: if this ballot must count, repeat it with --force"
 TYPE_IT = "nothing was changed: type the ballot that is meant with --as LINE"
 LIKE_ANSWERS = ", and other lines that look like answers"
 NOT_ALONE = "line {} is a ballot, and there are other lines".format
+OUTSIDE = "line {} in a quotation or a signature looks like an answer".format
+MORE = "there is more in it than a ballot"
+FORCED = "--force not-tied --force voted-since"
 OF_HTML, IF_DRY = "it has its text as HTML alone", "But only if it rains"
 # words that are cut off after 300 characters
 LONGER = "so many words, " * 30
@@ -45,7 +48,10 @@ class HeldTest(LettersTest):
     def stops(self, typed: str, *parts: str) -> elections.Ended:
         """`held` stops, and says all that stands against it: no more and no less."""
         before, ended = self.last_act(), self.election(f"held {typed}")
-        lines = ended.faults.splitlines()
+        # what says more is shown at a terminal alone: that stands beside all else
+        said = ended.faults.splitlines()
+        is_told = any(MORE in part for part in parts)
+        lines = [line for line in said if is_told or MORE not in line]
         found = ended.status, self.last_act(), len(lines)
         self.assertEqual(found, (9, before, len(parts)), ended)
         for part, line in zip(parts, lines):
@@ -71,7 +77,7 @@ class Listed(HeldTest):
             f"<p>cleo {RANKS}</p>": (OF_HTML, f"line 2: cleo {RANKS}"),
             "dan 1,2,3\n": (none, bad),
             f"eve {RANKS}\neve {OTHER}": (several, f"line 1: eve {RANKS}", f"line 2: eve {OTHER}"),
-            f"fay {RANKS}\n\n{below} {OTHER}\n": (looks_like, f"line 1: fay {RANKS}"),
+            f"fay {RANKS}\n\n{below} {OTHER}\n": (looks_like, f"line 1: fay {RANKS}", OUTSIDE(5)),
             f"gus {RANKS}\n{IF_DRY}": (NOT_ALONE(1), f"line 1: gus {RANKS}", f"written: {IF_DRY}"),
             f"3 of us\nhal {RANKS}\nida {OTHER}": (
                 several,
@@ -89,58 +95,44 @@ class Listed(HeldTest):
             rows += "".join(f"        {line}\n" for line in lines)
         self.assertEqual(
             without_marks(self.add(*letters)),
-            f"8 new letters; 0 came before.\n{rows}0 ballots of letters went in; 8 letters wait.\nNext: debvote-election held 3 7 --enter, which shows these ballots and asks; debvote-election held, which lists the letters that wait\n",
+            f"8 new letters; 0 came before.\n{rows}0 ballots of letters went in; 8 letters wait.\nNext: debvote-election held, which lists the letters that wait\n",
         )
         listed = f"{rows}8 letters wait.\nNext: debvote-election held 1 shows one; --enter enters its ballot, "
         self.assertEqual(without_marks(self.told("held"))[: len(listed)], listed)
         # which have one ballot, and no other line that looks like an answer; without a terminal
-        # other words stop it, too
-        wrote = "letter {}: its sender wrote more, written: {}; nothing was changed: look at it, then run it at a terminal, or agree with --yes".format
-        self.stops(
-            "1 2 3 4 5 6 7 8 --enter",
-            f"letter 2: it has 0 ballots; {TYPE_IT}",
-            f"letter 4: it has 0 ballots{LIKE_ANSWERS};",
-            "letter 5: it has 2 ballots;",
-            f"letter 6: it has 1 ballot{LIKE_ANSWERS};",
-            "letter 8: it has 2 ballots;",
-            wrote(1, f"{LONGER[:300]}.."),
-            wrote(7, IF_DRY),
-        )
-        # at a terminal it asks once, those with other words come last, and all of these are shown
-        desk = Terminal(self, "held", "1", "7", "3", "--enter")
-        asked = f"letter {{0}}, from {{1}}@club.example, 2026-11-23 10:00:00 UTC: {{1}}: {LAKE}\n  {{2}}\n  subject: my ballot\n".format
-        self.assertEqual(
-            without_marks(desk.until("[y/n] ")),
-            f"{asked(3, 'cleo', OF_HTML)}Read these:\n{asked(1, 'ada', NOT_ALONE(3))}  written: {LONGER[:300]}..\n"
-            f"{asked(7, 'gus', NOT_ALONE(1))}  written: {IF_DRY}\nEnter 3 ballots? [y/n] ",
-        )
+        # whatever else is in them stops it, too
+        more = f"{MORE}; nothing was changed: run it at a terminal without --yes, or type"
+        self.stops("2 --enter", f"letter 2: it has 0 ballots; {TYPE_IT}")
+        self.stops("5 --enter", "letter 5: it has 2 ballots;")
+        self.stops("6 --enter", f"letter 6: it has 1 ballot{LIKE_ANSWERS};")
+        for typed in ("1 3 7 --enter", "1 3 7 --enter --yes"):
+            self.stops(typed, *(f"letter {number}: {more}" for number in (1, 3, 7)))
         # what was agreed to is what goes in
+        desk = Terminal(self, "held", "7", "--enter")
+        asked = f"letter {{0}}, from {{1}}@club.example, 2026-11-23 10:00:00 UTC: {{1}}: {LAKE}\n  {{2}}\n".format
+        self.assertIn(asked(7, "gus", NOT_ALONE(1)), without_marks(desk.until("[y/n] ")))
         self.cast(f"dan {RANKS}", f"gus {RANKS}")
         said = f"letter 7: its elector has voted since; {AGAIN}"
-        self.assertIn(said, desk.after("y\n", "--force"))
+        self.assertIn(said, desk.after("y\n", "voted-since"))
         desk.end()
-        desk = Terminal(self, "held", "7", "--enter", "--force")
+        desk = Terminal(self, "held", "7", "--enter", "--force", "voted-since")
         desk.until("Enter 1 ballot? [y/n] ")
         said = ": you did not say yes; nothing was changed"
         self.assertIn(said, desk.after("n\n", "when you agree"))
         desk.end()
         self.assert_left(8, f"dan {RANKS}", f"gus {RANKS}")
-        for words in ("1 --enter --yes", "7 --enter --force --yes"):
-            shown, status = Terminal(self, "held", *words.split()).end()
-            self.assertEqual((status, "[y/n]" in shown), (0, False), shown)
+        self.agrees("1 --enter")
+        self.agrees("7 --enter --force voted-since")
         said = "\n6 letters wait until you have looked at them: debvote-election held\n"
         self.tells("status", said)
 
-    def test_one_letter_and_below_it_what_it_quotes(self) -> None:
-        quoted = [f"> line {number}" for number in range(1, 151)]
-        above, lines = "On Mon, 23 Nov 2026 at 09:00, Vote wrote:", "\n".join(quoted)
-        text = f"ada {RANKS}\nSo be it.\n\n{above}\n{lines}\n\nBy the way\n"
-        self.add(letter("ada", text))
-        first = "".join(f"{number:4}  {line}\n" for number, line in enumerate(quoted[:99], start=5))
+    def test_one_letter_whole(self) -> None:
+        above = "On Mon, 23 Nov 2026 at 09:00, Vote wrote:"
+        self.add(letter("ada", f"ada {RANKS}\nSo be it.\n\n{above}\n> line\n\nBy the way\n"))
         self.assertEqual(
             without_marks(self.told("held 1")).partition("1 letter waits.")[0],
-            f"letter 1, from ada@club.example, 2026-11-23 10:00:00 UTC\n  subject: my ballot\n   1  ada {RANKS}\n   2  So be it.\n   3  \n 155  \n 156  By the way\nQuoted:\n   4  {above}\n{first}"
-            f"      and 51 more lines\nIt waits: {NOT_ALONE(1)}\nline 1: ada {RANKS}\n",
+            f"letter 1, from ada@club.example, 2026-11-23 10:00:00 UTC\n  subject: my ballot\n   1  ada {RANKS}\n   2  So be it.\n   4  {above}\n   5  > line\n   7  By the way\n"
+            f"It waits: {NOT_ALONE(1)}\nline 1: ada {RANKS}\n",
         )
         # files that came with it are named, also photos that programs show within the text; a text
         # that is shown is none
@@ -156,25 +148,13 @@ class Listed(HeldTest):
         )
         self.add(letter("hal", f"{parts}--b--\n", kind="multipart/mixed; boundary=b"))
         named = "attachments: IMG_1.jpeg, Stimmzettel Ada.pdf, Grüß\\u001B[2Je.pdf, application/octet-stream\n"
-        for typed in ("held", "held 2", f"held 2 --as 'hal {RANKS}' --yes"):
+        for typed in ("held", "held 2", f"held 2 --as 'hal {RANKS}'"):
             self.tells(typed, named)
         # of a letter that a program wrote no refused line is listed
         text = "We could not deliver this:\n\neve 1,2,3,4,5\n"
         self.add(letter("eve", text), letter("eve", text, sender="mailer-daemon@mail.example"))
         said = "line 3, ranks 1,2,3,4,5: bad rank count"
         self.assertEqual([said in self.told(f"held {one}") for one in (3, 4)], [True, False])
-
-    def test_which_letters_add_names_to_be_entered(self) -> None:
-        """None of who has voted since, that an act decided of, or after the close; others are in
-        test_table_of_letters.py.
-        """
-        self.cast(f"ada {OTHER}")
-        said = "\nNext: debvote-election held{}".format
-        self.add(*map(worded, ("ada", "ben", "cleo")), says=said(" 2 3 --enter, "))
-        self.told("held 2 --wait")
-        self.assertIn(said(" 3 --enter, "), self.add_hello("dan"))
-        self.told("close --force --because x")
-        self.assertIn(said(", which lists"), self.add_hello("dan", 2))
 
 
 class Entered(HeldTest):
@@ -183,7 +163,7 @@ class Entered(HeldTest):
         self.add(worded("ada"), letter("ben", "I am for the hall"))
 
     def test_it_is_entered_once(self) -> None:
-        self.tells("held 1 --enter --yes", f"1 counted  ada: {LAKE}")
+        self.agrees("1 --enter", f"1 counted  ada: {LAKE}")
         self.assertEqual(self.acts()[-1], ("enter", {"letters": [1], "lines": [3]}))
         self.tells("held 1", "It was entered.")
         # one that waits stops no count before the close
@@ -212,7 +192,7 @@ class Entered(HeldTest):
                 ended = self.election(f"held {words}")
                 self.assertEqual((ended.status, self.lines()), (2, []))
         said = "--force: it is for one letter; nothing was changed: name one number\n"
-        self.assert_refused("held 1 2 --enter --force", 2, said)
+        self.assert_refused("held 1 2 --enter --force not-tied --force voted-since", 2, said)
 
     def test_set_aside_voted_since_and_at_the_close(self) -> None:
         self.tells("held 1 2 --set-aside", "No letter waits.")
@@ -229,9 +209,9 @@ class Entered(HeldTest):
         # a right ballot must not become late because nobody reopened the vote
         said = "letter 1: it arrived in time, and the vote is closed; nothing was changed: if it has a ballot, run debvote-election reopen"
         for words in ("--enter", f"--as 'ada {RANKS}'"):
-            self.stops(f"1 {words} --yes --force", said)
+            self.stops(f"1 {words} --yes --force not-tied --force voted-since", said)
         self.told("reopen --because 'a letter was forgotten'")
-        self.told("held 1 --enter --yes --force")
+        self.agrees("1 --enter --force voted-since")
         self.assertEqual((self.lines(), self.late_lines()), ([f"ada {OTHER}", f"ada {RANKS}"], []))
 
     def test_several_in_the_order_of_their_times(self) -> None:
@@ -249,15 +229,13 @@ class Entered(HeldTest):
         untied = "letter {}: its sender and its subject do not show that it is of {}; nothing was changed: check who sent it; if this ballot must count, repeat it with --force".format
         faults = untied(6, "eve"), untied(7, "fay"), untied(8, "hal")
         self.stops("3 6 7 8 --enter --yes", *faults)
-        self.tells(
-            "held 3 4 1 5 --enter --yes",
-            f"letter 5, from cleo@club.example, 2026-11-23 08:00:00 UTC: cleo: {LAKE}\n  {NOT_ALONE(3)}\n",
-            "\n4 letters wait.\n",
-        )
+        # each is asked about, in the order in which they are named
+        for number in (5, 3, 4, 1):
+            self.agrees(f"{number} --enter", " UTC: ", "[y/n] ")
         lines = [f"cleo {RANKS}", f"cleo {OTHER}", f"dan {OTHER}", f"ada {RANKS}"]
         self.assert_left(4, *lines)
         for number in (6, 7, 8):
-            self.told(f"held {number} --enter --force")
+            self.told(f"held {number} --enter --force not-tied")
         self.assert_left(1, *lines, f"eve {RANKS}", f"fay {RANKS}", f"hal {RANKS}")
 
     def test_two_of_one_time_that_differ_and_one_of_before_the_call(self) -> None:
@@ -289,10 +267,10 @@ class Entered(HeldTest):
         said = "its elector may have voted since, as nobody knows when it arrived"
         self.stops("3 5 --enter --yes", f"letter 5: {said}; {AGAIN}")
         self.stops("5 4 --enter", f"letter 5: {said}")
-        self.told("held 3 --enter --yes")
+        self.agrees("3 --enter")
         self.stops("4 --enter", f"letter 4: {said}")
         for number in (4, 5):
-            self.told(f"held {number} --enter --force")
+            self.told(f"held {number} --enter --force not-tied --force voted-since")
         self.assertEqual(self.lines(), [f"fay {RANKS}", f"fay {RANKS}", f"fay {OTHER}"])
 
     def test_what_the_secretary_types(self) -> None:
@@ -301,8 +279,8 @@ class Entered(HeldTest):
         """
         self.tells(
             "held 2 --as 'Ben: 2, 1, 4, 3'",
-            f"letter 2, from ben@club.example, 2026-11-23 10:00:00 UTC: ben: {HALL}\n  no ballot found\n",
-            "\n  written: I am for the hall\n1 counted  ben: In the town hall",
+            "   1  I am for the hall\n",
+            f"letter 2, from ben@club.example, 2026-11-23 10:00:00 UTC: ben: {HALL}\n  no ballot found\n1 counted  ben: In the town hall",
         )
         [envelope] = self.envelopes()
         found = envelope.line.decode(), envelope.letter, envelope.time.hour
@@ -322,31 +300,25 @@ class Entered(HeldTest):
             with self.subTest(line):
                 self.stops(f"2 --as '{line}'", part)
         # one may vote for another, as by a paper that came with the letter
-        self.told(f"held 2 --as 'ada {RANKS}' --force")
+        self.told(f"held 2 --as 'ada {RANKS}' --force not-tied --force voted-since")
         # for one who has voted since; a line that was refused is no ballot
         self.add(letter("fay", "I am for the lake", sender="f@x.example"), letter("gus", "hello"))
         self.cast(f"fay {OTHER}", "gus 1,2")
         fay = f"3 --as 'fay {RANKS}'"
         self.stops(fay, untied(3, "fay"), "letter 3: its elector has voted since")
-        self.told(f"held {fay} --force")
+        self.told(f"held {fay} --force not-tied --force voted-since")
         self.told(f"held 4 --as 'gus {RANKS}'")
         lines = f"ada {RANKS}", f"fay {OTHER}", "gus 1,2", f"fay {RANKS}", f"gus {RANKS}"
         self.assertEqual(self.lines(), [*lines])
 
     def test_what_was_typed_and_taken_back_is_typed_again(self) -> None:
         """Its own line may say something else."""
-        said = "letter 1: its ballot was typed, and taken back; nothing was changed: type it again with debvote-election held 1 --as LINE; if this line"
+        said = "letter 1: its ballot was typed, and taken back; nothing was changed: type it again with debvote-election held 1 --as LINE"
         for _ in range(2):
             self.told(f"held 1 --as 'ada {OTHER}'")
             self.told("undo --yes")
-            self.assertIn("--force", self.stops("1 --enter --yes", said).faults)
-        self.told("held 1 --enter --force --yes")
-        # the last one that was taken back was not typed
-        self.tells("undo --yes", "held 1 --enter enters these letters again")
-        # nor does --enter enter again what was typed of somebody else
-        self.told(f"held 1 --as 'ben {OTHER}' --force")
-        self.assertNotIn("--enter", self.told("undo --yes"))
-        self.told("held 1 --enter --yes")
+            self.stops("1 --enter --force voted-since", said)
+        self.told(f"held 1 --as 'ada {RANKS}'")
         self.assert_left(1, f"ada {RANKS}")
 
     def test_copies_of_what_was_typed_struck_or_taken_back(self) -> None:
@@ -361,9 +333,9 @@ class Entered(HeldTest):
         )
         self.add(*came)
         self.told(f"held 3 --as 'fay {OTHER}'")
-        self.told("held 4 --enter --force")
+        self.agrees("4 --enter --force not-tied")
         self.told("strike 2 --because 'not hers' --yes")
-        self.told("held 5 --enter --force")
+        self.agrees("5 --enter --force not-tied")
         self.told("undo --yes")
         self.told("held 4 5 --set-aside")
         said = "0 ballots of letters went in; 2 letters wait; 3 copies passed over."
@@ -387,7 +359,7 @@ class Entered(HeldTest):
             self.assertEqual(found, [not is_undone, is_undone], said)
 
     def test_a_letter_that_another_desk_enters_is_not_set_aside(self) -> None:
-        enter = "held", 1, "--enter", "--yes"
+        enter = "held", 1, "--as", f"ada {RANKS}"
         self.overtaken(held, "chosen_letters", enter, ("held", "1", "--set-aside"))
         self.assert_left(1, f"ada {RANKS}")
         self.assertNotIn("Set aside", self.told("held"))
@@ -405,7 +377,7 @@ class Couple(HeldTest):
     ada, ben = f"ada {RANKS}", f"ben {OTHER}"
     as_ada, as_ben = f"1 --as '{ada}'", f"1 --as '{ben}'"
     both = f"{as_ada} --as '{ben}'"
-    left = "{} has no ballot of letter 1; debvote-election held 1 --as LINE --force enters one\n".format
+    left = "{} has no ballot of letter 1; debvote-election held 1 --as LINE --force not-tied enters one\n".format
     untied = "letter 1: its sender and its subject do not show that it is of ben"
 
     def setUp(self) -> None:
@@ -421,12 +393,12 @@ class Couple(HeldTest):
         other = (
             "to enter another one in its place, run debvote-election strike 1 --because TEXT first"
         )
-        self.stops(f"1 --as 'ada {OTHER}' --force", said(other))
+        self.stops(f"1 --as 'ada {OTHER}' --force not-tied --force voted-since", said(other))
         self.stops(self.as_ada, said("there is nothing to do"))
         # with the ballot of the other there is something to do, though her own mark ties him not
         self.stops(self.both, said("leave it out"))
         self.assertIn("--force", self.stops(self.as_ben, self.untied).faults)
-        bens = f"held {self.as_ben} --force"
+        bens = f"held {self.as_ben} --force not-tied --force voted-since"
         self.assertNotIn("has no ballot of", self.told(bens))
         self.assert_left(0, self.ada, self.ben)
         # what is taken back waits, and that of the other stays; what is struck does not wait
@@ -448,7 +420,10 @@ class Couple(HeldTest):
         said = "letter 1: 2 of these lines are ballots of ada; nothing was changed: name the one that counts"
         self.stops(f"{self.as_ada} --as 'ada {OTHER}'", said)
         said = f"1 counted  ada: {LAKE}\n2 counted  ben: {HALL}\n{self.left('cleo')}"
-        self.tells(f"held 1 --as 'Ada 1, 2,4,3' --as '{self.ben}' --force", said)
+        self.tells(
+            f"held 1 --as 'Ada 1, 2,4,3' --as '{self.ben}' --force not-tied --force voted-since",
+            said,
+        )
         self.assert_left(0, self.ada, self.ben)
         self.assertEqual(self.acts()[-1], ("enter", {"letters": [1], "lines": []}))
         # one that is set aside is named as nobody's; one that goes in is, as its sender's address
@@ -457,7 +432,7 @@ class Couple(HeldTest):
         self.assertNotIn("has no ballot of", self.told("held 1 --set-aside"))
         self.add(ballot("ada", number=2), says="; same address: ben\n")
         self.tells("held 2", "It was entered.\n")
-        self.told(f"held 2 --as '{self.ben}' --force")
+        self.told(f"held 2 --as '{self.ben}' --force not-tied --force voted-since")
         self.assert_left(0, self.ada, self.ben)
 
     def test_it_is_said_who_has_voted_since(self) -> None:
@@ -465,7 +440,7 @@ class Couple(HeldTest):
         self.add(both, ballot("ada", OTHER, time=LATER, number=2))
         self.tells("held", "        several lines of it are ballots; ada has voted since\n")
         self.stops(self.both, self.untied, "letter 1: its elector has voted since")
-        self.told(f"held {self.as_ben} --force")
+        self.told(f"held {self.as_ben} --force not-tied --force voted-since")
         self.assertEqual(self.lines(), [f"ada {OTHER}", self.ben])
 
 
@@ -484,11 +459,14 @@ class RealNamesOfLetters(HeldTest):
         )
         self.tells(f"held 1 --as 'Ada Lovelace {RANKS}'", "\n1 counted  ada: ")
         said = f"--as: `Ben Blum {RANKS}` is no ballot of this poll: it has the name of ben and cleo; nothing was changed: "
-        self.stops(f"2 --as 'Ben Blum {RANKS}' --force", said)
+        self.stops(f"2 --as 'Ben Blum {RANKS}' --force not-tied --force voted-since", said)
         # of two only one has the sender's address
-        self.stops("3 --enter --force --yes", f"letter 3: it has 0 ballots{LIKE_ANSWERS}")
-        self.tells("held 4 --enter --yes", "2 counted  cleo: ")
-        self.told(f"held 3 --as 'ben {RANKS}' --force")
+        self.stops(
+            "3 --enter --force not-tied --force voted-since --yes",
+            f"letter 3: it has 0 ballots{LIKE_ANSWERS}",
+        )
+        self.agrees("4 --enter", "2 counted  cleo: ")
+        self.told(f"held 3 --as 'ben {RANKS}' --force not-tied --force voted-since")
         self.assert_left(1, f"ada {RANKS}", f"cleo {RANKS}", f"ben {RANKS}")
 
 
@@ -511,7 +489,7 @@ class OtherVote(HeldTest):
         for how in ("--enter", f"--as 'ada {RANKS}'"):
             self.stops(f"1 {how}", f"letter 1: {self.of_other}; {cure}", self.untied(1, "ada"))
         said = f"UTC: ada: {LAKE}\n  {self.of_other}; add it to that vote\n"
-        self.tells("held 1 --enter --force", said)
+        self.agrees("1 --enter --force not-tied", said)
         # with two digits that differ it is of this one, miscopied; and with an own mark beside it
         digits = "0123456789abcdef"
         near = self.mark[-2:].translate(str.maketrans(digits, digits[1:] + "0"))
@@ -550,7 +528,7 @@ class OtherVote(HeldTest):
             said = f"letter {number}: {words}; nothing was changed: {cure}; if this ballot must count, repeat it with --force"
             for how in ("--enter", f"--as '{name} {OTHER}'"):
                 self.stops(f"{number} {how}", said)
-            self.told(f"held {number} --enter --force")
+            self.agrees(f"{number} --enter --force not-tied")
         self.stops("3 --enter", f"letter 3: {of_old}", self.untied(3, "cleo"))
         self.assert_left(1, f"ada {RANKS}", f"ben {RANKS}")
 
@@ -567,7 +545,7 @@ class CodesOnRoll(HeldTest):
         self.assertEqual(said.count("the list of members has no address for"), 2, said)
         untied = "its sender and its subject do not show that it is of"
         self.stops("1 2 --enter", f"letter 1: {untied}", f"letter 2: {untied}")
-        self.told("held 1 2 --enter --force")
+        self.told("held 1 2 --enter --force not-tied --force voted-since")
         self.assert_left(0, *lines)
 
 
@@ -584,13 +562,13 @@ class Answers(QuestionsTest, HeldTest):
         )
         self.add_lines("ada A 2,1 C 4,3,2,1", "ben A 2,1 B 1,2,3")
         said = "letter 1: its elector has later answers to {}; nothing was changed: enter the others: debvote-election held 1 --as 'ada {}'".format
-        for force in ("", " --force"):
+        for force in ("", " --force not-tied --force voted-since"):
             self.stops(f"1 --enter --yes{force}", said("A and C", "B 1,2,3"))
             self.stops(f"1 --as 'ada A 1,2 B 2,1,3'{force}", said("A", "B 2,1,3"))
         self.told("held 1 --as 'ada B 1,2,3'")
         # all of them have one
         self.stops("2 --enter --yes", f"letter 2: its elector has voted since; {AGAIN}")
-        self.told("held 2 --enter --yes --force")
+        self.agrees("2 --enter --force voted-since")
         self.assert_left(0, "ada A 2,1 C 4,3,2,1", "ben A 2,1 B 1,2,3", "ada B 1,2,3", "ben A 1,2")
 
 

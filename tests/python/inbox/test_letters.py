@@ -12,6 +12,7 @@ from tests.support.called import LAKE, LettersTest
 from tests.support.letters import OTHER_RANKS as OTHER, OWN, RANKS, ballot, letter, mailbox, marked
 from tests.support.terminal import Terminal
 
+
 # asks for the lock of the book while debvote would run, and notes both
 ASKING = """#!/usr/bin/python3
 import os, sqlite3, sys
@@ -315,7 +316,8 @@ class Adding(LettersTest):
             self.assertIn("'waiting': 0, 'after_end': ", str(self.last("close")))
             self.told("reopen --because 'another bag'")
         # one that arrived before the first close
-        self.add(letter("dan", f"Hello:\ndan {RANKS}"))
+        self.add(ballot("dan"))
+        self.told("undo --yes")
         said = "--enter: some of these letters arrived before the first close, and some after it"
         self.assert_refused("held 1 3 --enter --yes", 9, said)
         for number in (1, 2, 3):
@@ -336,13 +338,13 @@ class Adding(LettersTest):
         )
         for number in (1, 3, 4, 5):
             self.assertEqual(self.election(f"held {number} --enter --yes").status, 9)
-            self.told(f"held {number} --enter --yes --force")
+            self.agrees(f"{number} --enter --force not-tied --force voted-since")
             self.tells("undo --yes", "; debvote-election held lists these letters\n")
 
     def test_undo_and_strike_of_ballots_of_letters(self) -> None:
         box = *map(ballot, ("ada", "ben", "cleo")), letter("dan", "hello")
         self.add(*box)
-        self.tells("undo --yes", "debvote-election held 1 2 3 --enter enters these letters again\n")
+        self.tells("undo --yes", "debvote-election held lists these letters\n")
         self.assertEqual(self.lines(), [])
         self.tells("held", "its ballot was taken back")
         self.assert_refused("close", 9, "these letters arrived in time, and wait: 1, 2, 3, 4")
@@ -620,21 +622,21 @@ class InTime(LettersTest):
         self.add(ballot("dan", time=None))
         self.told("close --force --because 'nobody answers'")
         said = "letter 1: it arrived in time, and the vote is closed"
-        self.assert_refused("held 1 --enter --force", 9, said)
+        self.assert_refused("held 1 --enter --force not-tied --force voted-since", 9, said)
         # one from before the call, without a mark of this vote, is not in time
         self.add(ballot("eve", time="Mon, 6 Jan 2020 10:00:00 +0000", subject="hello"))
-        self.tells("held 2 --enter --force", "\n3 late  eve: ")
+        self.agrees("2 --enter --force not-tied", "\n3 late  eve: ")
         said = "letter 2: its ballot of eve was entered, and is late"
-        self.assert_refused("held 2 --enter --force", 9, said)
+        self.assert_refused("held 2 --enter --force not-tied --force voted-since", 9, said)
         self.told("reopen --because 'Dan has asked'")
-        self.tells("held 1 --enter --force", "\n4 counted  dan: ")
+        self.tells("held 1 --enter --force not-tied --force voted-since", "\n4 counted  dan: ")
 
     def test_one_with_a_time_after_it(self) -> None:
         """The time of the ballot is only that at which it was entered: the next letter may be the
         later one, and is not passed over.
         """
         self.add(ballot("dan", time=None))
-        self.told("held 1 --enter --force")
+        self.told("held 1 --enter --force not-tied --force voted-since")
         self.add(ballot("dan", OTHER, number=2), says="a later ballot of dan, of")
         self.assertEqual(self.numbers()["stopping"], [2])
 
@@ -720,7 +722,7 @@ class Signed(LettersTest):
         ben, fay = self.signed("ben"), self.signed("fay")
         self.add(fay, self.signed("eve"))
         self.told("held 1 --set-aside")
-        self.told("held 2 --enter --force --yes")
+        self.agrees("2 --enter --force not-tied")
         self.add(ben, self.signed("ada"), says="signed with a key that is not in the keyring")
         # a copy with another head is the same letter once more, before the key comes and after it
         self.add(once_more(ben), self.signed("ben").replace(b"Subject: my", b"Subject: My"))
@@ -790,7 +792,7 @@ class OwnMarks(LettersTest):
         # none of them is tied to its elector
         for number, name in enumerate(("ben", "cleo", "dan", "eve"), start=2):
             words = f"letter {number}: its sender and its subject do not show that it is of {name}; nothing was changed: check who sent it"
-            self.assert_refused(f"held {number} --enter", 9, words, "--force")
+            self.assert_refused(f"held {number} --enter", 9, words, "--force not-tied")
 
 
 class SecretOwnMarks(OwnMarks):

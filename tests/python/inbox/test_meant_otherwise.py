@@ -9,7 +9,6 @@ import unittest
 from collections.abc import Iterable, Iterator, Mapping, Sequence
 
 from debvote_tools.inbox.letter_lines import with_texts
-from debvote_tools.inbox.letter_words import other_words
 from debvote_tools.inbox.rules import LetterCase, LetterOutcome
 from debvote_tools.text.ballots import ranks_by_label
 from debvote_tools.text.motions import words_of
@@ -454,27 +453,19 @@ def judged(
 
 
 class Otherwise(unittest.TestCase):
-    def test_those_that_are_offered(self) -> None:
-        """What says otherwise is shown beside the ballot, or stands in the subject, which is shown,
-        too.
+    def test_each_is_asked_about(self) -> None:
+        """None goes in, and none is among those that are entered by one answer, but the same ballot
+        twice.
         """
-        for text, one in judged(OFFERED, OFFERED_OF_SEVERAL):
-            self.assertEqual((one.outcome, one.is_offered), (LetterOutcome.WAITS, True), text)
-            shown = " ".join(f"{one.read.subject} {' '.join(other_words(one))}".split())
-            said = re.findall("⟦(.*?)⟧", text)
-            is_shown = [" ".join(words.split()) in shown for words in said]
-            self.assertTrue(said and all(is_shown), (text, shown))
-
-    def test_those_that_are_not(self) -> None:
-        for text, one in judged(NOT_OFFERED, NOT_OFFERED_OF_SEVERAL):
-            self.assertEqual((one.outcome, one.is_offered), (LetterOutcome.WAITS, False), text)
-
-    def test_those_of_an_adversary(self) -> None:
-        """Of those that are offered words are shown, but of the same ballot twice."""
-        for text, one in judged(BY_ADVERSARY, BY_ADVERSARY_OF_SEVERAL, "ada"):
-            self.assertEqual(one.outcome, LetterOutcome.WAITS, text)
-            is_twice = len({*text.split("\n")}) == 1
-            self.assertTrue(not one.is_offered or one.read.text.words or is_twice, text)
+        for texts, of_several, name in (
+            (OFFERED, OFFERED_OF_SEVERAL, ""),
+            (NOT_OFFERED, NOT_OFFERED_OF_SEVERAL, ""),
+            (BY_ADVERSARY, BY_ADVERSARY_OF_SEVERAL, "ada"),
+        ):
+            for text, one in judged(texts, of_several, name):
+                self.assertEqual(one.outcome, LetterOutcome.WAITS, text)
+                is_twice = len({*text.split("\n")}) == 1
+                self.assertTrue(not one.is_nothing_else or is_twice, text)
 
     def test_the_ballots_alone_go_in(self) -> None:
         """So it is the rest that keeps them out."""

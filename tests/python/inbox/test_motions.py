@@ -11,7 +11,6 @@ import unicodedata
 import unittest
 from collections.abc import Sequence
 
-from debvote_tools.inbox.letter_words import other_words
 from debvote_tools.inbox.rules import LetterCase, LetterOutcome
 from debvote_tools.text.language import LANGUAGES
 from debvote_tools.text.motions import RANKS, WORDS, Words, words_of
@@ -173,11 +172,11 @@ class Taken(LettersTest):
         )
         self.assertNotIn("--enter", said)
         self.assertEqual(self.lines(), ["fay 1,2"])
-        none, words = "        no ballot found\n        written: ", "\n        written: Ja\n"
+        none, words = "        no ballot found\n        line 1: ", "\n        written: Ja\n"
         self.tells(
             "held",
-            f"{none}Ja\n",
-            f"{none}Eve: Enthaltung\n",
+            f"{none}ada 1,2\n",
+            f"{none}eve 1,1\n",
             f"        line 1 is a ballot, and there are other lines\n        line 1: dan 1,2{words}",
         )
         # the receipt says that the letter waits, and not that it is written wrongly
@@ -187,7 +186,9 @@ class Taken(LettersTest):
             self.receipt("ada"),
         )
         like_answers = "1 ballot, and other lines that look like answers"
-        for number, count in ((1, "0 ballots"), (2, like_answers), (3, like_answers)):
+        more = "there is more in it than a ballot"
+        self.assert_refused("held 1 --enter --yes", 9, f"letter 1: {more}")
+        for number, count in ((2, like_answers), (3, like_answers)):
             said = f"letter {number}: it has {count}"
             self.assert_refused(f"held {number} --enter --yes", 9, said, "--as LINE")
         self.told("held 1 --as 'ada ja' --yes")
@@ -195,9 +196,9 @@ class Taken(LettersTest):
         self.told("held 2 --as 'ben nein' --yes")
         said = "its sender and its subject do not show that it is of cleo"
         self.assert_refused("held 2 --as 'cleo ja' --yes", 9, said)
-        self.told("held 2 --as 'cleo ja' --yes --force")
+        self.told("held 2 --as 'cleo ja' --yes --force not-tied")
         self.told("held 3 --as 'dan ja' --yes")
-        self.told("held 6 --as 'Ada Lovelace: Ja' --force --yes")
+        self.told("held 6 --as 'Ada Lovelace: Ja' --force not-tied --yes")
         lines = ["fay 1,2", "ada 1,2", "ben 2,1", "cleo 1,2", "dan 1,2", "ada-lovelace 1,2"]
         self.assertEqual(self.lines(), lines)
         self.told("letters receipts")
@@ -264,11 +265,11 @@ QUOTED = "\n\nOn Mon, Nov 23, 2026 at 10:00 AM Vote wrote:\n> "
 
 class InLetters(unittest.TestCase):
     def test_a_table(self) -> None:
-        """What becomes of a letter, and whether its ballot is offered, or has to be typed since a
+        """What becomes of a letter, and whether its ballot can be entered, or has to be typed since a
         word looks like an answer.
         """
         for becomes, texts in {
-            "waits: no ballot, typed": rows(
+            "waits": rows(
                 """
 ada yes
 Ada Lovelace: No!
@@ -314,7 +315,7 @@ ada 1,2{q}> ada no
 ada 1,2⏎⏎-----Original Message-----⏎yes
 """
             ),
-            "waits: not alone, offered": rows(
+            "waits: not alone, entered": rows(
                 """
 ada 1,2⏎⏎No, not that one
 ada 1,2⏎⏎I say no to it
@@ -331,7 +332,9 @@ ada 1,2⏎⏎Kim No
             letters = [letter(name, text.replace("{q}", QUOTED), **how) for text in texts]
             for one in judged_by(letters):
                 found = f"{outcome(one)}, {how_entered(one)}"
-                self.assertEqual(found.removesuffix(", in"), becomes, one.read.body.lines)
+                self.assertEqual(
+                    found.removesuffix(", in")[: len(becomes)], becomes, one.read.body.lines
+                )
 
     def test_random_letters(self) -> None:
         """A word makes no letter go in that does not without a motion, and none goes in with a line
@@ -354,14 +357,17 @@ ada 1,2⏎⏎Kim No
             if plain.outcome is not LetterOutcome.GOES_IN:
                 self.assertIsNot(one.outcome, LetterOutcome.GOES_IN)
                 continue
-            text, shown = one.read.body.lines, [*other_words(one)]
+            text = one.read.body.lines
             found[outcome(one)] += 1
             if one.outcome is LetterOutcome.GOES_IN:
                 self.assertEqual(outcome(plain), outcome(one), text)
                 is_word = re.compile(r"(?i)[> ]*(ada:? )?(yes|no)[ .!]*").fullmatch
                 self.assertFalse([*filter(is_word, text)], text)
             else:
-                wanted = f"waits: {'not alone' if shown else 'answer below'}, typed"
-                self.assertEqual(f"{outcome(one)}, {how_entered(one)}", wanted, text)
-                self.assertTrue([*one.read.text.quoted, *shown], text)
+                self.assertIn(
+                    outcome(one).partition(": ")[2],
+                    ("not alone", "answer below", "no ballot"),
+                    text,
+                )
+                self.assertFalse(one.is_nothing_else, text)
         self.assertGreater(min(found["in: ada 1,2"], found.total() - found["in: ada 1,2"]), 40)

@@ -243,7 +243,7 @@ class Reopened(LettersTest):
         self.assertIn("1 letter waits.", self.add(self.wrote("ada", "09:50")))
         self.assertIn("these letters arrived in time, and wait: 2;", self.election("count").faults)
         self.reopen()
-        self.told("held 2 --enter --force")
+        self.told("held 2 --enter --force not-tied --force voted-since")
         self.assertEqual((self.lines(), self.late_lines()), ([BALLOT], [BALLOT]))
 
     def test_a_call_that_was_closed_and_taken_back(self) -> None:

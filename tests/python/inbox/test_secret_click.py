@@ -180,7 +180,11 @@ class SecretClicks(boxes.BoxElectionTest):
         self.assertEqual(self.standing(), {"cleo": RANKS, "ida": RANKS})
         self.write("lines.txt", "eve: 1, 2, 3, 4.\nfay lake\ngus 1,2,3\nhal 1,2,3,4\n")
         commands = ["add --look lines.txt", "add lines.txt"]
-        commands += ["add --force lines.txt", "held", *map("held {}".format, range(1, 5))]
+        commands += [
+            "add --force not-tied --force voted-since lines.txt",
+            "held",
+            *map("held {}".format, range(1, 5)),
+        ]
         commands += ["held 1 --as ada", "held 4 --enter", "held 1 2 --enter", "status", "log"]
         commands += ["status --json", *map("show {}".format, NAMES)]
         commands += ["strike 2 --yes --because mistyped", "undo --yes"]

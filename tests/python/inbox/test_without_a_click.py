@@ -55,15 +55,19 @@ class Forty(LettersTest):
         self.assertEqual({*slips}, {f"{self.mark}-{own}" for own, in owns})
         said = self.add(*letters)
         self.assertIn("\n18 ballots of letters went in; 13 letters wait.\n", said)
-        offered = f"held {' '.join(map(str, by_way[ENTER]))} --enter"
-        following = f"\nNext: debvote-election {offered}, which shows these ballots and asks; "
-        self.assertIn(following, said)
-        self.told(f"{offered} --yes")
+        self.assertIn("\nNext: debvote-election held, which lists the letters that wait;", said)
+        asked = " ".join(map(str, by_way[ENTER]))
+        self.agrees(f"{asked} --enter", times=len(by_way[ENTER]))
         for number in by_way[FORCE]:
             self.assertEqual(self.election(f"held {number} --enter").status, 9)
-            self.told(f"held {number} --enter --force")
+            self.agrees(f"{number} --enter --force not-tied")
         for number in by_way[TYPED]:
-            self.assertEqual(self.election(f"held {number} --enter --yes --force").status, 9)
+            self.assertEqual(
+                self.election(
+                    f"held {number} --enter --yes --force not-tied --force voted-since"
+                ).status,
+                9,
+            )
             self.told("held", number, "--as", lines[number - 1])
         self.assertIn("No letter waits.", self.told("held", *by_way[ASIDE], "--set-aside"))
         self.add_lines(*(lines[number - 1] for number in by_way[PAPER]))

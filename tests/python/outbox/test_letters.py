@@ -20,6 +20,8 @@ from tests.support.called import LAKE
 from tests.support.letters import OTHER_RANKS, RANKS, TEN, TITLE, letter, mailbox, marked
 from tests.support.outgoing import AT, OutTest, one_line, parsed
 
+FORCED = ("--force", "not-tied", "--force", "voted-since")
+
 FORM = f"The page of the vote, which writes the line of your ballot for you, and on which the result will be: {AT}"
 LINE = (
     "Your line, with a rank in the place of each _. The first place is for option 1, and so on; 1 is the best, equal ranks are allowed, "
@@ -502,7 +504,7 @@ class ReceiptsAndReminders(OutTest):
         self.add(letter("gus", f"hal {RANKS}\n"))
         self.done("held", 1, "--as", f"ada {RANKS}")
         self.done("held", 2, "--as", f"cleo {RANKS}")
-        self.done("held", 3, "--enter", "--force")
+        self.done("held", 3, "--enter", *FORCED)
         texts = self.texts("receipts")
         # one goes to the address that Ben had; who sent one for somebody else alone is told nothing
         # of it
@@ -583,7 +585,7 @@ class ReceiptsAndReminders(OutTest):
         self.assertNotIn("stranger", texts["eve"] + texts["dan"])
         self.assertEqual(self.texts("receipts"), {})
         # one that waited and is entered now
-        self.done("held", 3, "--enter", "--force")
+        self.done("held", 3, "--enter", *FORCED)
         # a ballot that the secretary typed is told as the letter, with its time, and how it was
         # read
         self.done("held", 6, "--as", f"gus {RANKS}")

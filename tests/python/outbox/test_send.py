@@ -23,6 +23,8 @@ from tests.support.called import LAKE
 from tests.support.letters import OTHER_RANKS, RANKS, TEN, letter
 from tests.support.outgoing import MailServer, PlainServer, SendTest, one_line, parsed
 
+FORCED = ("--force", "not-tied", "--force", "voted-since")
+
 ALL = [f"{name}@club.example" for name in elections.NAMES]
 REPORT = 'multipart/report; report-type=delivery-status; boundary="b"'
 
@@ -291,7 +293,7 @@ class Sending(SendTest):
         ):
             time = TEN.replace("10:00", hour)
             self.add(letter(name, f"{name} {OTHER_RANKS}\n", time=time, number=number))
-            self.done("held", number, "--enter", "--force")
+            self.done("held", number, "--enter", *FORCED)
             self.assert_unreached(**found)
         self.done("undo", "--yes")
         self.assert_unreached(**both)
@@ -572,7 +574,7 @@ class Sending(SendTest):
         """It would tell of nothing: the letter that it is about is a ballot now."""
         self.add(letter("cleo", f"dan {RANKS}\n"))
         self.assert_sent("receipts", status=9, refused={ALL[3]: "451 later"})
-        self.done("held", 1, "--enter", "--force")
+        self.done("held", 1, "--enter", *FORCED)
         self.assert_sent("receipts")
         self.assertEqual(self.server.addresses().count(ALL[3]), 1)
         self.assertIn(f"It was read as: {LAKE}", self.server.texts()["dan"])

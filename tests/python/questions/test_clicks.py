@@ -9,6 +9,8 @@ from tests.support.at_browser import NEEDS_BROWSER, Window
 from tests.support.letters import letter, mailbox
 from tests.support.web_host import NEEDS_PHP
 
+FORCED = ("--force", "not-tied", "--force", "voted-since")
+
 FEE = 'title = "Raise the fee to 72 Euro"\noptions = ["Yes"]\nratios = [1]\ndefault = "No"\nquorum = 1\nmotion = true\n'
 CHAIR = 'title = "The chair"\noptions = ["Ada Lovelace", "Mary Somerville"]\nratios = [1, 1]\ndefault = "None of these"\nquorum = 1\n'
 STATUTES = 'title = "The new statutes"\noptions = ["Yes"]\nratios = [2]\ndefault = "No"\nquorum = 1\nmotion = true\n'
@@ -54,7 +56,7 @@ class Clocks(QuestionsByBox):
             "--yes",
         ), "its elector may have voted since, as the clock of the web host was off"
         self.assert_fault(self.election(*enter), 9, why)
-        self.done(*enter, "--force")
+        self.done(*enter, *FORCED)
         self.assertIn(
             "The current ballot: ada A 2,1 B 1,2,3 C 1,2:\n", self.done("show", "ada").output
         )

@@ -8,6 +8,8 @@ from tests.support.outgoing import parsed
 from tests.support.questions import QuestionsTest
 from tests.support.terminal import Terminal
 
+FORCED = ("--force", "not-tied", "--force", "voted-since")
+
 YES, NO = (
     "A (Raise the fee to 72 Euro): Yes, 72 Euro, then No, as it is",
     "A (Raise the fee to 72 Euro): No, as it is, then Yes, 72 Euro",
@@ -136,9 +138,9 @@ class Held(QuestionsTest):
         )
         for how in (
             ["--enter"],
-            ["--enter", "--force"],
+            ["--enter", *FORCED],
             ["--as", "ada A 2,1 B 1,2,3"],
-            ["--as", "ada A 1,2 B 1,2,3", "--force"],
+            ["--as", "ada A 1,2 B 1,2,3", *FORCED],
         ):
             said = "letter 3: its elector has later answers to A; nothing was changed: enter the others: debvote-election held 3 --as 'ada B 1,2,3'"
             self.assert_refused(["held", "3", *how, "--yes"], 9, said)
@@ -151,12 +153,12 @@ class Held(QuestionsTest):
             9,
             "letter 5: its elector has voted since; nothing was changed: if this ballot must count, repeat it with --force",
         )
-        self.assertIn("\n5 replaced  cleo\n", self.told("held", "5", "--enter", "--force", "--yes"))
+        self.assertIn("\n5 replaced  cleo\n", self.told("held", "5", "--enter", *FORCED, "--yes"))
         self.assertEqual(self.numbers()["waiting"], 0)
         self.done("held", "4", "--wait")
         typed = ["held", "4", "--as", "ben B 1,2,3", "--yes"]
         self.assert_refused(typed, 9, "letter 4: its elector has voted since")
-        self.assertIn("\n6 replaced  ben\n", self.told(*typed, "--force"))
+        self.assertIn("\n6 replaced  ben\n", self.told(*typed, *FORCED))
         self.assertEqual(
             self.lines(),
             [
@@ -190,7 +192,7 @@ class Held(QuestionsTest):
         self.assert_refused(
             ["close", "--early"], 9, "these letters arrived in time, and wait: 1, 2, 3;"
         )
-        self.assertIn("\n1 counted  ben\n", self.told("held", "2", "--enter", "--yes"))
+        self.agrees("2 --enter", "\n1 counted  ben\n")
         self.assert_refused(
             ["held", "1", "--as", "ada A 1,2", "--as", "ada A 2,1 B 1,2,3", "--yes"],
             9,
@@ -217,10 +219,11 @@ class Held(QuestionsTest):
         """Who has no ballot of their letter is told with the command; the other's is entered by force, whenever it is, since the own mark is of one alone."""
         self.change_roll("ben@club", "ada@club")
         self.add(letter("ada", "ada\nA 1,2\n\nBen\nA 2,1\nB 1,2,3\n", time=at(9)))
-        self.assert_refused(["held", "1", "--enter", "--yes"], 9, "letter 1: it has 2 ballots;")
-        command = (
-            "has no ballot of letter 1; debvote-election held 1 --as LINE --force enters one\n"
-        )
+        both = Terminal(self, "held", "1", "--enter")
+        self.assertIn("ben", both.until("Enter 2 ballots? [y/n] "))
+        both.type("n\n")
+        both.end()
+        command = "has no ballot of letter 1; debvote-election held 1 --as LINE --force not-tied enters one\n"
         self.assertIn(f"\nben {command}", self.told("held", "1", "--as", "ada A 1,2", "--yes"))
         self.assertEqual(self.numbers()["waiting"], 0)
         typed = ["held", "1", "--as", "ben A 2,1 B 1,2,3", "--yes"]
@@ -229,7 +232,7 @@ class Held(QuestionsTest):
             9,
             "letter 1: its sender and its subject do not show that it is of ben; nothing was changed: check who sent it; ",
         )
-        self.assertNotIn("has no ballot of", self.told(*typed, "--force"))
+        self.assertNotIn("has no ballot of", self.told(*typed, *FORCED))
         self.assertEqual(self.lines(), ["ada A 1,2", "ben A 2,1 B 1,2,3"])
 
     def test_who_has_voted_since_answered_the_same_question(self) -> None:
@@ -253,7 +256,7 @@ class Held(QuestionsTest):
         self.assert_refused(
             enter, 9, "letter 2: its elector may have voted since, as nobody knows when it arrived"
         )
-        self.told(*enter, "--force")
+        self.told(*enter, *FORCED)
         self.assertEqual(self.lines(), ["ada A 1,2", "ada A 2,1 B 1,2,3"])
 
     def test_a_late_line_is_later_than_no_letter(self) -> None:
@@ -373,9 +376,7 @@ class TakenAway(QuestionsTest):
         self.done("held", "1", "--as", "ada A 1,2", "--yes")
         self.done("reopen", "--because", "a slow server")
         self.assertNotIn("--enter", self.told("undo", "--yes"))
-        self.assert_refused(
-            ["held", "1", "--enter", "--yes"], 9, "its ballot was typed, and taken back; "
-        )
+        self.assert_refused(["held", "1", "--as", "ada A 1"], 9, "is no ballot of this poll")
 
     def test_a_file_that_comes_again(self) -> None:
         """What came before is passed over, and of an answer that was replaced since it is told."""

@@ -13,6 +13,8 @@ from tests.support.letters import MARK, TEN, letter
 from tests.support.questions import FEE, QuestionsTest, answering
 from tests.support.terminal import Terminal
 
+FORCED = ("--force", "not-tied", "--force", "voted-since")
+
 # who can be taken for a label, or for the name of somebody else with one
 MEMBERS = "name,who,mail\na,A. Adams,a@club.example\nben,Ben,ben@club.example\nben-b,Ben B,benb@club.example\ncleo,Cleo,cleo@club.example\ndan,Dan,dan@club.example\ndc,Dan C.,dc@club.example\n"
 
@@ -191,7 +193,7 @@ class OneNameOfTwo(QuestionsTest):
             letter("cleo", "Max A 1,1\n"),
         )
         self.assertIn(
-            unclear, self.election("held", "1", "--as", "Max A 1,2", "--force", "--yes").faults
+            unclear, self.election("held", "1", "--as", "Max A 1,2", *FORCED, "--yes").faults
         )
         self.done("desk", given="max A 1,2\nmax: B 1,2,3\nMaximilian Mayer C 1,2,3,4\n")
         self.done(
@@ -225,7 +227,7 @@ class Words(LabelsTest):
         for command in ("add", "desk"):
             self.done(command, given="".join(f"{line}\n" for line in lines))
         self.add(letter("cleo", "I told you.\n"))
-        self.done("held", "1", "--as", "Ben B A abstain", "--force", "--yes")
+        self.done("held", "1", "--as", "Ben B A abstain", *FORCED, "--yes")
         self.demand_entered(*lines.values(), *lines.values(), "ben-b A 1,1")
 
 
@@ -259,11 +261,12 @@ class Letters(LabelsTest):
 
     def test_as(self) -> None:
         self.add(letter("cleo", "I am for the slate.\n"))
-        for text in WRONG[::6]:
-            ended = self.election("held", "1", "--as", text, "--force", "--yes")
+        # without a name it is of whose mark the letter has
+        for text in (one for one in WRONG[::6] if not re.match(r"[A-D] ", one)):
+            ended = self.election("held", "1", "--as", text, *FORCED, "--yes")
             self.assertEqual((ended.status, self.lines()), (9, []), text)
         # a refused answer among the others stops here
-        ended = self.election("held", "1", "--as", "cleo A 1,2,3 B 1,2,3", "--force", "--yes")
+        ended = self.election("held", "1", "--as", "cleo A 1,2,3 B 1,2,3", *FORCED, "--yes")
         self.assertNotEqual(ended.status, 0, ended)
         self.done("held", "1", "--as", "cleo c) 1, 2,3,4 A 1,2", "--yes")
         self.demand_entered("cleo A 1,2 C 1,2,3,4")

@@ -100,7 +100,7 @@ def judged(
 def becomes(text: str, how: object = letter, words: Words = {}, name: str = "ada") -> str:
     """What becomes of a letter, and the ballot that `held --enter` takes of one that waits."""
     [case] = judged(how(name, text), words=words)  # type: ignore[operator]
-    is_taken = case.outcome is LetterOutcome.WAITS and case.can_be_entered and case.ballot
+    is_taken = case.outcome is LetterOutcome.WAITS and case.to_enter and case.ballot
     return (
         f"{outcome(case)} ({case.ballot.as_entered})" if is_taken and case.ballot else outcome(case)
     )
@@ -675,12 +675,9 @@ class Forged(unittest.TestCase):
         return len(went_in)
 
     def test_answers_to_forgeries(self) -> None:
-        texts = [
-            text
-            for _, text in random.Random(1).sample(
-                list(test_forgeries.answers_to_forgeries()), min(3_984, Random.COUNT)
-            )
-        ]
+        texts = random.Random(1).sample(
+            list(test_forgeries.answers_to_forgeries()), min(3_984, Random.COUNT)
+        )
         self.assertEqual([self.demand(texts, "own"), self.demand(texts[:600], "none")], [0, 0])
 
     def test_the_last_answer_elsewhere(self) -> None:

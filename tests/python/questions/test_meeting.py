@@ -284,10 +284,11 @@ class Meeting(boxes.BoxElectionTest):
             letters.append(letter(name, text, number=number, **how))
         self.write("post.mbox", mailbox(*letters))
         said = self.command("add", "--yes", "post.mbox")
-        [offered] = re.findall(r"Next: debvote-election held ([0-9 ]+) --enter", said)
-        for name, answers in waiting.items():
+        self.assertIn("2 letters wait", said)
+        numbers = re.findall(r"(?m)^ *(\d+)  \d{4}-", said)
+        for number, (name, answers) in zip(numbers, waiting.items(), strict=True):
             self.ballot(name, answers)
-        self.command("held", *offered.split(), "--enter", "--yes")
+            self.command("held", number, "--as", one_line(name, answers))
 
     def demand_pages(self) -> None:
         """One page for all questions, which leads to that of each; each names its poll and the list of polls."""
