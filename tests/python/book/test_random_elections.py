@@ -2,10 +2,11 @@
 
 Of one question or three, open or secret: lines of files and of desks, letters, also of two who
 share an address, clicks, what is decided of letters, strikes, undo, extensions, closes,
-reopenings, receipts, two publications. Half of the commands are killed between two system calls,
-or find a full disk: all of an act is done, or nothing. After each the book has the acts, lines and
-numbers of the model, and each reply holds. Page and letters tell each act in its order, and what
-counts of whom. To add an act, write a method of `Played` that says what it makes of the model.
+reopenings, receipts, two publications. A third of the commands are killed between two system
+calls, or find a full disk: all of an act is done, or nothing. After each the book has the acts,
+lines and numbers of the model, and each reply holds. Page and letters tell each act in its order,
+and what counts of whom. To add an act, write a method of `Played` that says what it makes of the
+model.
 """
 
 import copy
@@ -34,7 +35,7 @@ from tests.support.web_host import Liar, answered
 
 # how many elections are held, half of them of one question, and of how many commands each
 ELECTIONS = int(os.environ.get("DEBVOTE_ELECTIONS", "24"))
-LENGTH = 20
+LENGTH = 40
 
 # the system calls that change something, before any of which a run is killed, and how many a
 # command makes at most; those that fail on a full disk; and the statuses of a run that is cut off
@@ -43,7 +44,7 @@ WRITES = "pwrite64,ftruncate"
 CUT_OFF = (-signal.SIGKILL, 128 + signal.SIGKILL, 7)
 
 CALLED = datetime.datetime(2026, 11, 20, 9, tzinfo=datetime.UTC)
-END = CALLED + datetime.timedelta(hours=5)
+END = CALLED + datetime.timedelta(hours=3)
 # few who vote, and few ranks, so that a ballot often comes again
 VOTERS, COUPLE = elections.NAMES[:6], elections.NAMES[4:6]
 RANKS = {
@@ -538,6 +539,8 @@ class Played:
         is_typed, how = self.chance.random() < 0.5, ["--enter"]
         found = model.of_letters(lambda one: one.answers and model.becomes(one) != "is done")
         found = model.of_letters(model.lacking) if is_typed else found
+        # what was taken back is often entered again
+        found = [one for one in found if one.state == "undo"] or found
         if not found:
             return None
         chosen = self.chance.sample(
@@ -659,7 +662,7 @@ class Played:
         self.chance, model = random.Random(seed), Model(self.acts())
         type(self).records, type(self).page = "", self.read("call/index.html")
         for place in range(LENGTH):
-            model.now += datetime.timedelta(seconds=10 * self.chance.randint(1, 200))
+            model.now += datetime.timedelta(seconds=10 * self.chance.randint(1, 100))
             self.set_time(model.now)
             if self.chance.random() < 0.4:
                 self.click(model)
@@ -676,7 +679,7 @@ class Played:
     def run_step(self, before: Model) -> Model:
         """Runs a command, perhaps not to its end, and returns the model that holds."""
         kinds = [self.entering] * 4 + [self.mailing, self.holding] * 3 + [self.asking] * 2
-        kinds += [self.deciding, self.striking, self.telling, self.counting, self.undoing]
+        kinds += [self.deciding, self.striking, self.telling, self.counting] + [self.undoing] * 2
         # few closes before the first, and many after it
         kinds += [self.timing] * (3 if before.closes else 1)
         if before.envelopes and before.envelopes[-1].out:
@@ -687,12 +690,12 @@ class Played:
             after = copy.deepcopy(before)
             step = self.chance.choice(kinds)(after)
         ended, kind = None, self.chance.random()
-        if kind < 0.5:
+        if kind < 0.65:
             ended = self.election(*step.words, given=step.given)
         else:
             full = f"{WRITES}:error=ENOSPC:when={self.chance.randint(1, 20)}+"
             kill = f"{CHANGES}:signal=KILL:when={self.chance.randint(1, MAX_CALLS)}"
-            how = "-e", f"inject={kill if kind < 0.85 else full}"
+            how = "-e", f"inject={kill if kind < 0.9 else full}"
             ended = self.traced(*how, words=step.words, given=step.given or "")
         is_cut_off = ended.status in CUT_OFF
         if is_cut_off and step.words[0] in ("add", "call", "letters"):
