@@ -46,7 +46,7 @@ CUT_OFF = (-signal.SIGKILL, 128 + signal.SIGKILL, 7)
 CALLED = datetime.datetime(2026, 11, 20, 9, tzinfo=datetime.UTC)
 END = CALLED + datetime.timedelta(hours=3)
 # few who vote, and few ranks, so that a ballot often comes again
-VOTERS, COUPLE = elections.NAMES[:6], elections.NAMES[4:6]
+VOTERS, COUPLE = elections.NAMES[:5], elections.NAMES[3:5]
 RANKS = {
     "": ["1,2,3,4", "2,1,3,4", "-,-,1,2"],
     "A": ["1,2", "2,1", "1,1"],
@@ -467,7 +467,7 @@ class Played:
         if model.closes and not is_late:
             is_late = self.chance.random() < 0.5
             words = ["--came-before-close", "no" if is_late else "yes"]
-        names = self.chance.choices([*VOTERS * 2, "nobody"], k=self.chance.randint(2, 6))
+        names = self.chance.choices([*VOTERS * 2, "nobody"], k=self.chance.randint(1, 4))
         given = [(name, self.ballot()) for name in names]
         for name, answers in given:
             if name == "nobody":
@@ -498,7 +498,9 @@ class Played:
 
     def new_letter(self, model: Model) -> Letter:
         times = {model.now - datetime.timedelta(seconds=5 + 10 * slot) for slot in range(360)}
-        time = self.chance.choice(sorted(times - {one.time for one in model.letters}))
+        free = sorted(times - {one.time for one in model.letters})
+        # most of them of the last minutes
+        time = free[int(len(free) * self.chance.random() ** 0.3)]
         name, is_plain = self.chance.choice(VOTERS), self.chance.random() < 0.7
         return Letter(name, self.ballot() if self.chance.random() < 0.8 else {}, time, is_plain)
 
@@ -610,7 +612,7 @@ class Played:
             model.told.append(f"{said} {BECAUSE} a bag")
             return Step(["reopen", "--because", "a bag"])
         if not model.closes and self.chance.random() < 0.4:
-            later = datetime.timedelta(minutes=self.chance.randint(1, 120))
+            later = datetime.timedelta(minutes=self.chance.randint(1, 60))
             model.end = max(model.now, model.end).replace(second=0) + later
             model.acts += 1
             said = f"The time was extended: one could vote until {time_in_words(model.end)}."
@@ -676,16 +678,21 @@ class Played:
         self.demand_letters(model)
         self.done("log", "--check")
 
+    def kinds(self, before: Model) -> list[Callable[[Model], Step | None]]:
+        """The acts, each as often as its share."""
+        kinds = [self.entering, self.mailing, self.holding] * 4 + [self.asking] * 2
+        kinds += [self.deciding, self.striking, self.telling, self.counting, self.undoing]
+        # few closes before the first, and many after it
+        kinds += [self.timing] * (4 if before.closes else 1)
+        # an undo after what was typed, or after an undo; and what was taken back is entered again
+        last = before.envelopes[-1] if before.envelopes else None
+        kinds += [self.undoing] * 8 * bool(last and (last.out or last.is_typed))
+        kinds += [self.holding] * 8 * any(one.state == "undo" for one in before.letters)
+        return kinds
+
     def run_step(self, before: Model) -> Model:
         """Runs a command, perhaps not to its end, and returns the model that holds."""
-        kinds = [self.entering] * 4 + [self.mailing, self.holding] * 3 + [self.asking] * 2
-        kinds += [self.deciding, self.striking, self.telling, self.counting] + [self.undoing] * 2
-        # few closes before the first, and many after it
-        kinds += [self.timing] * (3 if before.closes else 1)
-        if before.envelopes and before.envelopes[-1].out:
-            # and once more
-            kinds += [self.undoing] * 4
-        step = None
+        kinds, step = self.kinds(before), None
         while step is None:
             after = copy.deepcopy(before)
             step = self.chance.choice(kinds)(after)
