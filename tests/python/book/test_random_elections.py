@@ -2,10 +2,11 @@
 
 Of one question or three, open or secret: lines of files and of desks, letters, also of two who
 share an address, clicks, what is decided of letters, strikes, undo, extensions, closes,
-reopenings, receipts, two publications. Half of the commands are killed between two system calls,
-or find a full disk: all of an act is done, or nothing. After each the book has the acts, lines and
-numbers of the model, and each reply holds. Page and letters tell each act in its order, and what
-counts of whom. To add an act, write a method of `Played` that says what it makes of the model.
+reopenings, receipts, two publications. A third of the commands are killed between two system
+calls, or find a full disk: all of an act is done, or nothing. After each the book has the acts,
+lines and numbers of the model, and each reply holds. Page and letters tell each act in its order,
+and what counts of whom. To add an act, write a method of `Played` that says what it makes of the
+model.
 """
 
 import copy
@@ -36,7 +37,7 @@ FORCED = ("--force", "not-tied", "--force", "voted-since")
 
 # how many elections are held, half of them of one question, and of how many commands each
 ELECTIONS = int(os.environ.get("DEBVOTE_ELECTIONS", "24"))
-LENGTH = 20
+LENGTH = 40
 
 # the system calls that change something, before any of which a run is killed, and how many a
 # command makes at most; those that fail on a full disk; and the statuses of a run that is cut off
@@ -45,9 +46,9 @@ WRITES = "pwrite64,ftruncate"
 CUT_OFF = (-signal.SIGKILL, 128 + signal.SIGKILL, 7)
 
 CALLED = datetime.datetime(2026, 11, 20, 9, tzinfo=datetime.UTC)
-END = CALLED + datetime.timedelta(hours=5)
+END = CALLED + datetime.timedelta(hours=3)
 # few who vote, and few ranks, so that a ballot often comes again
-VOTERS, COUPLE = elections.NAMES[:6], elections.NAMES[4:6]
+VOTERS, COUPLE = elections.NAMES[:5], elections.NAMES[3:5]
 RANKS = {
     "": ["1,2,3,4", "2,1,3,4", "-,-,1,2"],
     "A": ["1,2", "2,1", "1,1"],
@@ -470,7 +471,7 @@ class Played:
         if model.closes and not is_late:
             is_late = self.chance.random() < 0.5
             words = ["--came-before-close", "no" if is_late else "yes"]
-        names = self.chance.choices([*VOTERS * 2, "nobody"], k=self.chance.randint(2, 6))
+        names = self.chance.choices([*VOTERS * 2, "nobody"], k=self.chance.randint(1, 4))
         given = [(name, self.ballot()) for name in names]
         for name, answers in given:
             if name == "nobody":
@@ -501,7 +502,9 @@ class Played:
 
     def new_letter(self, model: Model) -> Letter:
         times = {model.now - datetime.timedelta(seconds=5 + 10 * slot) for slot in range(360)}
-        time = self.chance.choice(sorted(times - {one.time for one in model.letters}))
+        free = sorted(times - {one.time for one in model.letters})
+        # most of them of the last minutes
+        time = free[int(len(free) * self.chance.random() ** 0.3)]
         name, is_plain = self.chance.choice(VOTERS), self.chance.random() < 0.7
         return Letter(name, self.ballot() if self.chance.random() < 0.8 else {}, time, is_plain)
 
@@ -542,6 +545,8 @@ class Played:
         is_typed, how = self.chance.random() < 0.5, ["--enter"]
         found = model.of_letters(lambda one: one.answers and model.becomes(one) != "is done")
         found = model.of_letters(model.lacking) if is_typed else found
+        # what was taken back is often entered again
+        found = [one for one in found if one.state == "undo"] or found
         if not found:
             return None
         chosen = self.chance.sample(
@@ -611,7 +616,7 @@ class Played:
             model.told.append(f"{said} {BECAUSE} a bag")
             return Step(["reopen", "--because", "a bag"])
         if not model.closes and self.chance.random() < 0.4:
-            later = datetime.timedelta(minutes=self.chance.randint(1, 120))
+            later = datetime.timedelta(minutes=self.chance.randint(1, 60))
             model.end = max(model.now, model.end).replace(second=0) + later
             model.acts += 1
             said = f"The time was extended: one could vote until {time_in_words(model.end)}."
@@ -663,7 +668,7 @@ class Played:
         self.chance, model = random.Random(seed), Model(self.acts())
         type(self).records, type(self).page = "", self.read("call/index.html")
         for place in range(LENGTH):
-            model.now += datetime.timedelta(seconds=10 * self.chance.randint(1, 200))
+            model.now += datetime.timedelta(seconds=10 * self.chance.randint(1, 100))
             self.set_time(model.now)
             if self.chance.random() < 0.4:
                 self.click(model)
@@ -677,26 +682,31 @@ class Played:
         self.demand_letters(model)
         self.done("log", "--check")
 
-    def run_step(self, before: Model) -> Model:
-        """Runs a command, perhaps not to its end, and returns the model that holds."""
-        kinds = [self.entering] * 4 + [self.mailing, self.holding] * 3 + [self.asking] * 2
+    def kinds(self, before: Model) -> list[Callable[[Model], Step | None]]:
+        """The acts, each as often as its share."""
+        kinds = [self.entering, self.mailing, self.holding] * 4 + [self.asking] * 2
         kinds += [self.deciding, self.striking, self.telling, self.counting, self.undoing]
         # few closes before the first, and many after it
-        kinds += [self.timing] * (3 if before.closes else 1)
-        if before.envelopes and before.envelopes[-1].out:
-            # and once more
-            kinds += [self.undoing] * 4
-        step = None
+        kinds += [self.timing] * (4 if before.closes else 1)
+        # an undo after what was typed, or after an undo; and what was taken back is entered again
+        last = before.envelopes[-1] if before.envelopes else None
+        kinds += [self.undoing] * 8 * bool(last and (last.out or last.is_typed))
+        kinds += [self.holding] * 8 * any(one.state == "undo" for one in before.letters)
+        return kinds
+
+    def run_step(self, before: Model) -> Model:
+        """Runs a command, perhaps not to its end, and returns the model that holds."""
+        kinds, step = self.kinds(before), None
         while step is None:
             after = copy.deepcopy(before)
             step = self.chance.choice(kinds)(after)
         ended, kind = None, self.chance.random()
-        if kind < 0.5:
+        if kind < 0.65:
             ended = self.election(*step.words, given=step.given)
         else:
             full = f"{WRITES}:error=ENOSPC:when={self.chance.randint(1, 20)}+"
             kill = f"{CHANGES}:signal=KILL:when={self.chance.randint(1, MAX_CALLS)}"
-            how = "-e", f"inject={kill if kind < 0.85 else full}"
+            how = "-e", f"inject={kill if kind < 0.9 else full}"
             ended = self.traced(*how, words=step.words, given=step.given or "")
         is_cut_off = ended.status in CUT_OFF
         if is_cut_off and step.words[0] in ("add", "call", "letters"):
