@@ -51,12 +51,6 @@ HEAD = re.compile(
     rf"box 2 ([0-9a-f]{{16}}) ([0-9a-f]{{64}}) ({YEAR}-\d\d-\d\dT\d\d:\d\d:\d\dZ)\n".encode()
 )
 END = b"\n-- \n\n"
-# what a request may begin with, and an answer to one with another word
-FIELD = b"box="
-UNKNOWN = b"unknown: "
-# what the firewall of a web host may answer, which takes lines for the name of a field, and lets no
-# such name pass
-REFUSED = (http.HTTPStatus.FORBIDDEN, http.HTTPStatus.NOT_ACCEPTABLE)
 
 # as the page sends a ballot: many web hosts refuse other kinds, and who says not what it is
 FIELDS = {
@@ -138,10 +132,8 @@ def ask(at: str | None, mark: str, word: str) -> Asked:
     """
     address = script_address(at)
     begin = times.now()
-    body = f"ask {word}\n".encode()
-    answer = answer_of(address, body)
-    if answer.status in REFUSED and not answer.body.startswith(UNKNOWN):
-        answer = answer_of(address, FIELD + body)
+    # the firewalls of many hosts let only fields pass
+    answer = answer_of(address, f"box=ask {word}\n".encode())
     demand_box(address, answer)
     head = HEAD.match(answer.body)
     try:
