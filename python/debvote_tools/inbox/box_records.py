@@ -11,6 +11,7 @@ import collections
 import contextlib
 import dataclasses
 import datetime
+import email.message
 import http.client
 import re
 import ssl
@@ -71,6 +72,7 @@ OTHER_PAGE = (
     "Note: the page there is not that of the folder call: a script in it would see what is chosen, and could vote in the name of who opens it. "
     "Upload the folder, and run this again; if it is still so, take another web host."
 )
+POLICY = "Note: the web host sends its page with a Content-Security-Policy, by which browsers may not run its script: open it, and look whether it has its button."
 
 # in seconds: how far the clock of the box may be from ours unsaid
 MOST_OFF = 60
@@ -97,7 +99,7 @@ class HostAnswer(NamedTuple):
     """What a web host answers, and when it began to."""
 
     status: int
-    moved_to: str
+    fields: email.message.Message
     body: bytes
     time: datetime.datetime
 
@@ -160,7 +162,8 @@ def answer_of(address: str, body: bytes | None = None) -> HostAnswer:
     parts = urllib.parse.urlsplit(address)
     try:
         with within(PATIENCE), contextlib.closing(connection_to(parts)) as connection:
-            connection.request("GET" if body is None else "POST", parts.path, body, FIELDS)
+            method = "POST" if body else "GET"
+            connection.request(method, parts.path, body, FIELDS)
             response = connection.getresponse()
             time = times.now()
             data = response.read(LONGEST_ANSWER + 1)
@@ -179,7 +182,7 @@ def answer_of(address: str, body: bytes | None = None) -> HostAnswer:
     # without a length nobody sees whether an answer was cut off
     if response.length or not (response.headers["content-length"] or response.chunked):
         raise cut_off(address)
-    return HostAnswer(response.status, response.headers["location"] or "", data, time)
+    return HostAnswer(response.status, response.headers, data, time)
 
 
 def connection_to(parts: urllib.parse.SplitResult) -> http.client.HTTPConnection:
@@ -191,7 +194,7 @@ def connection_to(parts: urllib.parse.SplitResult) -> http.client.HTTPConnection
 def demand_box(address: str, answer: HostAnswer) -> None:
     """Stops at what other servers answer, and a box that refuses."""
     if 300 <= answer.status < 400:
-        reason = f"it sends on to {shown_text(answer.moved_to) or 'nowhere'}"
+        reason = f"it sends on to {shown_text(answer.fields.get('location', 'nowhere'))}"
         cure = "name the address that a browser shows in the end with --at of call"
         raise Fault(address, reason, cure)
     if answer.body.lstrip().startswith(b"<?php"):
@@ -249,13 +252,19 @@ def brought_by(vote: Vote, history: History, asked: Asked) -> Brought:
 
 
 def page_there(election: Election, history: History) -> Detail:
-    """Which act sealed the page on the web host, 0 if none did, and whether it is that of now: an
-    extension makes another one. A publication takes its place.
+    """Which act sealed the page on the web host, 0 if none did or it did not come, and why it did
+    not; what browsers may run in it; and whether it is that of now: an extension makes another one.
+    A publication takes its place.
     """
     page: Detail = {"page": None}
-    if not history.publications:
-        there = answer_of(history.announced("at")).body
-        page["page"] = queries.first_act_that_sealed(election.book, BOX_PAGE, there)
+    at = history.announced("at")
+    try:
+        if not history.publications:
+            demand_box(at, answer := answer_of(at))
+            page["page"] = queries.first_act_that_sealed(election.book, BOX_PAGE, answer.body)
+            page["policy"] = answer.fields.get("content-security-policy", "")
+    except Fault as fault:
+        page = {"page": 0, "why_no_page": fault.reason}
     return page | {"is_right": has_page_of_now(election, page)}
 
 
@@ -272,8 +281,13 @@ def box_words(box: Detail, before: Detail) -> Iterator[str]:
 
 def upload_words(election: Election, box: Detail) -> Iterator[str]:
     """What is said of a page and a script that are not those of the folder."""
-    if not box["is_right"]:
+    if why := box.get("why_no_page"):
+        yield f"Note: the page did not come: {why}. Look whether it opens in a browser, and run this again."
+    elif not box["is_right"]:
         yield PAGE_OF_BEFORE if box["page"] else OTHER_PAGE
+    # of scripts, or of all
+    if "-src" in box.get("policy", ""):
+        yield POLICY
     if not has_list_of_now(election, box["list"]):
         yield f"Note: the web host has another {SCRIPT} than the folder call, as an older one: upload that of the folder, since who has a new link cannot vote there."
 

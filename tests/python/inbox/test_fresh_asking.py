@@ -13,7 +13,7 @@ from tests.support import boxes, elections
 from tests.support.boxes import OTHER, RANKS, now
 from tests.support.elections import NAMES
 from tests.support.terminal import Terminal
-from tests.support.web_host import FIRST, NEEDS_PHP
+from tests.support.web_host import FIRST, NEEDS_PHP, Liar, passed_on
 
 BERLIN = zoneinfo.ZoneInfo("Europe/Berlin")
 UNSEEN = "nobody has seen yet whether the web box works, with page and links of now"
@@ -358,7 +358,8 @@ class Pages(AskedTest):
         """
         self.call()
         (self.web / "index.html").unlink()
-        self.assertIn(self.other, self.told("add --box"))
+        missing = "Note: the page did not come: it answers 404: "
+        self.assertIn(missing, self.told("add --box"))
         self.demand_unseen("call")
         self.upload()
         said = self.told("letters call")
@@ -413,6 +414,34 @@ class Pages(AskedTest):
         self.assertEqual(self.standing(), {"ada": RANKS})
         told = rf"When the secretary asked the web host on \w+, (\d+) .{{20,60}}, the page at {self.host.at} {DOUBT}"
         self.assertEqual(re.findall(told, self.published()), [days[0], days[2]] * 2)
+
+    def test_one_that_does_not_come(self) -> None:
+        """It is no other one, and what came by clicks is kept. A browser might run no script of one
+        with a policy.
+        """
+        change = b"", b""
+
+        def lie(request: bytes) -> list[bytes]:
+            said = passed_on(request, self.host)
+            return [said.replace(*change, 1) if request.startswith(b"GET") else said]
+
+        policy = b"Content-Security-Policy: default-src 'self'\r\n\r\n"
+        with Liar(lie) as between:
+            self.begun("--at", between.at, ada=RANKS)
+            for change, note in (
+                ((b"\r\n\r\n", b"\r\n" + policy), "sends its page with a Content-Security-Policy"),
+                ((b" 200 ", b" 503 "), "the page did not come: it answers 503: "),
+                ((b"</html>", b""), "the page did not come: its answer was cut off. Look whether"),
+            ):
+                said = self.add_box()
+                self.assertIn(f"Note: {'the web host ' * (b'C' in change[1])}{note}", said)
+                self.assertNotIn(self.other, said)
+            self.assertEqual(self.standing(), {"ada": RANKS})
+            self.refused("close --early", "the page on the web host was not that of the call")
+            change = b"", b""
+            said = self.published()
+        self.assertNotIn(DOUBT, said)
+        self.assertEqual(said.count(f"it did not show the page at {between.at}"), 2)
 
 
 @NEEDS_PHP
