@@ -60,6 +60,12 @@ FIELDS = {
     "Accept": "text/plain",
     "Connection": "close",
 }
+# as a browser asks for a page, since a host may change it for browsers alone
+OF_BROWSER = {
+    "User-Agent": "Mozilla/5.0 (Windows NT 10.0; Win64; x64; rv:140.0) Gecko/20100101 Firefox/140.0",
+    "Accept": "text/html,application/xhtml+xml,application/xml;q=0.9,*/*;q=0.8",
+    "Accept-Language": "en-US,en;q=0.5",
+}
 
 UPLOAD = f"upload {SCRIPT} of the folder call to where PHP 8.1 or later runs and may write; then run the command again"
 
@@ -163,7 +169,7 @@ def answer_of(address: str, body: bytes | None = None) -> HostAnswer:
     try:
         with within(PATIENCE), contextlib.closing(connection_to(parts)) as connection:
             method = "POST" if body else "GET"
-            connection.request(method, parts.path, body, FIELDS)
+            connection.request(method, parts.path, body, FIELDS if body else OF_BROWSER)
             response = connection.getresponse()
             time = times.now()
             data = response.read(LONGEST_ANSWER + 1)

@@ -442,6 +442,9 @@ class Pages(AskedTest):
             said = self.published()
         self.assertNotIn(DOUBT, said)
         self.assertEqual(said.count(f"it did not show the page at {between.at}"), 2)
+        for request in between.requests:
+            is_page = request.startswith(b"GET")
+            self.assertEqual((b"Mozilla" in request, b"debvote" in request), (is_page, not is_page))
 
 
 @NEEDS_PHP
