@@ -7,7 +7,6 @@ the third part of its link beside it (`OfBox`). All others wait for nobody: whoe
 files of the web host can make them.
 """
 
-import collections
 import contextlib
 import dataclasses
 import datetime
@@ -35,6 +34,7 @@ from debvote_tools.cli.console import count_of, listed, shown_text
 from debvote_tools.cli.faults import Fault, bad_words
 from debvote_tools.election import BOX_KEY, BOX_PAGE, Election, History
 from debvote_tools.files import sha256_of
+from debvote_tools.grouping import grouped
 from debvote_tools.inbox.asked import has_list_of_now, has_page_of_now, last_box, with_lost_records
 from debvote_tools.inbox.letter import YEAR, arrival_of
 from debvote_tools.inbox.mailbox import BEGIN, NotRead, RawLetter
@@ -82,9 +82,10 @@ POLICY = "Note: the web host sends its page with a Content-Security-Policy, by w
 
 # in seconds: how far the clock of the box may be from ours unsaid
 MOST_OFF = 60
-# how many records of one link are kept in all, as many as the script takes; how many electors are
-# named
+# how many ballots of one link are kept in all, as many as the script takes; how many electors are
+# named; how many records of a link are kept, with those that the host repeats
 MOST = MOST_NAMED = 20
+MOST_COPIES = 400
 
 # a record as the script writes it, without the line above it: when it arrived, the digest of the
 # proof by which it came, all that is below and in it the mark of the poll and its number, and what
@@ -305,7 +306,7 @@ def unopened_words(vote: Vote, shown: Callable[[str], str] = str) -> str:
     history = vote.history()
     names = shown(listed(with_lost_records(vote.election, history), MOST_NAMED))
     whose = f", by the links of {names}, who are to vote again" if names else ""
-    return f"Note: {count_of(last_box(history)['unopened'], 'record')} can't be opened, or came above the {MOST} of a link, passed over{whose}. An older page may have sent such a one, or the web host have made it."
+    return f"Note: {count_of(last_box(history)['unopened'], 'record')} can't be opened, or came above the {MOST} of a link, passed over{whose}. An older page may have sent such a one, or the web host have made it. If {MOST} ballots came by a link, {vote.election.command('roll', '--new-link', 'NAME')} makes another."
 
 
 def arrived(raw: RawLetter) -> datetime.datetime:
@@ -331,11 +332,12 @@ def records_in(
     are kept of a link, also with those that came before. What was kept is not opened again.
 
     The host can exchange the times of two, and not what is sealed in them: each has the last time
-    by the device of all that came before it.
+    by the device of all that came before it by the same link, but for those that wait since host
+    and device differ.
     """
-    counts = collections.Counter(record.link for record in kept)
+    # a ballot that the host repeats has one time
+    by_link = grouped((record.link, (record.sent, record.is_dated_alike)) for record in kept)
     known = {record.digest for record in kept}
-    latest = {record.elector: from_text(record.sent) for record in kept}
     letters = []
     unopened = []
     for raw in in_order(asked.records):
@@ -343,16 +345,16 @@ def records_in(
             letters.append(raw)
             continue
         letter = opened(vote.book, raw)
-        count = counts[letter.link]
-        if letter.elector not in vote.names.roll or count >= MOST:
+        came = by_link.setdefault(letter.link, [])
+        times = {letter.sent, *(sent for sent, _ in came)}
+        are_many = len(times) > MOST or len(came) >= MOST_COPIES
+        if letter.elector not in vote.names.roll or are_many:
             unopened.append(raw)
             continue
-        last = latest.get(letter.elector)
-        letters.append(clocked(letter, asked, before, count, last))
-        counts[letter.link] += 1
-        # the same one again takes no place
-        known.add(raw.digest)
-        latest[letter.elector] = max(filter(None, [letter.sent, last]))
+        last = max((sent for sent, is_alike in came if sent and is_alike), default=None)
+        letter = clocked(letter, asked, before, len(came), last)
+        letters.append(letter)
+        came.append((letter.sent, letter.is_dated_alike(arrived(raw))))
     return letters, unopened
 
 
@@ -401,8 +403,8 @@ def clocked(
 ) -> RawLetter:
     """A record with what its time is judged by. Between two askings the clock was off by as much as
     in the one where it was off by more. Of those of a link, of which so many came before it, each
-    has a second of its own, also if they come in one. The last one before it of its elector has
-    this time by the device.
+    has a second of its own, also if they come in one. The last one before it of its link has this
+    time by the device.
     """
     behind = max(asked.behind, before.get("behind", 0), key=abs)
     return dataclasses.replace(

@@ -111,6 +111,20 @@ class Lies(boxes.BoxElectionTest):
         said = f"{nine.removesuffix(':00')} (UTC+01:00) has arrived. It counts"
         self.assertIn(said, self.receipts()["ben"])
 
+    def test_neither_a_device_that_is_ahead_nor_copies_keep_a_ballot_out(self) -> None:
+        self.begun()
+        ahead = self.record(f"ada {OTHER}", now(), sent=now(86_400))
+        copies = [self.record(f"ben {OTHER}", now())]
+        for second in range(MOST):
+            copies.append(re.sub(rb"\d\d:\d\d:\d\d", b"00:00:%02d" % second, copies[0]))
+        for later in ([], [self.record(f"{name} {RANKS}", now(2)) for name in ("ada", "ben")]):
+            self.keep(ahead, *copies, *later)
+            self.add_box()
+            self.later()
+        self.assertEqual(self.standing(), {"ada": RANKS, "ben": RANKS})
+        self.assertIn("It counts", self.receipts()["ada"])
+        self.refused("close --early", "these letters arrived in time, and wait: ")
+
     def test_each_that_does_not_open_alone_beside_good_ones(self) -> None:
         self.begun(ada=RANKS)
         good, when, mark = self.records(), now(), self.mark()
