@@ -3,6 +3,7 @@ of them.
 """
 
 import contextlib
+import datetime
 import re
 import socket
 from collections.abc import Callable, Iterator, Sequence
@@ -17,7 +18,7 @@ CLICKING = {"ada": -240, "ben": -60, "cleo": 60, "dan": 240}
 
 # what the secretary reads of a letter that waits
 AFTER = "it arrived after the end of the vote"
-NEAR = "it came near the end or the close, and the clock of the web host was off by 1[78]. seconds"
+NEAR = "it came near the end or the close, sent at [^,]+ by the clock of its device, and that of the web host was off by 1[78]. seconds"
 
 # what electors read, while the vote runs and after it
 READ = "It came by the page of the vote. It was read as: At the lake, then In the town hall,"
@@ -79,13 +80,21 @@ class End(boxes.BoxElectionTest):
         end = f"{self.end:%Y-%m-%dT%H:%M:%SZ}"
         self.assertEqual(word, "received")
         self.assertTrue(before < end < across <= after, (before, end, across, after))
-        # `close` asks, and stops, since two of them came in time
+        # `close` asks, and stops, since three of them came in time
         fault = "the web box was asked, 5 new ballots are kept"
         self.assertIn(fault, self.election("close").faults)
+        # nor do device and host agree on which side of it these were sent
+        for name, side in (("eve", -60), ("fay", 60)):
+            device, host = (self.end + datetime.timedelta(seconds=off) for off in (-side, side))
+            self.keep(*self.records(), self.record(f"{name} {OTHER}", host, sent=device))
         self.add_box()
-        self.assertEqual(self.told("held").count(AFTER), 3)
+        self.assertEqual(self.told("held").count(AFTER), 2)
         self.assertEqual(self.standing(), {"ada": RANKS, "dan": RANKS})
-        self.demand_told(ada=COUNTS, ben=[LATE], cleo=[LATE], dan=[*COUNTS, LATE])
+        wait = dict.fromkeys(("ben", "eve", "fay"), [LOOKED_AT])
+        self.demand_told(ada=COUNTS, cleo=[LATE], dan=[*COUNTS, LATE], **wait)
+        for name, number in (("ben", 3), ("eve", 6), ("fay", 7)):
+            self.refused("close", "these letters arrived in time, and wait:")
+            self.done(f"held {number} --set-aside")
         # what is late waits, and stops nothing
         self.done("close")
         self.done("publish")
