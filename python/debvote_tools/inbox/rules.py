@@ -148,9 +148,12 @@ class LetterCase:
         self.sharing = circumstances.senders_of(letter)
         self.marked_elector, self.mark_ended = circumstances.own_mark_of(letter)
         self.is_automatic = letter.is_automatic or (is_server(letter.sender) and not self.sharing)
-        # that of its ballot: if letters have to be signed, that of the signature
+        # that of its ballot: if letters have to be signed, that of the signature; of a record in a
+        # file, in which others can exchange times, that of its device
         signature = letter.signature if circumstances.is_signed else None
         self.time = letter.arrived if signature is None else signature.time
+        if letter.is_fetched and letter.sent and self.time and letter.is_dated_alike(self.time):
+            self.time = letter.sent.replace(microsecond=0)
         self.ballots = self.valid_ballots()
         # the one that may go in, or be entered
         self.ballot = self.ballots[0] if len(self.ballots) == 1 else None
