@@ -45,6 +45,7 @@
     return { line, link: why ? "" : link, why };
   }
 
+  const isOver = () => Date.now() > Date.parse(until);
   const isSame = (one, other) => one.line === other.line && one.link === other.link;
 
   function show() {
@@ -55,12 +56,12 @@
     for (const id of ["Unlinked", "Broken", "Worked", "Unsealed"]) byId(id).hidden = now.why !== id;
     button.hidden = now.link === "";
     button.disabled = isSending || (isSent && isThere);
-    // what was sent first must not arrive last
-    const isOff = isSending || (isSent && sent.state === "unsure");
+    // what was sent first must not arrive last; after the end the script may be gone
+    const isOff = isSending || (isSent && sent.state === "unsure" && !isOver());
     for (const field of form.querySelectorAll("input, select, button:not(.actions button)")) field.disabled = isOff;
     // what is said is of the ballot before
     const state = isThere && !isSent && now.link === sent.link ? "changed" : (isSent || isSending) && sent.state;
-    const text = state ? words[state].replace("{time}", spoken(sent.time)).replace("{end}", spoken(until)) : "";
+    const text = state ? words[state === "unsure" && isOver() ? "over" : state].replace("{time}", spoken(sent.time)).replace("{end}", spoken(until)) : "";
     // else a screen reader reads it again
     if (byId("Sent").textContent !== text) byId("Sent").textContent = text;
   }

@@ -465,6 +465,17 @@ class Answers(BoxPageTest):
         for number in numbers:
             self.assertRegex(number, rb"\A[0-9a-f]{32}\Z")
 
+    def test_where_the_script_on_the_host_is_gone_after_the_end(self) -> None:
+        """The form is free, and the same ballot is sent as it was."""
+        call = replace(CALL, until=datetime.datetime.fromisoformat(NOW.decode()))
+        host = self.serve(lambda request: [answered(b"", 404)], page_with_box(call=call))
+        self.visit(host.at, PLACES["ada"])
+        self.choose("1234")
+        for _ in range(2):
+            self.assertEqual(self.sent(), WORDS["over"])
+            self.assertEqual(self.state()["fields"], 21)
+        self.assertEqual(*(one for one in host.requests if one.startswith(b"POST")))
+
     def test_nothing_changes_until_the_answer(self) -> None:
         go = queue.SimpleQueue[bool]()
 
