@@ -138,4 +138,5 @@
   addEventListener("hashchange", show);
   new MutationObserver(show).observe(byId("Line"), { childList: true, characterData: true, subtree: true });
   show();
+  byId("Scriptless").hidden = true;
 })();

@@ -52,12 +52,13 @@ STATE = """(() => {
   const fields = [...document.querySelectorAll("#Ballot input, #Ballot select")];
   return { said: node("Sent").textContent, line: node("Line").textContent.replaceAll("\\n", " "), seen: seen("Vote"),
     button: seen("Vote") && !node("Vote").disabled, unlinked: seen("Unlinked"), broken: seen("Broken"),
-    worked: seen("Worked"), unsealed: seen("Unsealed"),
+    worked: seen("Worked"), unsealed: seen("Unsealed"), scriptless: seen("Scriptless"),
     fields: fields.filter((field) => !field.disabled).length };
 })()"""
 # of a page on which nothing is chosen
 EMPTY = {"said": "", "line": "", "fields": 21}
-EMPTY |= dict.fromkeys(("button", "seen", "unlinked", "broken", "worked", "unsealed"), False)
+UNSEEN = "button", "seen", "unlinked", "broken", "worked", "unsealed", "scriptless"
+EMPTY |= dict.fromkeys(UNSEEN, False)
 
 
 def page_with_box(code: str = "en", patience: int = 30_000, call: CallData = CALL) -> bytes:
@@ -464,6 +465,13 @@ class Answers(BoxPageTest):
         self.assertEqual(len(numbers), len(all_answers))
         for number in numbers:
             self.assertRegex(number, rb"\A[0-9a-f]{32}\Z")
+
+    def test_where_its_script_may_not_run(self) -> None:
+        policy = "Content-Security-Policy: default-src 'self'"
+        page = answered(page_with_box(), 200, "Content-Type: text/html", policy)
+        host = self.enterContext(Liar(lambda request: [page]))
+        self.visit(host.at, PLACES["ada"])
+        self.assert_state(scriptless=True)
 
     def test_where_the_script_on_the_host_is_gone_after_the_end(self) -> None:
         """The form is free, and the same ballot is sent as it was."""
