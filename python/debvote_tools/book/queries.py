@@ -599,7 +599,7 @@ class KeptRecord(NamedTuple):
     at: str
     digest: str
     link: str
-    sent: datetime.datetime | None
+    sent: str
     is_dated_alike: bool
 
 
@@ -610,10 +610,7 @@ def records_since(book: Book, act: int) -> list[KeptRecord]:
         abs(unixepoch(known ->> 'arrived') + (known ->> 'behind') - unixepoch(known ->> 'sent')) <= {DEVICE_OFF}
       FROM letter JOIN act USING (act) WHERE act > ? AND at IS NOT NULL
     """
-    return [
-        KeptRecord(at, digest, link, from_text(sent), alike)
-        for at, digest, link, sent, alike in book.rows(query, act)
-    ]
+    return [KeptRecord(*row) for row in book.rows(query, act)]
 
 
 def source_of(book: Book, source: int) -> bytes:

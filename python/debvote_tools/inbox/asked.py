@@ -75,9 +75,8 @@ def other_pages(history: History) -> dict[tuple[datetime.date, str], DoneAct]:
         is_written |= act.detail.get("kind") == "call"
         box = act.detail.get("box", {})
         if is_written and box.get("page") == 0:
-            day = act.time.astimezone(history.zone).date()
             kind = "no page" if box.get("why_no_page") else "another page"
-            days.setdefault((day, kind), act)
+            days.setdefault((act.time.astimezone(history.zone).date(), kind), act)
     return days
 
 

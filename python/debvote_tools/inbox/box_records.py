@@ -82,10 +82,9 @@ POLICY = "Note: the web host sends its page with a Content-Security-Policy, by w
 
 # in seconds: how far the clock of the box may be from ours unsaid
 MOST_OFF = 60
-# how many ballots of one link are kept in all, as many as the script takes; how many electors are
-# named; how many records of a link are kept, with those that the host repeats
+# how many ballots of one link are kept in all, as many as the script takes, and each of them so
+# often if the host repeats it; how many electors are named
 MOST = MOST_NAMED = 20
-MOST_COPIES = 400
 
 # a record as the script writes it, without the line above it: when it arrived, the digest of the
 # proof by which it came, all that is below and in it the mark of the poll and its number, and what
@@ -335,8 +334,11 @@ def records_in(
     by the device of all that came before it by the same link, but for those that wait since host
     and device differ.
     """
-    # a ballot that the host repeats has one time
-    by_link = grouped((record.link, (record.sent, record.is_dated_alike)) for record in kept)
+    # when each was sent by the device, which of a ballot that the host repeats is one time, and
+    # whether the host dates it alike
+    by_link = grouped(
+        (record.link, (from_text(record.sent), record.is_dated_alike)) for record in kept
+    )
     known = {record.digest for record in kept}
     letters = []
     unopened = []
@@ -345,16 +347,16 @@ def records_in(
             letters.append(raw)
             continue
         letter = opened(vote.book, raw)
+        sent = letter.sent
         came = by_link.setdefault(letter.link, [])
-        times = {letter.sent, *(sent for sent, _ in came)}
-        are_many = len(times) > MOST or len(came) >= MOST_COPIES
-        if letter.elector not in vote.names.roll or are_many:
+        times = {sent, *(time for time, _ in came)}
+        are_many = len(times) > MOST or len(came) >= MOST * MOST
+        if sent is None or letter.elector not in vote.names.roll or are_many:
             unopened.append(raw)
             continue
-        last = max((sent for sent, is_alike in came if sent and is_alike), default=None)
-        letter = clocked(letter, asked, before, len(came), last)
+        letter = clocked(letter, asked, before, came)
         letters.append(letter)
-        came.append((letter.sent, letter.is_dated_alike(arrived(raw))))
+        came.append((sent, letter.is_dated_alike(arrived(raw))))
     return letters, unopened
 
 
@@ -399,18 +401,17 @@ def whose(vote: Vote, records: Sequence[RawLetter], asked: datetime.datetime) ->
 
 
 def clocked(
-    raw: RawLetter, asked: Asked, before: Detail, count: int, last: datetime.datetime | None
+    raw: RawLetter, asked: Asked, before: Detail, came: Sequence[tuple[datetime.datetime, bool]]
 ) -> RawLetter:
     """A record with what its time is judged by. Between two askings the clock was off by as much as
-    in the one where it was off by more. Of those of a link, of which so many came before it, each
-    has a second of its own, also if they come in one. The last one before it of its link has this
-    time by the device.
+    in the one where it was off by more. Of those of a link, of which these `came` before it, each
+    has a second of its own, also if they come in one.
     """
     behind = max(asked.behind, before.get("behind", 0), key=abs)
     return dataclasses.replace(
         raw,
         asked_before=from_text(before["time"]) if before else None,
         behind=behind if abs(behind) > MOST_OFF else 0,
-        latest=asked.time + datetime.timedelta(seconds=count),
-        sent_before=last,
+        latest=asked.time + datetime.timedelta(seconds=len(came)),
+        sent_before=max((sent for sent, is_alike in came if is_alike), default=None),
     )

@@ -34,8 +34,6 @@ USUAL = re.compile(
 )
 MIN_USUAL = 2
 
-DEVICE_OFF = datetime.timedelta(seconds=queries.DEVICE_OFF)
-
 # what editors put before the first line of a file, the first line of the file of a box, and the
 # line that begins an mbox
 START = re.compile(
@@ -111,8 +109,10 @@ class OfBox:
 
     def is_dated_alike(self, arrived: datetime.datetime) -> bool:
         """Whether its device and the web host, of which it has this time, date it alike."""
-        off = datetime.timedelta(seconds=self.behind)
-        return self.sent is None or abs(arrived - self.sent + off) <= DEVICE_OFF
+        if self.sent is None:
+            return True
+        off = (arrived - self.sent).total_seconds() + self.behind
+        return abs(off) <= queries.DEVICE_OFF
 
 
 @dataclasses.dataclass(frozen=True)

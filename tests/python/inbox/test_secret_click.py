@@ -200,6 +200,15 @@ class SecretClicks(boxes.BoxElectionTest):
         for part in ("I take the lake, then the hall", "subject: The lake first"):
             self.assertIn(part, shown)
 
+    def test_whose_ballots_came_is_told_and_nothing_else(self) -> None:
+        """Also at a terminal; and not in the order of the records, which the web host knows."""
+        self.begun(ida=RANKS, ada=OTHER)
+        for word in ("--look", "--yes"):
+            said = " ".join(Terminal(self, "add", "--box", word).end()[0].split())
+            self.assertIn("2 sealed ballots: ada, ida ", said)
+            self.demand_without(said, "lake", RANKS, "ada (", "1 counted")
+        self.assertIn(" counted ada counted ida 2 ballots of letters went in", said)
+
     def test_a_take_back_needs_a_fresh_asking(self) -> None:
         """And before it, an answer by mail goes in, to which nobody is invited: nothing was taken
         from who does it.
