@@ -248,18 +248,6 @@ class Clicks(boxes.BoxElectionTest):
             self.assertIn(part, text)
         self.assertNotIn("from another address", text)
 
-    def test_two_ballots_whose_times_somebody_exchanged_in_the_file(self) -> None:
-        """The one that the device has sent last counts, in whichever order they are entered."""
-        self.begun(ada=OTHER)
-        self.later()
-        self.click("ada")
-        (first, of_first), (last, of_last) = (one.split(b"X-", 1) for one in self.records())
-        self.keep(b"X-".join((last, of_first)), b"X-".join((first, of_last)))
-        shutil.copy(self.file(), self.folder / "fetched.php")
-        self.assertIn("2 letters wait", self.told("add --yes fetched.php"))
-        self.done("held 2 1 --enter")
-        self.assertEqual(self.standing(), {"ada": RANKS})
-
     def test_what_was_asked_before_is_not_opened_again(self) -> None:
         links = self.begun(ada=RANKS, ben=RANKS)
         self.add_box()

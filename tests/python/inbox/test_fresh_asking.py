@@ -416,35 +416,27 @@ class Pages(AskedTest):
         self.assertEqual(re.findall(told, self.published()), [days[0], days[2]] * 2)
 
     def test_one_that_does_not_come(self) -> None:
-        """It is no other one, and what came by clicks is kept. A browser might run no script of one
-        with a policy.
+        """It is no other one, and what came by clicks is kept. A host may show another one to
+        browsers, and one with a policy runs no script.
         """
-        change = b"", b""
 
         def lie(request: bytes) -> list[bytes]:
             said = passed_on(request, self.host)
-            return [said.replace(*change, 1) if request.startswith(b"GET") else said]
+            return [said.replace(*change, 1) if b"Mozilla" in request else said]
 
-        policy = b"Content-Security-Policy: default-src 'self'\r\n\r\n"
+        end, change = b"\r\n\r\n", (b"", b"")
+        policy = b"\r\nContent-Security-Policy: default-src 'self'"
         with Liar(lie) as between:
             self.begun("--at", between.at, ada=RANKS)
-            for change, note in (
-                ((b"\r\n\r\n", b"\r\n" + policy), "sends its page with a Content-Security-Policy"),
-                ((b" 200 ", b" 503 "), "the page did not come: it answers 503: "),
-                ((b"</html>", b""), "the page did not come: its answer was cut off. Look whether"),
+            for *change, note in (
+                (b"</html>", b"", "the page did not come: its answer was cut off. Look"),
+                (b" 200 ", b" 503 ", "the page did not come: it answers 503: "),
+                (end, policy + end, "the web host sends its page with a Content-Security-Policy"),
             ):
-                said = self.add_box()
-                self.assertIn(f"Note: {'the web host ' * (b'C' in change[1])}{note}", said)
-                self.assertNotIn(self.other, said)
-            self.assertEqual(self.standing(), {"ada": RANKS})
-            self.refused("close --early", "the page on the web host was not that of the call")
-            change = b"", b""
+                self.assertIn(f"Note: {note}", self.add_box())
             said = self.published()
         self.assertNotIn(DOUBT, said)
         self.assertEqual(said.count(f"it did not show the page at {between.at}"), 2)
-        for request in between.requests:
-            is_page = request.startswith(b"GET")
-            self.assertEqual((b"Mozilla" in request, b"debvote" in request), (is_page, not is_page))
 
 
 @NEEDS_PHP
