@@ -17,7 +17,7 @@ import threading
 import time
 import unittest
 import unittest.mock
-from collections.abc import Callable, Iterable, Mapping, Sequence
+from collections.abc import Callable, Iterable, Iterator, Mapping, Sequence
 from typing import NamedTuple
 
 from debvote_tools.call.box import asking_word, page_of, records_file, script_of, third_part
@@ -25,7 +25,14 @@ from debvote_tools.call.box import asking_word, page_of, records_file, script_of
 from tests.support import sealing
 
 PHP, STRACE = shutil.which("php"), shutil.which("strace")
+APACHE, MODULES = "/usr/sbin/apache2", "/usr/lib/apache2/modules/mod"
+RULES = "/usr/share/modsecurity-crs/owasp-crs.load"
 NEEDS_PHP = unittest.skipUnless(PHP, "php is not installed")
+
+NEEDS_RULES = unittest.skipUnless(
+    all(map(os.path.exists, (APACHE, RULES, f"{MODULES}_security2.so"))),
+    "apache2, libapache2-mod-security2 or modsecurity-crs is not installed",
+)
 
 # without php.ini it has no extension but those that are built in
 START = [PHP, "-n", "-d", "memory_limit=128M"]
@@ -227,6 +234,51 @@ class Host:
         return [sealing.line_in(KEY, record) for record in self.records()]
 
 
+# of Apache, which passes what the rules of a level let pass on to a host
+CONFIGURATION = """
+ServerName localhost
+Listen 127.0.0.1:{port}
+PidFile {folder}/pid
+ErrorLog {folder}/errors
+Mutex file:{folder} default
+LoadModule mpm_event_module {modules}_mpm_event.so
+LoadModule authz_core_module {modules}_authz_core.so
+LoadModule unique_id_module {modules}_unique_id.so
+LoadModule proxy_module {modules}_proxy.so
+LoadModule proxy_http_module {modules}_proxy_http.so
+LoadModule security2_module {modules}_security2.so
+ProxyPass / {at}
+SecRuleEngine On
+SecRequestBodyAccess On
+SecResponseBodyAccess On
+SecDataDir {folder}
+SecTmpDir {folder}
+SecAction "id:900000,phase:1,pass,nolog,setvar:tx.paranoia_level={level}"
+Include {rules}
+"""
+
+
+@contextlib.contextmanager
+def behind_rules(host: Host, level: int) -> Iterator[None]:
+    """Within this a host is asked through a firewall with the OWASP rules of this level."""
+    own, port = host.port, free_port()
+    with tempfile.TemporaryDirectory(prefix="debvote-rules-") as folder:
+        places = {"folder": folder, "port": port, "at": host.at, "level": level}
+        file = pathlib.Path(folder, "apache.conf")
+        file.write_text(CONFIGURATION.format(modules=MODULES, rules=RULES, **places))
+        process = subprocess.Popen([APACHE, "-f", file, "-D", "FOREGROUND"])
+        host.port = port
+        try:
+            while not host.send(b"").status:
+                assert process.poll() is None, "no Apache"
+                time.sleep(0.05)
+            yield
+        finally:
+            host.port = own
+            process.terminate()
+            process.wait()
+
+
 class Liar:
     """A web host that answers as a test says: `lie` gets each request as bytes, and yields what is
     sent, or for how many seconds it waits. `context` is for TLS.
@@ -295,17 +347,6 @@ def passed_on(request: bytes, host: Host) -> bytes:
     with socket.create_connection(("127.0.0.1", host.port)) as connection:
         connection.sendall(request)
         return b"".join(iter(lambda: connection.recv(65_536), b""))
-
-
-def firewall(host: Host, status: int) -> Callable[[bytes], Iterable[bytes]]:
-    """A web firewall before a host, which refuses lines that are in no field of a form."""
-
-    def lie(request: bytes) -> Iterable[bytes]:
-        body = request.partition(b"\r\n\r\n")[2]
-        is_good = b"\n" not in body or b"=" in body.partition(b"\n")[0]
-        yield passed_on(request, host) if is_good else answered(b"<h1>Forbidden</h1>", status)
-
-    return lie
 
 
 def answered(body: bytes, status: int = 200, *fields: str) -> bytes:

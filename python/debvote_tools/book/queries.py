@@ -226,11 +226,13 @@ def by_time(ballot: Ballot) -> tuple[datetime.datetime, int]:
 
 # ---- envelopes by conditions
 # what was entered in time, and came after a time (?1): of a letter when it arrived, also if the
-# clock of its web host was ahead, of a line when it was entered, before an act (?2)
+# clock of its web host was ahead, and by its device, of a line when it was entered, before an act
+# (?2)
 CAME_AFTER = """envelope IN (
   SELECT envelope FROM ballot WHERE letter IS NULL AND time > ?1 AND act < ?2 OR letter IN (
     SELECT letter FROM letter
     WHERE unixepoch(known ->> 'arrived') + min(0, known ->> 'behind') > unixepoch(?1)
+      AND unixepoch(coalesce(known ->> 'sent', known ->> 'arrived')) > unixepoch(?1)
   )
 )"""
 
@@ -585,23 +587,28 @@ def kept_digests(book: Book) -> set[tuple[str, bool]]:
     return {(str(digest), bool(is_parted_off)) for digest, is_parted_off in book.rows(query)}
 
 
+# in seconds: how far the clock of an elector's device may be off
+DEVICE_OFF = 600
+
+
 class KeptRecord(NamedTuple):
-    """A record of the box that came: from which address, its digest, its link and its elector, and
-    when it was sent by their device.
+    """A record of the box that came: from which address, its digest and its link, when it was sent
+    by the device of its elector, and whether the web host dates it so, too.
     """
 
     at: str
     digest: str
     link: str
-    elector: str
     sent: str
+    is_dated_alike: bool
 
 
 def records_since(book: Book, act: int) -> list[KeptRecord]:
     """The records of the box that came since an act."""
-    query = """
-      SELECT detail ->> '$.box.at' AS at, known ->> 'digest', known ->> 'link', known ->> 'elector', known ->> 'sent' AS sent
-      FROM letter JOIN act USING (act) WHERE act > ? AND at IS NOT NULL ORDER BY sent
+    query = f"""
+      SELECT detail ->> '$.box.at' AS at, known ->> 'digest', known ->> 'link', known ->> 'sent' AS sent,
+        abs(unixepoch(known ->> 'arrived') + (known ->> 'behind') - unixepoch(known ->> 'sent')) <= {DEVICE_OFF}
+      FROM letter JOIN act USING (act) WHERE act > ? AND at IS NOT NULL
     """
     return [KeptRecord(*row) for row in book.rows(query, act)]
 

@@ -7,8 +7,9 @@
   const TIME = /^\d{4}-\d\d-\d\dT\d\d:\d\d:\d\dZ$/;
   // the first word of an answer, by its status. After any other nobody knows whether it has arrived
   const ANSWERS = { 200: "received", 400: "bad", 403: "unknown", 405: "bad", 409: "old", 413: "bad", 429: "many", 503: "lost" };
-  // by a firewall that lets only fields pass
-  const REFUSED = [403, 406];
+  // what the rules of firewalls take for SQL; a very long ballot has no other form
+  const LIKE_SQL = /--|\d-|0x[\da-f]{3}|(-[^-]*){12}/i;
+  const MOST_TRIES = 50;
   const ARRIVED = ["received", "late"];
   // many hosts refuse other kinds
   const KIND = { "Content-Type": "application/x-www-form-urlencoded" };
@@ -44,6 +45,7 @@
     return { line, link: why ? "" : link, why };
   }
 
+  const isOver = () => Date.now() > Date.parse(until);
   const isSame = (one, other) => one.line === other.line && one.link === other.link;
 
   function show() {
@@ -54,12 +56,12 @@
     for (const id of ["Unlinked", "Broken", "Worked", "Unsealed"]) byId(id).hidden = now.why !== id;
     button.hidden = now.link === "";
     button.disabled = isSending || (isSent && isThere);
-    // what was sent first must not arrive last
-    const isOff = isSending || (isSent && sent.state === "unsure");
+    // what was sent first must not arrive last; after the end the script may be gone
+    const isOff = isSending || (isSent && sent.state === "unsure" && !isOver());
     for (const field of form.querySelectorAll("input, select, button:not(.actions button)")) field.disabled = isOff;
     // what is said is of the ballot before
     const state = isThere && !isSent && now.link === sent.link ? "changed" : (isSent || isSending) && sent.state;
-    const text = state ? words[state].replace("{time}", spoken(sent.time)).replace("{end}", spoken(until)) : "";
+    const text = state ? words[state === "unsure" && isOver() ? "over" : state].replace("{time}", spoken(sent.time)).replace("{end}", spoken(until)) : "";
     // else a screen reader reads it again
     if (byId("Sent").textContent !== text) byId("Sent").textContent = text;
   }
@@ -84,7 +86,15 @@
     const gcm = { name: "AES-GCM", iv: new Uint8Array(12), additionalData: bytesOf(`${mark} ${number}`) };
     const data = await subtle.encrypt(gcm, key, bytesOf(`${line}\n${link}\n${time}`.padEnd(length, "\n")));
     const sealed = btoa(String.fromCharCode(...own, ...new Uint8Array(data)));
-    return `${page} ${proof} ${number}\n${sealed.replaceAll("+", "-").replaceAll("/", "_")}\n`;
+    // many firewalls let only fields pass
+    return `box=${page} ${proof} ${number}\n${sealed.replaceAll("+", "-").replaceAll("/", "_")}\n`;
+  }
+
+  // What no firewall refuses, if there is such a one.
+  async function harmlessBodyOf(ballot) {
+    let body = await bodyOf(ballot);
+    for (let tries = 1; tries < MOST_TRIES && LIKE_SQL.test(body); tries += 1) body = await bodyOf(ballot);
+    return body;
   }
 
   async function answerTo(body) {
@@ -92,12 +102,8 @@
     const timer = setTimeout(() => end.abort(), PATIENCE);
     try {
       const how = { method: "POST", redirect: "error", credentials: "omit", cache: "no-store", headers: KIND, signal: end.signal };
-      let answer = await fetch(box, { ...how, body });
-      let text = await answer.text();
-      if (REFUSED.includes(answer.status) && !text.startsWith("unknown: ")) {
-        answer = await fetch(box, { ...how, body: `box=${body}` });
-        text = await answer.text();
-      }
+      const answer = await fetch(box, { ...how, body });
+      const text = await answer.text();
       const [word, time] = text.trimEnd().split(/:? /);
       if (ANSWERS[answer.status] !== word || TIME.test(time) !== (word === "received")) return "unsure";
       if (word !== "received") return word === "bad" ? "lost" : word;
@@ -119,7 +125,7 @@
     sent.state = "sending";
     show();
     try {
-      sent.body ??= await bodyOf(sent);
+      sent.body ??= await harmlessBodyOf(sent);
       sent.state = await answerTo(sent.body);
     } catch {
       // nothing was sent
@@ -132,4 +138,5 @@
   addEventListener("hashchange", show);
   new MutationObserver(show).observe(byId("Line"), { childList: true, characterData: true, subtree: true });
   show();
+  byId("Scriptless").hidden = true;
 })();

@@ -52,6 +52,7 @@ SENTENCES = marked(
         "many": "It was not taken: too many ballots came by your link. Send your ballot by e-mail.",
         "lost": "It was not taken. Send your ballot by e-mail.",
         "unsure": "Nobody knows whether it has arrived. Press the button again: it counts once. Or send your ballot by e-mail.",
+        "over": "Nobody knows whether it has arrived, and by the clock of this device the time is over. If no receipt comes, tell the secretary.",
         "unsealed": "This browser can't seal a ballot. Open the link in another one.",
     }
 )

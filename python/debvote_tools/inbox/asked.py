@@ -65,17 +65,19 @@ def has_page_of_now(election: Election, box: Detail) -> bool:
     return box.get("page") in (None, queries.first_act_that_sealed(election.book, BOX_PAGE, page))
 
 
-def other_pages(history: History) -> list[DoneAct]:
-    """The first asking of each day on which one found a page that this book never made, since the
-    first letter of the call was written.
+def other_pages(history: History) -> dict[tuple[datetime.date, str], DoneAct]:
+    """The first asking of each day on which one found a page that this book never made, and on
+    which none came, since the first letter of the call was written; with the kind of doubt.
     """
     is_written = False
-    days = dict[datetime.date, DoneAct]()
+    days = dict[tuple[datetime.date, str], DoneAct]()
     for act in history.since_call("letters", "letters out"):
         is_written |= act.detail.get("kind") == "call"
-        if is_written and act.detail.get("box", {}).get("page") == 0:
-            days.setdefault(act.time.astimezone(history.zone).date(), act)
-    return list(days.values())
+        box = act.detail.get("box", {})
+        if is_written and box.get("page") == 0:
+            kind = "no page" if box.get("why_no_page") else "another page"
+            days.setdefault((act.time.astimezone(history.zone).date(), kind), act)
+    return days
 
 
 def asked_last(election: Election, history: History) -> Detail | None:

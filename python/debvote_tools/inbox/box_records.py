@@ -7,10 +7,10 @@ the third part of its link beside it (`OfBox`). All others wait for nobody: whoe
 files of the web host can make them.
 """
 
-import collections
 import contextlib
 import dataclasses
 import datetime
+import email.message
 import http.client
 import re
 import ssl
@@ -34,6 +34,7 @@ from debvote_tools.cli.console import count_of, listed, shown_text
 from debvote_tools.cli.faults import Fault, bad_words
 from debvote_tools.election import BOX_KEY, BOX_PAGE, Election, History
 from debvote_tools.files import sha256_of
+from debvote_tools.grouping import grouped
 from debvote_tools.inbox.asked import has_list_of_now, has_page_of_now, last_box, with_lost_records
 from debvote_tools.inbox.letter import YEAR, arrival_of
 from debvote_tools.inbox.mailbox import BEGIN, NotRead, RawLetter
@@ -51,12 +52,6 @@ HEAD = re.compile(
     rf"box 2 ([0-9a-f]{{16}}) ([0-9a-f]{{64}}) ({YEAR}-\d\d-\d\dT\d\d:\d\d:\d\dZ)\n".encode()
 )
 END = b"\n-- \n\n"
-# what a request may begin with, and an answer to one with another word
-FIELD = b"box="
-UNKNOWN = b"unknown: "
-# what the firewall of a web host may answer, which takes lines for the name of a field, and lets no
-# such name pass
-REFUSED = (http.HTTPStatus.FORBIDDEN, http.HTTPStatus.NOT_ACCEPTABLE)
 
 # as the page sends a ballot: many web hosts refuse other kinds, and who says not what it is
 FIELDS = {
@@ -64,6 +59,12 @@ FIELDS = {
     "User-Agent": "debvote-election",
     "Accept": "text/plain",
     "Connection": "close",
+}
+# as a browser asks for a page, since a host may change it for browsers alone
+OF_BROWSER = {
+    "User-Agent": "Mozilla/5.0 (Windows NT 10.0; Win64; x64; rv:140.0) Gecko/20100101 Firefox/140.0",
+    "Accept": "text/html,application/xhtml+xml,application/xml;q=0.9,*/*;q=0.8",
+    "Accept-Language": "en-US,en;q=0.5",
 }
 
 UPLOAD = f"upload {SCRIPT} of the folder call to where PHP 8.1 or later runs and may write; then run the command again"
@@ -77,11 +78,12 @@ OTHER_PAGE = (
     "Note: the page there is not that of the folder call: a script in it would see what is chosen, and could vote in the name of who opens it. "
     "Upload the folder, and run this again; if it is still so, take another web host."
 )
+POLICY = "Note: the web host sends its page with a Content-Security-Policy, by which browsers may not run its script: open it, and look whether it has its button."
 
 # in seconds: how far the clock of the box may be from ours unsaid
 MOST_OFF = 60
-# how many records of one link are kept in all, as many as the script takes; how many electors are
-# named
+# how many ballots of one link are kept in all, as many as the script takes, and each of them so
+# often if the host repeats it; how many electors are named
 MOST = MOST_NAMED = 20
 
 # a record as the script writes it, without the line above it: when it arrived, the digest of the
@@ -103,7 +105,7 @@ class HostAnswer(NamedTuple):
     """What a web host answers, and when it began to."""
 
     status: int
-    moved_to: str
+    fields: email.message.Message
     body: bytes
     time: datetime.datetime
 
@@ -138,10 +140,8 @@ def ask(at: str | None, mark: str, word: str) -> Asked:
     """
     address = script_address(at)
     begin = times.now()
-    body = f"ask {word}\n".encode()
-    answer = answer_of(address, body)
-    if answer.status in REFUSED and not answer.body.startswith(UNKNOWN):
-        answer = answer_of(address, FIELD + body)
+    # the firewalls of many hosts let only fields pass
+    answer = answer_of(address, f"box=ask {word}\n".encode())
     demand_box(address, answer)
     head = HEAD.match(answer.body)
     try:
@@ -168,7 +168,8 @@ def answer_of(address: str, body: bytes | None = None) -> HostAnswer:
     parts = urllib.parse.urlsplit(address)
     try:
         with within(PATIENCE), contextlib.closing(connection_to(parts)) as connection:
-            connection.request("GET" if body is None else "POST", parts.path, body, FIELDS)
+            method = "POST" if body else "GET"
+            connection.request(method, parts.path, body, FIELDS if body else OF_BROWSER)
             response = connection.getresponse()
             time = times.now()
             data = response.read(LONGEST_ANSWER + 1)
@@ -187,7 +188,7 @@ def answer_of(address: str, body: bytes | None = None) -> HostAnswer:
     # without a length nobody sees whether an answer was cut off
     if response.length or not (response.headers["content-length"] or response.chunked):
         raise cut_off(address)
-    return HostAnswer(response.status, response.headers["location"] or "", data, time)
+    return HostAnswer(response.status, response.headers, data, time)
 
 
 def connection_to(parts: urllib.parse.SplitResult) -> http.client.HTTPConnection:
@@ -199,7 +200,7 @@ def connection_to(parts: urllib.parse.SplitResult) -> http.client.HTTPConnection
 def demand_box(address: str, answer: HostAnswer) -> None:
     """Stops at what other servers answer, and a box that refuses."""
     if 300 <= answer.status < 400:
-        reason = f"it sends on to {shown_text(answer.moved_to) or 'nowhere'}"
+        reason = f"it sends on to {shown_text(answer.fields.get('location', 'nowhere'))}"
         cure = "name the address that a browser shows in the end with --at of call"
         raise Fault(address, reason, cure)
     if answer.body.lstrip().startswith(b"<?php"):
@@ -257,13 +258,19 @@ def brought_by(vote: Vote, history: History, asked: Asked) -> Brought:
 
 
 def page_there(election: Election, history: History) -> Detail:
-    """Which act sealed the page on the web host, 0 if none did, and whether it is that of now: an
-    extension makes another one. A publication takes its place.
+    """Which act sealed the page on the web host, 0 if none did or it did not come, and why it did
+    not; what browsers may run in it; and whether it is that of now: an extension makes another one.
+    A publication takes its place.
     """
     page: Detail = {"page": None}
-    if not history.publications:
-        there = answer_of(history.announced("at")).body
-        page["page"] = queries.first_act_that_sealed(election.book, BOX_PAGE, there)
+    at = history.announced("at")
+    try:
+        if not history.publications:
+            demand_box(at, answer := answer_of(at))
+            page["page"] = queries.first_act_that_sealed(election.book, BOX_PAGE, answer.body)
+            page["policy"] = answer.fields.get("content-security-policy", "")
+    except Fault as fault:
+        page = {"page": 0, "why_no_page": fault.reason}
     return page | {"is_right": has_page_of_now(election, page)}
 
 
@@ -280,8 +287,13 @@ def box_words(box: Detail, before: Detail) -> Iterator[str]:
 
 def upload_words(election: Election, box: Detail) -> Iterator[str]:
     """What is said of a page and a script that are not those of the folder."""
-    if not box["is_right"]:
+    if why := box.get("why_no_page"):
+        yield f"Note: the page did not come: {why}. Look whether it opens in a browser, and run this again."
+    elif not box["is_right"]:
         yield PAGE_OF_BEFORE if box["page"] else OTHER_PAGE
+    # of scripts, or of all
+    if "-src" in box.get("policy", ""):
+        yield POLICY
     if not has_list_of_now(election, box["list"]):
         yield f"Note: the web host has another {SCRIPT} than the folder call, as an older one: upload that of the folder, since who has a new link cannot vote there."
 
@@ -293,7 +305,7 @@ def unopened_words(vote: Vote, shown: Callable[[str], str] = str) -> str:
     history = vote.history()
     names = shown(listed(with_lost_records(vote.election, history), MOST_NAMED))
     whose = f", by the links of {names}, who are to vote again" if names else ""
-    return f"Note: {count_of(last_box(history)['unopened'], 'record')} can't be opened, or came above the {MOST} of a link, passed over{whose}. An older page may have sent such a one, or the web host have made it."
+    return f"Note: {count_of(last_box(history)['unopened'], 'record')} can't be opened, or came above the {MOST} of a link, passed over{whose}. An older page may have sent such a one, or the web host have made it. If {MOST} ballots came by a link, {vote.election.command('roll', '--new-link', 'NAME')} makes another."
 
 
 def arrived(raw: RawLetter) -> datetime.datetime:
@@ -319,11 +331,15 @@ def records_in(
     are kept of a link, also with those that came before. What was kept is not opened again.
 
     The host can exchange the times of two, and not what is sealed in them: each has the last time
-    by the device of all that came before it.
+    by the device of all that came before it by the same link, but for those that wait since host
+    and device differ.
     """
-    counts = collections.Counter(record.link for record in kept)
+    # when each was sent by the device, which of a ballot that the host repeats is one time, and
+    # whether the host dates it alike
+    by_link = grouped(
+        (record.link, (from_text(record.sent), record.is_dated_alike)) for record in kept
+    )
     known = {record.digest for record in kept}
-    latest = {record.elector: from_text(record.sent) for record in kept}
     letters = []
     unopened = []
     for raw in in_order(asked.records):
@@ -331,16 +347,16 @@ def records_in(
             letters.append(raw)
             continue
         letter = opened(vote.book, raw)
-        count = counts[letter.link]
-        if letter.elector not in vote.names.roll or count >= MOST:
+        sent = letter.sent
+        came = by_link.setdefault(letter.link, [])
+        times = {sent, *(time for time, _ in came)}
+        are_many = len(times) > MOST or len(came) >= MOST * MOST
+        if sent is None or letter.elector not in vote.names.roll or are_many:
             unopened.append(raw)
             continue
-        last = latest.get(letter.elector)
-        letters.append(clocked(letter, asked, before, count, last))
-        counts[letter.link] += 1
-        # the same one again takes no place
-        known.add(raw.digest)
-        latest[letter.elector] = max(filter(None, [letter.sent, last]))
+        letter = clocked(letter, asked, before, came)
+        letters.append(letter)
+        came.append((sent, letter.is_dated_alike(arrived(raw))))
     return letters, unopened
 
 
@@ -385,18 +401,17 @@ def whose(vote: Vote, records: Sequence[RawLetter], asked: datetime.datetime) ->
 
 
 def clocked(
-    raw: RawLetter, asked: Asked, before: Detail, count: int, last: datetime.datetime | None
+    raw: RawLetter, asked: Asked, before: Detail, came: Sequence[tuple[datetime.datetime, bool]]
 ) -> RawLetter:
     """A record with what its time is judged by. Between two askings the clock was off by as much as
-    in the one where it was off by more. Of those of a link, of which so many came before it, each
-    has a second of its own, also if they come in one. The last one before it of its elector has
-    this time by the device.
+    in the one where it was off by more. Of those of a link, of which these `came` before it, each
+    has a second of its own, also if they come in one.
     """
     behind = max(asked.behind, before.get("behind", 0), key=abs)
     return dataclasses.replace(
         raw,
         asked_before=from_text(before["time"]) if before else None,
         behind=behind if abs(behind) > MOST_OFF else 0,
-        latest=asked.time + datetime.timedelta(seconds=count),
-        sent_before=last,
+        latest=asked.time + datetime.timedelta(seconds=len(came)),
+        sent_before=max((sent for sent, is_alike in came if is_alike), default=None),
     )

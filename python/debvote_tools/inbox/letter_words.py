@@ -53,7 +53,14 @@ def arrival_of(letter: LetterCase) -> str:
 
 # ---- what goes in
 def going_in_words(letters: Sequence[LetterCase], vote: Vote) -> Iterator[str]:
-    """Of each letter whose ballot it is, and how it is read."""
+    """Of each letter whose ballot it is, and how it is read. Of records in a secret vote no more than
+    the names, and not in their order, which who keeps the web host knows.
+    """
+    if vote.questions.is_secret:
+        sealed = [letter.elector for letter in letters if letter.read.link]
+        letters = [letter for letter in letters if not letter.read.link]
+        if sealed:
+            yield f"{count_of(len(sealed), 'sealed ballot')}: {', '.join(sorted({*sealed}))}"
     are_many = vote.are_many(letter.sole_ballot.as_entered for letter in letters)
     between = "\n  " if vote.is_several else "; "
     for letter in letters:

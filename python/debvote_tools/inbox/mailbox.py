@@ -16,6 +16,7 @@ import re
 from collections.abc import Iterable, Sequence
 from typing import NamedTuple
 
+from debvote_tools.book import queries
 from debvote_tools.files import sha256_of
 from debvote_tools.inbox.lines import MARK
 from debvote_tools.inbox.mime import END_OF_HEAD, MAX_HEAD, MAX_LETTER, Part
@@ -99,12 +100,19 @@ class OfBox:
     asked_before: datetime.datetime | None = None
     behind: int = 0
     latest: datetime.datetime | None = None
-    # when it was sent by the device of its elector, and the last such time of their records that
-    # came before it
+    # when it was sent by the device of its elector, and the last such time of the records of its
+    # link that came before it
     sent: datetime.datetime | None = None
     sent_before: datetime.datetime | None = None
     # whether it is from the file of the box, which somebody downloaded by hand
     is_fetched: bool = False
+
+    def is_dated_alike(self, arrived: datetime.datetime) -> bool:
+        """Whether its device and the web host, of which it has this time, date it alike."""
+        if self.sent is None:
+            return True
+        off = (arrived - self.sent).total_seconds() + self.behind
+        return abs(off) <= queries.DEVICE_OFF
 
 
 @dataclasses.dataclass(frozen=True)

@@ -132,7 +132,7 @@ class Reason(enum.Enum):
         LOOKED_AT,
     )
     CLOCK_AT_THE_END = (
-        "it came near the end or the close, and the clock of the web host was off by {seconds} seconds",
+        "it came near the end or the close, sent at {sent} by the clock of its device, and that of the web host was off by {seconds} seconds",
         LOOKED_AT,
     )
     CLOCKS = (

@@ -28,7 +28,7 @@ from debvote_tools.inbox.reasons import Reason, ReasonWithValues
 from debvote_tools.poll.sealed import MARKS, marks_in
 from debvote_tools.text.addresses import address_key
 
-# how far the clock of a mail server may be ahead, and that of an elector be off
+# how far the clock of a mail server may be ahead
 AHEAD = datetime.timedelta(minutes=10)
 # the most digits in which a mark differs from one that was copied by hand
 MISCOPIED = 2
@@ -149,9 +149,12 @@ class LetterCase:
         self.sharing = circumstances.senders_of(letter)
         self.marked_elector, self.mark_ended = circumstances.own_mark_of(letter)
         self.is_automatic = letter.is_automatic or (is_server(letter.sender) and not self.sharing)
-        # that of its ballot: if letters have to be signed, that of the signature
+        # that of its ballot: if letters have to be signed, that of the signature; of a record in a
+        # file, in which others can exchange times, that of its device
         signature = letter.signature if circumstances.is_signed else None
         self.time = letter.arrived if signature is None else signature.time
+        if letter.is_fetched and letter.sent and self.time and letter.is_dated_alike(self.time):
+            self.time = letter.sent.replace(microsecond=0)
         # what a person may enter, and those that are written as ballots are
         self.proposals = self.valid_ballots()
         self.ballots = () if letter.text.is_proposed else self.proposals
@@ -316,23 +319,13 @@ class LetterCase:
         return any(last <= self.circumstances.called for last in self.arrivals[-1:])
 
     @property
-    def other_times(self) -> list[datetime.datetime]:
-        """When a record was sent by its device, if the host dates it quite otherwise."""
-        arrived = self.read.arrived
-        sent = self.read.sent
-        if arrived is None or sent is None:
-            return []
-        off = datetime.timedelta(seconds=self.read.behind)
-        return [sent] if abs(arrived + off - sent) > AHEAD else []
-
-    @property
     def arrivals(self) -> list[datetime.datetime]:
         """When it may have arrived, the earliest time first and the latest last: the clock of a web
         host may be off, and it may date a record anew.
         """
         arrived = self.read.arrived
         off = datetime.timedelta(seconds=self.read.behind)
-        return sorted((arrived, arrived + off, *self.other_times)) if arrived else []
+        return sorted((arrived, arrived + off, self.read.sent or arrived)) if arrived else []
 
     def arrived_after(self, *ends: datetime.datetime | None) -> bool:
         """Whether it is known to have arrived after one of these times."""
@@ -391,8 +384,8 @@ def why_not_in_time(case: LetterCase) -> ReasonWithValues | None:
     circumstances = case.circumstances
     if (arrived := read.arrived) is None:
         return Reason.NO_ARRIVAL()
-    for sent in case.other_times:
-        return Reason.OTHER_TIME(sent=sent)
+    if read.sent and not read.is_dated_alike(arrived):
+        return Reason.OTHER_TIME(sent=read.sent)
     if case.arrived_before_call:
         return Reason.BEFORE_THE_CALL(called=circumstances.called)
     if (end := circumstances.end) and case.arrived_after(end):
@@ -400,7 +393,7 @@ def why_not_in_time(case: LetterCase) -> ReasonWithValues | None:
     if (close := circumstances.first_close) and case.arrived_after(close):
         return Reason.AFTER_THE_CLOSE(close=close)
     if any(case.arrivals[-1] > last for last in circumstances.ends):
-        return Reason.CLOCK_AT_THE_END(seconds=abs(read.behind))
+        return Reason.CLOCK_AT_THE_END(sent=read.sent or arrived, seconds=abs(read.behind))
     if read.asked_before is not None and arrived < read.asked_before:
         return Reason.NOT_THERE_BEFORE(asked=read.asked_before)
     if read.sent and read.sent_before and read.sent <= read.sent_before:

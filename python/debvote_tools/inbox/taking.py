@@ -113,17 +113,20 @@ def keep(vote: Vote, raws: Sequence[RawLetter], read: Sequence[ReadLetter], deta
 class LetterEntry(Entry):
     """An act that enters ballots of letters, and decides of the letters that are done. Prints the
     reply to each ballot, and then `end`, if it has one. In words a ballot was shown before, and of
-    one question it is so once more.
+    one question it is so once more, unless the vote is secret: then the order tells nothing either.
     """
 
     end: str = dataclasses.field(default="", compare=False)
 
     def words(self, numbers: range, replies: Sequence[str]) -> Iterator[str]:
+        is_secret = self.vote.questions.is_secret
+        lines = list[str]()
         for number, reply, envelope in zip(numbers, replies, self.envelopes):
             ballot = envelope.line.decode("ascii")
             name, _, _ = ballot.partition(" ")
             said = name if self.vote.is_several else self.vote.ballot_in_words(ballot)
-            yield f"{number} {reply}  {said}"
+            lines.append(f"{reply}  {name}" if is_secret else f"{number} {reply}  {said}")
+        yield from sorted(lines) if is_secret else lines
         yield from filter(None, [self.end])
 
 

@@ -238,11 +238,11 @@ def doubts_of(
         advice = f"the web box was not asked since the end: run {ask}"
         # at the end `close --force` has agreed to it
         yield Doubt(BOX, advice, stops=BOX in stopping)
-    for act in other_pages(history):
+    for (_, kind), act in other_pages(history).items():
         time = act.time.astimezone(history.zone)
         address = act.detail["box"]["at"]
-        advice = f"on {time_in_words(time)} the page at {address} was not that of the call"
-        yield Doubt("other page", advice, {"time": time, "address": address}, stops=False)
+        advice = f"on {time_in_words(time)} the web host had {kind} at {address}"
+        yield Doubt(kind, advice, {"time": time, "address": address}, stops=False)
     yield from other_castings(election, history, castings)
     if pending.untold:
         letters = ", ".join(map(str, pending.untold))

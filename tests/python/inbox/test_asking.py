@@ -24,7 +24,7 @@ from debvote_tools.text import times
 from tests.support.elections import ElectionTest
 from tests.support.letters import read_in
 from tests.support.web_host import ASK, END, FIRST, KEY, MARK, NEEDS_PHP, OWNS, WORD, place_of
-from tests.support.web_host import BoxTest, Liar, answered, ballot, firewall, record
+from tests.support.web_host import BoxTest, Liar, answered, ballot, record
 
 HOUR = datetime.timedelta(hours=1)
 DIGEST = "d" * 64
@@ -100,17 +100,6 @@ class Honest(BoxTest):
         self.file.unlink()
         self.file.mkdir()
         test.stopped(host.at, "it answers 503: lost: ", "may write")
-
-    def test_behind_a_firewall(self) -> None:
-        """It refuses what is no field of a form: the request comes as one then."""
-        host = self.host()
-        host.send(ballot("ada", "1,2", 1))
-        for status in (403, 406):
-            with Liar(firewall(host, status)) as liar:
-                self.assertEqual(ask(liar.at, MARK, WORD).records.count(END), 1)
-                with self.assertRaisesRegex(Fault, "it answers 403: unknown: another word"):
-                    ask(liar.at, MARK, "0" * 64)
-                self.assertEqual(len(liar.requests), 4)
 
 
 class Fetched(ElectionTest):
@@ -255,7 +244,7 @@ class Dishonest(AskingTest):
             self.stopped(host.at, f"it sends on to {other.at}vote.php")
             [request] = host.requests
         self.assertTrue(request.startswith(b"POST /vote.php HTTP/1.1\r\n"))
-        self.assertTrue(request.endswith(b"\r\n\r\n" + ASK))
+        self.assertTrue(request.endswith(b"\r\n\r\nbox=" + ASK))
         self.assertIn(b"\r\nContent-Type: application/x-www-form-urlencoded\r\n", request)
         self.assertNotIn(KEY.hex().encode(), request)
         # nor to a proxy that the environment names

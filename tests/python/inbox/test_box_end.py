@@ -1,6 +1,7 @@
 """The end of a vote passes while its electors click: which count, and what electors are told."""
 
 import contextlib
+import datetime
 import re
 import socket
 from collections.abc import Callable, Iterator, Sequence
@@ -11,11 +12,12 @@ from tests.support.web_host import NEEDS_PHP
 
 # in seconds from now
 END = 7_200
+MINUTE = datetime.timedelta(minutes=1)
 CLICKING = {"ada": -240, "ben": -60, "cleo": 60, "dan": 240}
 
 # what the secretary reads of a letter that waits
 AFTER = "it arrived after the end of the vote"
-NEAR = "it came near the end or the close, and the clock of the web host was off by 1[78]. seconds"
+NEAR = "it came near the end or the close, sent at [^,]+ by the clock of its device, and that of the web host was off by 1[78]. seconds"
 
 # what electors read, while the vote runs and after it
 READ = "It came by the page of the vote. It was read as: At the lake, then In the town hall,"
@@ -77,13 +79,18 @@ class End(boxes.BoxElectionTest):
         end = f"{self.end:%Y-%m-%dT%H:%M:%SZ}"
         self.assertEqual(word, "received")
         self.assertTrue(before < end < across <= after, (before, end, across, after))
-        # `close` asks, and stops, since two of them came in time
+        # `close` asks, and stops: ben's was sent in time
         fault = "the web box was asked, 5 new ballots are kept"
         self.assertIn(fault, self.election("close").faults)
+        early = self.record(f"eve {OTHER}", self.end - MINUTE, sent=self.end + MINUTE)
+        self.keep(*self.records(), early)
         self.add_box()
-        self.assertEqual(self.told("held").count(AFTER), 3)
+        self.assertEqual(self.told("held").count(AFTER), 2)
         self.assertEqual(self.standing(), {"ada": RANKS, "dan": RANKS})
-        self.demand_told(ada=COUNTS, ben=[LATE], cleo=[LATE], dan=[*COUNTS, LATE])
+        wait = {"ben": [LOOKED_AT], "eve": [LOOKED_AT]}
+        self.demand_told(ada=COUNTS, cleo=[LATE], dan=[*COUNTS, LATE], **wait)
+        self.refused("close", "these letters arrived in time, and wait: 3, 6;")
+        self.done("held 3 6 --set-aside")
         # what is late waits, and stops nothing
         self.done("close")
         self.done("publish")

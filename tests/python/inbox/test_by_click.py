@@ -287,7 +287,7 @@ class Clicks(boxes.BoxElectionTest):
             self.assertNotIn(self.key.hex().encode(), request)
             self.assertNotIn(self.key, request)
         for request in asked:
-            self.assertIn(b"\r\n\r\n" + request_of(f"ask {asking_word(self.key)}"), request)
+            self.assertIn(b"\r\n\r\n" + request_of(f"box=ask {asking_word(self.key)}"), request)
         self.assertEqual(self.standing(), dict.fromkeys(NAMES, RANKS))
         self.assertEqual(self.rows("SELECT count(*) FROM letter"), [(len(NAMES),)])
 

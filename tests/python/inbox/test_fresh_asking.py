@@ -13,7 +13,7 @@ from tests.support import boxes, elections
 from tests.support.boxes import OTHER, RANKS, now
 from tests.support.elections import NAMES
 from tests.support.terminal import Terminal
-from tests.support.web_host import FIRST, NEEDS_PHP
+from tests.support.web_host import FIRST, NEEDS_PHP, Liar, passed_on
 
 BERLIN = zoneinfo.ZoneInfo("Europe/Berlin")
 UNSEEN = "nobody has seen yet whether the web box works, with page and links of now"
@@ -358,7 +358,8 @@ class Pages(AskedTest):
         """
         self.call()
         (self.web / "index.html").unlink()
-        self.assertIn(self.other, self.told("add --box"))
+        missing = "Note: the page did not come: it answers 404: "
+        self.assertIn(missing, self.told("add --box"))
         self.demand_unseen("call")
         self.upload()
         said = self.told("letters call")
@@ -413,6 +414,29 @@ class Pages(AskedTest):
         self.assertEqual(self.standing(), {"ada": RANKS})
         told = rf"When the secretary asked the web host on \w+, (\d+) .{{20,60}}, the page at {self.host.at} {DOUBT}"
         self.assertEqual(re.findall(told, self.published()), [days[0], days[2]] * 2)
+
+    def test_one_that_does_not_come(self) -> None:
+        """It is no other one, and what came by clicks is kept. A host may show another one to
+        browsers, and one with a policy runs no script.
+        """
+
+        def lie(request: bytes) -> list[bytes]:
+            said = passed_on(request, self.host)
+            return [said.replace(*change, 1) if b"Mozilla" in request else said]
+
+        end, change = b"\r\n\r\n", (b"", b"")
+        policy = b"\r\nContent-Security-Policy: default-src 'self'"
+        with Liar(lie) as between:
+            self.begun("--at", between.at, ada=RANKS)
+            for *change, note in (
+                (b"</html>", b"", "the page did not come: its answer was cut off. Look"),
+                (b" 200 ", b" 503 ", "the page did not come: it answers 503: "),
+                (end, policy + end, "the web host sends its page with a Content-Security-Policy"),
+            ):
+                self.assertIn(f"Note: {note}", self.add_box())
+            said = self.published()
+        self.assertNotIn(DOUBT, said)
+        self.assertEqual(said.count(f"it did not show the page at {between.at}"), 2)
 
 
 @NEEDS_PHP

@@ -167,17 +167,19 @@ class Lies(boxes.BoxElectionTest):
 
     def test_the_most_of_a_link(self) -> None:
         """One more is no letter, and its elector is named. A host that takes more acknowledges
-        them.
+        them. What it repeats takes no place.
         """
         self.begun()
         ranks = [f"ada {number % 4 + 1},1,1,1" for number in range(MOST + 1)]
         records = [self.record(line, now(number - 60)) for number, line in enumerate(ranks)]
+        times = (b"00:00:%02d" % second for second in range(MOST))
+        copies = [re.sub(rb"\d\d:\d\d:\d\d", time, records[0]) for time in times]
         # over all askings
         for count in (MOST // 2, MOST + 1):
-            self.keep(*records[:count])
+            self.keep(*copies, *records[:count])
             self.add_box()
         kept = self.boxes_kept()[-1]
-        self.assertEqual((kept["records"], kept["unopened"]), (MOST, 1))
+        self.assertEqual((kept["records"], kept["unopened"]), (MOST + MOST, 1))
         self.assertEqual(self.status()["lost"], ["ada"])
 
     def test_records_that_are_ahead_of_the_clock_of_their_host(self) -> None:
@@ -189,19 +191,23 @@ class Lies(boxes.BoxElectionTest):
             self.click("ben", f"{number % 4 + 1},1,1,1")
         self.click("ada")
         whole = self.records()
-        # the host dates it so
-        self.keep(*whole, self.record(f"ada {OTHER}", now(300), sent=now()))
+        # the host dates it so, and dan's device
+        ahead = self.record(f"dan {OTHER}", now(), sent=now(86_400))
+        self.keep(*whole, ahead, self.record(f"ada {OTHER}", now(300), sent=now()))
         said = self.add_box()
-        self.assertIn("10 ballots of letters went in; 1 letter waits", said)
+        self.assertIn("10 ballots of letters went in; 2 letters wait", said)
         self.assertIn("or that of the web host when it was asked", said)
         # of a year that no clock has no time is known: kept, it would stop each later command
         year = datetime.datetime.max.replace(tzinfo=datetime.UTC)
         self.keep(*whole, self.record(f"cleo {RANKS}", year, sent=now()))
         self.click("ada", "2,1,3,4")
+        self.click("dan")
         self.off(400)
         self.add_box()
         self.assertIn("no Received line at its top says when it arrived", self.told("held"))
-        self.assertEqual(self.standing(), {"ada": "2,1,3,4", "ben": "1,1,1,1"})
+        standing = {"ada": "2,1,3,4", "ben": "1,1,1,1", "dan": RANKS}
+        self.assertEqual(self.standing(), standing)
+        self.refused("close --early", "these letters arrived in time, and wait: ")
 
     def test_who_is_to_vote_again(self) -> None:
         """By whose proof came what nobody can open: named until a later ballot comes."""
@@ -305,6 +311,10 @@ class Clocks(unittest.TestCase):
         ):
             wanted = wanted if wanted == IN else f"waits: {wanted}"
             self.assertEqual(self.becomes(opened(**fields)), [wanted], fields)
+        # that of a file is in the order of the devices
+        for minutes, wanted in ((9, 9), (11, 0)):
+            [one] = judged(opened(sent=at(10) + minutes * MINUTE, is_fetched=True), box_key=KEY)
+            self.assertEqual(one.time, at(10) + wanted * MINUTE)
         # only what is known to be older than the call waits for that
         for behind, wanted in ((0, "waits: before the call"), (180, IN)):
             self.assertEqual(self.becomes(opened(at(8, 59), behind), called=at(9)), [wanted])

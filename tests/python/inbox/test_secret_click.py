@@ -204,6 +204,14 @@ class SecretClicks(boxes.BoxElectionTest):
         for part in ("I take the lake, then the hall", "subject: The lake first"):
             self.assertIn(part, shown)
 
+    def test_whose_ballots_came_is_told_and_nothing_else(self) -> None:
+        """Also at a terminal; and not in the order of the records, which the web host knows."""
+        self.begun(ida=RANKS, ada=OTHER)
+        said = " ".join(Terminal(self, "add", "--box", "--yes").end()[0].split())
+        told = " 2 sealed ballots: ada, ida counted ada counted ida 2 ballots of letters went in"
+        self.assertIn(told, said)
+        self.demand_without(said, "lake", RANKS)
+
     def test_a_take_back_needs_a_fresh_asking(self) -> None:
         """And before it, an answer by mail goes in, to which nobody is invited: nothing was taken
         from who does it.

@@ -32,7 +32,6 @@ from tests.support.web_host import (
     Host,
     Liar,
     answered,
-    firewall,
     passed_on,
 )
 
@@ -53,12 +52,13 @@ STATE = """(() => {
   const fields = [...document.querySelectorAll("#Ballot input, #Ballot select")];
   return { said: node("Sent").textContent, line: node("Line").textContent.replaceAll("\\n", " "), seen: seen("Vote"),
     button: seen("Vote") && !node("Vote").disabled, unlinked: seen("Unlinked"), broken: seen("Broken"),
-    worked: seen("Worked"), unsealed: seen("Unsealed"),
+    worked: seen("Worked"), unsealed: seen("Unsealed"), scriptless: seen("Scriptless"),
     fields: fields.filter((field) => !field.disabled).length };
 })()"""
 # of a page on which nothing is chosen
 EMPTY = {"said": "", "line": "", "fields": 21}
-EMPTY |= dict.fromkeys(("button", "seen", "unlinked", "broken", "worked", "unsealed"), False)
+UNSEEN = "button", "seen", "unlinked", "broken", "worked", "unsealed", "scriptless"
+EMPTY |= dict.fromkeys(UNSEEN, False)
 
 
 def page_with_box(code: str = "en", patience: int = 30_000, call: CallData = CALL) -> bytes:
@@ -300,14 +300,6 @@ class Clicks(RealBoxTest):
         self.window.until("document.getElementById('Sent').textContent === ''")
         self.demand_arrived()
 
-    def test_a_web_firewall_that_lets_only_fields_of_forms_pass(self) -> None:
-        for status, ranks in ((403, "4321"), (406, "1234")):
-            with self.subTest(status), Liar(firewall(self.host, status)) as between:
-                self.visit(between.at, PLACES["cleo"])
-                self.choose(ranks)
-                self.demand_arrived()
-        self.assertEqual(self.lines(), ["cleo 4,3,2,1", "cleo 1,2,3,4"])
-
     def test_a_page_that_is_still_open_takes_no_new_link(self) -> None:
         """It shows the options in the order of before."""
         self.visit(self.host.at, PLACES["ada"])
@@ -456,17 +448,13 @@ class Answers(BoxPageTest):
                 before = self.choose(next(ranks))
                 self.assertIn(before["said"], ("", WORDS["changed"]))
                 self.assertEqual((before["button"], before["fields"]), (True, 21))
-                # a web firewall may have refused it: it is sent once more
-                status = sent[0][9:12] if isinstance(sent[0], bytes) else b""
-                is_refused = said == "unsure" and status in (b"403", b"406")
-                for _ in range(1 + is_refused):
-                    answers.put(sent)
+                answers.put(sent)
                 self.assertEqual(self.sent(), WORDS[said])
                 fields = 0 if said == "unsure" else 21
                 self.assertEqual(self.state(), before | {"said": WORDS[said], "fields": fields})
                 if said == "unsure":
                     # it is sent again, byte for byte, until that is answered
-                    first = host.requests[-1 - is_refused]
+                    first = host.requests[-1]
                     answers.put([answered(arrived)])
                     self.assertRegex(self.sent(), "^It has arrived, sent ")
                     self.assertEqual(host.requests[-1], first)
@@ -477,6 +465,24 @@ class Answers(BoxPageTest):
         self.assertEqual(len(numbers), len(all_answers))
         for number in numbers:
             self.assertRegex(number, rb"\A[0-9a-f]{32}\Z")
+
+    def test_where_its_script_may_not_run(self) -> None:
+        policy = "Content-Security-Policy: default-src 'self'"
+        page = answered(page_with_box(), 200, "Content-Type: text/html", policy)
+        host = self.enterContext(Liar(lambda request: [page]))
+        self.visit(host.at, PLACES["ada"])
+        self.assert_state(scriptless=True)
+
+    def test_where_the_script_on_the_host_is_gone_after_the_end(self) -> None:
+        """The form is free, and the same ballot is sent as it was."""
+        call = replace(CALL, until=datetime.datetime.fromisoformat(NOW.decode()))
+        host = self.serve(lambda request: [answered(b"", 404)], page_with_box(call=call))
+        self.visit(host.at, PLACES["ada"])
+        self.choose("1234")
+        for _ in range(2):
+            self.assertEqual(self.sent(), WORDS["over"])
+            self.assertEqual(self.state()["fields"], 21)
+        self.assertEqual(*(one for one in host.requests if one.startswith(b"POST")))
 
     def test_nothing_changes_until_the_answer(self) -> None:
         go = queue.SimpleQueue[bool]()
@@ -508,7 +514,7 @@ class Answers(BoxPageTest):
         self.until_arrived()
         [request] = [request for request in host.requests if request.startswith(b"POST")]
         proof = sealing.proof_of(MARK, PLACES["ada"][1:])
-        posted = rf"\r\n\r\n{CALL.page} {proof} [0-9a-f]{{32}}\n[\w-]{{292}}\n\Z"
+        posted = rf"\r\n\r\nbox={CALL.page} {proof} [0-9a-f]{{32}}\n[\w-]{{292}}\n\Z"
         self.assertRegex(request, posted.encode())
         heads = request.partition(b"\r\n\r\n")[0].lower()
         self.assertIn(b"content-type: application/x-www-form-urlencoded\r\n", heads)

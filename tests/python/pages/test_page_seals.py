@@ -4,6 +4,7 @@ Each time it says what became of the ballot, and sends nothing that it does not 
 """
 
 import base64
+import collections
 import json
 import shutil
 import subprocess
@@ -11,6 +12,7 @@ import unittest
 from dataclasses import replace
 
 from debvote_tools.call.box import page_of, personal_link, script_of
+from debvote_tools.inbox.box_records import ask
 from debvote_tools.poll.questions import LABELS
 from debvote_tools.text.rendering import resources
 
@@ -21,17 +23,24 @@ from tests.support import sealing
 from tests.support.calls import SECRET
 from tests.support.web_host import (
     KEY,
+    NEEDS_PHP,
+    NEEDS_RULES,
+    WORD,
+    BoxTest,
     Liar,
     answered,
+    behind_rules,
+    place_of,
     request_of,
 )
 
 NODE = shutil.which("nodejs") or shutil.which("node")
 
+KIND = "application/x-www-form-urlencoded"
 # the ballot of the vector, and what is sent of it
 LINE, PLACE, SENT = vector.INSIDE.split("\n")
 BODY = request_of(
-    f"{page_of(vector.KEY, vector.MARK)} {sealing.proof_of(vector.MARK, PLACE)} {vector.NUMBER}",
+    f"box={page_of(vector.KEY, vector.MARK)} {sealing.proof_of(vector.MARK, PLACE)} {vector.NUMBER}",
     vector.SEALED,
 )
 
@@ -79,14 +88,15 @@ def fixed() -> str:
     return FIXED % (json.dumps({"kty": "EC", "crv": "P-256"} | own), SENT)
 
 
-def sent_under_node(line: str, place: str, options: int) -> bytes:
-    """What the script sends of a line by a personal link; `options` are those of the form, and its
-    questions if they are several.
+def sent_under_node(line: str, place: str, options: int, presses: int = 1) -> bytes:
+    """What the script sends of a line by a personal link, at each press; `options` are those of the
+    form, and its questions if they are several.
     """
     data = {"box": "vote.php", "until": "", "words": json.dumps(WORDS), **OF_VECTOR}
     given = {"place": json.dumps(place), "line": json.dumps(line), "data": json.dumps(data)}
     around = AROUND % (given | {"options": options})
-    script = around + fixed() + resources("debvote_tools.call", "box.js") + "\npressed[0]();"
+    script = around + fixed() * (presses == 1) + resources("debvote_tools.call", "box.js")
+    script += f"(async () => {{ for (let n = 0; n < {presses}; n += 1) await pressed[0](); }})();"
     ended = subprocess.run([str(NODE), "-"], input=script.encode(), capture_output=True, timeout=60)
     assert (ended.returncode, ended.stderr) == (0, b""), ended
     return ended.stdout
@@ -110,6 +120,22 @@ class Node(unittest.TestCase):
                 lengths.add(len(body.splitlines()[1]))
             self.assertEqual(lengths, {4 * (65 + 3 * (42 + size) + 16) // 3}, (options, questions))
             self.assertLess(max(lengths), 3_800)
+
+
+@NEEDS_PHP
+@NEEDS_RULES
+@unittest.skipUnless(NODE, "nodejs is not installed")
+class Rules(BoxTest):
+    def test_a_firewall_refuses_no_ballot_and_no_asking(self) -> None:
+        bodies = sent_under_node("ada 1,2,3,4", place_of("ada"), 4, 500).split(b"box=")[1:]
+        browser = {"User_Agent": "Mozilla/5.0", "Accept": "*/*", "Content_Type": KIND}
+        host = self.host()
+        for level in (1, 2):
+            with behind_rules(host, level):
+                words = [host.send(b"box=" + body, **browser).word for body in bodies]
+                self.assertEqual(collections.Counter(words), {"received": 20, "many:": 480})
+                for _ in range(50):
+                    ask(host.at, vector.MARK, WORD)
 
 
 class Browser(BoxPageTest):
@@ -146,7 +172,7 @@ class Fails(RealBoxTest):
         self.ask(count)
         self.choose("1234")
         self.demand_arrived()
-        calls = self.ask("calls")
+        calls = self.ask("calls.slice(0, calls.indexOf('encrypt') + 1)")
         steps = "digest generateKey exportKey importKey deriveBits deriveKey encrypt"
         self.assertEqual({*calls}, {*steps.split()})
         self.choose("4321")
