@@ -8,7 +8,7 @@ def set_clock(time: str) -> None:
     known = datetime.datetime
     still = known.fromisoformat(time)
 
-    class Kind(type):
+    class Kind(type(known)):
         def __instancecheck__(cls, value: object) -> bool:
             """A time is one, too, that was read by what was kept from before, as in the test of which this process is a fork."""
             return isinstance(value, known)

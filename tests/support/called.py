@@ -91,6 +91,10 @@ class CalledTest(elections.ElectionTest):
         typed = shlex.split(str(words[0])) if len(words) == 1 else words
         return super().election(*typed, **how)
 
+    def text(self, name: str) -> str:
+        """A file of the folder on one line."""
+        return " ".join(self.read(name).decode().split())
+
     def told(self, *words: object, **how: Any) -> str:
         ended = self.election(*words, **how)
         self.assertEqual((ended.status, ended.faults), (0, ""), ended)
