@@ -75,9 +75,22 @@ class Terminal:
     def type(self, keys: str) -> None:
         os.write(self.keys, keys.encode())
 
-    def after(self, keys: str, words: str) -> str:
+    def after(self, keys: str, *words: str) -> str:
+        """What these keys show, up to the last of these words; the others are in it."""
         self.type(keys)
-        return self.until(words)
+        shown = self.until(words[-1])
+        for part in words[:-1]:
+            self.test.assertIn(part, shown)
+        return shown
+
+    def ends(self, keys: str, *parts: str, status: int = 0) -> str:
+        """What is shown from these keys to the end, which has these parts, and this status."""
+        self.type(keys)
+        shown, found = self.end()
+        self.test.assertEqual(found, status, shown)
+        for part in parts:
+            self.test.assertIn(part, shown)
+        return shown
 
     def end(self) -> tuple[str, int]:
         end = time.monotonic() + SECONDS

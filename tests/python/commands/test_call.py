@@ -195,7 +195,7 @@ class Again(CallTest):
             self.done(f"call {UNTIL} --to vote@club.example")
 
     def test_not_taken_back_once_something_came(self) -> None:
-        self.done("desk", given="ada 1,2,3,4\n")
+        self.cast("ada 1,2,3,4")
         self.done("undo --yes")
         self.refused("call --take-back", "have come")
 

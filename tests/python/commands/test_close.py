@@ -168,8 +168,8 @@ class Asked(LettersTest):
         self.add(letter("cleo", "I shall be there"))
         self.done("held 1 --set-aside")
         self.set_clock("2026-12-02T18:30:00+00:00")
-        self.done("desk", given="ben 1,2,3,4\nida 1,2,3,4\n")
-        self.done("desk", given="fay 1,2,3,4\n")
+        self.cast("ben 1,2,3,4", "ida 1,2,3,4")
+        self.cast("fay 1,2,3,4")
         self.done("undo")
         self.done("strike 3 --because 'not hers'")
         self.done("call --until '2026-12-02 20:00' --zone UTC")
@@ -292,7 +292,7 @@ class Told(LettersTest):
         """As a table for people, and for programs with all that the book keeps."""
         self.add_lines("ada 1,2,3,4", "ben 2,1,3,4")
         for ranks in ("1,2,3,4", "2,1,3,4"):
-            self.done("desk", given=f"cleo {ranks}\n")
+            self.cast(f"cleo {ranks}")
         self.done("strike 1 --because 'it was pencil' --yes")
         self.done("close --early")
         shown = re.sub(r"\d{4}-\d\d-\d\d \d\d:\d\d:\d\d UTC", "TIME", self.told("log")).splitlines()
