@@ -16,9 +16,10 @@ from unittest import mock
 from debvote_tools.book import queries
 from debvote_tools.book.book import Book, open_book
 from debvote_tools.commands import command_line
+from debvote_tools.inbox.letter_lines import to_json
 
 from tests.support import elections
-from tests.support.letters import letter, mailbox
+from tests.support.letters import letter, mailbox, read
 
 LAKE = "At the lake, then In the town hall, then Further discussion, then Sell the house and meet there"
 HALL = "In the town hall, then At the lake, then Further discussion, then Sell the house and meet there"
@@ -70,6 +71,10 @@ class CalledTest(elections.ElectionTest):
         words = "SELECT line FROM envelope WHERE late = ? AND envelope NOT IN (SELECT envelope FROM struck) ORDER BY envelope"
         return [line.decode("utf-8", "replace") for line, in self.book.rows(words, int(is_late))]
 
+    def assert_lines(self, *lines: str) -> None:
+        """These lines are counted, and no others."""
+        self.assertEqual(self.lines(), [*lines])
+
     def late_lines(self) -> list[str]:
         return self.lines(is_late=True)
 
@@ -110,6 +115,21 @@ class CalledTest(elections.ElectionTest):
     def adds(self, given: bytes | str, *parts: str, words: str = "") -> str:
         """What `add` tells of lines from a pipe, which has these parts."""
         return self.tells(f"add {words}", *parts, given=given)
+
+    def enter_letter(self, act_name: str) -> None:
+        """An act of this name enters a ballot of cleo, which came in a letter."""
+        with self.book.act(act_name) as act:
+            source = queries.keep_source(act, "inbox", b"letter")
+            [came] = read(letter("cleo", "cleo 1,2,3,4"))
+            number = act.insert("letter", source=source, identity="1", known=to_json(came))
+            line = queries.NewEnvelope(b"cleo 1,2,3,4", "", source, number)
+            queries.add_envelopes(act, [line], [self.elector("cleo")], is_late=False)
+            queries.decide(act, number, queries.ENTERED)
+
+    def assert_state(self, state: str) -> None:
+        """The last act has put that letter into this state."""
+        query = "SELECT letter, state FROM letter_state WHERE act = ?"
+        self.assertEqual(self.rows(query, self.last_act()), [(1, state)])
 
     def close_book(self, lines: int = 0) -> None:
         """Closes the vote without the command, so at any time."""

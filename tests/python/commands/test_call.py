@@ -13,6 +13,7 @@ from debvote_tools.poll.sealed import read_plain
 
 from tests.support import elections
 from tests.support.called import CalledTest
+from tests.support.letters import letter
 
 UNTIL = "--until '2026-12-04 18:00' --zone Europe/Berlin"
 LATER = "--until '2026-12-05 18:00' --zone Europe/Berlin"
@@ -200,10 +201,7 @@ class Again(CallTest):
         self.refused("call --take-back", "have come")
 
     def test_not_taken_back_once_a_letter_waits(self) -> None:
-        self.write(
-            "letter.eml",
-            "From: stranger@example.org\nDate: Fri, 27 Nov 2026 08:30:00 +0000\n\nada 1,2,3,4\n",
-        )
+        self.write("letter.eml", letter("stranger", "ada 1,2,3,4"))
         for words in ("add --yes letter.eml", "held 1 --set-aside"):
             self.done(words)
             self.refused("call --take-back", "have come")
@@ -382,13 +380,6 @@ class Secret(CallTest):
             self.done(f"call {words}")
             self.assertIn(said, self.texts("private/slips.html"))
 
-    def test_what_comes_next_once_it_is_called_and_closed(self) -> None:
-        self.called()
-        self.tells("codes", "The slips: private/slips.html. Print them.\n")
-        self.done("close --early --yes")
-        for command in ("codes", "call"):
-            self.assertTrue(self.told(command).endswith("\nNext: debvote-election status\n"))
-
     def test_codes_stay_and_new_electors_get_theirs(self) -> None:
         """Only the secretary may read them, whatever modes the files have got."""
         self.done("codes")
@@ -513,11 +504,6 @@ class Secret(CallTest):
         slip, aliases = self.texts("private/slips.html"), self.published_codes()
         subject = rf"<b>\[{read_plain(self.read('call/poll.toml')).checksum[:16]}-(\w{{10}})\]</b>"
         self.assertEqual(re.findall(subject, slip), [*self.marks().values()])
-        # a new address makes a new mark
-        self.write("members.csv", MEMBERS.replace("ada@club", "ada@new"))
-        self.done("roll --yes")
-        marks = re.findall(subject, self.texts("private/slips.html"))
-        self.assertEqual(marks, [*self.marks().values()])
         self.assertNotIn(" is void", slip + self.texts())
         said = r"All 9 codes are void(?s:.*)\nNext: put right what was wrong, then run debvote-election codes\n"
         self.assertRegex(self.told("call --take-back"), said)
@@ -562,6 +548,10 @@ class Secret(CallTest):
         # after the call, too; to call again would only make the vote longer
         self.done(f"call {UNTIL}")
         self.refused("codes --on-roll", *too_late)
+        following = "\nNext: debvote-election status\n"
         said = self.told("codes")
         self.assertTrue(said.startswith("The slips: private/slips.html. Print them.\n"), said)
-        self.assertTrue(said.endswith("Next: debvote-election status\n"), said)
+        self.assertTrue(said.endswith(following), said)
+        self.done("close --early --yes")
+        for command in ("codes", "call"):
+            self.assertTrue(self.told(command).endswith(following))

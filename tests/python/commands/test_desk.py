@@ -37,7 +37,7 @@ class AtATerminal(TerminalTest):
         self.assertTrue(shown.endswith(f"{changed}ada: {LAKE}\n{CAST}"), shown)
         self.assertEqual(self.last_act(), before)
         self.assertEqual(desk.after("y\n", "Ballot: "), "y\n1 counted  ada\nBallot: ")
-        self.assertEqual(self.lines(), [f"ada {RANKS}"])
+        self.assert_lines(f"ada {RANKS}")
         desk.after(f"ada {OTHER_RANKS}\n", f"{REPLACED}{LAKE}\n", CAST)
         desk.after("YES\n", "\n2 replaced  ada\n", "Ballot: ")
         desk.ends(
@@ -82,7 +82,7 @@ class AtATerminal(TerminalTest):
             desk.until("Ballot: ")
         desk.after("gsu 1,2,3,4\ny\n", "1 bad not on roll  gsu 1,2,3,4\n", "Ballot: ")
         desk.ends("q\n")
-        self.assertEqual(self.lines(), ["gsu 1,2,3,4"])
+        self.assert_lines("gsu 1,2,3,4")
 
     def test_another_desk_casts_for_the_same_elector_meanwhile(self) -> None:
         first, second = self.at_terminal(), self.at_terminal()
@@ -96,7 +96,7 @@ class AtATerminal(TerminalTest):
             shown,
         )
         self.assertIn(f"{REPLACED}{LAKE}\n", shown)
-        self.assertEqual(self.lines(), [f"ada {RANKS}"])
+        self.assert_lines(f"ada {RANKS}")
         first.after("y\n", "2 replaced  ada\n", "Ballot: ")
         second.after(f"ada {OTHER_RANKS}\n", f"{REPLACED}{LAKE}\n", CAST)
         # a ballot that is struck meanwhile changes it, too
@@ -104,7 +104,7 @@ class AtATerminal(TerminalTest):
         second.after("y\n", CAST)
         second.ends("n\nq\n")
         first.ends("q\n")
-        self.assertEqual(self.lines(), [f"ada {RANKS}"])
+        self.assert_lines(f"ada {RANKS}")
 
     def test_other_acts_meanwhile(self) -> None:
         """Those about others ask nothing anew; after a close what is entered is late."""
@@ -153,7 +153,7 @@ class AtATerminal(TerminalTest):
             "the call for votes was made anew meanwhile; nothing was entered: run the command again"
         )
         desk.ends(f"ada {RANKS}\nn\nq\n", said, status=9)
-        self.assertEqual(self.lines(), [])
+        self.assert_lines()
 
     def test_after_reopen_it_asks_once(self) -> None:
         before = self.at_terminal()
@@ -231,12 +231,12 @@ class NamesAreCompleted(TerminalTest):
             "\n  9 elector-8 (Elector-8)\nType the number of one, or n for none: ",
         )
         desk.ends("10\nq\n")
-        self.assertEqual(self.lines(), ["anna-schmidt 1,2,4,3"])
+        self.assert_lines("anna-schmidt 1,2,4,3")
 
     def test_not_from_a_pipe_and_not_by_add(self) -> None:
         for command in ("desk", "add"):
             self.told(command, given="clara 1,2,4,3\n")
-        self.assertEqual(self.lines(), ["clara 1,2,4,3"] * 2)
+        self.assert_lines(*["clara 1,2,4,3"] * 2)
 
     def test_no_code_is_completed(self) -> None:
         self.act("codes", {"on_roll": True})
@@ -300,7 +300,7 @@ class FromAPipe(CalledTest):
         output, _ = desk.communicate(",4,3\rcleo 1,2,4,3")
         found = re.findall(r"(?m)^\d (\w+  \w+): |(it is empty)", output)
         self.assertEqual(found, [("counted  ben", ""), ("counted  cleo", "")])
-        self.assertEqual(self.lines(), [f"{name} 1,2,4,3" for name in ("ada", "ben", "cleo")])
+        self.assert_lines(*(f"{name} 1,2,4,3" for name in ("ada", "ben", "cleo")))
 
     def test_lines_are_taken_as_add_takes_them(self) -> None:
         words = "2 bad shape  q: column 2: end of line; a ballot has a space there, or more of the name: a to z, 0 to 9, . or -\n"
@@ -312,7 +312,7 @@ class FromAPipe(CalledTest):
             "gsu is not on the roll\nA ballot line of this poll: ",
             given="Ada 1,2,4,3\r\n\nq\ny\ngsu 1,2,4,3\n",
         )
-        self.assertEqual(self.lines(), ["ada 1,2,4,3", "q", "y", "gsu 1,2,4,3"])
+        self.assert_lines("ada 1,2,4,3", "q", "y", "gsu 1,2,4,3")
         # a letter is told, and not entered
         letter = "Dear secretary, " * 13_000
         said = f"desk:2: the line has {len(letter)} bytes, and a ballot has a few dozen; it was not entered.\n"
@@ -334,11 +334,11 @@ class FromAPipe(CalledTest):
         head, row = "Name None,Sell,Repair,Dinghy", "ada 4,1,2,3\n"
         right = "write each line as a name and its ranks in the order of the options"
         self.assert_refused("desk", 4, said, right, given=f"{head}\n{row}")
-        self.assertEqual(self.lines(), [])
+        self.assert_lines()
         desk = self.desk()
         self.answer(desk, f"{head}\n", "1 bad shape  Name")
         self.assertIn(said, "".join(desk.communicate(row)))
-        self.assertEqual(self.lines(), [head])
+        self.assert_lines(head)
         self.assert_refused("desk", 4, said, given=f"{row}{head}\n{row}")
         desk = self.desk()
         self.answer(desk, f"ben {RANKS}\n", "2 counted  ben")
@@ -379,7 +379,7 @@ class FromAPipe(CalledTest):
             "the output failed; the ballots to be reported were entered nevertheless (envelope 2)"
         )
         self.assert_fault(ended, 7, said)
-        self.assertEqual(self.lines(), ["ada 1,2,4,3", "ben 1,2,4,3"])
+        self.assert_lines("ada 1,2,4,3", "ben 1,2,4,3")
 
     def test_an_add_beside_desks(self) -> None:
         desk, lines = self.desk(), [f"ben {a},{b},1,2" for a in range(1, 40) for b in range(1, 40)]

@@ -2,7 +2,6 @@
 
 import shlex
 
-from debvote_tools.book import queries
 
 from tests.support.called import LAKE, CalledTest
 from tests.support.letters import OTHER_RANKS, RANKS
@@ -20,25 +19,19 @@ class Strike(CalledTest):
         said = f"Struck envelope 3: `ada {OTHER_RANKS}`, because: it was pencil\nThe current ballot of ada: {LAKE}\n"
         said += "A strike cannot be undone: if it was a mistake, enter the line again.\nNext: debvote-election status\n"
         self.assertEqual(self.told(f"strike 3 {WHY}"), said)
-        self.assertEqual(self.lines(), [f"ada {RANKS}", f"ben {RANKS}", "x"])
+        self.assert_lines(f"ada {RANKS}", f"ben {RANKS}", "x")
         self.assertEqual(self.acts()[-1], ("strike", {"envelope": 3, "because": "it was pencil"}))
         self.tells(f"strike 1 {WHY}", "The current ballot of ada: none\n")
         self.tells(
             f"strike 4 {WHY}",
             "Struck envelope 4: `x`, because: it was pencil\nA strike cannot be undone",
         )
-        self.assertEqual(self.lines(), [f"ben {RANKS}"])
+        self.assert_lines(f"ben {RANKS}")
         self.tells("desk", "5 counted  cleo: ", given=f"cleo {RANKS}\n")
         # a letter is set aside
-        with self.book.act("add") as act:
-            source = queries.keep_source(act, "inbox", b"letter")
-            letter = act.insert("letter", source=source, identity="1", known="{}")
-            envelope = queries.NewEnvelope(b"cleo 1,2,3,4", "", source, letter)
-            queries.add_envelopes(act, [envelope], [self.elector("cleo")], is_late=False)
-            queries.decide(act, letter, queries.ENTERED)
+        self.enter_letter("add")
         self.told(f"strike 6 {WHY}")
-        query = "SELECT letter, state FROM letter_state WHERE act = ?"
-        self.assertEqual(self.rows(query, self.last_act()), [(1, "struck")])
+        self.assert_state("struck")
 
     def test_what_is_refused(self) -> None:
         self.set_clock("2099-12-24T10:00:00+00:00")
@@ -106,5 +99,5 @@ class AtATerminal(CalledTest):
         first, second = self.asked(), self.asked()
         self.cast(f"cleo {RANKS}")
         self.assertNotIn("[y/n]", first.ends("y\n"))
-        self.assertEqual(self.lines(), [f"ben {RANKS}", f"cleo {RANKS}"])
+        self.assert_lines(f"ben {RANKS}", f"cleo {RANKS}")
         second.ends("y\n", "envelope 1 is struck already", status=9)

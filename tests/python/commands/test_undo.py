@@ -3,10 +3,8 @@
 import json
 import re
 
-from debvote_tools.book import queries
-from debvote_tools.inbox.letter_lines import to_json
 
-from tests.support import elections, letters
+from tests.support import elections
 from tests.support.called import HALL, LAKE, CalledTest
 from tests.support.letters import OTHER_RANKS, RANKS
 from tests.support.questions import QuestionsTest
@@ -29,7 +27,7 @@ class Undo(CalledTest):
                 self.told("undo"),
                 rf"^Took back 3 lines \(act {act}: add of monday, .* UTC, envelopes {numbers}\)\.\n  ada, as before: {LAKE}\n  cleo: no ballot is left\n",
             )
-            self.assertEqual(self.lines(), [f"ada {RANKS}", f"ben {RANKS}"])
+            self.assert_lines(f"ada {RANKS}", f"ben {RANKS}")
         self.cast(f"dan {RANKS}")
         next_one = "Next: debvote-election status; another debvote-election undo takes back the act before\n"
         said = rf"^Took back 1 line \(act {first + 5}: desk, [-\d]+ [:\d]+ UTC, envelope 9\)\.\n  dan: no ballot is left\n{next_one}$"
@@ -39,7 +37,7 @@ class Undo(CalledTest):
             rf"^Took back 2 lines \(act {first}: add of standard input, .* UTC, envelopes 1-2\)\.\n"
         )
         self.assertRegex(self.told("undo"), rf"{said}(?s:.*)\nNext: debvote-election status\n$")
-        self.assertEqual(self.lines(), [])
+        self.assert_lines()
         self.assert_refused("undo", 9, NOTHING)
         self.assertEqual(
             [detail for name, detail in self.acts() if name == "undo"],
@@ -69,7 +67,7 @@ class Undo(CalledTest):
         self.assertRegex(self.told("undo"), said)
         self.cast(f"cleo {RANKS}")
         self.told("strike 7 --because 'a test'")
-        self.assertEqual(self.lines(), [])
+        self.assert_lines()
         self.assert_refused("undo", 9, NOTHING)
 
     def test_after_the_close_and_after_reopen(self) -> None:
@@ -102,22 +100,12 @@ class Undo(CalledTest):
         for name in ("letters/result.txt", "result/index.html"):
             self.assertIn(f"{NOT_AGAIN}envelopes 2-3.", self.text(name))
 
-    def test_letters_wait_as_taken_back(self) -> None:
-        """An act that enters lines is known by its envelopes, whatever its name is."""
-        with self.book.act("offer") as act:
-            for name in ("ada", "ben"):
-                source = queries.keep_source(act, "inbox", b"letter")
-                [came] = letters.read(letters.letter(name, f"{name} {RANKS}"))
-                letter = act.insert("letter", source=source, identity=name, known=to_json(came))
-                act.insert("letter_state", letter=letter, state="entered")
-                line = queries.NewEnvelope(f"{name} {RANKS}".encode(), "", source, letter)
-                queries.add_envelopes(act, [line], [self.elector(name)], is_late=False)
-        said = rf"Took back 2 lines \(act {self.first_act}: offer, (?s:.*)2 letters then wait again, as taken back: 1, 2\n"
+    def test_an_act_is_known_by_its_envelopes_whatever_its_name_is(self) -> None:
+        self.enter_letter("offer")
+        said = rf"Took back 1 line \(act {self.first_act}: offer, (?s:.*)1 letter then waits again, as taken back: 1\n"
         self.assertRegex(self.told("undo"), said)
-        self.assertEqual(self.lines(), [])
-        states = "SELECT letter, state FROM letter_state WHERE act = ? ORDER BY letter"
-        taken = self.rows(states, self.last_act())
-        self.assertEqual(taken, [(1, "taken back"), (2, "taken back")])
+        self.assert_lines()
+        self.assert_state("taken back")
 
 
 class Secret(CalledTest):
@@ -177,13 +165,13 @@ class AtATerminal(CalledTest):
         terminal = Terminal(self, "undo")
         self.assertIn(f"  ada, as before: {HALL}\n", terminal.until("? [y/n] "))
         terminal.ends("y\n")
-        self.assertEqual(self.lines(), lines)
+        self.assert_lines(*lines)
         shown = self.asked().ends("y\n")
         self.assertRegex(shown, r"Took back 3 lines \(.*\)\.\nNext: ")
-        self.assertEqual(self.lines(), [f"ada {RANKS}"])
+        self.assert_lines(f"ada {RANKS}")
         shown = Terminal(self, "undo", "--yes").ends("")
         self.assertRegex(shown, r"^[^[]*  ada: no ballot is left\n[^[]*$")
-        self.assertEqual(self.lines(), [])
+        self.assert_lines()
 
     def test_what_was_shown_is_what_is_taken_back(self) -> None:
         """Another act while it asks: it shows what would be taken back now, and asks anew."""
@@ -200,7 +188,7 @@ class AtATerminal(CalledTest):
         # an act that changes nothing of it
         self.act("extend", {"until": "2099-12-04T18:00:00+00:00"})
         self.assertNotIn("[y/n]", terminal.ends("y\n"))
-        self.assertEqual(self.lines(), [f"ada {RANKS}"])
+        self.assert_lines(f"ada {RANKS}")
 
     def test_a_close_meanwhile(self) -> None:
         terminal = self.asked()
