@@ -105,6 +105,10 @@ class CalledTest(elections.ElectionTest):
         self.assertEqual((ended.status, ended.faults), (0, ""), ended)
         return ended.output
 
+    def numbers(self) -> dict[str, Any]:
+        """What `status` tells a program."""
+        return dict(json.loads(self.told("status", "--json")))
+
     def tells(self, typed: str, *parts: str, **how: Any) -> str:
         """What a command tells, which has these parts."""
         said = self.told(typed, **how)
@@ -225,10 +229,6 @@ class LettersTest(CalledTest):
     def mark(self) -> str:
         """That of the poll, which everybody sees."""
         return hashlib.sha256(self.read("call/poll.toml")).hexdigest()[:16]
-
-    def numbers(self) -> dict[str, Any]:
-        """What `status` tells a program."""
-        return dict(json.loads(self.told("status", "--json")))
 
     def exported(self) -> tuple[str, str]:
         """What came in time, and what came late, as `export` writes it."""

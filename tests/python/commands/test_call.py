@@ -2,7 +2,6 @@
 
 import email
 import hashlib
-import json
 import os
 import re
 import subprocess
@@ -176,7 +175,7 @@ class Again(CallTest):
         self.done("letters call")
         self.done("call --take-back")
         self.assertEqual(self.files("call", "letters"), [".lock"])
-        self.assertEqual(json.loads(self.told("status --json"))["stage"], "new")
+        self.assertEqual(self.numbers()["stage"], "new")
         self.refused("letters call", "there is no call for votes yet")
         self.write("poll.toml", elections.POLL.replace("spring", "autumn"))
         self.done("call --to other@club.example")
@@ -479,7 +478,7 @@ class Secret(CallTest):
         self.assertFalse(codes & set(re.findall(r"[2-9a-hjkmnp-z]{10}", " ".join(public))))
         # nobody knows to whom one would go
         self.assertNotIn("receipt", self.texts())
-        self.assertIsNone(json.loads(self.told("status --json"))["without_ballot"])
+        self.assertIsNone(self.numbers()["without_ballot"])
         # they lapse with the call
         self.tells("call --take-back", "then run debvote-election roll\n")
         self.assertEqual(self.files("private"), [])

@@ -1,7 +1,6 @@
 """`roll`, `check` and `status --electors`: the electors that the book gets, what they are called, and what is said of list and poll."""
 
 import importlib.util
-import json
 import unittest
 
 from debvote_tools.files import TABLE_LIMIT
@@ -27,7 +26,7 @@ class RollTest(CalledTest):
 
     def on_roll(self) -> list[str]:
         """The electors without a ballot: all of them."""
-        return json.loads(self.told("status --json"))["without_ballot"]
+        return self.numbers()["without_ballot"]
 
 
 class Roll(RollTest):

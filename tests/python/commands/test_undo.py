@@ -1,6 +1,5 @@
 """`undo`: the last act that entered lines is taken back, and nothing else."""
 
-import json
 import re
 
 
@@ -91,7 +90,7 @@ class Undo(CalledTest):
         self.told("strike 5 --because 'a test'")
         said = "Strikes: 1. Taken back, and not entered again as they were: 3 (envelopes 1-3)."
         self.tells("status", f"\n{said}\n")
-        numbers = json.loads(self.told("status --json"))
+        numbers = self.numbers()
         self.assertEqual((numbers["struck"], numbers["taken_back"]), (1, 3))
         self.cast(f"ada {RANKS}")
         said = said.replace("3 (envelopes 1-3)", "2 (envelopes 2-3)")
